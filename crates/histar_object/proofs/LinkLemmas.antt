@@ -1,0 +1,43 @@
+-- Sets of numbers, as their keys are listed.
+use Rattle.std.proofs.Common.{◌≡◌, ℕ, Bool, true, false, cond, List, refl, sym, ap, ◌∙◌}
+use Rattle.std.specs.Prelude.{◌||◌, ◌&&◌, not, nat_eq}
+use Rattle.std.specs.List.{list_any}
+use Rattle.std.specs.Ordering.{nat_cmp, eq_by_cmp}
+use Rattle.std.specs.Cmp.{nat_cmp_total, unsigned_tied, nat_eq_equiv}
+use Rattle.std.specs.FinSet as set
+use Rattle.std.specs.FinSet.{nat_cmp-IsAntisymmetric}
+use Rattle.std.specs.BTreeMap.{is_at}
+
+-- whether a number is listed
+abbrev pub is_listed : List ℕ → ℕ → Bool
+is_listed ks q = list_any (is_at (nat_cmp q)) ks
+
+-- a set contains exactly what is listed
+pub contains_listed : (ks : List ℕ) (q : ℕ) → set.contains (set.from_list {R = nat_cmp} ks) q ≡ is_listed ks q
+contains_listed ks q = set.contains-from_list nat_cmp_total ks q
+
+-- whether two numbers tie does not depend on which is named first
+tied_back : (n q : ℕ) → is_at (nat_cmp n) q ≡ eq_by_cmp nat_cmp q n
+tied_back n q = unsigned_tied n q ∙ sym (unsigned_tied q n ∙ nat_eq_equiv.symm q n)
+
+either : (b x : Bool) → cond b true x ≡ (b || x)
+either true x = refl
+either false x = refl
+
+neither : (b x : Bool) → cond b false x ≡ (not b && x)
+neither true x = refl
+neither false x = refl
+
+-- a number more in the list is a number more in the set
+pub inserted : (old new : List ℕ) (n : ℕ) → ((q : ℕ) → is_listed new q ≡ cond (is_at (nat_cmp n) q) true (is_listed old q)) → set.from_list {R = nat_cmp} new ≡ set.insert (set.from_list old) n
+inserted old new n updates = set.same_set nat_cmp_total nat_cmp-IsAntisymmetric _ _ (λ q.
+    contains_listed new q ∙ updates q ∙ either (is_at (nat_cmp n) q) (is_listed old q)
+    ∙ (λ i. tied_back n q i || sym (contains_listed old q) i)
+    ∙ sym (set.contains-insert nat_cmp_total (set.from_list old) n q))
+
+-- a number less in the list is a number less in the set
+pub removed : (old new : List ℕ) (n : ℕ) → ((q : ℕ) → is_listed new q ≡ cond (is_at (nat_cmp n) q) false (is_listed old q)) → set.from_list {R = nat_cmp} new ≡ set.remove (set.from_list old) n
+removed old new n updates = set.same_set nat_cmp_total nat_cmp-IsAntisymmetric _ _ (λ q.
+    contains_listed new q ∙ updates q ∙ neither (is_at (nat_cmp n) q) (is_listed old q)
+    ∙ (λ i. not (tied_back n q i) && sym (contains_listed old q) i)
+    ∙ sym (set.contains-remove nat_cmp_total (set.from_list old) n q))

@@ -1,0 +1,10 @@
+use Rattle.std.proofs.Common.{sym, ap, ◌∙◌}
+use Rattle.std.specs.FinSet as set
+use Rattle.histar_object.proofs.LinkLemmas.{is_listed, contains_listed}
+use Rattle.histar_object.proofs.links.Links.contains.Goals as goal
+
+pub returns : goal.returns
+returns c =
+    c.contains.ensures ∙ ap (is_listed c.self.inside.numbers.keys) c.number.ensures
+    ∙ sym (contains_listed c.self.inside.numbers.keys c.args.object)
+    ∙ ap (λ s. set.contains s c.args.object) c.self.view_is

@@ -1,0 +1,12 @@
+//! The objects of the kernel, and the table that keeps them by number.
+#![tactic(auto)]
+
+mod ids;
+mod links;
+mod objects;
+mod table;
+
+pub use ids::ObjId;
+pub use links::Links;
+pub use objects::{Entry, Kind, Object};
+pub use table::Table;

@@ -1,0 +1,61 @@
+//! What a container links.
+ghost use Rattle.std.specs.Prelude.{◌≡◌, OnOk, OnErr};
+ghost use Rattle.std.specs.Ordering.{nat_cmp};
+ghost use Rattle.std.specs.FinSet as set;
+
+use crate::ids::ObjId;
+use std::alloc::{AllocError, Global};
+use std::collections::BTreeSet;
+use std::marker::Model;
+
+/// The objects that a container links: a set of numbers, looked up in logarithmic time.
+#[derive(Drop)]
+pub struct Links {
+    numbers: BTreeSet<u64>,
+}
+
+impl Model for Links {
+    ghost use Rattle.std.specs.Ordering.{nat_cmp};
+    ghost use Rattle.std.specs.FinSet as set;
+    ghost use Rattle.std.specs.Coded.{coded_ℕ};
+
+    ghost Value = { set.FinSet nat_cmp };
+
+    ghost coded = { set.code coded_ℕ };
+
+    ghost view = { λ l. set.from_list l.numbers.keys };
+}
+
+impl Links {
+    /// Links to nothing.
+    pub fn new(alloc: Global) -> Self
+        ensures { result ≡ set.empty }
+    {
+        Links {
+            numbers: BTreeSet::new(alloc),
+        }
+    }
+
+    /// Whether the object is linked.
+    pub fn contains(&self, object: ObjId) -> bool
+        ensures { result ≡ set.contains self.now object }
+    {
+        self.numbers.contains(&object.number())
+    }
+
+    /// Links an object too.
+    pub fn insert(&mut self, object: ObjId) -> Result<(), AllocError>
+        ensures ok { OnOk result (self.new ≡ set.insert self.old object) }
+        ensures err { OnErr result (self.new ≡ self.old) }
+    {
+        self.numbers.insert(object.number())?;
+        Ok(())
+    }
+
+    /// Links the object no more.
+    pub fn remove(&mut self, object: ObjId)
+        ensures { self.new ≡ set.remove self.old object }
+    {
+        self.numbers.remove(&object.number());
+    }
+}
