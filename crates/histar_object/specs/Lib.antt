@@ -1,3 +1,4 @@
 pub mod Codes
 pub mod Lending
-pub mod Table
+pub mod Objects
+pub mod State

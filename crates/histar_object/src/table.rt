@@ -1,7 +1,7 @@
 //! Objects by number.
-ghost use Rattle.std.specs.Prelude.{◌≡◌, OnOk, OnErr, Option, option_map};
+ghost use Rattle.std.specs.Prelude.{◌≡◌, OnOk, OnErr, None};
 ghost use Rattle.std.specs.Option.{option_copied, option_copied_mut};
-ghost use Rattle.histar_object.specs.Table.{objects_of, put, without, bytes_in, no_objects};
+ghost use Rattle.histar_object.specs.Objects.{objects_of, put, without, bytes_there, no_objects};
 
 use crate::ids::ObjId;
 use crate::objects::{Kind, Object};
@@ -57,10 +57,11 @@ impl<L> Table<L> {
         self.objects.get_mut(&id.number())
     }
 
-    /// Keeps an object under a number. An object that was there is dropped.
+    /// Keeps an object under a number that has none. Where memory runs out the object is dropped.
     pub fn add(&mut self, id: ObjId, object: Object<L>) -> Result<(), AllocError>
     where
         L: Drop,
+        requires { objects_of self.old id ≡ None }
         ensures ok { OnOk result (objects_of self.new ≡ put (objects_of self.old) id object) }
         ensures err { OnErr result (self.new ≡ self.old) }
     {
@@ -78,7 +79,7 @@ impl<L> Table<L> {
 
     /// The bytes of the segment of this number.
     pub fn bytes(&self, id: ObjId) -> Option<&[u8]>
-        ensures { option_copied result ≡ bytes_in (objects_of self.now id) }
+        ensures { option_copied result ≡ bytes_there (objects_of self.now id) }
     {
         match &self.objects.get(&id.number())?.kind {
             Kind::Segment(bytes) => Some(bytes.as_slice()),

@@ -1,0 +1,50 @@
+-- What an object links, and what it links after a change.
+use Rattle.std.proofs.Common.{◌≡◌, ℕ, Bool, true, false, Option, None, Some, Result, Ok, Err, OnOk, OnErr, OnSome, refl, sym, ap, ◌∙◌}
+use Rattle.std.specs.FinSet as set
+use Rattle.std.specs.Ordering.{nat_cmp}
+use mathlib.Core.Bool.{false≢true}
+use Rattle.histar_object.specs.declared.objects.Kind.{Kind}
+use Rattle.histar_object.specs.declared.objects.Kind.TheVariants.{Segment, Container, Thread, Gate}
+use Rattle.histar_object.specs.declared.objects.Object.{Object}
+use Rattle.histar_object.specs.Objects.{Numbers, Objects, put, changed_at, kind_linking, linking, with_new, kind_links, links_in, kind_is_container, is_container}
+use Rattle.histar_object.proofs.Changes.{put_back, put_changed}
+
+-- what holds where an object is lent holds here
+pub on_some : {A : Type 0} (r : Option A) (x : A) (P : Type 0) → r ≡ Some x → OnSome r P → P
+on_some None x P e h = cc
+on_some (Some y) x P e h = h
+
+-- the empty set has no number
+pub none_linked : (n : ℕ) → false ≡ set.contains (set.empty {R = nat_cmp}) n
+none_linked n = sym (set.contains-empty nat_cmp n)
+
+module _ {L : Type 0} where
+  -- what is not there links nothing
+  pub absent_links : (o : Option (Object L)) (n : ℕ) → None ≡ o → false ≡ set.contains (links_in o) n
+  absent_links o n e = none_linked n ∙ ap (λ x. set.contains (links_in x) n) e
+
+  -- what is no container links nothing
+  pub kind_links_none : (k : Kind L) (n : ℕ) → kind_is_container k ≡ false → false ≡ set.contains (kind_links k) n
+  kind_links_none (Segment bytes) n e = none_linked n
+  kind_links_none (Container links) n e = absurd (false≢true (sym e))
+  kind_links_none (Thread clearance) n e = none_linked n
+  kind_links_none (Gate clearance entry) n e = none_linked n
+
+  module _ (objects : Objects L) (d n : ℕ) (o : Object L) (links : Numbers) (here : Some o ≡ objects d) (is : o.kind ≡ Container links) where
+    -- a container whose links grew is the container that links one more
+    grown : (new : Numbers) → new ≡ set.insert links n → record { label = o.label; kind = Container new } ≡ linking n o
+    grown new e i = record { label = o.label; kind = (ap Container e ∙ sym (ap (kind_linking n) is)) i }
+
+    -- a container whose links stayed is the same object
+    same : (new : Numbers) → new ≡ links → record { label = o.label; kind = Container new } ≡ o
+    same new e i = record { label = o.label; kind = (ap Container e ∙ sym is) i }
+
+    -- where the links grew, the container links one more
+    pub link_ok : {E : Type 0} (r : Result (Unit {0}) E) (new : Numbers) (after : Objects L) → OnOk r (new ≡ set.insert links n) → after ≡ put objects d (record { label = o.label; kind = Container new }) → OnOk r (after ≡ changed_at objects d (linking n))
+    link_ok (Ok u) new after ok e = e ∙ ap (put objects d) (grown new ok) ∙ put_changed objects d (linking n) o here
+    link_ok (Err x) new after ok e = tt
+
+    -- where they did not, nothing has changed
+    pub link_err : {E : Type 0} (r : Result (Unit {0}) E) (new : Numbers) (after : Objects L) → OnErr r (new ≡ links) → after ≡ put objects d (record { label = o.label; kind = Container new }) → OnErr r (after ≡ objects)
+    link_err (Ok u) new after err e = tt
+    link_err (Err x) new after err e = e ∙ ap (put objects d) (same new err) ∙ put_back objects d o here

@@ -1,0 +1,25 @@
+-- What a table shows of its objects.
+use Rattle.std.proofs.Common.{◌≡◌, ℕ, List, [], ◌∷◌, Option, Some, None, Bool, true, false, cond, refl}
+use Rattle.std.specs.Prelude.{option_map}
+use Rattle.std.specs.Ordering.{nat_cmp}
+use Rattle.std.specs.BTreeMap.{is_at}
+use Rattle.histar_label.specs.Levels.{Levels}
+use Rattle.histar_label.specs.Store.{label_at}
+use Rattle.histar_object.specs.declared.objects.Object.{Object}
+use Rattle.histar_object.specs.Objects.{Objects, objects_of}
+use Rattle.histar_container.specs.Shown.{object_by, shown, Stands, AllStand}
+
+module _ {Id : Type 0} (labels : Id → Option Levels) where
+  step : (b : Bool) (x : Object Id) (o : Option (Object Id)) (p : Option (Object Levels)) → p ≡ option_map (object_by (label_at labels)) o
+      → cond b (Some (object_by (label_at labels) x)) p ≡ option_map (object_by (label_at labels)) (cond b (Some x) o)
+  step true x o p e = refl
+  step false x o p e = e
+
+  -- the object that is shown at a number is the one that is there, with its labels by value
+  pub shows : (es : List (ℕ × Object Id)) (q : ℕ) → objects_of (shown labels es) q ≡ option_map (object_by (label_at labels)) (objects_of es q)
+  shows [] q = refl
+  shows (e ∷ es) q = step (is_at (nat_cmp q) e.0) e.1 _ _ (shows es q)
+
+  -- the Ids of the object at a number stand for labels
+  pub stand_there : (objects : Objects Id) (q : ℕ) (o : Object Id) → AllStand labels objects → objects q ≡ Some o → Stands labels o
+  stand_there objects q o all e = all.each q o e

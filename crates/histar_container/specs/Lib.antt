@@ -1,0 +1,4 @@
+pub mod Kept
+pub mod Shown
+pub use Rattle.histar_object.specs.Objects
+pub use Rattle.histar_object.specs.State

@@ -1,0 +1,58 @@
+//! Links of containers.
+ghost use Rattle.std.specs.Prelude.{◌≡◌, None, OnOk, OnErr, IsTrue};
+ghost use Rattle.std.specs.FinSet as set;
+ghost use Rattle.histar_object.specs.Objects.{objects_of, put, changed_at, linking, with_new, links_in, is_container};
+
+use histar_object::{Kind, ObjId, Object, Table};
+use std::alloc::AllocError;
+
+/// Whether the container links the object.
+pub fn linked<L>(table: &Table<L>, container: ObjId, object: ObjId) -> bool
+    ensures { result ≡ set.contains (links_in (objects_of table.now container)) object }
+{
+    match table.get(container) {
+        Some(holder) => match &holder.kind {
+            Kind::Container(links) => links.contains(object),
+            _ => false,
+        },
+        None => false,
+    }
+}
+
+/// Keeps a new object under a number, and links it in a container. Both may want memory: where one
+/// gets none, the table is as it was.
+pub fn link_new<L: Drop>(
+    table: &mut Table<L>,
+    container: ObjId,
+    number: ObjId,
+    object: Object<L>,
+) -> Result<(), AllocError>
+    requires is_there { IsTrue (is_container (objects_of table.old container)) }
+    requires is_new { objects_of table.old number ≡ None }
+    ensures ok { OnOk result (objects_of table.new ≡ with_new (objects_of table.old) container number object) }
+    ensures err { OnErr result (objects_of table.new ≡ objects_of table.old) }
+{
+    table.add(number, object)?;
+    match link(table, container, number) {
+        Ok(()) => Ok(()),
+        Err(error) => {
+            table.remove(number);
+            Err(error)
+        }
+    }
+}
+
+/// Links an object in a container.
+fn link<L>(table: &mut Table<L>, container: ObjId, object: ObjId) -> Result<(), AllocError>
+    requires { IsTrue (is_container (objects_of table.old container)) }
+    ensures ok { OnOk result (objects_of table.new ≡ changed_at (objects_of table.old) container (linking object)) }
+    ensures err { OnErr result (objects_of table.new ≡ objects_of table.old) }
+{
+    let Some(holder) = table.get_mut(container) else {
+        unreachable!()
+    };
+    match &mut holder.kind {
+        Kind::Container(links) => links.insert(object),
+        _ => unreachable!(),
+    }
+}

@@ -1,0 +1,166 @@
+-- Objects by number, what each says of itself, and how they change. L is what stands for a label.
+use Rattle.std.specs.Prelude.{ℕ, Bool, true, false, ◌==◌, List, [], Option, None, Some, option_map, if◌then◌else◌}
+use Rattle.std.specs.Ordering.{nat_cmp}
+use Rattle.std.specs.FinSet as set
+use Rattle.std.specs.Map.{lookup}
+use Rattle.std.specs.BTreeMap.{is_at}
+use Rattle.histar_object.specs.declared.objects.Entry.{Entry}
+use Rattle.histar_object.specs.declared.objects.Entry.TheVariants.{Mark}
+use Rattle.histar_object.specs.declared.objects.Kind.{Kind}
+use Rattle.histar_object.specs.declared.objects.Kind.TheVariants.{Segment, Container, Thread, Gate}
+use Rattle.histar_object.specs.declared.objects.Object.{Object}
+
+-- the numbers that a container links
+abbrev pub Numbers : Type 0
+Numbers = set.FinSet nat_cmp
+
+-- an object for some numbers
+abbrev pub Objects : Type 0 → Type 0
+Objects L = ℕ → Option (Object L)
+
+-- bytes, and none where they are not told
+abbrev pub or_no_bytes : Option (List ℕ) → List ℕ
+or_no_bytes None = []
+or_no_bytes (Some bytes) = bytes
+
+module _ {L : Type 0} where
+  -- the object at each number of a table
+  abbrev pub objects_of : List (ℕ × Object L) → Objects L
+  objects_of es q = lookup (is_at (nat_cmp q)) es
+
+  -- no object at any number
+  abbrev pub no_objects : Objects L
+  no_objects q = None
+
+  -- the objects with this one at a number
+  abbrev pub put : Objects L → ℕ → Object L → Objects L
+  put objects n o q = if q == n then Some o else objects q
+
+  -- the objects without the one at a number
+  abbrev pub without : Objects L → ℕ → Objects L
+  without objects n q = if q == n then None else objects q
+
+  -- the objects with the one at a number changed, if one is there
+  abbrev pub changed_at : Objects L → ℕ → (Object L → Object L) → Objects L
+  changed_at objects n f q = if q == n then option_map f (objects q) else objects q
+
+  -- a container that links one number more; no other object links any
+  abbrev pub kind_linking : ℕ → Kind L → Kind L
+  kind_linking n (Segment bytes) = Segment bytes
+  kind_linking n (Container links) = Container (set.insert links n)
+  kind_linking n (Thread clearance) = Thread clearance
+  kind_linking n (Gate clearance entry) = Gate clearance entry
+
+  -- an object with its label, and one link more if it is a container
+  abbrev pub linking : ℕ → Object L → Object L
+  linking n o = record { label = o.label; kind = kind_linking n o.kind }
+
+  -- the objects with a new one at the number n, which the container d links
+  abbrev pub with_new : Objects L → ℕ → ℕ → Object L → Objects L
+  with_new objects d n o = changed_at (put objects n o) d (linking n)
+
+  -- a segment with these bytes
+  abbrev pub kind_holding : List ℕ → Kind L → Kind L
+  kind_holding new (Segment bytes) = Segment new
+  kind_holding new (Container links) = Container links
+  kind_holding new (Thread clearance) = Thread clearance
+  kind_holding new (Gate clearance entry) = Gate clearance entry
+
+  -- an object with its label, and these bytes if it is a segment
+  abbrev pub holding : List ℕ → Object L → Object L
+  holding new o = record { label = o.label; kind = kind_holding new o.kind }
+
+  -- a thread with this label and this clearance
+  abbrev pub thread_of : L → L → Object L
+  thread_of label clearance = record { label = label; kind = Thread clearance }
+
+  abbrev pub kind_is_segment : Kind L → Bool
+  kind_is_segment (Segment bytes) = true
+  kind_is_segment (Container links) = false
+  kind_is_segment (Thread clearance) = false
+  kind_is_segment (Gate clearance entry) = false
+
+  abbrev pub kind_is_container : Kind L → Bool
+  kind_is_container (Segment bytes) = false
+  kind_is_container (Container links) = true
+  kind_is_container (Thread clearance) = false
+  kind_is_container (Gate clearance entry) = false
+
+  abbrev pub kind_is_thread : Kind L → Bool
+  kind_is_thread (Segment bytes) = false
+  kind_is_thread (Container links) = false
+  kind_is_thread (Thread clearance) = true
+  kind_is_thread (Gate clearance entry) = false
+
+  abbrev pub kind_is_gate : Kind L → Bool
+  kind_is_gate (Segment bytes) = false
+  kind_is_gate (Container links) = false
+  kind_is_gate (Thread clearance) = false
+  kind_is_gate (Gate clearance entry) = true
+
+  -- an object is there
+  abbrev pub is_there : Option (Object L) → Bool
+  is_there None = false
+  is_there (Some o) = true
+
+  -- a segment is there
+  abbrev pub is_segment : Option (Object L) → Bool
+  is_segment None = false
+  is_segment (Some o) = kind_is_segment o.kind
+
+  -- a container is there
+  abbrev pub is_container : Option (Object L) → Bool
+  is_container None = false
+  is_container (Some o) = kind_is_container o.kind
+
+  -- a thread is there
+  abbrev pub is_thread : Option (Object L) → Bool
+  is_thread None = false
+  is_thread (Some o) = kind_is_thread o.kind
+
+  -- a gate is there
+  abbrev pub is_gate : Option (Object L) → Bool
+  is_gate None = false
+  is_gate (Some o) = kind_is_gate o.kind
+
+  abbrev pub kind_links : Kind L → Numbers
+  kind_links (Segment bytes) = set.empty
+  kind_links (Container links) = links
+  kind_links (Thread clearance) = set.empty
+  kind_links (Gate clearance entry) = set.empty
+
+  -- what an object links: nothing, unless it is a container
+  abbrev pub links_in : Option (Object L) → Numbers
+  links_in None = set.empty
+  links_in (Some o) = kind_links o.kind
+
+  abbrev pub kind_bytes : Kind L → Option (List ℕ)
+  kind_bytes (Segment bytes) = Some bytes
+  kind_bytes (Container links) = None
+  kind_bytes (Thread clearance) = None
+  kind_bytes (Gate clearance entry) = None
+
+  -- the bytes of a segment that is there
+  abbrev pub bytes_there : Option (Object L) → Option (List ℕ)
+  bytes_there None = None
+  bytes_there (Some o) = kind_bytes o.kind
+
+  -- the bytes of a segment, and none of anything else
+  abbrev pub bytes_in : Option (Object L) → List ℕ
+  bytes_in o = or_no_bytes (bytes_there o)
+
+  -- the label of an object that is there
+  abbrev pub label_there : Option (Object L) → Option L
+  label_there None = None
+  label_there (Some o) = Some o.label
+
+  abbrev pub kind_clearance : Kind L → Option L
+  kind_clearance (Segment bytes) = None
+  kind_clearance (Container links) = None
+  kind_clearance (Thread clearance) = Some clearance
+  kind_clearance (Gate clearance entry) = Some clearance
+
+  -- the clearance of a thread or a gate that is there
+  abbrev pub clearance_there : Option (Object L) → Option L
+  clearance_there None = None
+  clearance_there (Some o) = kind_clearance o.kind
