@@ -1,10 +1,10 @@
-//! Owned bytes.
-ghost use Rattle.std.specs.Prelude.{◌≡◌, [], length, IfOk};
+//! Bytes with an owner.
+ghost use Rattle.std.specs.Prelude.{◌≡◌, ◌↔◌, [], length, IsTrue, IfOk};
 
 use std::alloc::{AllocError, Global};
 use std::marker::Model;
 
-/// An owned list of bytes.
+/// The content of a file or of a segment. Contracts see it as the list of its bytes.
 #[derive(Drop)]
 pub struct Bytes {
     content: Vec<u8>,
@@ -19,7 +19,7 @@ impl Model for Bytes {
 }
 
 impl Bytes {
-    /// No bytes.
+    /// No bytes, and no memory taken.
     pub fn new(alloc: Global) -> Self
         ensures { result ≡ [] }
     {
@@ -28,39 +28,68 @@ impl Bytes {
         }
     }
 
-    /// The bytes of a vector.
+    /// The bytes of a vector, which is moved and not copied.
     pub fn from_vec(content: Vec<u8>) -> Self
         ensures { result ≡ content.items }
     {
         Bytes { content }
     }
 
-    /// A copy of these bytes.
-    pub fn copy_of(alloc: Global, bytes: &[u8]) -> Result<Self, AllocError>
-        ensures { IfOk result (λ b. b ≡ bytes.now) }
+    /// A copy of lent bytes.
+    pub fn copy_of(alloc: Global, source: &[u8]) -> Result<Bytes, AllocError>
+        ensures { IfOk result (λ b. b ≡ source.now) }
     {
-        let content = Vec::from_slice(alloc, bytes)?;
+        let content = Vec::from_slice(alloc, source)?;
         Ok(Bytes { content })
     }
 
-    /// The bytes themselves.
     pub fn as_slice(&self) -> &[u8]
         ensures { result.now ≡ self.now }
     {
         self.content.as_slice()
     }
 
-    /// How many there are.
     pub fn len(&self) -> usize
         ensures { result ≡ length self.now }
     {
         self.content.len()
     }
 
-    /// The same bytes once more.
-    pub fn copy(&self, alloc: Global) -> Result<Self, AllocError>
+    pub fn is_empty(&self) -> bool
+        ensures { IsTrue result ↔ (self.now ≡ []) }
+    {
+        self.content.is_empty()
+    }
+
+    /// A second value with the same bytes.
+    pub fn copy(&self, alloc: Global) -> Result<Bytes, AllocError>
         ensures { IfOk result (λ b. b ≡ self.now) }
     {
-        Bytes::copy_of(alloc, self.content.as_slice())
+        Bytes::copy_of(alloc, self.as_slice())
+    }
+
+    /// The vector that holds the bytes.
+    pub fn into_vec(self) -> Vec<u8>
+        ensures { result.items ≡ self }
+    {
+        self.content
+    }
+}
+
+#[cfg(test)]
+mod tests {
+    use super::*;
+    use std::test::Fail;
+
+    #[test]
+    fn copies_bytes(rt: HostRuntime) -> Result<(), Fail> {
+        let first = Bytes::copy_of(rt.alloc(), b"a b".as_slice())?;
+        let second = first.copy(rt.alloc())?;
+        assert_eq!(rt; second.len(), 3);
+        assert!(rt; !second.is_empty());
+        assert!(rt; Bytes::new(rt.alloc()).is_empty());
+        let moved = Bytes::from_vec(second.into_vec());
+        assert_eq!(rt; moved.as_slice(), first.as_slice());
+        Ok(())
     }
 }

@@ -1,4 +1,4 @@
-//! What the flat side and the kernel side share.
+//! What the Unix side and the kernel side share: owned bytes, and the words for refusals.
 #![tactic(auto)]
 
 mod bytes;

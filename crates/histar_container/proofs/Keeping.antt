@@ -198,6 +198,12 @@ module _ {Id : Type 0} where
   linked_stand labels objects after d n o (Ok x) ok err all s = subst (AllStand labels) (sym ok) (stand_linked labels (put objects n o) d n (stand_put labels objects n o all s))
   linked_stand labels objects after d n o (Err e) ok err all s = subst (AllStand labels) (sym err) all
 
+  -- where an object was put or nothing was changed, too
+  pub placed_stand : {A E : Type 0} (labels : Id → Option Levels) (objects after : Objects Id) (n : ℕ) (o : Object Id) (r : Result A E)
+      → OnOk r (after ≡ put objects n o) → OnErr r (after ≡ objects) → AllStand labels objects → Stands labels o → AllStand labels after
+  placed_stand labels objects after n o (Ok x) ok err all s = subst (AllStand labels) (sym ok) (stand_put labels objects n o all s)
+  placed_stand labels objects after n o (Err e) ok err all s = subst (AllStand labels) (sym err) all
+
   -- tables of the same objects show the same
   pub shown_same : (labels : Id → Option Levels) (es fs : List (ℕ × Object Id)) → objects_of fs ≡ objects_of es → objects_of (shown labels fs) ≡ objects_of (shown labels es)
   shown_same labels es fs e = shows_all labels fs ∙ ap (by_value labels) e ∙ sym (shows_all labels es)
@@ -275,6 +281,15 @@ module _ {L : Type 0} (objects : Objects L) (next : ℕ) (unused : IsUnusedFrom 
 pub kept_new : {Id : Type 0} (labels : Id → Option Levels) (objects : Objects Levels) (fs : List (ℕ × Object Id)) (next d : ℕ) (o : Object Levels)
     → AllStand labels (objects_of fs) → IsUnusedFrom objects next → objects_of (shown labels fs) ≡ with_new objects d next o → IsKept labels fs (next + 1)
 kept_new labels objects fs next d o stand unused e = record { stand = stand; unused = subst (λ (f : Objects Levels). IsUnusedFrom f (next + 1)) (sym e) (unused_new objects next unused d o) }
+
+-- what a call keeps that puts an object under the next number
+pub kept_next : {Id : Type 0} (labels : Id → Option Levels) (objects : Objects Levels) (fs : List (ℕ × Object Id)) (next : ℕ) (o : Object Levels)
+    → AllStand labels (objects_of fs) → IsUnusedFrom objects next → objects_of (shown labels fs) ≡ put objects next o → IsKept labels fs (next + 1)
+kept_next labels objects fs next o stand unused e = record { stand = stand; unused = subst (λ (f : Objects Levels). IsUnusedFrom f (next + 1)) (sym e) (unused_put objects next unused next (next + 1) o (omega arith) (omega arith)) }
+
+-- what a call that gives the next number to no object keeps
+pub kept_skip : {Id : Type 0} (labels : Id → Option Levels) (es : List (ℕ × Object Id)) (next : ℕ) → IsKept labels es next → IsKept labels es (next + 1)
+kept_skip labels es next kept = record { stand = kept.stand; unused = record { none = λ q le. kept.unused.none q (omega arith) } }
 
 -- what a call that sets a thread's labels keeps, whether it did or not
 pub kept_own : {Id A E : Type 0} (labels : Id → Option Levels) (objects : Objects Levels) (fs : List (ℕ × Object Id)) (next t : ℕ) (o : Object Levels) (r : Result A E)

@@ -5,7 +5,7 @@ ghost use Rattle.std.specs.FinSet as set;
 ghost use Rattle.histar_label.specs.Levels.{Levels};
 ghost use Rattle.histar_label.specs.Store.{label_at, Keeps};
 ghost use Rattle.histar_object.specs.Objects.{objects_of, put, changed_at, with_new, holding, no_objects, thread_of, is_there, is_segment, is_container, is_thread, is_gate, links_in, bytes_there, label_there, clearance_there};
-ghost use Rattle.histar_object.specs.State.{observes, modifies, in_range, added, with_own, with_bytes};
+ghost use Rattle.histar_object.specs.State.{observes, modifies, in_range, added, with_next, skipping, with_own, with_bytes};
 ghost use Rattle.histar_container.specs.Shown.{shown, kind_by, AllStand, KindStands, IsKept};
 ghost use Rattle.histar_container.specs.Kept.{state_of};
 
@@ -51,6 +51,31 @@ impl<S: LabelStore + Drop> LabelledObjects<S> {
             next_object,
             next_category,
         }
+    }
+
+    /// Keeps an object under the next number, linked by no container yet: for a given start state.
+    pub fn push(&mut self, label: Label, kind: Kind<Label>) -> Result<(), AllocError>
+        requires { self.old.next_object < 18446744073709551615 }
+        ensures ok { OnOk result (state_of self.new ≡ with_next (state_of self.old) (record { label = label; kind = kind })) }
+        ensures err { OnErr result (state_of self.new ≡ state_of self.old) }
+    {
+        push_in(
+            &mut self.store,
+            &mut self.table,
+            ObjId::new(self.next_object),
+            label,
+            kind,
+        )?;
+        self.next_object += 1;
+        Ok(())
+    }
+
+    /// Gives the next number to no object: for a given start state.
+    pub fn skip(&mut self)
+        requires { self.old.next_object < 18446744073709551615 }
+        ensures { state_of self.new ≡ skipping (state_of self.old) }
+    {
+        self.next_object += 1;
     }
 
     /// The number that the next object gets.
@@ -274,6 +299,25 @@ fn put_kind<S: LabelStore>(store: &mut S, kind: Kind<Label>) -> Result<Kind<S::I
 }
 
 // Puts an object into the table and its labels into the store.
+fn push_in<S: LabelStore>(
+    store: &mut S,
+    table: &mut Table<S::Id>,
+    number: ObjId,
+    label: Label,
+    kind: Kind<Label>,
+) -> Result<(), AllocError>
+    requires stand { AllStand (S.labels store.old) (objects_of table.old) }
+    requires is_new { objects_of (shown (S.labels store.old) table.old) number ≡ None }
+    ensures stand { AllStand (S.labels store.new) (objects_of table.new) }
+    ensures ok { OnOk result (objects_of (shown (S.labels store.new) table.new) ≡ put (objects_of (shown (S.labels store.old) table.old)) number (record { label = label; kind = kind })) }
+    ensures err { OnErr result (objects_of (shown (S.labels store.new) table.new) ≡ objects_of (shown (S.labels store.old) table.old)) }
+{
+    let kind = put_kind(store, kind)?;
+    let label = store.put(label)?;
+    table.add(number, Object { label, kind })
+}
+
+// Puts a new object into the table, its labels into the store, and links it in a container.
 fn add_in<S: LabelStore>(
     store: &mut S,
     table: &mut Table<S::Id>,

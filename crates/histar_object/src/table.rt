@@ -63,7 +63,7 @@ impl<L> Table<L> {
         L: Drop,
         requires { objects_of self.old id ≡ None }
         ensures ok { OnOk result (objects_of self.new ≡ put (objects_of self.old) id object) }
-        ensures err { OnErr result (self.new ≡ self.old) }
+        ensures err { OnErr result (objects_of self.new ≡ objects_of self.old) }
     {
         self.objects.insert(id.number(), object)?;
         Ok(())
