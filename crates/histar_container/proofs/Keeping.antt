@@ -216,10 +216,11 @@ module _ {Id : Type 0} where
   none_some a o e f = cc
 
   -- no objects have no Ids, and use no number
-  pub nothing_kept : (labels : Id → Option Levels) (es : List (ℕ × Object Id)) (next : ℕ) → objects_of es ≡ no_objects → IsKept labels es next
-  nothing_kept labels es next e = record {
+  pub nothing_kept : (labels : Id → Option Levels) (es : List (ℕ × Object Id)) (next : ℕ) → 0 < next → objects_of es ≡ no_objects → IsKept labels es next
+  nothing_kept labels es next positive e = record {
     stand = record { each = λ q o here. absurd (none_some (objects_of es q) o (ap (λ f. f q) e) here) };
     unused = record { none = λ q le. ap (λ f. f q) (nothing_shown labels es e) };
+    positive = positive;
   }
 
   -- a table shows the same where its store has only taken more labels
@@ -280,28 +281,29 @@ module _ {L : Type 0} (objects : Objects L) (next : ℕ) (unused : IsUnusedFrom 
 -- what a call that links a new object keeps, where it did
 pub kept_new : {Id : Type 0} (labels : Id → Option Levels) (objects : Objects Levels) (fs : List (ℕ × Object Id)) (next d : ℕ) (o : Object Levels)
     → AllStand labels (objects_of fs) → IsUnusedFrom objects next → objects_of (shown labels fs) ≡ with_new objects d next o → IsKept labels fs (next + 1)
-kept_new labels objects fs next d o stand unused e = record { stand = stand; unused = subst (λ (f : Objects Levels). IsUnusedFrom f (next + 1)) (sym e) (unused_new objects next unused d o) }
+kept_new labels objects fs next d o stand unused e = record { stand = stand; unused = subst (λ (f : Objects Levels). IsUnusedFrom f (next + 1)) (sym e) (unused_new objects next unused d o); positive = omega arith }
 
 -- what a call keeps that puts an object under the next number
 pub kept_next : {Id : Type 0} (labels : Id → Option Levels) (objects : Objects Levels) (fs : List (ℕ × Object Id)) (next : ℕ) (o : Object Levels)
     → AllStand labels (objects_of fs) → IsUnusedFrom objects next → objects_of (shown labels fs) ≡ put objects next o → IsKept labels fs (next + 1)
-kept_next labels objects fs next o stand unused e = record { stand = stand; unused = subst (λ (f : Objects Levels). IsUnusedFrom f (next + 1)) (sym e) (unused_put objects next unused next (next + 1) o (omega arith) (omega arith)) }
+kept_next labels objects fs next o stand unused e = record { stand = stand; unused = subst (λ (f : Objects Levels). IsUnusedFrom f (next + 1)) (sym e) (unused_put objects next unused next (next + 1) o (omega arith) (omega arith)); positive = omega arith }
 
 -- what a call that gives the next number to no object keeps
 pub kept_skip : {Id : Type 0} (labels : Id → Option Levels) (es : List (ℕ × Object Id)) (next : ℕ) → IsKept labels es next → IsKept labels es (next + 1)
-kept_skip labels es next kept = record { stand = kept.stand; unused = record { none = λ q le. kept.unused.none q (omega arith) } }
+kept_skip labels es next kept = record { stand = kept.stand; unused = record { none = λ q le. kept.unused.none q (omega arith) }; positive = omega arith }
 
 -- what a call that sets a thread's labels keeps, whether it did or not
 pub kept_own : {Id A E : Type 0} (labels : Id → Option Levels) (objects : Objects Levels) (fs : List (ℕ × Object Id)) (next t : ℕ) (o : Object Levels) (r : Result A E)
-    → AllStand labels (objects_of fs) → IsUnusedFrom objects next → is_thread (objects t) ≡ true → OnOk r (objects_of (shown labels fs) ≡ put objects t o) → OnErr r (objects_of (shown labels fs) ≡ objects) → IsKept labels fs next
-kept_own labels objects fs next t o (Ok x) stand unused thread ok err = record { stand = stand; unused = subst (λ (f : Objects Levels). IsUnusedFrom f next) (sym ok) (unused_own objects next unused t o thread) }
-kept_own labels objects fs next t o (Err x) stand unused thread ok err = record { stand = stand; unused = subst (λ (f : Objects Levels). IsUnusedFrom f next) (sym err) unused }
+    → AllStand labels (objects_of fs) → IsUnusedFrom objects next → 0 < next → is_thread (objects t) ≡ true → OnOk r (objects_of (shown labels fs) ≡ put objects t o) → OnErr r (objects_of (shown labels fs) ≡ objects) → IsKept labels fs next
+kept_own labels objects fs next t o (Ok x) stand unused positive thread ok err = record { stand = stand; unused = subst (λ (f : Objects Levels). IsUnusedFrom f next) (sym ok) (unused_own objects next unused t o thread); positive = positive }
+kept_own labels objects fs next t o (Err x) stand unused positive thread ok err = record { stand = stand; unused = subst (λ (f : Objects Levels). IsUnusedFrom f next) (sym err) unused; positive = positive }
 
 -- what a call that sets a segment's bytes keeps
 pub kept_held : {Id : Type 0} (labels : Id → Option Levels) (es fs : List (ℕ × Object Id)) (next q : ℕ) (bytes : List ℕ) → objects_of fs ≡ changed_at (objects_of es) q (holding bytes) → IsKept labels es next → IsKept labels fs next
 kept_held labels es fs next q bytes e kept = record {
   stand = subst (AllStand labels) (sym e) (stand_held labels (objects_of es) q bytes kept.stand);
   unused = subst (λ (f : Objects Levels). IsUnusedFrom f next) (sym (shown_held labels es fs q bytes e)) (unused_changed (objects_of (shown labels es)) next kept.unused q (holding bytes));
+  positive = kept.positive;
 }
 
 -- the segment that is lent ends with the bytes that were written

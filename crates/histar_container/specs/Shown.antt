@@ -1,5 +1,5 @@
 -- Objects whose labels stand in a store under Ids, and the objects with labels by value that they show.
-use Rattle.std.specs.Prelude.{◌≡◌, ℕ, ◌≤◌, List, [], ◌∷◌, Option, None, Some, IsSome, option_map}
+use Rattle.std.specs.Prelude.{◌≡◌, ℕ, ◌<◌, ◌≤◌, List, [], ◌∷◌, Option, None, Some, IsSome, option_map}
 use Rattle.histar_label.specs.Levels.{Levels}
 use Rattle.histar_label.specs.Store.{label_at}
 use Rattle.histar_object.specs.declared.objects.Kind.{Kind}
@@ -48,3 +48,4 @@ pub record IsUnusedFrom {L : Type 0} (objects : Objects L) (next : ℕ) : Type 0
 pub record IsKept {Id : Type 0} (labels : Id → Option Levels) (es : List (ℕ × Object Id)) (next : ℕ) : Type 0 where
   pub stand : AllStand labels (objects_of es)
   pub unused : IsUnusedFrom (objects_of (shown labels es)) next
+  pub positive : 0 < next

@@ -43,6 +43,7 @@ impl<S: LabelStore + Drop> Model for LabelledObjects<S> {
 impl<S: LabelStore + Drop> LabelledObjects<S> {
     /// No objects, with the numbers that the next object and the next category get.
     pub fn new(alloc: Global, store: S, next_object: u64, next_category: u64) -> Self
+        requires { 0 < next_object }
         ensures { state_of result ≡ record { objects = no_objects; next_object = next_object; next_category = next_category } }
     {
         LabelledObjects {
@@ -80,7 +81,8 @@ impl<S: LabelStore + Drop> LabelledObjects<S> {
 
     /// The number that the next object gets.
     pub fn next_object(&self) -> ObjId
-        ensures { result ≡ self.now.next_object }
+        ensures value { result ≡ self.now.next_object }
+        ensures positive { 0 < result }
     {
         ObjId::new(self.next_object)
     }

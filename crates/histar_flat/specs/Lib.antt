@@ -1,0 +1,4 @@
+pub mod Padding
+pub mod PaddingLaws
+pub mod Words
+pub mod Texts

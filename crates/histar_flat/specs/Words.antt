@@ -1,0 +1,94 @@
+-- Names, passwords, paths, processes and modes: what they are, and which bytes are read as one.
+use Rattle.std.specs.Prelude.{ℕ, Bool, true, false, not, ◌&&◌, ◌||◌, ◌==◌, nat_le, nat_lt, List, [], ◌∷◌, length, codes, Option, Some, None, option_map, if◌then◌else◌}
+use Rattle.std.specs.List.{list_all}
+use Rattle.std.specs.Str.{bytes_eq}
+use Rattle.histar_flat.specs.declared.calls.Mode.{Mode}
+use Rattle.histar_flat.specs.declared.calls.Mode.TheVariants.{Private, Readable}
+
+-- a name is its bytes
+abbrev pub Name : Type 0
+Name = List ℕ
+
+-- a password is its bytes
+abbrev pub Password : Type 0
+Password = List ℕ
+
+-- a path is its names, the last one first: `/` is [], and n ∷ d is the entry n of the directory d
+abbrev pub Path : Type 0
+Path = List Name
+
+-- a process's name is its numbers after the 0, the last one first: 0 is [], and n ∷ p is the child n of p
+abbrev pub ProcName : Type 0
+ProcName = List ℕ
+
+-- a letter: a to z
+abbrev pub is_letter : ℕ → Bool
+is_letter b = nat_le 97 b && nat_le b 122
+
+-- a byte that a name may have: a letter, 0 to 9, a dot, an underscore or a hyphen
+abbrev pub is_name_byte : ℕ → Bool
+is_name_byte b = is_letter b || (nat_le 48 b && nat_le b 57) || b == 46 || b == 95 || b == 45
+
+-- a byte that a password may have: printable, and no space
+abbrev pub is_password_byte : ℕ → Bool
+is_password_byte b = nat_le 33 b && nat_le b 126
+
+-- `.` or `..`
+abbrev pub is_dots : List ℕ → Bool
+is_dots [] = false
+is_dots (a ∷ []) = a == 46
+is_dots (a ∷ b ∷ []) = a == 46 && b == 46
+is_dots (a ∷ b ∷ c ∷ bs) = false
+
+-- the first byte is a letter
+abbrev pub begins_with_letter : List ℕ → Bool
+begins_with_letter [] = false
+begins_with_letter (b ∷ bs) = is_letter b
+
+-- a name: 1 to 32 such bytes, not `.` and not `..`
+unfoldable pub is_name : List ℕ → Bool
+is_name bs = nat_lt 0 (length bs) && nat_le (length bs) 32 && list_all is_name_byte bs && not (is_dots bs)
+
+-- a name that a user may have: it begins with a letter and is not `nobody`
+unfoldable pub is_user_name : List ℕ → Bool
+is_user_name bs = is_name bs && begins_with_letter bs && not (bytes_eq bs (codes "nobody"))
+
+-- a password: 1 to 32 such bytes
+unfoldable pub is_password : List ℕ → Bool
+is_password bs = nat_lt 0 (length bs) && nat_le (length bs) 32 && list_all is_password_byte bs
+
+-- the name that the bytes are, if they are one
+abbrev pub name_of : List ℕ → Option Name
+name_of bs = if is_name bs then Some bs else None
+
+-- the user's name that the bytes are, if they are one
+abbrev pub user_name_of : List ℕ → Option Name
+user_name_of bs = if is_user_name bs then Some bs else None
+
+-- the password that the bytes are, if they are one
+abbrev pub password_of : List ℕ → Option Password
+password_of bs = if is_password bs then Some bs else None
+
+-- a path that can be named: an entry of `/`
+abbrev pub is_path : Path → Bool
+is_path [] = false
+is_path (n ∷ []) = is_name n
+is_path (n ∷ m ∷ d) = false
+
+-- a process that can be named: the first one
+abbrev pub is_process : ProcName → Bool
+is_process [] = true
+is_process (n ∷ p) = false
+
+-- the path that the bytes are, if they are one: a slash and a name
+abbrev pub path_of : List ℕ → Option Path
+path_of [] = None
+path_of (b ∷ bs) = if b == 47 then option_map (λ name. name ∷ []) (name_of bs) else None
+
+-- the process that the bytes name, if they name one: `0`
+abbrev pub process_of : List ℕ → Option ProcName
+process_of bs = if bytes_eq bs (codes "0") then Some [] else None
+
+-- the mode that the bytes name, if they name one: `private` or `readable`
+abbrev pub mode_of : List ℕ → Option Mode
+mode_of bs = if bytes_eq bs (codes "private") then Some Private else (if bytes_eq bs (codes "readable") then Some Readable else None)

@@ -1,0 +1,17 @@
+//! Words, calls and replies of the Unix library, as a user of it writes and reads them.
+#![tactic(auto)]
+
+mod calls;
+mod names;
+mod paths;
+mod processes;
+mod readers;
+mod replies;
+mod words;
+
+pub use calls::{Mode, UnixCall, User};
+pub use names::{Name, Password};
+pub use paths::Path;
+pub use processes::ProcName;
+pub use readers::{read_mode, read_name, read_password, read_path, read_process, read_user_name};
+pub use replies::{Errno, Reply};

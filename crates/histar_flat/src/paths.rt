@@ -1,0 +1,97 @@
+//! Paths.
+ghost use Rattle.std.specs.Prelude.{◌≡◌, ◌≤◌, [], ◌∷◌, length, slice_get, codes};
+ghost use Rattle.std.specs.Option.{option_copied};
+
+use crate::names::Name;
+use std::marker::Model;
+
+/// The most names of a path.
+pub const MAX_DEPTH: usize = 8;
+
+/// `/`, or up to eight names. Contracts see a path as the list of its names, the last one first:
+/// `/` is the empty list, and a name before the path of a directory is an entry of it.
+#[derive(Clone, Copy)]
+pub struct Path {
+    names: [Name; MAX_DEPTH],
+    len: u8,
+}
+
+impl Model for Path {
+    ghost use Rattle.std.specs.Prelude.{ℕ, List, length, take};
+    ghost use Rattle.histar_flat.specs.Padding.{padded, IsPadded, unused_name};
+    ghost use Rattle.histar_flat.specs.PaddingLaws.{padded-take, length-kept};
+    ghost use Rattle.std.proofs.Common.{refl};
+
+    ghost Value = { List (List ℕ) };
+
+    ghost view = { λ p. take p.len p.names };
+
+    ghost invariant = { λ p. IsPadded 8 unused_name p.names p.len };
+
+    ghost inverse = { λ q. record { names = padded 8 unused_name q; len = length q } };
+
+    ghost inverse_ok = { λ a h. Prim.rw (padded-take 8 unused_name a.names a.len h, length-kept 8 unused_name a.names a.len h) refl };
+}
+
+impl Path {
+    /// The path of an entry of `/`.
+    pub fn of(name: Name) -> Path
+        ensures { result ≡ name ∷ [] }
+    {
+        let mut names = [unused_name(); MAX_DEPTH];
+        names[0] = name;
+        Path { names, len: 1 }
+    }
+
+    /// The names of the path, the last one first.
+    pub fn names(&self) -> &[Name]
+        ensures { result.now ≡ self.now }
+    {
+        &self.names[..self.len as usize]
+    }
+
+    /// The last name, which `/` alone doesn't have.
+    pub fn last(&self) -> Option<&Name>
+        ensures { option_copied result ≡ slice_get self.now 0 }
+    {
+        self.names().first()
+    }
+
+    /// How many names the path has.
+    pub fn depth(&self) -> usize
+        ensures value { result ≡ length self.now }
+        ensures most { result ≤ 8 }
+    {
+        self.len as usize
+    }
+}
+
+impl PartialEq for Path {
+    ghost use Rattle.std.specs.Prelude.{nat_eq};
+    ghost use Rattle.std.specs.Cmp.Lexicographic.{pointwise, nat_list_eq_equiv};
+    ghost use Rattle.std.specs.Cmp.{partial_equiv_from_equiv};
+    ghost use Rattle.std.proofs.lemmas.Cmp.{lists_equiv};
+
+    ghost eq = { pointwise (pointwise nat_eq) };
+
+    ghost laws = { partial_equiv_from_equiv (lists_equiv nat_list_eq_equiv) };
+
+    fn eq(&self, other: &Path) -> bool {
+        self.names() == other.names()
+    }
+}
+
+impl Eq for Path {
+    ghost use Rattle.std.specs.Cmp.Lexicographic.{nat_list_eq_equiv};
+    ghost use Rattle.std.proofs.lemmas.Cmp.{lists_equiv};
+
+    ghost laws = { lists_equiv nat_list_eq_equiv };
+}
+
+/// The name that stands in the places of a path that are not used.
+#[tactic(auto, unfolding(crate::specs::Words::is_name))]
+fn unused_name() -> Name
+    ensures { result ≡ codes "-" }
+{
+    Name::of(b"-".as_slice())
+}

@@ -1,0 +1,80 @@
+//! Names of processes.
+ghost use Rattle.std.specs.Prelude.{◌≡◌, ◌↔◌, ◌≤◌, [], length, IsTrue};
+
+use std::marker::Model;
+
+/// The most numbers after the leading 0 of a process's name.
+pub const MAX_NUMBERS: usize = 7;
+
+/// `0`, then up to seven numbers, each of which is the number of a child. Contracts see a process's
+/// name as the list of the numbers after the 0, the last one first: process 0 is the empty list, and
+/// a number before a process's name is a child of it.
+#[derive(Clone, Copy)]
+pub struct ProcName {
+    numbers: [u8; MAX_NUMBERS],
+    len: u8,
+}
+
+impl Model for ProcName {
+    ghost use Rattle.std.specs.Prelude.{ℕ, List, length, take};
+    ghost use Rattle.histar_flat.specs.Padding.{padded, IsPadded};
+    ghost use Rattle.histar_flat.specs.PaddingLaws.{padded-take, length-kept};
+    ghost use Rattle.std.proofs.Common.{refl};
+
+    ghost Value = { List ℕ };
+
+    ghost view = { λ p. take p.len p.numbers };
+
+    ghost invariant = { λ p. IsPadded 7 0 p.numbers p.len };
+
+    ghost inverse = { λ ns. record { numbers = padded 7 0 ns; len = length ns } };
+
+    ghost inverse_ok = { λ a h. Prim.rw (padded-take 7 0 a.numbers a.len h, length-kept 7 0 a.numbers a.len h) refl };
+}
+
+impl ProcName {
+    /// The first process.
+    pub fn zero() -> ProcName
+        ensures { result ≡ [] }
+    {
+        ProcName {
+            numbers: [0; MAX_NUMBERS],
+            len: 0,
+        }
+    }
+
+    /// Whether this is the first process.
+    pub fn is_zero(&self) -> bool
+        ensures { IsTrue result ↔ (self.now ≡ []) }
+    {
+        self.numbers().is_empty()
+    }
+
+    /// The numbers after the leading 0, the last one first.
+    pub fn numbers(&self) -> &[u8]
+        ensures value { result.now ≡ self.now }
+        ensures most { length self.now ≤ 7 }
+    {
+        &self.numbers[..self.len as usize]
+    }
+}
+
+impl PartialEq for ProcName {
+    ghost use Rattle.std.specs.Prelude.{nat_eq};
+    ghost use Rattle.std.specs.Cmp.Lexicographic.{pointwise, nat_list_eq_equiv};
+    ghost use Rattle.std.specs.Cmp.{partial_equiv_from_equiv};
+
+    ghost eq = { pointwise nat_eq };
+
+    ghost laws = { partial_equiv_from_equiv nat_list_eq_equiv };
+
+    fn eq(&self, other: &ProcName) -> bool {
+        self.numbers() == other.numbers()
+    }
+}
+
+impl Eq for ProcName {
+    ghost use Rattle.std.specs.Cmp.Lexicographic.{nat_list_eq_equiv};
+
+    ghost laws = { nat_list_eq_equiv };
+}

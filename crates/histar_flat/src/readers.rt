@@ -1,0 +1,148 @@
+//! Readers of single words.
+ghost use Rattle.std.specs.Prelude.{◌≡◌, IsTrue};
+ghost use Rattle.std.specs.List.{list_all};
+ghost use Rattle.histar_flat.specs.Words.{name_of, user_name_of, password_of, path_of, process_of, mode_of, is_name_byte as name_byte, is_dots as dots, is_letter as letter, begins_with_letter as letter_first, is_name as name, is_user_name as user_name, is_password_byte as password_byte, is_password as password};
+
+use crate::calls::Mode;
+use crate::names::{Name, Password};
+use crate::paths::Path;
+use crate::processes::ProcName;
+use crate::words::MAX_WORD;
+
+/// The name that the bytes are.
+pub fn read_name(text: &[u8]) -> Option<Name>
+    ensures { result ≡ name_of text.now }
+{
+    if !is_name(text) {
+        return None;
+    }
+    Some(Name::of(text))
+}
+
+/// The name that the bytes are, if a user may have it: it begins with a letter and isn't `nobody`.
+pub fn read_user_name(text: &[u8]) -> Option<Name>
+    ensures { result ≡ user_name_of text.now }
+{
+    if !is_user_name(text) {
+        return None;
+    }
+    Some(Name::of(text))
+}
+
+/// The password that the bytes are.
+pub fn read_password(text: &[u8]) -> Option<Password>
+    ensures { result ≡ password_of text.now }
+{
+    if !is_password(text) {
+        return None;
+    }
+    Some(Password::of(text))
+}
+
+/// The path that the bytes are: a slash and one name.
+pub fn read_path(text: &[u8]) -> Option<Path>
+    ensures { result ≡ path_of text.now }
+{
+    match text {
+        [b'/', rest @ ..] => {
+            let name = read_name(rest)?;
+            Some(Path::of(name))
+        }
+        _ => None,
+    }
+}
+
+/// The process that the bytes name, which is `0` as yet.
+pub fn read_process(text: &[u8]) -> Option<ProcName>
+    ensures { result ≡ process_of text.now }
+{
+    if text == b"0".as_slice() {
+        Some(ProcName::zero())
+    } else {
+        None
+    }
+}
+
+/// The mode that the bytes name: `private` or `readable`.
+pub fn read_mode(text: &[u8]) -> Option<Mode>
+    ensures { result ≡ mode_of text.now }
+{
+    if text == b"private".as_slice() {
+        Some(Mode::Private)
+    } else if text == b"readable".as_slice() {
+        Some(Mode::Readable)
+    } else {
+        None
+    }
+}
+
+#[tactic(auto, unfolding(crate::specs::Words::is_name))]
+fn is_name(text: &[u8]) -> bool
+    ensures { result ≡ name text.now }
+{
+    !text.is_empty() && text.len() <= MAX_WORD && has_name_bytes(text) && !is_dots(text)
+}
+
+#[tactic(auto, unfolding(crate::specs::Words::is_user_name))]
+fn is_user_name(text: &[u8]) -> bool
+    ensures value { result ≡ user_name text.now }
+    ensures right { IsTrue result → IsTrue (name text.now) }
+{
+    is_name(text) && begins_with_letter(text) && text != b"nobody".as_slice()
+}
+
+#[tactic(auto, unfolding(crate::specs::Words::is_password))]
+fn is_password(text: &[u8]) -> bool
+    ensures { result ≡ password text.now }
+{
+    !text.is_empty() && text.len() <= MAX_WORD && has_password_bytes(text)
+}
+
+fn has_name_bytes(text: &[u8]) -> bool
+    ensures { result ≡ list_all name_byte text.now }
+{
+    text.iter().all(|b| is_name_byte(*b))
+}
+
+fn has_password_bytes(text: &[u8]) -> bool
+    ensures { result ≡ list_all password_byte text.now }
+{
+    text.iter().all(|b| is_password_byte(*b))
+}
+
+fn is_dots(text: &[u8]) -> bool
+    ensures { result ≡ dots text.now }
+{
+    match text {
+        [a] => *a == b'.',
+        [a, b] => *a == b'.' && *b == b'.',
+        _ => false,
+    }
+}
+
+fn begins_with_letter(text: &[u8]) -> bool
+    ensures { result ≡ letter_first text.now }
+{
+    match text {
+        [first, ..] => is_letter(*first),
+        _ => false,
+    }
+}
+
+fn is_letter(b: u8) -> bool
+    ensures { result ≡ letter b }
+{
+    matches!(b, b'a'..=b'z')
+}
+
+fn is_name_byte(b: u8) -> bool
+    ensures { result ≡ name_byte b }
+{
+    matches!(b, b'a'..=b'z' | b'0'..=b'9' | b'.' | b'_' | b'-')
+}
+
+fn is_password_byte(b: u8) -> bool
+    ensures { result ≡ password_byte b }
+{
+    matches!(b, 0x21..=0x7e)
+}

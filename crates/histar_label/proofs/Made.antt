@@ -1,0 +1,68 @@
+-- The test of the categories that a label names says that each with another level than the default is made.
+use Rattle.std.proofs.Common.{◌≡◌, ◌≢◌, ◌↔◌, ℕ, ◌<◌, ◌≤◌, Bool, true, false, ◌&&◌, if◌then◌else◌, IsTrue, get_or, refl, sym, ap, ◌∙◌, arith}
+use Rattle.std.specs.Prelude.{nat_lt, ◌==◌}
+use Rattle.std.specs.List.{list_all}
+use Rattle.std.proofs.lemmas.List.Elements.{All-contains, Contains-get_or}
+use Rattle.std.proofs.lemmas.List.Sums.{AllPass-from_list_all, list_all-from_AllPass}
+use Rattle.std.proofs.lemmas.Bool.Decides.{nat_tests}
+use Rattle.histar_label.specs.declared.levels.Level.{Level}
+use Rattle.histar_label.specs.Levels.{Levels, level_of, default_of, exceptions_of, constant, with_level, level_of-constant, level_of-with_level, default_of-constant, default_of-with_level, NamesOnlyMade, is_made}
+use Rattle.histar_label.proofs.Listed.{ListsExceptions-exceptions_of}
+
+-- whether a category is made
+abbrev made : ℕ → ℕ → Bool
+made next c = nat_lt 0 c && nat_lt c next
+
+-- the test of one category says that its number is in range
+in_range : (next c : ℕ) (low high : Bool) → nat_lt 0 c ≡ low → nat_lt c next ≡ high → (low && high) ≡ true → (0 < c) × (c < next)
+in_range next c true true l h both = (grind (arith, nat_tests), grind (arith, nat_tests))
+in_range next c true false l h both = cc
+in_range next c false high l h both = cc
+
+-- a number in range passes the test
+passes : (next c : ℕ) → (0 < c) × (c < next) → made next c ≡ true
+passes next c is =
+    let low : nat_lt 0 c ≡ true = grind (arith, nat_tests, is.0) in
+    let high : nat_lt c next ≡ true = grind (arith, nat_tests, is.1) in
+    rw (low, high) refl
+
+-- the test passes exactly where each category with another level than the default is in range
+pub is_made-law : (next : ℕ) (L : Levels) → IsTrue (is_made next L) ↔ NamesOnlyMade next L
+unfolding is_made
+is_made-law next L = (
+  λ all c differs.
+      let there = (ListsExceptions-exceptions_of L c (level_of L c)).1 (refl, differs) in
+      let passed = All-contains (λ e. made next e.0 ≡ true) (exceptions_of L) (c, level_of L c) (AllPass-from_list_all (λ e. made next e.0) (exceptions_of L) all) there in
+      in_range next c (nat_lt 0 c) (nat_lt c next) refl refl passed,
+  λ named. list_all-from_AllPass (λ e. made next e.0) (exceptions_of L) (λ k d lt.
+      let e = get_or (exceptions_of L) k d in
+      let listed = (ListsExceptions-exceptions_of L e.0 e.1).0 (Contains-get_or (exceptions_of L) k d lt) in
+      passes next e.0 (named e.0 (λ is. listed.1 (sym listed.0 ∙ is)))),
+)
+
+-- an answer that says so is the test
+pub made_answer : (next : ℕ) (L : Levels) (r : Bool) → r ≡ is_made next L → IsTrue r ↔ NamesOnlyMade next L
+made_answer next L r is = rw is (is_made-law next L)
+
+-- a label with no exception names no category
+pub is_made-constant : (next : ℕ) (l : Level) → is_made next (constant l) ≡ true
+is_made-constant next l = (is_made-law next (constant l)).1 (λ c differs. absurd (differs (level_of-constant l c ∙ sym (default_of-constant l))))
+
+-- what is made stays so as more categories are made
+pub is_made-later : (next later : ℕ) (L : Levels) → next ≤ later → is_made next L ≡ true → is_made later L ≡ true
+is_made-later next later L le made = (is_made-law later L).1 (λ c differs. let is = (is_made-law next L).0 made c differs in (is.0, omega (arith, is.1)))
+
+-- the levels of a label at other categories than the changed one, by the test of the category
+kept_level : (b : Bool) (l m n : Level) → m ≡ (if b then l else n) → b ≡ false → m ≡ n
+kept_level true l m n is other = cc
+kept_level false l m n is other = is
+
+-- a new level at a category that is made names only categories that are made
+pub is_made-with_level : (next : ℕ) (L : Levels) (c : ℕ) (l : Level) → 0 < c → c < next → is_made next L ≡ true → is_made next (with_level L c l) ≡ true
+is_made-with_level next L c l low high made =
+    (is_made-law next (with_level L c l)).1 (λ q differs.
+        elim (q == c) as (λ b. (q == c) ≡ b → (0 < q) × (q < next)) [
+          | true ↦ λ same. let is : q ≡ c = grind (arith, nat_tests) in (omega arith, omega arith)
+          | false ↦ λ other. (is_made-law next L).0 made q (λ is.
+              differs (kept_level (q == c) l (level_of (with_level L c l) q) (level_of L q) (level_of-with_level L c l q) other ∙ is ∙ sym (default_of-with_level L c l)))
+        ] refl)

@@ -1,0 +1,5 @@
+use Rattle.histar_label.proofs.Orders.{compares_functions}
+use Rattle.histar_label.proofs.laws.equality_is_of_functions.Goals as goal
+
+pub returns : goal.returns
+returns c = compares_functions

@@ -1,0 +1,5 @@
+use Rattle.histar_label.proofs.Orders.{listed}
+use Rattle.histar_label.proofs.laws.labels_are_listed.Goals as goal
+
+pub returns : goal.returns
+returns c = listed

@@ -1,0 +1,5 @@
+use Rattle.histar_label.proofs.Orders.{tests_pointwise}
+use Rattle.histar_label.proofs.laws.tests_are_pointwise.Goals as goal
+
+pub returns : goal.returns
+returns c = tests_pointwise

@@ -1,0 +1,62 @@
+-- What the comparisons, the join and the floor of labels amount to, in the words of orders.
+use Rattle.std.specs.Prelude.{◌≡◌, ◌≢◌, ◌↔◌, ◌⊎◌, ℕ, ◌≤◌, Bool, IsTrue}
+use Rattle.histar_label.specs.declared.levels.Level.{Level}
+use Rattle.histar_label.specs.declared.levels.Level.TheVariants.{Star}
+use Rattle.histar_label.specs.Level.{rank}
+use Rattle.histar_label.specs.Levels.{Levels, level_of, default_of, exceptions_of, grades, raised_grades, joined, IsBelow, IsDefault, ListsExceptions, HasStar, NamesOnlyMade, is_below, is_below_raised, is_below_join, is_below_join_raised, has_star, is_made}
+use Rattle.histar_label.specs.Exceptions.{IsRising}
+use Rattle.histar_label.specs.Same.{is_same}
+
+-- the two labels have the same level at each category
+abbrev pub IsSameFunction : Levels → Levels → Type 0
+IsSameFunction L M = (c : ℕ) → level_of L c ≡ level_of M c
+
+-- labels are compared as functions: one value for each function, and the test of equality decides it
+pub record ComparesFunctions (test : Levels → Levels → Bool) : Type 0 where
+  pub one_value : (L M : Levels) → IsSameFunction L M → L ≡ M
+  pub decided : (L M : Levels) → IsTrue (test L M) ↔ IsSameFunction L M
+
+-- what a label lists is what tells it apart: its default, and in rising order each category with another level
+pub record IsListed (L : Levels) : Type 0 where
+  pub default : IsDefault L (default_of L)
+  pub rising : IsRising (exceptions_of L)
+  pub listed : ListsExceptions L (exceptions_of L)
+
+-- each test answers what holds at every category
+pub record TestsArePointwise : Type 0 where
+  pub below : (L M : Levels) → IsTrue (is_below L M) ↔ IsBelow (grades L) (grades M)
+  pub below_raised : (L M : Levels) → IsTrue (is_below_raised L M) ↔ IsBelow (grades L) (raised_grades M)
+  pub below_join : (L F S : Levels) → IsTrue (is_below_join L F S) ↔ IsBelow (grades L) (joined (grades F) (grades S))
+  pub below_join_raised : (L F S : Levels) → IsTrue (is_below_join_raised L F S) ↔ IsBelow (grades L) (joined (grades F) (raised_grades S))
+  pub star : (L : Levels) → IsTrue (has_star L) ↔ HasStar L
+  pub made : (next : ℕ) (L : Levels) → IsTrue (is_made next L) ↔ NamesOnlyMade next L
+
+-- the test is a partial order: labels that are each below the other have the same level at each category
+pub record IsPartialOrder (test : Levels → Levels → Bool) : Type 0 where
+  pub reflexive : (L : Levels) → IsTrue (test L L)
+  pub transitive : (L M N : Levels) → IsTrue (test L M) → IsTrue (test M N) → IsTrue (test L N)
+  pub antisymmetric : (L M : Levels) → IsTrue (test L M) → IsTrue (test M L) → IsSameFunction L M
+
+-- J is above both labels, and below each label that is above both
+pub record IsLeastUpperBound (L M J : Levels) : Type 0 where
+  pub above_first : IsTrue (is_below L J)
+  pub above_second : IsTrue (is_below M J)
+  pub least : (N : Levels) → IsTrue (is_below L N) → IsTrue (is_below M N) → IsTrue (is_below J N)
+
+-- N has star where either label has star, and elsewhere is at least as high as both
+pub record OwnsAndBounds (L M N : Levels) : Type 0 where
+  pub owns : (c : ℕ) → (level_of L c ≡ Star) ⊎ (level_of M c ≡ Star) → level_of N c ≡ Star
+  pub bounds : (c : ℕ) → level_of L c ≢ Star → level_of M c ≢ Star → (rank (level_of L c) ≤ rank (level_of N c)) × (rank (level_of M c) ≤ rank (level_of N c))
+
+-- the first label is above the second at no category, where star is read as J in both: star is the highest level of this order
+abbrev pub IsRaisedBelow : Levels → Levels → Type 0
+IsRaisedBelow L M = IsBelow (raised_grades L) (raised_grades M)
+
+-- F is the least label with star where either has star and at least both elsewhere, and the least upper bound of both in the order
+-- where star is the highest level
+pub record IsFloor (L M F : Levels) : Type 0 where
+  pub itself : OwnsAndBounds L M F
+  pub least : (N : Levels) → OwnsAndBounds L M N → IsTrue (is_below F N)
+  pub raised_above_first : IsRaisedBelow L F
+  pub raised_above_second : IsRaisedBelow M F
+  pub raised_least : (N : Levels) → IsRaisedBelow L N → IsRaisedBelow M N → IsRaisedBelow F N

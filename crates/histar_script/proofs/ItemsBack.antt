@@ -1,0 +1,72 @@
+-- Lines say by reading what they say by the grammar.
+use Rattle.std.proofs.Common.{◌≡◌, ℕ, true, cond, eqb, List, [], ◌∷◌, Some, None, codes, refl, sym, ap, subst, ◌∙◌, inl, inr}
+use Rattle.std.specs.Str.{bytes_eq}
+use Rattle.std.proofs.lemmas.Bool.{eqb-true}
+use Rattle.histar_flat.specs.Words.{process_of}
+use Rattle.histar_script.specs.declared.items.Item.{Item}
+use Rattle.histar_script.specs.declared.items.Item.TheVariants as items
+use Rattle.histar_script.specs.Lines.{is_plain, split_word, ◌space◌}
+use Rattle.histar_script.specs.Reading.{◌>>=◌, user_of, call_of, user_item, call_item, words_item, item_of}
+use Rattle.histar_script.specs.Grammar.{IsUserText, SaysInWords, Says}
+use Rattle.histar_script.proofs.Chains.{bind_some, chosen}
+use Rattle.histar_script.proofs.WordsBack.{parted, same_bytes, process_takes}
+use Rattle.histar_script.proofs.CallsBack.{user_takes, user_again, call_takes, call_again}
+
+-- a user line that is read is spelled so
+user_line_takes : (line rest : List ℕ) (i : Item) → line ≡ codes "user" space rest → user_item rest ≡ Some i → SaysInWords line i
+user_line_takes line rest i spelled e =
+    let a = bind_some (user_of rest) (λ user. Some (items.User user)) i e in
+    let u = user_takes rest a.0 a.1 in
+    let same : items.User a.0 ≡ i = cc in
+    let is : IsUserText line a.0 = record { spelled = spelled ∙ ap (λ (l : List ℕ). codes "user" space l) u.0; name = u.1; password = u.2 } in
+    subst (SaysInWords line) same is
+
+-- a call line that is read is spelled so
+call_line_takes : (line word rest : List ℕ) (i : Item) → line ≡ word space rest → call_item word rest ≡ Some i → SaysInWords line i
+call_line_takes line word rest i spelled e =
+    let a = bind_some (process_of word) (λ process. call_of rest >>= λ call. Some (items.Call process call)) i e in
+    let b = bind_some (call_of rest) (λ call. Some (items.Call a.0 call)) i a.2 in
+    let p = process_takes word a.0 a.1 in
+    let same : items.Call a.0 b.0 ≡ i = cc in
+    subst (SaysInWords line) same (rest, spelled ∙ ap (λ (w : List ℕ). w space rest) p.0, p.1, call_takes rest b.0 b.1)
+
+-- a line of words that is read is spelled so
+words_take : (line : List ℕ) (i : Item) → words_item line ≡ Some i → SaysInWords line i
+unfolding words_item
+words_take line i e =
+    let w = split_word line in
+    let a = bind_some w.1 (λ rest. cond (bytes_eq w.0 (codes "user")) (user_item rest) (call_item w.0 rest)) i e in
+    elim (chosen (bytes_eq w.0 (codes "user")) (user_item a.0) (call_item w.0 a.0) (Some i) a.2) [
+      | inl h ↦ user_line_takes line a.0 i (parted line (codes "user") a.0 (same_bytes w.0 (codes "user") h.0) a.1) h.1
+      | inr h ↦ call_line_takes line w.0 a.0 i (parted line w.0 a.0 refl a.1) h.1
+    ]
+
+-- what a line says by reading, it says by the grammar
+pub item_takes : (line : List ℕ) (i : Item) → item_of line ≡ Some i → Says line i
+unfolding item_of
+item_takes [] i e = inl (refl, cc)
+item_takes (b ∷ bs) i e =
+    elim (chosen (is_plain (b ∷ bs)) (cond (eqb b 35) (Some items.Comment) (words_item (b ∷ bs))) None (Some i) e) [
+      | inl plain ↦ inr (
+        plain.0,
+        elim (chosen (eqb b 35) (Some items.Comment) (words_item (b ∷ bs)) (Some i) plain.1) [
+          | inl h ↦ let same : items.Comment ≡ i = cc in subst (SaysInWords (b ∷ bs)) same (bs, ap (λ (x : ℕ). x ∷ bs) (eqb-true b 35 h.0))
+          | inr h ↦ words_take (b ∷ bs) i h.1
+        ],
+      )
+      | inr h ↦ absurd cc
+    ]
+
+-- and the other way
+words_again : (line : List ℕ) (i : Item) → is_plain line ≡ true → SaysInWords line i → item_of line ≡ Some i
+unfolding item_of words_item split_word
+words_again line items.Comment plain h = ap item_of h.1 ∙ rw (ap is_plain (sym h.1) ∙ plain) refl
+words_again line (items.User u) plain h = ap item_of h.spelled ∙ rw (ap is_plain (sym h.spelled) ∙ plain, user_again u.name u.password h.name h.password) refl
+words_again line (items.Call [] c) plain h = ap item_of h.1 ∙ rw (ap is_plain (sym h.1) ∙ plain, call_again h.0 c h.3) refl
+words_again line (items.Call (n ∷ p) c) plain h = absurd cc
+
+-- and the other way
+pub item_again : (line : List ℕ) (i : Item) → Says line i → item_of line ≡ Some i
+unfolding item_of
+item_again line i (inl h) = ap item_of h.0 ∙ ap (λ (x : Item). Some x) (sym h.1)
+item_again line i (inr h) = words_again line i h.0 h.1

@@ -1,0 +1,10 @@
+pub mod Chains
+pub mod LineLemmas
+pub mod ReadingLemmas
+pub mod WordsBack
+pub mod CallsBack
+pub mod ItemsBack
+pub mod ScriptsBack
+pub mod Beginnings
+pub mod FirstBad
+pub mod Answered

@@ -1,0 +1,11 @@
+use Rattle.histar_script.proofs.Answered.{is_found, is_read, is_first_bad}
+use Rattle.histar_script.proofs.script.read_script.Goals as goal
+
+pub returns-clause-found : goal.returns-clause-found
+returns-clause-found c = is_found c.read_lines.result c.args.text.now c.read_lines.ensures
+
+pub returns-clause-only : goal.returns-clause-only
+returns-clause-only c = λ script short is. is_read c.read_lines.result c.args.text.now script c.read_lines.ensures is
+
+pub returns-clause-bad : goal.returns-clause-bad
+returns-clause-bad c = λ n e. is_first_bad c.read_lines.result c.args.text.now n c.read_lines.ensures e

@@ -1,0 +1,70 @@
+-- The grammar: what a line says, which script a text is, and which line is bad.
+use Rattle.std.specs.Prelude.{◌≡◌, ◌≢◌, ℕ, ◌+◌, ◌-◌, ◌<◌, ◌≤◌, ◌⊎◌, IsTrue, List, [], ◌∷◌, ◌++◌, length, take, codes}
+use Rattle.std.specs.List.{AllByRecursion}
+use Rattle.histar_flat.specs.declared.calls.User.{User}
+use Rattle.histar_flat.specs.declared.calls.UnixCall.{UnixCall}
+use Rattle.histar_flat.specs.declared.calls.UnixCall.TheVariants.{Create, Write, Read, Login}
+use Rattle.histar_flat.specs.Words.{is_name, is_user_name, is_password, is_path, is_process}
+use Rattle.histar_flat.specs.Texts.{path_text, process_text, mode_text}
+use Rattle.histar_script.specs.declared.items.Item.{Item}
+use Rattle.histar_script.specs.declared.items.Item.TheVariants as items
+use Rattle.histar_script.specs.Lines.{lines_of, is_plain, ◌space◌}
+use Rattle.histar_script.specs.Script.{Reading, nothing_read}
+
+-- `user NAME PASSWORD`, the name being one that a user may have
+pub record IsUserText (text : List ℕ) (u : User) : Type 0 where
+  pub spelled : text ≡ codes "user" space u.name space u.password
+  pub name : IsTrue (is_user_name u.name)
+  pub password : IsTrue (is_password u.password)
+
+-- `create PATH MODE`, `write PATH BYTES` with any bytes, `read PATH`, or `login NAME PASSWORD` with any name
+abbrev pub IsCallText : List ℕ → UnixCall → Type 0
+IsCallText text (Create path mode) = (text ≡ codes "create" space path_text path space mode_text mode) × IsTrue (is_path path)
+IsCallText text (Write path bytes) = (text ≡ codes "write" space path_text path space bytes) × IsTrue (is_path path)
+IsCallText text (Read path) = (text ≡ codes "read" space path_text path) × IsTrue (is_path path)
+IsCallText text (Login name password) = (text ≡ codes "login" space name space password) × IsTrue (is_name name) × IsTrue (is_password password)
+
+-- what a line that is not empty says: `#..`, `user NAME PASSWORD` or `PROC CALL`
+abbrev pub SaysInWords : List ℕ → Item → Type 0
+SaysInWords line items.Comment = (rest : List ℕ) × (line ≡ codes "#" ++ rest)
+SaysInWords line (items.User u) = IsUserText line u
+SaysInWords line (items.Call p c) = (rest : List ℕ) × (line ≡ process_text p space rest) × IsTrue (is_process p) × IsCallText rest c
+
+-- an empty line is a comment, and any other is plain
+abbrev pub Says : List ℕ → Item → Type 0
+Says line item = ((line ≡ []) × (item ≡ items.Comment)) ⊎ (IsTrue (is_plain line) × SaysInWords line item)
+
+-- a user line comes before the calls, is one of at most 16, and has a new name; a call line comes after some user line
+abbrev pub Adds : Reading → ℕ → Item → Reading → Type 0
+Adds old n items.Comment new = new ≡ old
+Adds old n (items.User u) new = (old.calls ≡ []) × (length old.users < 16) × AllByRecursion (λ v. v.name ≢ u.name) old.users × (new ≡ record { users = old.users ++ u ∷ []; calls = old.calls })
+Adds old n (items.Call p c) new = (0 < length old.users) × (new ≡ record { users = old.users; calls = old.calls ++ (record { line = n; process = p; call = c }) ∷ [] })
+
+-- line n says an item that adds to what was read
+abbrev pub Takes : Reading → ℕ → List ℕ → Reading → Type 0
+Takes old n line new = (item : Item) × Says line item × Adds old n item new
+
+-- the lines after the first n, one after another
+abbrev pub TakesAll : Reading → ℕ → List (List ℕ) → Reading → Type 0
+TakesAll old n [] new = new ≡ old
+TakesAll old n (line ∷ lines) new = (mid : Reading) × Takes old (n + 1) line mid × TakesAll mid (n + 1) lines new
+
+-- the text is this script: all its lines are taken, and there is a user
+abbrev pub IsScript : List ℕ → Reading → Type 0
+IsScript text script = TakesAll nothing_read 0 (lines_of text) script × (0 < length script.users)
+
+-- no script begins with the first n lines of this text
+abbrev pub BeginsNone : List ℕ → ℕ → Type 0
+BeginsNone text n = (other : List ℕ) (script : Reading) → take n (lines_of other) ≡ take n (lines_of text) → IsScript other script → ⊥
+
+-- some script begins with these lines
+abbrev pub BeginsSome : List (List ℕ) → Type 0
+BeginsSome lines = (other : List ℕ) × (script : Reading) × (take (length lines) (lines_of other) ≡ lines) × IsScript other script
+
+-- Line n is the first bad one: no script begins with the lines up to it, and some script with those before it.
+-- A text of which no line is bad lacks a user, and is bad at its number of lines plus one.
+pub record IsFirstBad (text : List ℕ) (n : ℕ) : Type 0 where
+  pub none : n ≤ length (lines_of text) → BeginsNone text n
+  pub some : BeginsSome (take (n - 1) (lines_of text))
+  pub before : (read : Reading) × TakesAll nothing_read 0 (take (n - 1) (lines_of text)) read × (length (lines_of text) < n → read.users ≡ [])
+  pub close : (0 < n) × (n ≤ length (lines_of text) + 1)

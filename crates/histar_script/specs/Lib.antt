@@ -1,0 +1,5 @@
+pub mod Lines
+pub mod Script
+pub mod Reading
+pub mod Outcome
+pub mod Grammar

@@ -1,0 +1,35 @@
+-- Lines of a text, and their first words.
+use Rattle.std.specs.Prelude.{ℕ, ◌||◌, ◌&&◌, Bool, List, [], ◌∷◌, ◌++◌, length, nat_lt, nat_le, Option, Some, None, if◌then◌else◌, ◌==◌}
+use Rattle.std.specs.List.{list_all}
+
+-- a byte before the first line of what follows
+abbrev pub onto_line : ℕ → List (List ℕ) → List (List ℕ)
+onto_line b [] = (b ∷ []) ∷ []
+onto_line b (line ∷ lines) = (b ∷ line) ∷ lines
+
+-- the lines: each is ended by the byte 10, which the last may lack
+unfoldable pub lines_of : List ℕ → List (List ℕ)
+lines_of [] = []
+lines_of (b ∷ bs) = if b == 10 then [] ∷ lines_of bs else onto_line b (lines_of bs)
+
+-- more than 1,048,576 bytes or more than 16,384 lines
+abbrev pub is_too_long : List ℕ → Bool
+is_too_long text = nat_lt 1048576 (length text) || nat_lt 16384 (length (lines_of text))
+
+-- a printable byte
+abbrev pub is_plain_byte : ℕ → Bool
+is_plain_byte b = nat_le 32 b && nat_le b 126
+
+-- a line of at most 1,024 printable bytes
+unfoldable pub is_plain : List ℕ → Bool
+is_plain line = nat_le (length line) 1024 && list_all is_plain_byte line
+
+-- two texts with one space between them
+infixr 60 ◌space◌
+abbrev pub ◌space◌ : List ℕ → List ℕ → List ℕ
+word space rest = word ++ 32 ∷ rest
+
+-- the bytes before the first space, and those after it where there is one
+unfoldable pub split_word : List ℕ → List ℕ × Option (List ℕ)
+split_word [] = ([], None)
+split_word (b ∷ bs) = if b == 32 then ([], Some bs) else (b ∷ (split_word bs).0, (split_word bs).1)

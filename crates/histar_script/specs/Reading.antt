@@ -1,0 +1,126 @@
+-- Reading a script from its first line to its last, up to the first bad line.
+use Rattle.std.specs.Prelude.{ℕ, ◌+◌, Bool, not, ◌&&◌, List, [], ◌∷◌, ◌++◌, length, codes, Option, Some, None, Result, Ok, Err, option_and_then, nat_lt, ◌==◌, if◌then◌else◌}
+use Rattle.std.specs.List.{list_any}
+use Rattle.std.specs.Str.{bytes_eq}
+use Rattle.histar_flat.specs.declared.calls.User.{User}
+use Rattle.histar_flat.specs.declared.calls.UnixCall.{UnixCall}
+use Rattle.histar_flat.specs.declared.calls.UnixCall.TheVariants.{Create, Write, Read, Login}
+use Rattle.histar_flat.specs.Words.{Name, name_of, user_name_of, password_of, path_of, process_of, mode_of}
+use Rattle.histar_script.specs.declared.fault.Fault.{Fault}
+use Rattle.histar_script.specs.declared.fault.Fault.TheVariants.{BadScript, TooLong}
+use Rattle.histar_script.specs.declared.items.Item.{Item}
+use Rattle.histar_script.specs.declared.items.Item.TheVariants as items
+use Rattle.histar_script.specs.Lines.{lines_of, is_too_long, is_plain, split_word}
+use Rattle.histar_script.specs.Script.{Reading, nothing_read}
+
+-- with what is there, go on
+infixl 10 ◌>>=◌
+abbrev pub ◌>>=◌ : {A B : Type 0} → Option A → (A → Option B) → Option B
+o >>= f = option_and_then f o
+
+-- NAME PASSWORD of a user line
+unfoldable pub user_of : List ℕ → Option User
+user_of text = do
+  name ← user_name_of (split_word text).0
+  rest ← (split_word text).1
+  password ← password_of rest
+  Some (record { name = name; password = password })
+
+-- PATH MODE
+unfoldable pub create_of : List ℕ → Option UnixCall
+create_of text = do
+  path ← path_of (split_word text).0
+  rest ← (split_word text).1
+  mode ← mode_of rest
+  Some (Create path mode)
+
+-- PATH BYTES
+unfoldable pub write_of : List ℕ → Option UnixCall
+write_of text = do
+  path ← path_of (split_word text).0
+  bytes ← (split_word text).1
+  Some (Write path bytes)
+
+-- PATH
+unfoldable pub read_of : List ℕ → Option UnixCall
+read_of text = do
+  path ← path_of text
+  Some (Read path)
+
+-- NAME PASSWORD of a login
+unfoldable pub login_of : List ℕ → Option UnixCall
+login_of text = do
+  name ← name_of (split_word text).0
+  rest ← (split_word text).1
+  password ← password_of rest
+  Some (Login name password)
+
+-- the call of this word, with what follows the word
+abbrev pub call_named : List ℕ → List ℕ → Option UnixCall
+call_named word rest =
+    if bytes_eq word (codes "create") then create_of rest
+    else (if bytes_eq word (codes "write") then write_of rest
+    else (if bytes_eq word (codes "read") then read_of rest
+    else (if bytes_eq word (codes "login") then login_of rest
+    else None)))
+
+-- a call: its word, and what follows it
+unfoldable pub call_of : List ℕ → Option UnixCall
+call_of text = do
+  rest ← (split_word text).1
+  call_named (split_word text).0 rest
+
+-- a user, as what a line says
+abbrev pub user_item : List ℕ → Option Item
+user_item text = do
+  user ← user_of text
+  Some (items.User user)
+
+-- the call of a process, as what a line says
+abbrev pub call_item : List ℕ → List ℕ → Option Item
+call_item word text = do
+  process ← process_of word
+  call ← call_of text
+  Some (items.Call process call)
+
+-- `user NAME PASSWORD` or `PROC CALL`
+unfoldable pub words_item : List ℕ → Option Item
+words_item line = do
+  rest ← (split_word line).1
+  if bytes_eq (split_word line).0 (codes "user") then user_item rest else call_item (split_word line).0 rest
+
+-- what a line says, unless it is bad: nothing where it is empty or begins with `#`
+unfoldable pub item_of : List ℕ → Option Item
+item_of [] = Some items.Comment
+item_of (b ∷ bs) = if is_plain (b ∷ bs) then (if b == 35 then Some items.Comment else words_item (b ∷ bs)) else None
+
+-- some user has the name
+abbrev pub has_user : List User → Name → Bool
+has_user users name = list_any (λ u. bytes_eq u.name name) users
+
+-- no element
+abbrev pub is_empty : {X : Type 0} → List X → Bool
+is_empty xs = length xs == 0
+
+-- what is read after a line that says this, unless it may not stand here
+unfoldable pub with_item : Reading → ℕ → Item → Option Reading
+with_item s n items.Comment = Some s
+with_item s n (items.User u) = if is_empty s.calls && nat_lt (length s.users) 16 && not (has_user s.users u.name) then Some (record { users = s.users ++ u ∷ []; calls = s.calls }) else None
+with_item s n (items.Call p c) = if is_empty s.users then None else Some (record { users = s.users; calls = s.calls ++ (record { line = n; process = p; call = c }) ∷ [] })
+
+-- what is read after line n
+unfoldable pub with_line : Reading → ℕ → List ℕ → Option Reading
+with_line s n line = item_of line >>= λ i. with_item s n i
+
+-- what is read after these lines, which follow n others, or the fault in them
+unfoldable pub with_lines : Reading → ℕ → List (List ℕ) → Result Reading Fault
+with_lines s n [] = if is_empty s.users then Err (BadScript (n + 1)) else Ok s
+with_lines s n (line ∷ lines) = elim (with_line s (n + 1) line) [ None ↦ Err (BadScript (n + 1)) | Some t ↦ with_lines t (n + 1) lines ]
+
+-- the script that a text is whose length is right, or the fault in it
+unfoldable pub reading : List ℕ → Result Reading Fault
+reading text = with_lines nothing_read 0 (lines_of text)
+
+-- the script that a text is, or the fault in it
+abbrev pub script_of : List ℕ → Result Reading Fault
+script_of text = if is_too_long text then Err TooLong else reading text

@@ -1,0 +1,129 @@
+//! Reading what a line says. `Ok(None)` is a bad line; the bytes of a `write` are copied, so memory may run out.
+ghost use Rattle.std.specs.Prelude.{◌≡◌, IfOk};
+ghost use Rattle.histar_script.specs.Reading.{user_of, create_of, write_of, read_of, login_of, call_of, words_item, item_of};
+
+use crate::items::Item;
+use crate::lines::{is_plain, split_word};
+use histar_base::Bytes;
+use histar_flat::{
+    UnixCall, User, read_mode, read_name, read_password, read_path, read_process, read_user_name,
+};
+use std::alloc::{AllocError, Global};
+
+/// `NAME PASSWORD`, the name being one that a user may have.
+#[tactic(auto, unfolding(crate::specs::Reading::user_of))]
+fn read_user(text: &[u8]) -> Option<User>
+    ensures { result ≡ user_of text.now }
+{
+    let (word, rest) = split_word(text);
+    let name = read_user_name(word)?;
+    let password = read_password(rest?)?;
+    Some(User { name, password })
+}
+
+/// `PATH MODE`
+#[tactic(auto, unfolding(crate::specs::Reading::create_of))]
+fn read_create(text: &[u8]) -> Option<UnixCall>
+    ensures { result ≡ create_of text.now }
+{
+    let (word, rest) = split_word(text);
+    let path = read_path(word)?;
+    let mode = read_mode(rest?)?;
+    Some(UnixCall::Create(path, mode))
+}
+
+/// `PATH BYTES`
+#[tactic(auto, unfolding(crate::specs::Reading::write_of))]
+fn read_write(alloc: Global, text: &[u8]) -> Result<Option<UnixCall>, AllocError>
+    ensures { IfOk result (λ call. call ≡ write_of text.now) }
+{
+    let (word, rest) = split_word(text);
+    let Some(path) = read_path(word) else {
+        return Ok(None);
+    };
+    let Some(bytes) = rest else {
+        return Ok(None);
+    };
+    let bytes = Bytes::copy_of(alloc, bytes)?;
+    Ok(Some(UnixCall::Write(path, bytes)))
+}
+
+/// `PATH`
+#[tactic(auto, unfolding(crate::specs::Reading::read_of))]
+fn read_read(text: &[u8]) -> Option<UnixCall>
+    ensures { result ≡ read_of text.now }
+{
+    let path = read_path(text)?;
+    Some(UnixCall::Read(path))
+}
+
+/// `NAME PASSWORD`, with any name.
+#[tactic(auto, unfolding(crate::specs::Reading::login_of))]
+fn read_login(text: &[u8]) -> Option<UnixCall>
+    ensures { result ≡ login_of text.now }
+{
+    let (word, rest) = split_word(text);
+    let name = read_name(word)?;
+    let password = read_password(rest?)?;
+    Some(UnixCall::Login(name, password))
+}
+
+/// A call: its word, and what follows it.
+#[tactic(auto, unfolding(crate::specs::Reading::call_of))]
+fn read_call(alloc: Global, text: &[u8]) -> Result<Option<UnixCall>, AllocError>
+    ensures { IfOk result (λ call. call ≡ call_of text.now) }
+{
+    let (word, rest) = split_word(text);
+    let Some(rest) = rest else {
+        return Ok(None);
+    };
+    if word == b"create".as_slice() {
+        Ok(read_create(rest))
+    } else if word == b"write".as_slice() {
+        read_write(alloc, rest)
+    } else if word == b"read".as_slice() {
+        Ok(read_read(rest))
+    } else if word == b"login".as_slice() {
+        Ok(read_login(rest))
+    } else {
+        Ok(None)
+    }
+}
+
+/// `user NAME PASSWORD` or `PROC CALL`
+#[tactic(auto, unfolding(crate::specs::Reading::words_item))]
+fn read_words(alloc: Global, line: &[u8]) -> Result<Option<Item>, AllocError>
+    ensures { IfOk result (λ item. item ≡ words_item line.now) }
+{
+    let (word, rest) = split_word(line);
+    let Some(rest) = rest else {
+        return Ok(None);
+    };
+    if word == b"user".as_slice() {
+        return Ok(read_user(rest).map(Item::User));
+    }
+    let Some(process) = read_process(word) else {
+        return Ok(None);
+    };
+    let Some(call) = read_call(alloc, rest)? else {
+        return Ok(None);
+    };
+    Ok(Some(Item::Call(process, call)))
+}
+
+/// What a line says, unless it is bad.
+#[tactic(auto, unfolding(crate::specs::Reading::item_of))]
+pub fn read_item(alloc: Global, line: &[u8]) -> Result<Option<Item>, AllocError>
+    ensures { IfOk result (λ item. item ≡ item_of line.now) }
+{
+    if line.is_empty() {
+        return Ok(Some(Item::Comment));
+    }
+    if !is_plain(line) {
+        return Ok(None);
+    }
+    if line[0] == b'#' {
+        return Ok(Some(Item::Comment));
+    }
+    read_words(alloc, line)
+}

@@ -1,0 +1,41 @@
+//! What can go wrong.
+ghost use Rattle.std.specs.Prelude.{◌≡◌};
+ghost use Rattle.histar_script.specs.declared.fault.Fault.TheVariants.{OutOfMemory};
+
+use std::alloc::{AllocError, AllocFailed};
+use thiserror::Error;
+
+/// Why a script was not read, or its run stopped.
+#[derive(Clone, Copy, Debug, PartialEq, Eq, Error)]
+pub enum Fault {
+    /// The line, counted from 1, is the first bad one; a text that lacks users is bad one past its last line.
+    #[error("bad script at line {0}")]
+    BadScript(u32),
+    /// The script has more than 1,048,576 bytes or more than 16,384 lines.
+    #[error("script too long")]
+    TooLong,
+    #[error("out of memory")]
+    OutOfMemory,
+    /// The input answered with an error.
+    #[error("read failed")]
+    ReadFailed,
+    /// The output answered with an error, or took nothing.
+    #[error("write failed")]
+    WriteFailed,
+}
+
+impl From<AllocError> for Fault {
+    ghost from_gives = { λ _ e. e ≡ OutOfMemory };
+
+    fn from(_e: AllocError) -> Fault {
+        Fault::OutOfMemory
+    }
+}
+
+impl<T: Drop> From<AllocFailed<T>> for Fault {
+    ghost from_gives = { λ _ e. e ≡ OutOfMemory };
+
+    fn from(_e: AllocFailed<T>) -> Fault {
+        Fault::OutOfMemory
+    }
+}

@@ -1,0 +1,168 @@
+//! Worked scripts: what is read, which line is bad, and what is too long.
+use crate::{CallLine, Fault, read_script};
+use histar_flat::{Mode, Path, UnixCall};
+use std::alloc::{AllocError, Global};
+use std::test::Fail;
+
+/// The name of an entry of `/`.
+fn entry(path: &Path) -> &[u8] {
+    match path.last() {
+        None => b"".as_slice(),
+        Some(name) => name.as_bytes(),
+    }
+}
+
+/// The words of a call, each behind a bar.
+fn told(alloc: Global, line: &CallLine) -> Result<Vec<u8>, AllocError> {
+    let (word, first, second) = match &line.call {
+        UnixCall::Create(path, Mode::Private) => ("create", entry(path), b"private".as_slice()),
+        UnixCall::Create(path, Mode::Readable) => ("create", entry(path), b"readable".as_slice()),
+        UnixCall::Write(path, bytes) => ("write", entry(path), bytes.as_slice()),
+        UnixCall::Read(path) => ("read", entry(path), b"".as_slice()),
+        UnixCall::Login(name, password) => ("login", name.as_bytes(), password.as_bytes()),
+    };
+    let mut told = Vec::new(alloc);
+    for part in [word.as_bytes(), first, second] {
+        told.push(b'|')?;
+        told.extend_from_slice(part)?;
+    }
+    Ok(told)
+}
+
+#[test]
+fn says_what_the_lines_say(rt: HostRuntime) -> Result<(), Fail> {
+    let text =
+        b"# two users\nuser root rr\nuser bob-1 b!\n\n0 login 9 ~\n0 create /a.b private\n0 create /nobody readable\n0 write /a.b  x y \n0 write /a.b \n0 read /_".as_slice();
+    let (users, calls) = read_script(rt.alloc(), text)?.into_parts();
+    let wanted = [
+        (5, b"|login|9|~".as_slice()),
+        (6, b"|create|a.b|private".as_slice()),
+        (7, b"|create|nobody|readable".as_slice()),
+        (8, b"|write|a.b| x y ".as_slice()),
+        (9, b"|write|a.b|".as_slice()),
+        (10, b"|read|_|".as_slice()),
+    ];
+    assert_eq!(rt; users.len(), 2);
+    assert_eq!(rt; users[1].name.as_bytes(), b"bob-1".as_slice());
+    assert_eq!(rt; users[1].password.as_bytes(), b"b!".as_slice());
+    assert_eq!(rt; calls.len(), wanted.len());
+    for (call, (number, words)) in calls.iter().zip(wanted.iter()) {
+        assert_eq!(rt; call.line, *number);
+        assert!(rt; call.process.is_zero());
+        assert_eq!(rt; told(rt.alloc(), call)?.as_slice(), *words);
+    }
+    Ok(())
+}
+
+#[test]
+fn finds_the_first_bad_line(rt: HostRuntime) {
+    let texts = [
+        (b"".as_slice(), Some(1)),
+        (b"#".as_slice(), Some(2)),
+        (b"#\n\n#\n".as_slice(), Some(4)),
+        (b"user root rr".as_slice(), None),
+        (b"user root rr\n0 read /a\n".as_slice(), None),
+        (b"user root rr\r\n".as_slice(), Some(1)),
+        (b"user root rr\n# \t".as_slice(), Some(2)),
+        (b"user root rr\n#\0\n".as_slice(), Some(2)),
+        (b"user root rr\n# \x80\n".as_slice(), Some(2)),
+        (b"user root rr\n \n".as_slice(), Some(2)),
+        (b"user nobody x".as_slice(), Some(1)),
+        (b"user 9 x".as_slice(), Some(1)),
+        (b"user root rr \n".as_slice(), Some(1)),
+        (b"user root rr\nuser root x\n".as_slice(), Some(2)),
+        (
+            b"user root rr\n0 read /a\nuser bob bb\n".as_slice(),
+            Some(3),
+        ),
+        (b"0 read /a\nuser root rr\n".as_slice(), Some(1)),
+        (b"user root rr\n0 read".as_slice(), Some(2)),
+        (b"user root rr\n0 read /a/".as_slice(), Some(2)),
+        (b"user root rr\n0 read //a".as_slice(), Some(2)),
+        (b"user root rr\n0 read /..".as_slice(), Some(2)),
+        (b"user root rr\n00 read /a".as_slice(), Some(2)),
+        (b"user root rr\n0  read /a".as_slice(), Some(2)),
+        (b"user root rr\n0 write /a".as_slice(), Some(2)),
+        (b"user root rr\n0 write /a ".as_slice(), None),
+        (b"user root rr\n0 login Alice x".as_slice(), Some(2)),
+        (b"user root rr\n0 login nobody x".as_slice(), None),
+        (
+            b"user root rr\n0 read /a23456789-123456789-123456789-12".as_slice(),
+            None,
+        ),
+        (
+            b"user root rr\n0 read /a23456789-123456789-123456789-123".as_slice(),
+            Some(2),
+        ),
+        (
+            b"user a x\nuser b x\nuser c x\nuser d x\nuser e x\nuser f x\nuser g x\nuser h x\nuser i x\nuser j x\nuser k x\nuser l x\nuser m x\nuser n x\nuser o x\nuser p x\n".as_slice(),
+            None,
+        ),
+        (
+            b"user a x\nuser b x\nuser c x\nuser d x\nuser e x\nuser f x\nuser g x\nuser h x\nuser i x\nuser j x\nuser k x\nuser l x\nuser m x\nuser n x\nuser o x\nuser p x\nuser q x\n".as_slice(),
+            Some(17),
+        ),
+    ];
+    for (text, line) in texts {
+        let fault = read_script(rt.alloc(), text).err();
+        assert_eq!(rt; fault, line.map(Fault::BadScript), "at {text:?}");
+    }
+}
+
+/// A user line, then `count` comment lines of `length` bytes, and one of `last` bytes where there is to be one.
+fn comments(
+    alloc: Global,
+    count: usize,
+    length: usize,
+    last: usize,
+) -> Result<Vec<u8>, AllocError> {
+    let mut text = Vec::from_slice(alloc, b"user root rr\n".as_slice())?;
+    for n in 0..=count {
+        let bytes = if n < count { length } else { last };
+        for k in 0..bytes {
+            text.push(if k == 0 { b'#' } else { b'x' })?;
+        }
+        if n < count || last > 0 {
+            text.push(b'\n')?;
+        }
+    }
+    Ok(text)
+}
+
+#[test]
+fn looks_at_the_limits_first(rt: HostRuntime) -> Result<(), Fail> {
+    let texts = [
+        (1022, 1024, 1012, 1_048_576, None),
+        (1022, 1024, 1013, 1_048_577, Some(Fault::TooLong)),
+        (16_383, 0, 0, 16_396, None),
+        (16_384, 0, 0, 16_397, Some(Fault::TooLong)),
+        (1, 1024, 0, 1_038, None),
+        (1, 1025, 0, 1_039, Some(Fault::BadScript(2))),
+        (1022, 1025, 0, 1_048_585, Some(Fault::TooLong)),
+    ];
+    for (count, length, last, bytes, fault) in texts {
+        let text = comments(rt.alloc(), count, length, last)?;
+        assert_eq!(rt; text.len(), bytes);
+        assert_eq!(rt;
+            read_script(rt.alloc(), text.as_slice()).err(),
+            fault,
+            "{count} lines of {length}"
+        );
+    }
+    Ok(())
+}
+
+#[test]
+fn prints_faults(rt: HostRuntime) -> Result<(), Fail> {
+    let texts = [
+        (Fault::BadScript(16_385), "bad script at line 16385"),
+        (Fault::TooLong, "script too long"),
+        (Fault::OutOfMemory, "out of memory"),
+        (Fault::ReadFailed, "read failed"),
+        (Fault::WriteFailed, "write failed"),
+    ];
+    for (fault, text) in texts {
+        assert_eq!(rt; fault.to_string(rt.alloc())?.as_str(), text);
+    }
+    Ok(())
+}

@@ -1,0 +1,5 @@
+pub mod Calls
+pub mod Traced
+pub use Rattle.histar_object.specs.Objects
+pub use Rattle.histar_object.specs.State
+pub use Rattle.histar_container.specs.Kept

@@ -1,0 +1,81 @@
+//! Raw calls, and what becomes of them.
+use histar_base::Bytes;
+use histar_label::Label;
+use histar_object::ObjId;
+use std::alloc::{AllocError, AllocFailed};
+
+/// Why the kernel refuses a raw call: the first failing check, in the order of the variants' use by
+/// the call. A refused call changes nothing but the trace.
+#[derive(Clone, Copy, Debug, PartialEq, Eq)]
+pub enum Denied {
+    /// The thread may not observe the container or the object.
+    Observe = 1,
+    /// The thread may not modify the container or the object.
+    Modify,
+    /// A label that was handed in lies outside its range, names a category that was never made, or
+    /// has star where no owner may be.
+    Range,
+    /// The thread may not enter the gate.
+    Gate,
+    /// No object has the number, or the container doesn't link it.
+    NoEntry,
+    /// The caller is no thread.
+    NoThread,
+    /// The object is of another kind than the call wants.
+    BadKind,
+    /// More than 4,096 bytes, or a counter at its greatest value.
+    TooBig,
+}
+
+/// A raw call, as the trace keeps it.
+#[derive(Drop)]
+pub enum RawCall {
+    /// Asks for the thread's own label and clearance.
+    OwnLabel,
+    /// Makes a segment in a container, with a label and bytes.
+    MakeSegment(ObjId, Label, Bytes),
+    /// Reads a segment that a container links.
+    Read(ObjId, ObjId),
+    /// Keeps at most so many bytes of a segment that a container links, and puts these behind them.
+    Write(ObjId, ObjId, u32, Bytes),
+}
+
+/// One raw call in the trace: on which line, by which thread, and why it was refused, if it was.
+#[derive(Drop)]
+pub struct TraceEntry {
+    pub line: u32,
+    pub thread: ObjId,
+    pub call: RawCall,
+    pub denied: Option<Denied>,
+}
+
+/// Why a raw call answers nothing.
+#[derive(Clone, Copy, Debug, PartialEq, Eq)]
+pub enum Refusal {
+    /// The kernel refuses it, and says so in the trace.
+    Denied(Denied),
+    /// Memory ran out; nothing has changed, the trace neither.
+    OutOfMemory,
+}
+
+impl From<AllocError> for Refusal {
+    ghost use Rattle.std.specs.Prelude.{◌≡◌};
+    ghost use Rattle.histar_syscall.specs.declared.raw.Refusal.TheVariants.{OutOfMemory};
+
+    ghost from_gives = { λ _ e. e ≡ OutOfMemory };
+
+    fn from(_error: AllocError) -> Self {
+        Refusal::OutOfMemory
+    }
+}
+
+impl<T: Drop> From<AllocFailed<T>> for Refusal {
+    ghost use Rattle.std.specs.Prelude.{◌≡◌};
+    ghost use Rattle.histar_syscall.specs.declared.raw.Refusal.TheVariants.{OutOfMemory};
+
+    ghost from_gives = { λ _ e. e ≡ OutOfMemory };
+
+    fn from(_error: AllocFailed<T>) -> Self {
+        Refusal::OutOfMemory
+    }
+}
