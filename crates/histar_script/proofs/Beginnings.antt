@@ -1,7 +1,8 @@
 -- Some script begins with lines that are right.
-use Rattle.std.proofs.Common.{◌≡◌, ℕ, ◌+◌, ◌<◌, Bool, true, false, not, eqb, leb, List, [], ◌∷◌, ◌++◌, length, take, codes, refl, sym, ap, subst, ◌∙◌, inl, inr, arith, append_assoc, append-nil, length-append}
+use Rattle.std.proofs.Common.{◌≡◌, ◌≢◌, ℕ, ◌+◌, ◌<◌, Bool, true, false, not, eqb, leb, List, [], ◌∷◌, ◌++◌, length, take, codes, refl, sym, ap, subst, ◌∙◌, inl, inr, arith, append_assoc, append-nil, length-append}
 use Rattle.std.specs.List.{list_all, flat_map, AllByRecursion}
 use Rattle.std.proofs.lemmas.Bool.{false≢true, cases_lt, eqb-true, and_parts, not-true}
+use Rattle.std.proofs.lemmas.List.Elements.{All-nil}
 use Rattle.std.proofs.lemmas.List.{nil_from_length, take_at}
 use Rattle.histar_flat.specs.declared.calls.User.{User}
 use Rattle.histar_flat.specs.Words.{is_name, is_user_name, is_password}
@@ -100,7 +101,7 @@ unfolding is_plain is_name is_user_name is_password
 takes_user t n none quiet = (
   items.User user_a,
   inr (refl, record { spelled = refl; name = refl; password = refl }),
-  (quiet, rw none (omega arith), rw none tt, refl),
+  (quiet, rw none (omega arith), rw none (All-nil (λ v. v.name ≢ user_a.name)), refl),
 )
 
 -- the user line is one line

@@ -6,5 +6,6 @@ pub mod CallsBack
 pub mod ItemsBack
 pub mod ScriptsBack
 pub mod Beginnings
+pub mod Kept
 pub mod FirstBad
 pub mod Answered

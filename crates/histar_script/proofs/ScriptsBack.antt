@@ -4,6 +4,7 @@ use Rattle.std.proofs.lemmas.Option.{cond_some}
 use Rattle.std.specs.List.{AllByRecursion}
 use Rattle.std.specs.Str.{bytes_eq}
 use Rattle.std.proofs.lemmas.Slice.Eq.{bytes_eq-Decides}
+use Rattle.std.proofs.lemmas.List.Elements.{All-from_recursion, recursion_from_All}
 use Rattle.std.proofs.lemmas.Bool.{false≢true, ltb-true, lt-ltb, false_from_ne_true, and_parts, not-true, or_parts}
 use Rattle.histar_flat.specs.declared.calls.User.{User}
 use Rattle.histar_script.specs.declared.fault.Fault.{Fault}
@@ -39,7 +40,7 @@ adds s n (items.User u) t e =
     let g = cond_some (eqb (length s.calls) 0 && ltb (length s.users) 16 && not (has_user s.users u.name)) (record { users = s.users ++ u ∷ []; calls = s.calls }) t e in
     let p = and_parts (eqb (length s.calls) 0 && ltb (length s.users) 16) (not (has_user s.users u.name)) g.0 in
     let q = and_parts (eqb (length s.calls) 0) (ltb (length s.users) 16) p.0 in
-    (none_left s.calls q.0, ltb-true (length s.users) 16 q.1, no_other s.users u.name (not-true (has_user s.users u.name) p.1), sym g.1)
+    (none_left s.calls q.0, ltb-true (length s.users) 16 q.1, All-from_recursion (λ v. v.name ≢ u.name) s.users (no_other s.users u.name (not-true (has_user s.users u.name) p.1)), sym g.1)
 adds s n (items.Call p c) t e =
     elim (chosen (eqb (length s.users) 0) None (Some (record { users = s.users; calls = s.calls ++ (record { line = n; process = p; call = c }) ∷ [] })) (Some t) e) [
       | inl h ↦ absurd cc
@@ -53,7 +54,7 @@ adds_again s n items.Comment t h = ap (λ (x : Reading). Some x) (sym h)
 adds_again s n (items.User u) t h =
     let none : eqb (length s.calls) 0 ≡ true = rw h.0 refl in
     let room : ltb (length s.users) 16 ≡ true = lt-ltb (length s.users) 16 h.1 in
-    rw (none, room, no_user s.users u.name h.2) (ap (λ (x : Reading). Some x) (sym h.3))
+    rw (none, room, no_user s.users u.name (recursion_from_All (λ v. v.name ≢ u.name) s.users h.2)) (ap (λ (x : Reading). Some x) (sym h.3))
 adds_again s n (items.Call p c) t h = rw (not_empty s.users h.0) (ap (λ (x : Reading). Some x) (sym h.1))
 
 -- a line that is taken

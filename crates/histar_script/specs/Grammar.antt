@@ -1,6 +1,5 @@
 -- The grammar: what a line says, which script a text is, and which line is bad.
-use Rattle.std.specs.Prelude.{◌≡◌, ◌≢◌, ℕ, ◌+◌, ◌-◌, ◌<◌, ◌≤◌, ◌⊎◌, IsTrue, List, [], ◌∷◌, ◌++◌, length, take, codes}
-use Rattle.std.specs.List.{AllByRecursion}
+use Rattle.std.specs.Prelude.{◌≡◌, ◌≢◌, ℕ, ◌+◌, ◌-◌, ◌<◌, ◌≤◌, ◌⊎◌, IsTrue, All, List, [], ◌∷◌, ◌++◌, length, take, codes}
 use Rattle.histar_flat.specs.declared.calls.User.{User}
 use Rattle.histar_flat.specs.declared.calls.UnixCall.{UnixCall}
 use Rattle.histar_flat.specs.declared.calls.UnixCall.TheVariants.{Create, Write, Read, Login}
@@ -37,7 +36,7 @@ Says line item = ((line ≡ []) × (item ≡ items.Comment)) ⊎ (IsTrue (is_pla
 -- a user line comes before the calls, is one of at most 16, and has a new name; a call line comes after some user line
 abbrev pub Adds : Reading → ℕ → Item → Reading → Type 0
 Adds old n items.Comment new = new ≡ old
-Adds old n (items.User u) new = (old.calls ≡ []) × (length old.users < 16) × AllByRecursion (λ v. v.name ≢ u.name) old.users × (new ≡ record { users = old.users ++ u ∷ []; calls = old.calls })
+Adds old n (items.User u) new = (old.calls ≡ []) × (length old.users < 16) × All (λ v. v.name ≢ u.name) old.users × (new ≡ record { users = old.users ++ u ∷ []; calls = old.calls })
 Adds old n (items.Call p c) new = (0 < length old.users) × (new ≡ record { users = old.users; calls = old.calls ++ (record { line = n; process = p; call = c }) ∷ [] })
 
 -- line n says an item that adds to what was read

@@ -1,7 +1,7 @@
 //! Reading a whole script.
 ghost use Rattle.std.specs.Prelude.{ℕ, List, IfOk, false, ◌≡◌, ◌≤◌, [], length, IsTrue, IsErrOf, Ok, Err};
-ghost use Rattle.histar_script.specs.Lines.{is_too_long as too_long};
-ghost use Rattle.histar_script.specs.Script.{Reading};
+ghost use Rattle.histar_script.specs.Lines.{lines_of, is_too_long as too_long};
+ghost use Rattle.histar_script.specs.Script.{Reading, IsUserList, IsNumbered};
 ghost use Rattle.histar_script.specs.Grammar.{IsScript, IsFirstBad};
 ghost use Rattle.histar_script.specs.Reading.{reading, script_of, with_item, has_user as user_known};
 ghost use Rattle.histar_script.specs.Outcome.{Gives, GivesNext};
@@ -134,6 +134,10 @@ pub fn read_script(alloc: Global, text: &[u8]) -> Result<Script, Fault>
     ensures found { IfOk result (IsScript text.now) }
     // A script of the grammar within the limits is read, unless memory runs out.
     ensures only { (script : Reading) → too_long text.now ≡ false → IsScript text.now script → Gives result (Ok script) }
+    // The users are 1 to 16, and no two have one name.
+    ensures users { IfOk result (λ script. IsUserList script.users) }
+    // The numbers of the calls rise, and are numbers of lines.
+    ensures numbered { IfOk result (λ script. IsNumbered (length (lines_of text.now)) script.calls) }
     // The bad line is the first one.
     ensures bad { (n : ℕ) → result ≡ Err (Fault.BadScript n) → IsFirstBad text.now n }
 {

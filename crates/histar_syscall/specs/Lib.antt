@@ -1,4 +1,5 @@
 pub mod Calls
+pub mod Runs
 pub mod Traced
 pub use Rattle.histar_object.specs.Objects
 pub use Rattle.histar_object.specs.State

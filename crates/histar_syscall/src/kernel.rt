@@ -100,11 +100,7 @@ impl<S: LabelStore + Drop> Kernel<S> {
     }
 
     /// The thread's own label and clearance.
-    pub fn own_label(
-        &mut self,
-        alloc: Global,
-        thread: ObjId,
-    ) -> Result<(Label, Label), Refusal>
+    pub fn own_label(&mut self, thread: ObjId) -> Result<(Label, Label), Refusal>
         ensures { Answered self.old self.new thread RawCall.OwnLabel result (λ own. (Some own.0 ≡ label_there (objects_of self.old.kept.objects thread)) × (Some own.1 ≡ clearance_there (objects_of self.old.kept.objects thread))) }
     {
         self.trace.reserve(1)?;

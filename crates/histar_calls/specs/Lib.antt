@@ -1,0 +1,3 @@
+pub mod Categories
+pub mod Finding
+pub mod Replies

@@ -1,0 +1,15 @@
+//! The file calls of the Unix library, each made of raw calls that the kernel grants or refuses.
+#![tactic(auto)]
+
+mod labels;
+mod making;
+mod places;
+mod refusals;
+mod stopping;
+mod using;
+mod walking;
+
+pub use making::create;
+pub use places::Places;
+pub use stopping::Stopped;
+pub use using::{read, write};

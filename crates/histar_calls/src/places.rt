@@ -1,0 +1,31 @@
+//! What boot left where.
+ghost use Rattle.std.specs.Prelude.{◌≡◌, ◌+◌, ◌*◌};
+ghost use Rattle.histar_calls.specs.Categories.{read_category, write_category};
+
+use histar_label::Category;
+use histar_object::ObjId;
+
+/// Where the calls of the Unix library find `/`, and how many users there are.
+#[derive(Clone, Copy, Debug)]
+pub struct Places {
+    /// The container of `/`.
+    pub root: ObjId,
+    /// The directory segment of `/`.
+    pub listing: ObjId,
+    /// How many users the machine has; they are numbered from 1 on, and nobody is number 0.
+    pub users: u8,
+}
+
+/// The category by whose level a user's files are kept from being read.
+pub fn read_category(user: u8) -> Category
+    ensures { result ≡ read_category user }
+{
+    Category::new(2 + 2 * u64::from(user))
+}
+
+/// The category by whose level a user's files are kept from being written.
+pub fn write_category(user: u8) -> Category
+    ensures { result ≡ write_category user }
+{
+    Category::new(3 + 2 * u64::from(user))
+}

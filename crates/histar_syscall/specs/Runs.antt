@@ -1,0 +1,52 @@
+-- Several raw calls of one thread on one line.
+use Rattle.std.specs.Prelude.{◌≡◌, ℕ, Bool, true, false, List, [], ◌∷◌, ◌++◌, Option, None, Some}
+use Rattle.std.specs.List.{AllByRecursion, list_any}
+use Rattle.histar_syscall.specs.declared.raw.Denied.{Denied}
+use Rattle.histar_syscall.specs.declared.raw.Denied.TheVariants.{Observe, Modify, Range, Gate, NoEntry, NoThread, BadKind, TooBig}
+use Rattle.histar_syscall.specs.declared.raw.TraceEntry.{TraceEntry}
+use Rattle.histar_syscall.specs.Calls.{IsRun}
+use Rattle.histar_syscall.specs.Traced.{Traced, state}
+
+-- an entry is of this thread on this line
+abbrev pub IsBy : ℕ → ℕ → TraceEntry → Type 0
+IsBy line thread e = (e.line ≡ line) × (e.thread ≡ thread)
+
+-- The kernel came from the old to the new by these raw calls of one thread on the line that was begun, and by nothing else:
+-- they are the new end of its trace, and a run of it between the two states.
+pub record Ran (old new : Traced) (thread : ℕ) (entries : List TraceEntry) : Type 0 where
+  pub trace : new.trace ≡ old.trace ++ entries
+  pub run : IsRun (state old) entries (state new)
+  pub own : AllByRecursion (IsBy old.line thread) entries
+  pub line : new.line ≡ old.line
+
+-- refused by comparing labels
+abbrev pub is_label_refusal : Option Denied → Bool
+is_label_refusal None = false
+is_label_refusal (Some Observe) = true
+is_label_refusal (Some Modify) = true
+is_label_refusal (Some Range) = false
+is_label_refusal (Some Gate) = true
+is_label_refusal (Some NoEntry) = false
+is_label_refusal (Some NoThread) = false
+is_label_refusal (Some BadKind) = false
+is_label_refusal (Some TooBig) = false
+
+-- refused since a label that was handed in lies outside its range
+abbrev pub is_range_refusal : Option Denied → Bool
+is_range_refusal None = false
+is_range_refusal (Some Observe) = false
+is_range_refusal (Some Modify) = false
+is_range_refusal (Some Range) = true
+is_range_refusal (Some Gate) = false
+is_range_refusal (Some NoEntry) = false
+is_range_refusal (Some NoThread) = false
+is_range_refusal (Some BadKind) = false
+is_range_refusal (Some TooBig) = false
+
+-- one of the calls was refused by label
+abbrev pub some_label_refusal : List TraceEntry → Bool
+some_label_refusal entries = list_any (λ e. is_label_refusal e.denied) entries
+
+-- one of the calls was refused by range
+abbrev pub some_range_refusal : List TraceEntry → Bool
+some_range_refusal entries = list_any (λ e. is_range_refusal e.denied) entries
