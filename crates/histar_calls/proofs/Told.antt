@@ -1,6 +1,8 @@
 -- From raw calls to what a call of the Unix library tells of them.
-use Rattle.std.proofs.Common.{◌≡◌, ℕ, Bool, true, false, List, [], ◌∷◌, ◌++◌, Option, None, Some, refl, sym, ap, ◌∙◌}
-use Rattle.std.specs.Prelude.{◌||◌}
+use Rattle.std.proofs.Common.{◌≡◌, ℕ, Bool, true, false, List, [], ◌∷◌, ◌++◌, Option, None, Some, ◌<◌, ◌≤◌, inl, inr, arith, refl, sym, ap, ◌∙◌}
+use Rattle.std.specs.Prelude.{◌||◌, ◌↔◌}
+use Rattle.std.proofs.lemmas.Bool.{cases_lt}
+use mathlib.Core.Bool.{true≢false}
 use Rattle.histar_flat.specs.declared.replies.Errno.{Errno}
 use Rattle.histar_flat.specs.declared.replies.Reply.{Reply}
 use Rattle.histar_flat.specs.declared.replies.Reply.TheVariants.{Refused}
@@ -71,3 +73,10 @@ module _ (k0 : Traced) (t : ℕ) where
         ran = ran_more k0 k3 k4 t _ call d (ran_more k0 k2 k3 t _ third None (ran_more k0 k1 k2 t _ second None (ran_more k0 k0 k1 t [] first None (ran_none k0 t) one) two) three) four;
         access = access; permission = permission;
       }
+
+-- a directory that isn't full has room for an entry
+pub room_left : (is_full : Bool) (entries : ℕ) → (is_full ≡ true) ↔ (entries ≡ 64) → entries ≤ 64 → is_full ≡ false → entries < 64
+room_left is_full entries full few open = elim (cases_lt entries 64) [
+  | inl less ↦ less
+  | inr more ↦ absurd (true≢false (sym (full.1 (omega arith)) ∙ open))
+]

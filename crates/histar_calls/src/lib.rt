@@ -10,6 +10,6 @@ mod using;
 mod walking;
 
 pub use making::create;
-pub use places::Places;
+pub use places::{Places, read_category, write_category};
 pub use stopping::Stopped;
 pub use using::{read, write};

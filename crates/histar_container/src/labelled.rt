@@ -58,6 +58,7 @@ impl<S: LabelStore + Drop> LabelledObjects<S> {
     pub fn push(&mut self, label: Label, kind: Kind<Label>) -> Result<(), AllocError>
         requires { self.old.next_object < 18446744073709551615 }
         ensures ok { OnOk result (state_of self.new ≡ with_next (state_of self.old) (record { label = label; kind = kind })) }
+        ensures counted { OnOk result (self.new.next_object ≡ self.old.next_object + 1) }
         ensures err { OnErr result (state_of self.new ≡ state_of self.old) }
     {
         push_in(
@@ -74,7 +75,8 @@ impl<S: LabelStore + Drop> LabelledObjects<S> {
     /// Gives the next number to no object: for a given start state.
     pub fn skip(&mut self)
         requires { self.old.next_object < 18446744073709551615 }
-        ensures { state_of self.new ≡ skipping (state_of self.old) }
+        ensures state { state_of self.new ≡ skipping (state_of self.old) }
+        ensures counted { self.new.next_object ≡ self.old.next_object + 1 }
     {
         self.next_object += 1;
     }

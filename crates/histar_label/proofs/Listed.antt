@@ -1,5 +1,5 @@
 -- What a label lists: in rising order each category that has another level than the default.
-use Rattle.std.proofs.Common.{◌≡◌, ◌≢◌, ◌↔◌, ℕ, zero, suc, ◌<◌, [], ◌∷◌, length, get_or, max, Bool, true, false, ◌&&◌, if◌then◌else◌, Contains, Option, Some, None, unwrap_or, refl, sym, ap, ◌∙◌, arith}
+use Rattle.std.proofs.Common.{◌≡◌, ◌≢◌, ℕ, zero, suc, ◌<◌, [], ◌∷◌, length, get_or, max, Bool, true, false, ◌&&◌, if◌then◌else◌, Contains, Option, Some, None, unwrap_or, refl, sym, ap, ◌∙◌, arith}
 use Rattle.std.specs.Prelude.{T}
 use Rattle.std.specs.Ordering.{nat_cmp, eq_by_cmp, is_lt}
 use Rattle.std.specs.FinMap.{find, is_sorted, entries, entries_sorted, get-entries}

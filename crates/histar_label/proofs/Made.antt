@@ -1,12 +1,11 @@
 -- The test of the categories that a label names says that each with another level than the default is made.
-use Rattle.std.proofs.Common.{◌≡◌, ◌≢◌, ◌↔◌, ℕ, ◌<◌, ◌≤◌, Bool, true, false, ◌&&◌, if◌then◌else◌, IsTrue, get_or, refl, sym, ap, ◌∙◌, arith}
+use Rattle.std.proofs.Common.{◌≡◌, ◌↔◌, ℕ, ◌<◌, ◌≤◌, Bool, true, false, ◌&&◌, if◌then◌else◌, IsTrue, get_or, refl, sym, ◌∙◌, arith}
 use Rattle.std.specs.Prelude.{nat_lt, ◌==◌}
-use Rattle.std.specs.List.{list_all}
 use Rattle.std.proofs.lemmas.List.Elements.{All-contains, Contains-get_or}
 use Rattle.std.proofs.lemmas.List.Sums.{AllPass-from_list_all, list_all-from_AllPass}
 use Rattle.std.proofs.lemmas.Bool.Decides.{nat_tests}
 use Rattle.histar_label.specs.declared.levels.Level.{Level}
-use Rattle.histar_label.specs.Levels.{Levels, level_of, default_of, exceptions_of, constant, with_level, level_of-constant, level_of-with_level, default_of-constant, default_of-with_level, NamesOnlyMade, is_made}
+use Rattle.histar_label.specs.Levels.{Levels, level_of, exceptions_of, constant, with_level, level_of-constant, level_of-with_level, default_of-constant, default_of-with_level, NamesOnlyMade, is_made}
 use Rattle.histar_label.proofs.Listed.{ListsExceptions-exceptions_of}
 
 -- whether a category is made
@@ -61,8 +60,8 @@ kept_level false l m n is other = is
 pub is_made-with_level : (next : ℕ) (L : Levels) (c : ℕ) (l : Level) → 0 < c → c < next → is_made next L ≡ true → is_made next (with_level L c l) ≡ true
 is_made-with_level next L c l low high made =
     (is_made-law next (with_level L c l)).1 (λ q differs.
-        elim (q == c) as (λ b. (q == c) ≡ b → (0 < q) × (q < next)) [
-          | true ↦ λ same. let is : q ≡ c = grind (arith, nat_tests) in (omega arith, omega arith)
-          | false ↦ λ other. (is_made-law next L).0 made q (λ is.
-              differs (kept_level (q == c) l (level_of (with_level L c l) q) (level_of L q) (level_of-with_level L c l q) other ∙ is ∙ sym (default_of-with_level L c l)))
-        ] refl)
+    elim (q == c) as (λ b. (q == c) ≡ b → (0 < q) × (q < next)) [
+      | true ↦ λ same. let is : q ≡ c = grind (arith, nat_tests) in (omega arith, omega arith)
+      | false ↦ λ other. (is_made-law next L).0 made q (λ is.
+          differs (kept_level (q == c) l (level_of (with_level L c l) q) (level_of L q) (level_of-with_level L c l q) other ∙ is ∙ sym (default_of-with_level L c l)))
+    ] refl)

@@ -1,5 +1,5 @@
 -- The comparisons of labels at every category, and the laws of orders that follow.
-use Rattle.std.proofs.Common.{◌≡◌, ℕ, ◌≤◌, max, IsTrue, ◌↔◌, arith, refl, sym, ap}
+use Rattle.std.proofs.Common.{◌≤◌, IsTrue, ◌↔◌, arith, ap}
 use Rattle.histar_label.specs.declared.levels.Level.{Level}
 use Rattle.histar_label.specs.declared.levels.Level.TheVariants.{Star, L0, L1, L2, L3}
 use Rattle.histar_label.specs.declared.levels.Reading.TheVariants.{Plain, Raised}

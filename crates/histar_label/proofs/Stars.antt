@@ -1,10 +1,8 @@
 -- The test for star says that some category has star.
-use Rattle.std.proofs.Common.{◌≡◌, ◌≢◌, ◌↔◌, ℕ, ◌≤◌, Bool, true, false, ◌||◌, IsTrue, Contains, refl, sym, ap, ◌∙◌, arith}
+use Rattle.std.proofs.Common.{◌≡◌, ◌≢◌, ◌↔◌, ℕ, Bool, true, false, ◌||◌, IsTrue, refl, sym, ◌∙◌, arith}
 use mathlib.Core.Bool.{false≢true}
 use Rattle.std.specs.List.{list_any}
 use Rattle.std.proofs.lemmas.List.Folds.{Any-from_list_any, list_any-from_Any}
-use Rattle.std.proofs.lemmas.Bool.Decides.{same_from_decides}
-use Rattle.histar_label.specs.declared.levels.Level.{Level}
 use Rattle.histar_label.specs.declared.levels.Level.TheVariants.{Star}
 use Rattle.histar_label.specs.Level.{is_star, star_from_is_star, is_star_from_star}
 use Rattle.histar_label.specs.Levels.{Levels, level_of, default_of, exceptions_of, beyond, level_of-beyond, HasStar, has_star}

@@ -1,22 +1,20 @@
 -- What the comparisons, the join and the floor of labels amount to, in the words of orders.
 use Rattle.std.specs.Prelude.{◌≡◌, ◌≢◌, ◌↔◌, ◌⊎◌, ℕ, ◌≤◌, Bool, IsTrue}
-use Rattle.histar_label.specs.declared.levels.Level.{Level}
 use Rattle.histar_label.specs.declared.levels.Level.TheVariants.{Star}
 use Rattle.histar_label.specs.Level.{rank}
 use Rattle.histar_label.specs.Levels.{Levels, level_of, default_of, exceptions_of, grades, raised_grades, joined, IsBelow, IsDefault, ListsExceptions, HasStar, NamesOnlyMade, is_below, is_below_raised, is_below_join, is_below_join_raised, has_star, is_made}
 use Rattle.histar_label.specs.Exceptions.{IsRising}
-use Rattle.histar_label.specs.Same.{is_same}
 
 -- the two labels have the same level at each category
 abbrev pub IsSameFunction : Levels → Levels → Type 0
 IsSameFunction L M = (c : ℕ) → level_of L c ≡ level_of M c
 
--- labels are compared as functions: one value for each function, and the test of equality decides it
+-- labels are compared as functions: each function has one value, and the test decides equality
 pub record ComparesFunctions (test : Levels → Levels → Bool) : Type 0 where
   pub one_value : (L M : Levels) → IsSameFunction L M → L ≡ M
   pub decided : (L M : Levels) → IsTrue (test L M) ↔ IsSameFunction L M
 
--- what a label lists is what tells it apart: its default, and in rising order each category with another level
+-- a label is told by its default and, in rising order, each category with another level
 pub record IsListed (L : Levels) : Type 0 where
   pub default : IsDefault L (default_of L)
   pub rising : IsRising (exceptions_of L)
@@ -48,12 +46,12 @@ pub record OwnsAndBounds (L M N : Levels) : Type 0 where
   pub owns : (c : ℕ) → (level_of L c ≡ Star) ⊎ (level_of M c ≡ Star) → level_of N c ≡ Star
   pub bounds : (c : ℕ) → level_of L c ≢ Star → level_of M c ≢ Star → (rank (level_of L c) ≤ rank (level_of N c)) × (rank (level_of M c) ≤ rank (level_of N c))
 
--- the first label is above the second at no category, where star is read as J in both: star is the highest level of this order
+-- L is above M at no category, in the order where star is the highest level
 abbrev pub IsRaisedBelow : Levels → Levels → Type 0
 IsRaisedBelow L M = IsBelow (raised_grades L) (raised_grades M)
 
--- F is the least label with star where either has star and at least both elsewhere, and the least upper bound of both in the order
--- where star is the highest level
+-- F is the least of the labels that own what either owns and bound both elsewhere; and where star is
+-- the highest level it is the least upper bound of both
 pub record IsFloor (L M F : Levels) : Type 0 where
   pub itself : OwnsAndBounds L M F
   pub least : (N : Levels) → OwnsAndBounds L M N → IsTrue (is_below F N)

@@ -3,7 +3,8 @@ ghost use Rattle.std.specs.Prelude.{◌≡◌};
 
 use std::marker::Model;
 
-/// A category, by its number. A kernel numbers the categories that it makes from 1 on, and each number may stand in a label.
+/// A category, by its number. A kernel numbers the categories that it makes from 1 on, and each
+/// number may stand in a label.
 #[derive(Clone, Copy, Debug, Default, PartialEq, Eq, PartialOrd, Ord, Hash)]
 pub struct Category(u64);
 

@@ -1,42 +1,40 @@
-//! What the definitions of labels amount to. Each law is the contract of a function that does nothing.
+//! What the definitions of labels amount to. Each law is the contract of a function that does
+//! nothing.
 ghost use Rattle.histar_label.specs.Levels.{Levels, is_below};
 ghost use Rattle.histar_label.specs.Floors.{join_of, floor_of};
 ghost use Rattle.histar_label.specs.Same.{is_same};
-ghost use Rattle.histar_label.specs.Laws.{ComparesFunctions, IsListed, TestsArePointwise, IsPartialOrder, IsLeastUpperBound, IsFloor};
+ghost use Rattle.histar_label.specs.Laws.{ComparesFunctions, IsListed, TestsArePointwise};
+ghost use Rattle.histar_label.specs.Laws.{IsPartialOrder, IsLeastUpperBound, IsFloor};
 
-/// Labels with the same level at each category are one value, and `==` of labels decides whether they are.
+/// Labels with the same level at each category are one value, and `==` of labels decides whether
+/// they are.
 pub fn equality_is_of_functions()
     ensures { ComparesFunctions is_same }
-{
-}
+{}
 
-/// The default of a label is its level from some category on, and its exceptions are the categories with another level.
+/// The default of a label is its level from some category on, and its exceptions are the categories
+/// with another level.
 pub fn labels_are_listed()
     ensures { (L : Levels) → IsListed L }
-{
-}
+{}
 
 /// The equations of the comparisons and their clauses over all categories say the same.
 pub fn tests_are_pointwise()
     ensures { TestsArePointwise }
-{
-}
+{}
 
 /// `below` is a partial order.
 pub fn below_is_a_partial_order()
     ensures { IsPartialOrder is_below }
-{
-}
+{}
 
 /// The join of two labels is their least upper bound.
 pub fn join_is_least_upper_bound()
     ensures { (L M : Levels) → IsLeastUpperBound L M (join_of L M) }
-{
-}
+{}
 
-/// The floor of two labels is the least label that has star where either has star and is at least both elsewhere. It is
-/// also their least upper bound in the order where star is the highest level.
+/// The floor of two labels is the least label that has star where either has star and is at least
+/// both elsewhere. It is also their least upper bound in the order where star is the highest level.
 pub fn floor_is_least()
     ensures { (L M : Levels) → IsFloor L M (floor_of L M) }
-{
-}
+{}

@@ -1,0 +1,4 @@
+pub mod EntryLemmas
+pub mod MapLemmas
+pub mod DirectoryLemmas
+pub mod WritingLemmas

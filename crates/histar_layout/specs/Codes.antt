@@ -1,21 +1,25 @@
--- Codes.
+-- How targets are stored as plain data, so that models may hold them.
 use Rattle.std.specs.Prelude.{◌≡◌, ℕ, ◌⊎◌, refl}
 use Rattle.std.specs.Coded.{Coded, code_by, coded×, coded⊎, coded_ℕ}
 use Rattle.std.proofs.Common.{inl, inr}
 use Rattle.histar_layout.specs.declared.entry.Target.{Target}
 use Rattle.histar_layout.specs.declared.entry.Target.TheVariants.{File, Directory}
 
+-- a target as one number or two
 abbrev pub split_target : Target → ℕ ⊎ (ℕ × ℕ)
-split_target (File n) = inl n
-split_target (Directory n m) = inr (n, m)
+split_target (File file) = inl file
+split_target (Directory container listing) = inr (container, listing)
 
+-- the target that was split
 abbrev pub join_target : ℕ ⊎ (ℕ × ℕ) → Target
-join_target (inl n) = File n
-join_target (inr p) = Directory p.0 p.1
+join_target (inl file) = File file
+join_target (inr numbers) = Directory numbers.0 numbers.1
 
-pub join_split : (t : Target) → join_target (split_target t) ≡ t
-join_split (File n) = refl
-join_split (Directory n m) = refl
+-- a target that was split comes back
+pub join_target-split : (t : Target) → join_target (split_target t) ≡ t
+join_target-split (File file) = refl
+join_target-split (Directory container listing) = refl
 
+-- a target is stored as its numbers
 abbrev pub coded_target : Coded Target
-coded_target = code_by (ℕ ⊎ (ℕ × ℕ)) (coded⊎ coded_ℕ (coded× coded_ℕ coded_ℕ)) split_target join_target join_split
+coded_target = code_by (ℕ ⊎ (ℕ × ℕ)) (coded⊎ coded_ℕ (coded× coded_ℕ coded_ℕ)) split_target join_target join_target-split

@@ -1,2 +1,4 @@
 pub mod Codes
 pub mod Directory
+pub mod Reading
+pub mod Writing

@@ -1,6 +1,11 @@
 //! Directories and the bytes that they lie in.
+ghost use Rattle.std.specs.Prelude.{◌≡◌, ℕ, ◌<◌, ◌↔◌, List, IfOk, OnOk, OnErr, IsTrue, MatchOption};
+ghost use Rattle.std.specs.FinMap as map;
+ghost use Rattle.histar_layout.specs.Directory.{Entries, LeadsSomewhere, IsListable, IsDirectory, most_entries};
 
 use crate::entry::Target;
+use crate::reading::{follows, read_entry};
+use crate::writing::push_entry;
 use histar_base::Bytes;
 use histar_flat::Name;
 use std::alloc::{AllocError, Global};
@@ -18,48 +23,63 @@ pub struct Dir {
 }
 
 impl Model for Dir {
-    ghost use Rattle.std.specs.Ordering.{nat_cmp};
     ghost use Rattle.std.specs.FinMap as map;
-    ghost use Rattle.std.specs.Prelude.{ℕ};
     ghost use Rattle.std.specs.Coded.{coded_ℕ, coded_list};
-    ghost use Rattle.histar_layout.specs.Directory.{Entries};
     ghost use Rattle.histar_layout.specs.Codes.{coded_target};
+    ghost use Rattle.histar_layout.specs.Directory.{Entries, IsListable};
 
     ghost Value = { Entries };
 
     ghost coded = { map.code (coded_list coded_ℕ) coded_target };
 
     ghost view = { λ d. map.from_entries d.entries.entries };
+
+    ghost invariant = { λ d. IsListable (map.from_entries d.entries.entries) };
 }
 
 impl Dir {
     /// A directory with no entries.
     pub fn new(alloc: Global) -> Self
+        ensures { result ≡ map.empty }
     {
-        Dir { entries: BTreeMap::new(alloc) }
+        Dir {
+            entries: BTreeMap::new(alloc),
+        }
     }
 
     /// Where the entry of this name leads.
     pub fn get(&self, name: &Name) -> Option<Target>
+        ensures { result ≡ map.get self.now name.now }
     {
         self.entries.get(name).copied()
     }
 
     /// How many entries it has.
     pub fn len(&self) -> usize
+        ensures value { result ≡ map.len self.now }
+        ensures listable { IsListable self.now }
     {
         self.entries.len()
     }
 
     /// Whether no entry more can be made.
     pub fn is_full(&self) -> bool
+        ensures full { IsTrue result ↔ (map.len self.now ≡ most_entries) }
+        ensures listable { IsListable self.now }
     {
-        self.entries.len() == 64
+        self.len() == MOST_ENTRIES
     }
 
     /// Makes an entry, in the place of one that has the name.
     pub fn insert(&mut self, name: Name, target: Target) -> Result<(), AllocError>
+        requires room { map.len self.old < most_entries }
+        requires leads { LeadsSomewhere target }
+        ensures ok { OnOk result (self.new ≡ map.insert self.old name target) }
+        ensures err { OnErr result (self.new ≡ self.old) }
     {
+        // Each name has bytes of a name, and each number fits 64 bits: these calls tell the proof so.
+        let _bytes = name.as_bytes();
+        let _numbers = target.numbers();
         self.entries.insert(name, target)?;
         Ok(())
     }
@@ -68,17 +88,38 @@ impl Dir {
 /// The directory that the bytes are, if they are one: entries by rising names, none twice, at most
 /// 64, and nothing else.
 pub fn read_dir(alloc: Global, bytes: &[u8]) -> Result<Option<Dir>, AllocError>
+    ensures { IfOk result (λ found. MatchOption found ((dir : Entries) → IsDirectory bytes.now dir → ⊥) (IsDirectory bytes.now)) }
 {
-    let _dir = Dir::new(alloc);
-    let _bytes = bytes.len();
-    Ok(None)
+    let mut dir = Dir::new(alloc);
+    let mut last = None;
+    let mut rest = bytes;
+    'entries: while !rest.is_empty() {
+        let Some(found) = read_entry(rest) else {
+            return Ok(None);
+        };
+        let (name, target, after) = found;
+        if dir.is_full() || !follows(last, name) {
+            return Ok(None);
+        }
+        dir.insert(name, target)?;
+        last = Some(name);
+        rest = after;
+    }
+    Ok(Some(dir))
 }
 
 /// The bytes of a directory.
 pub fn write_dir(alloc: Global, dir: &Dir) -> Result<Bytes, AllocError>
+    ensures { IfOk result (λ bytes. IsDirectory bytes dir.now) }
 {
-    let _len = dir.len();
-    Ok(Bytes::new(alloc))
+    let mut bytes = Vec::new(alloc);
+    for (name, target) in &dir.entries {
+        push_entry(&mut bytes, name, *target)?;
+    }
+    Ok(Bytes::from_vec(bytes))
 }
 
-
+/// Bytes are one directory at most.
+pub fn one_directory()
+    ensures { (bytes : List ℕ) (a b : Entries) → IsDirectory bytes a → IsDirectory bytes b → a ≡ b }
+{}

@@ -1,4 +1,6 @@
 //! Entries of directories.
+ghost use Rattle.std.specs.Prelude.{◌≡◌};
+
 use histar_object::ObjId;
 
 /// Where an entry of a directory leads: to a file's segment, or to a directory's container, of which
@@ -7,4 +9,30 @@ use histar_object::ObjId;
 pub enum Target {
     File(ObjId),
     Directory(ObjId, ObjId),
+}
+
+impl Target {
+    ghost use Rattle.histar_layout.specs.Directory.{LeadsSomewhere, IsTarget};
+    ghost use Rattle.histar_layout.specs.Writing.{letter_of, numbers_of};
+
+    /// The byte that tells a file from a directory.
+    pub(crate) fn letter(&self) -> u8
+        ensures { result ≡ letter_of self.now }
+    {
+        match self {
+            Target::File(_) => b'f',
+            Target::Directory(_, _) => b'd',
+        }
+    }
+
+    /// The number of the file's segment, and 0; or those of the container and its directory segment.
+    pub(crate) fn numbers(&self) -> (u64, u64)
+        ensures value { result ≡ numbers_of self.now }
+        ensures fits { LeadsSomewhere self.now → IsTarget self.now }
+    {
+        match self {
+            Target::File(file) => (file.number(), 0),
+            Target::Directory(container, listing) => (container.number(), listing.number()),
+        }
+    }
 }

@@ -3,6 +3,8 @@
 
 mod directory;
 mod entry;
+mod reading;
+mod writing;
 
-pub use directory::{Dir, read_dir, write_dir};
+pub use directory::{Dir, one_directory, read_dir, write_dir};
 pub use entry::Target;

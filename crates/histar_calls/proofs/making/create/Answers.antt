@@ -1,7 +1,7 @@
 use Rattle.std.proofs.Common.{◌≡◌, refl, sym, ◌∙◌}
 use Rattle.histar_flat.specs.declared.replies.Reply.TheVariants.{Done}
 use Rattle.histar_calls.specs.Replies.{errno_of, ReadsRoot}
-use Rattle.histar_calls.proofs.Told.{access_told, permission_told, after_three, after_four}
+use Rattle.histar_calls.proofs.Told.{access_told, permission_told, after_three, after_four, room_left}
 use Rattle.histar_calls.proofs.making.create.Goals as goal
 
 pub returns-in-Err-Denied : goal.returns-in-Err-Denied
@@ -19,3 +19,9 @@ returns-in-Ok-write g c =
     let walked : ReadsRoot c.args.places.now c.args.kernel.now c.walk.new.kernel c.args.thread = rw c.in-Ok.is at c.in_ok-dir.ensures in
     after_four c.args.kernel.now c.args.thread c.walk.new.kernel _ walked c.own_label.new.self _ c.in-Ok-own_label.ensures.0 c.make_segment.new.self c.write.new.self _ _ _ Done
     c.in-Ok-make_segment.ensures.0 c.in-Ok-write.ensures.0 refl refl
+
+pub insert-requires-clause-room : goal.insert-requires-clause-room
+insert-requires-clause-room g c = room_left c.is_full.result _ c.is_full.ensures.full c.is_full.ensures.listable.few c.if-is_full.false
+
+pub insert-requires-clause-leads : goal.insert-requires-clause-leads
+insert-requires-clause-leads g c = c.in-Ok-make_segment.ensures.1.1

@@ -1,0 +1,233 @@
+//! Labels and stores against a table that was written by hand from the order star < 0 < 1 < 2 < 3 <
+//! J.
+ghost use Rattle.std.specs.Prelude.{◌≡◌, IsSome};
+
+use crate::{Category, Label, LabelStore, Level, OutOfMemory, PlainStore};
+use std::alloc::Global;
+use std::process::Abort;
+use std::test::Fail;
+
+/// Two levels; whether the first is not above the second, plainly and with star in the second read
+/// as J; their join; their floor.
+type Row = (Level, Level, bool, bool, Level, Level);
+
+const ROWS: [Row; 25] = [
+    (
+        Level::Star,
+        Level::Star,
+        true,
+        true,
+        Level::Star,
+        Level::Star,
+    ),
+    (Level::Star, Level::L0, true, true, Level::L0, Level::Star),
+    (Level::Star, Level::L1, true, true, Level::L1, Level::Star),
+    (Level::Star, Level::L2, true, true, Level::L2, Level::Star),
+    (Level::Star, Level::L3, true, true, Level::L3, Level::Star),
+    (Level::L0, Level::Star, false, true, Level::L0, Level::Star),
+    (Level::L0, Level::L0, true, true, Level::L0, Level::L0),
+    (Level::L0, Level::L1, true, true, Level::L1, Level::L1),
+    (Level::L0, Level::L2, true, true, Level::L2, Level::L2),
+    (Level::L0, Level::L3, true, true, Level::L3, Level::L3),
+    (Level::L1, Level::Star, false, true, Level::L1, Level::Star),
+    (Level::L1, Level::L0, false, false, Level::L1, Level::L1),
+    (Level::L1, Level::L1, true, true, Level::L1, Level::L1),
+    (Level::L1, Level::L2, true, true, Level::L2, Level::L2),
+    (Level::L1, Level::L3, true, true, Level::L3, Level::L3),
+    (Level::L2, Level::Star, false, true, Level::L2, Level::Star),
+    (Level::L2, Level::L0, false, false, Level::L2, Level::L2),
+    (Level::L2, Level::L1, false, false, Level::L2, Level::L2),
+    (Level::L2, Level::L2, true, true, Level::L2, Level::L2),
+    (Level::L2, Level::L3, true, true, Level::L3, Level::L3),
+    (Level::L3, Level::Star, false, true, Level::L3, Level::Star),
+    (Level::L3, Level::L0, false, false, Level::L3, Level::L3),
+    (Level::L3, Level::L1, false, false, Level::L3, Level::L3),
+    (Level::L3, Level::L2, false, false, Level::L3, Level::L3),
+    (Level::L3, Level::L3, true, true, Level::L3, Level::L3),
+];
+
+/// The category at which the labels of the tests differ.
+fn seven() -> Category {
+    Category::new(7)
+}
+
+/// This level at category 7, and 1 elsewhere.
+fn at_seven(alloc: Global, level: Level) -> Result<Label, OutOfMemory> {
+    Label::new(alloc, Level::L1).with(seven(), level)
+}
+
+fn agrees(rt: &impl Abort, first: &Label, second: &Label, row: Row) -> Result<(), OutOfMemory> {
+    let (low, high, below, below_raised, join, floor) = row;
+    assert_eq!(rt; first.below(second), below, "{low:?} below {high:?}");
+    assert_eq!(rt;
+        first.below_raised(second),
+        below_raised,
+        "{low:?} below raised {high:?}"
+    );
+    assert_eq!(rt;
+        first.join(second)?.get(seven()),
+        join,
+        "{low:?} join {high:?}"
+    );
+    assert_eq!(rt;
+        first.floor(second)?.get(seven()),
+        floor,
+        "{low:?} floor {high:?}"
+    );
+    assert_eq!(rt; first == second, low == high, "{low:?} and {high:?}");
+    Ok(())
+}
+
+#[test]
+fn pairs_of_levels(rt: HostRuntime) -> Result<(), Fail> {
+    for &row in &ROWS {
+        let first = at_seven(rt.alloc(), row.0)?;
+        let second = at_seven(rt.alloc(), row.1)?;
+        agrees(&rt, &first, &second, row)?;
+        let first = Label::new(rt.alloc(), row.0);
+        let second = Label::new(rt.alloc(), row.1);
+        agrees(&rt, &first, &second, row)?;
+    }
+    Ok(())
+}
+
+/// What is below the greater of two is below one of them.
+fn agrees_of_three(
+    rt: &impl Abort,
+    first: &Label,
+    second: &Label,
+    third: &Label,
+    rows: (Row, Row),
+) {
+    let ((low, high, below, _, _, _), (_, other, below_other, below_raised, _, _)) = rows;
+    let expected = below || below_other;
+    assert_eq!(rt;
+        first.below_join(second, third),
+        expected,
+        "{low:?}, {high:?}, {other:?}"
+    );
+    let expected = below || below_raised;
+    assert_eq!(rt;
+        first.below_join_raised(second, third),
+        expected,
+        "{low:?}, {high:?}, {other:?}"
+    );
+}
+
+#[test]
+fn triples_of_levels(rt: HostRuntime) -> Result<(), Fail> {
+    for &row in &ROWS {
+        for &other in &ROWS {
+            if row.0 == other.0 {
+                let first = at_seven(rt.alloc(), row.0)?;
+                let second = at_seven(rt.alloc(), row.1)?;
+                let third = at_seven(rt.alloc(), other.1)?;
+                agrees_of_three(&rt, &first, &second, &third, (row, other));
+                let first = Label::new(rt.alloc(), row.0);
+                let second = Label::new(rt.alloc(), row.1);
+                let third = Label::new(rt.alloc(), other.1);
+                agrees_of_three(&rt, &first, &second, &third, (row, other));
+            }
+        }
+    }
+    Ok(())
+}
+
+#[test]
+fn exceptions_are_listed(rt: HostRuntime) -> Result<(), Fail> {
+    let low = at_seven(rt.alloc(), Level::L0)?;
+    let both = low.with(Category::new(4), Level::L3)?;
+    let label = both.with(seven(), Level::L2)?;
+    let listed = [(Category::new(4), Level::L3), (seven(), Level::L2)];
+    assert_eq!(rt; label.exceptions(), listed.as_slice());
+    assert_eq!(rt; label.default_level(), Level::L1);
+    assert_eq!(rt; label.get(Category::new(4)), Level::L3);
+    assert_eq!(rt; label.get(Category::new(5)), Level::L1);
+    Ok(())
+}
+
+#[test]
+fn the_default_is_no_exception(rt: HostRuntime) -> Result<(), Fail> {
+    let plain = Label::new(rt.alloc(), Level::L1);
+    let label = at_seven(rt.alloc(), Level::L2)?;
+    let back = label.with(seven(), Level::L1)?;
+    assert!(rt; back == plain);
+    assert!(rt; back != label);
+    assert_eq!(rt; back.exceptions().len(), 0);
+    let copy = label.copy()?;
+    assert!(rt; copy == label);
+    Ok(())
+}
+
+#[test]
+fn categories_that_are_named(rt: HostRuntime) -> Result<(), Fail> {
+    let label = at_seven(rt.alloc(), Level::Star)?;
+    assert!(rt; label.has_star());
+    assert!(rt; label.names_only_made(8));
+    assert!(rt; !label.names_only_made(7));
+    let none = label.with(Category::new(0), Level::L2)?;
+    assert!(rt; !none.names_only_made(8));
+    assert!(rt; !Label::new(rt.alloc(), Level::L3).has_star());
+    assert!(rt; Label::new(rt.alloc(), Level::Star).has_star());
+    assert_eq!(rt; seven().number(), 7);
+    Ok(())
+}
+
+/// The tests of a store answer as the table, whatever else the store keeps.
+fn tests_agree<S: LabelStore>(rt: &impl Abort, store: &mut S, first: S::Id, second: S::Id, row: Row)
+    requires first_stands { IsSome (S.labels store.old first) }
+    requires second_stands { IsSome (S.labels store.old second) }
+    ensures { S.labels store.new ≡ S.labels store.old }
+{
+    let (low, high, below, below_raised, _, _) = row;
+    let answer = store.below(first, second);
+    assert_eq!(rt; answer, below, "{low:?} below {high:?}");
+    let answer = store.below_raised(first, second);
+    assert_eq!(rt; answer, below_raised, "{low:?} below raised {high:?}");
+    let answer = store.below_join(first, first, second);
+    assert!(rt; answer);
+    let answer = store.below_join_raised(first, second, second);
+    assert_eq!(rt; answer, below_raised, "{low:?} below join raised {high:?}");
+}
+
+/// The Id stands for a label with this level.
+fn stands<S: LabelStore>(rt: &impl Abort, store: &S, id: S::Id, level: Level)
+    requires { IsSome (S.labels store.now id) }
+{
+    let found = store.get(id).unwrap().get(seven());
+    assert_eq!(rt; found, level);
+}
+
+/// A store answers as the table, and its Ids stand for their labels after every call.
+fn store_agrees<S: LabelStore>(
+    rt: &impl Abort,
+    alloc: Global,
+    store: &mut S,
+    row: Row,
+) -> Result<(), OutOfMemory> {
+    let (low, high, _, _, join, floor) = row;
+    let first = store.put(at_seven(alloc, low)?)?;
+    let second = store.put(at_seven(alloc, high)?)?;
+    tests_agree(rt, store, first, second, row);
+    let joined = store.join(first, second)?;
+    let floored = store.floor(first, second)?;
+    stands(rt, store, first, low);
+    stands(rt, store, second, high);
+    stands(rt, store, joined, join);
+    stands(rt, store, floored, floor);
+    Ok(())
+}
+
+/// An Id that a store has not given stands for no label of it.
+#[test]
+fn a_plain_store(rt: HostRuntime) -> Result<(), Fail> {
+    let mut store = PlainStore::new(rt.alloc());
+    for &row in &ROWS {
+        store_agrees(&rt, rt.alloc(), &mut store, row)?;
+    }
+    let id = store.put(Label::new(rt.alloc(), Level::L2))?;
+    assert!(rt; store.get(id).is_some());
+    let empty = PlainStore::new(rt.alloc());
+    assert!(rt; empty.get(id).is_none());
+    Ok(())
+}

@@ -1,0 +1,33 @@
+-- What is pushed piece by piece.
+use Rattle.std.proofs.Common.{◌≡◌, ℕ, List, [], ◌∷◌, ◌++◌, refl, sym, ap, ◌∙◌, append_assoc}
+use Rattle.std.specs.List.{flat_map}
+use Rattle.std.specs.Int.{w64, to_be_bytes}
+use Rattle.histar_flat.specs.Words.{Name}
+use Rattle.histar_layout.specs.declared.entry.Target.{Target}
+use Rattle.histar_layout.specs.declared.entry.Target.TheVariants.{File, Directory}
+use Rattle.histar_layout.specs.Directory.{target_bytes, entry_bytes}
+use Rattle.histar_layout.specs.Writing.{letter_of, numbers_of}
+
+-- three pieces, one after another
+in_pieces : (old one two three : List ℕ) → ((old ++ one) ++ two) ++ three ≡ old ++ ((one ++ two) ++ three)
+in_pieces old one two three = simp append_assoc
+
+-- a target is its letter and its numbers
+letter_and_numbers : (t : Target) → letter_of t ∷ to_be_bytes w64 (numbers_of t).0 ++ to_be_bytes w64 (numbers_of t).1 ≡ target_bytes t
+letter_and_numbers (File file) = refl
+letter_and_numbers (Directory container listing) = refl
+
+-- the letter and the numbers are pushed one after another
+pub target_written : (old first second third a b : List ℕ) (letter : ℕ) (numbers : ℕ × ℕ) (t : Target) → letter ≡ letter_of t → numbers ≡ numbers_of t
+    → a ≡ to_be_bytes w64 numbers.0 → b ≡ to_be_bytes w64 numbers.1
+    → first ≡ old ++ letter ∷ [] → second ≡ first ++ a → third ≡ second ++ b → third ≡ old ++ target_bytes t
+target_written old first second third a b letter numbers t l n p q x y z =
+    z ∙ (λ i. (y ∙ ap (λ (w : List ℕ). w ++ a) x) i ++ b) ∙ in_pieces old (letter ∷ []) a b
+    ∙ ap (λ (w : List ℕ). old ++ w) ((λ i. (l i ∷ p i) ++ q i) ∙ ap (λ (m : ℕ × ℕ). letter_of t ∷ to_be_bytes w64 m.0 ++ to_be_bytes w64 m.1) n ∙ letter_and_numbers t)
+
+-- one entry more is pushed, and the others are left
+pub entry_written : (whole : List ℕ) (old new : List ℕ) (left rest : List (Name × Target)) (e : Name × Target) → old ++ flat_map entry_bytes left ≡ whole → left ≡ e ∷ rest → new ≡ old ++ entry_bytes e
+    → new ++ flat_map entry_bytes rest ≡ whole
+entry_written whole old new left rest e so_far turn grown =
+    ap (λ (w : List ℕ). w ++ flat_map entry_bytes rest) grown ∙ append_assoc old (entry_bytes e) (flat_map entry_bytes rest)
+    ∙ ap (λ (es : List (Name × Target)). old ++ flat_map entry_bytes es) (sym turn) ∙ so_far

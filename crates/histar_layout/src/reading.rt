@@ -1,0 +1,78 @@
+//! Reading the entries of directories.
+ghost use Rattle.std.specs.Prelude.{◌≡◌};
+ghost use Rattle.histar_layout.specs.Reading.{Gives, front_at, number_at, target_of, target_at, entry_at, comes_after};
+
+use crate::entry::Target;
+use histar_flat::{Name, read_name};
+use histar_object::ObjId;
+
+/// The entry at the front, and the bytes after it.
+#[tactic(auto, unfolding(crate::specs::Reading::entry_at))]
+pub fn read_entry(bytes: &[u8]) -> Option<(Name, Target, &[u8])>
+    ensures { Gives (λ found. ((found.0, found.1), found.2.now)) result (entry_at bytes.now) }
+{
+    let [len, rest @ ..] = bytes else {
+        return None;
+    };
+    let (text, rest) = read_front(rest, *len as usize)?;
+    let name = read_name(text)?;
+    let Some((target, rest)) = read_target(rest) else {
+        return None;
+    };
+    Some((name, target, rest))
+}
+
+/// Whether a name may follow the last one that was read.
+pub fn follows(last: Option<Name>, name: Name) -> bool
+    ensures { result ≡ comes_after last name }
+{
+    match last {
+        None => true,
+        Some(last) => last < name,
+    }
+}
+
+#[tactic(auto, unfolding(crate::specs::Reading::target_at))]
+fn read_target(bytes: &[u8]) -> Option<(Target, &[u8])>
+    ensures { Gives (λ found. (found.0, found.1.now)) result (target_at bytes.now) }
+{
+    let [letter, rest @ ..] = bytes else {
+        return None;
+    };
+    let (object, rest) = read_number(rest)?;
+    let (listing, rest) = read_number(rest)?;
+    let target = target(*letter, object, listing)?;
+    Some((target, rest))
+}
+
+#[tactic(auto, unfolding(crate::specs::Reading::target_of))]
+fn target(letter: u8, object: u64, listing: u64) -> Option<Target>
+    ensures { result ≡ target_of letter object listing }
+{
+    if object == 0 {
+        return None;
+    }
+    match letter {
+        b'f' if listing == 0 => Some(Target::File(ObjId::new(object))),
+        b'd' if listing != 0 => Some(Target::Directory(ObjId::new(object), ObjId::new(listing))),
+        _ => None,
+    }
+}
+
+#[tactic(auto, unfolding(crate::specs::Reading::number_at, crate::specs::Reading::front_at))]
+fn read_number(bytes: &[u8]) -> Option<(u64, &[u8])>
+    ensures { Gives (λ found. (found.0, found.1.now)) result (number_at bytes.now) }
+{
+    let (front, rest) = bytes.split_first_chunk::<8>()?;
+    Some((u64::from_be_bytes(*front), rest))
+}
+
+#[tactic(auto, unfolding(crate::specs::Reading::front_at))]
+fn read_front(bytes: &[u8], len: usize) -> Option<(&[u8], &[u8])>
+    ensures { Gives (λ found. (found.0.now, found.1.now)) result (front_at len bytes.now) }
+{
+    if len > bytes.len() {
+        return None;
+    }
+    Some(bytes.split_at(len))
+}

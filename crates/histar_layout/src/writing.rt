@@ -1,0 +1,29 @@
+//! Writing the entries of directories.
+ghost use Rattle.std.specs.Prelude.{◌≡◌, ◌++◌, OnOk, IsTrue};
+ghost use Rattle.histar_flat.specs.Words.{is_name};
+ghost use Rattle.histar_layout.specs.Directory.{entry_bytes, target_bytes};
+
+use crate::entry::Target;
+use histar_flat::Name;
+use std::alloc::AllocError;
+
+/// Writes an entry at the end.
+pub fn push_entry(out: &mut Vec<u8>, name: &Name, target: Target) -> Result<(), AllocError>
+    ensures { OnOk result (out.new.items ≡ out.old.items ++ entry_bytes (name.now, target)) }
+{
+    let text = name.as_bytes();
+    out.push(text.len() as u8)?;
+    out.extend_from_slice(text)?;
+    push_target(out, target)
+}
+
+fn push_target(out: &mut Vec<u8>, target: Target) -> Result<(), AllocError>
+    ensures { OnOk result (out.new.items ≡ out.old.items ++ target_bytes target) }
+{
+    let letter = target.letter();
+    let (object, listing) = target.numbers();
+    out.push(letter)?;
+    out.extend_from_slice(&object.to_be_bytes())?;
+    out.extend_from_slice(&listing.to_be_bytes())?;
+    Ok(())
+}

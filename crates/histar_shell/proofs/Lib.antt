@@ -1,0 +1,4 @@
+pub mod AnswerLemmas
+pub mod InputLemmas
+pub mod RunLemmas
+pub mod WritingLemmas

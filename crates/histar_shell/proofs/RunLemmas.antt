@@ -1,0 +1,113 @@
+-- What a run says, put together from what its parts say.
+use Rattle.std.proofs.Common.{◌≡◌, ℕ, ◌<◌, true, ltb, List, ◌++◌, length, Option, Some, None, Result, Ok, Err, refl, sym, ap, subst, ◌∙◌, arith, rules, tests, append-nil, inl, inr}
+use Rattle.std.specs.Prelude.{IfSome, IsOk, is_ok}
+use Rattle.std.proofs.lemmas.Bool.{cases_lt}
+use Rattle.std.proofs.lemmas.List.{length-append}
+use Rattle.std.proofs.KnownBytes.{Keeps-refl}
+use Rattle.histar_script.specs.declared.fault.Fault.{Fault}
+use Rattle.histar_script.specs.declared.fault.Fault.TheVariants.{BadScript, TooLong, OutOfMemory, ReadFailed, WriteFailed}
+use Rattle.histar_script.specs.declared.items.CallLine.{CallLine}
+use Rattle.histar_script.specs.Script.{Reading}
+use Rattle.histar_script.specs.Outcome.{Gives}
+use Rattle.histar_script.specs.Reading.{script_of}
+use Rattle.histar_shell.specs.Answers.{BeginsAnswers}
+use Rattle.histar_shell.specs.Input.{TakesAll, TakesSome}
+use Rattle.histar_shell.specs.Outcome.{IsInputFault, IsOutputFault, IsFaultAt, TakesAtFault, WritesAtFault, calls_or_none}
+use Rattle.histar_shell.proofs.AnswerLemmas.{begins_none}
+
+-- the script that the bytes that were taken are is that of the whole input
+abbrev pub IsScriptOfAll : Option (List ℕ) → List ℕ → Type 0
+IsScriptOfAll left taken = IfSome left (λ input. script_of input ≡ script_of taken)
+
+-- a text of more bytes than a script may have is too long
+long_is : (text : List ℕ) → 1048576 < length text → script_of text ≡ Err TooLong
+long_is text lt = let e : ltb 1048576 (length text) ≡ true = search (rules, tests) in rw e refl
+
+-- what was taken says what the whole input says
+pub same_script : (left after : Option (List ℕ)) (taken : List ℕ) → TakesAll left after taken → IsScriptOfAll left taken
+same_script None after taken takes = tt
+same_script (Some input) None taken takes = absurd takes.consumed
+same_script (Some input) (Some rest) taken takes =
+    elim (cases_lt (length taken) 1048577) [
+      | inl lt ↦ ap script_of (takes.consumed ∙ ap (λ (l : List ℕ). taken ++ l) (takes.ended lt) ∙ append-nil taken)
+      | inr le ↦ long_is input (omega (arith, ap length takes.consumed, length-append taken rest)) ∙ sym (long_is taken (omega arith))
+    ]
+
+-- what reading the input may fail by is no fault of the script
+pub input_fault_agrees : (f : Fault) (left : Option (List ℕ)) → IsInputFault f → IfSome left (λ input. IsFaultAt (script_of input) f)
+input_fault_agrees f None h = tt
+input_fault_agrees (BadScript n) (Some input) h = absurd h
+input_fault_agrees TooLong (Some input) h = absurd h
+input_fault_agrees OutOfMemory (Some input) h = tt
+input_fault_agrees ReadFailed (Some input) h = tt
+input_fault_agrees WriteFailed (Some input) h = absurd h
+
+-- and nothing was written then
+pub input_fault_writes : (f : Fault) (left w : Option (List ℕ)) → IsInputFault f → IfSome left (λ input. WritesAtFault w w (calls_or_none (script_of input)) f)
+input_fault_writes f None w h = tt
+input_fault_writes (BadScript n) (Some input) w h = absurd h
+input_fault_writes TooLong (Some input) w h = absurd h
+input_fault_writes OutOfMemory (Some input) w h = begins_none w _
+input_fault_writes ReadFailed (Some input) w h = Keeps-refl w
+input_fault_writes WriteFailed (Some input) w h = absurd h
+
+-- but some of the input may have been taken
+pub input_fault_takes : (f : Fault) (left after : Option (List ℕ)) → IsInputFault f → TakesSome left after → TakesAtFault left after f
+input_fault_takes (BadScript n) left after h takes = absurd h
+input_fault_takes TooLong left after h takes = absurd h
+input_fault_takes OutOfMemory left after h takes = takes
+input_fault_takes ReadFailed left after h takes = takes
+input_fault_takes WriteFailed left after h takes = absurd h
+
+-- once all was taken, every fault may follow
+pub takes_at_fault : (f : Fault) (left after : Option (List ℕ)) (taken : List ℕ) → TakesAll left after taken → TakesAtFault left after f
+takes_at_fault (BadScript n) left after taken takes = (taken, takes)
+takes_at_fault TooLong left after taken takes = (taken, takes)
+takes_at_fault OutOfMemory left after taken takes = record { taken = taken; consumed = takes.consumed; within = takes.within }
+takes_at_fault ReadFailed left after taken takes = record { taken = taken; consumed = takes.consumed; within = takes.within }
+takes_at_fault WriteFailed left after taken takes = (taken, takes)
+
+-- what reading the script answers is the fault in it, or want of memory
+pub script_fault_agrees : (f : Fault) (left : Option (List ℕ)) (taken : List ℕ) → IsScriptOfAll left taken → Gives (Err f) (script_of taken) → IfSome left (λ input. IsFaultAt (script_of input) f)
+script_fault_agrees f None taken same given = tt
+script_fault_agrees (BadScript n) (Some input) taken same given = same ∙ given
+script_fault_agrees TooLong (Some input) taken same given = same ∙ given
+script_fault_agrees OutOfMemory (Some input) taken same given = tt
+script_fault_agrees ReadFailed (Some input) taken same given = tt
+script_fault_agrees WriteFailed (Some input) taken same given = absurd given
+
+-- and nothing was written then
+pub script_fault_writes : (f : Fault) (left w : Option (List ℕ)) (taken : List ℕ) → Gives (Err f) (script_of taken) → IfSome left (λ input. WritesAtFault w w (calls_or_none (script_of input)) f)
+script_fault_writes f None w taken given = tt
+script_fault_writes (BadScript n) (Some input) w taken given = Keeps-refl w
+script_fault_writes TooLong (Some input) w taken given = Keeps-refl w
+script_fault_writes OutOfMemory (Some input) w taken given = begins_none w _
+script_fault_writes ReadFailed (Some input) w taken given = Keeps-refl w
+script_fault_writes WriteFailed (Some input) w taken given = absurd given
+
+-- once the script was read, it is right
+pub is_right : (left : Option (List ℕ)) (taken : List ℕ) (script : Reading) → IsScriptOfAll left taken → script_of taken ≡ Ok script → IfSome left (λ input. IsOk (script_of input))
+is_right None taken script same given = tt
+is_right (Some input) taken script same given = ap is_ok (same ∙ given)
+
+-- and answering its calls fails by no fault of a script
+pub answer_fault_agrees : (f : Fault) (left : Option (List ℕ)) → IsOutputFault f → IfSome left (λ input. IsOk (script_of input)) → IfSome left (λ input. IsFaultAt (script_of input) f)
+answer_fault_agrees f None h right = tt
+answer_fault_agrees (BadScript n) (Some input) h right = absurd h
+answer_fault_agrees TooLong (Some input) h right = absurd h
+answer_fault_agrees OutOfMemory (Some input) h right = tt
+answer_fault_agrees ReadFailed (Some input) h right = absurd h
+answer_fault_agrees WriteFailed (Some input) h right = right
+
+-- what holds of the call lines that were read holds of those of the input
+pub at_calls : (P : List CallLine → Type 0) (left : Option (List ℕ)) (taken : List ℕ) (script : Reading) → IsScriptOfAll left taken → script_of taken ≡ Ok script → P script.calls → IfSome left (λ input. P (calls_or_none (script_of input)))
+at_calls P None taken script same given holds = tt
+at_calls P (Some input) taken script same given holds = subst (λ (read : Result Reading Fault). P (calls_or_none read)) (sym (same ∙ given)) holds
+
+-- a beginning of the answers was written where answering failed
+pub answer_fault_writes : (f : Fault) (old new : Option (List ℕ)) (calls : List CallLine) → IsOutputFault f → BeginsAnswers old new calls → WritesAtFault old new calls f
+answer_fault_writes (BadScript n) old new calls h begun = absurd h
+answer_fault_writes TooLong old new calls h begun = absurd h
+answer_fault_writes OutOfMemory old new calls h begun = begun
+answer_fault_writes ReadFailed old new calls h begun = absurd h
+answer_fault_writes WriteFailed old new calls h begun = begun

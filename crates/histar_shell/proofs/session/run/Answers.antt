@@ -1,0 +1,92 @@
+use Rattle.std.proofs.Common.{List}
+use Rattle.std.proofs.lemmas.Result.{err_from_is_err_and}
+use Rattle.histar_script.specs.declared.fault.Fault.TheVariants.{OutOfMemory}
+use Rattle.histar_script.specs.declared.items.CallLine.{CallLine}
+use Rattle.histar_shell.specs.Answers.{AnswersCalls}
+use Rattle.histar_shell.specs.Outcome.{WritesAtFault}
+use Rattle.histar_shell.proofs.RunLemmas.{answer_fault_agrees, answer_fault_writes, at_calls, input_fault_agrees, input_fault_takes, input_fault_writes, is_right, same_script, script_fault_agrees, script_fault_writes, takes_at_fault}
+use Rattle.histar_shell.proofs.session.run.Goals as goal
+
+pub returns-in_err-input-clause-taken : goal.returns-in_err-input-clause-taken
+returns-in_err-input-clause-taken g c =
+    let p = err_from_is_err_and c.from_residual.result c.from_residual.ensures.1 in
+    rw (p.1, p.2) (input_fault_takes c.in_err-input.field-0.0 _ _ c.in_err-input.ensures.faults c.in_err-input.ensures.err)
+
+pub returns-in_err-input-clause-faults_of_input : goal.returns-in_err-input-clause-faults_of_input
+returns-in_err-input-clause-faults_of_input g c =
+    let p = err_from_is_err_and c.from_residual.result c.from_residual.ensures.1 in
+    rw (p.1, p.2) (input_fault_agrees c.in_err-input.field-0.0 _ c.in_err-input.ensures.faults)
+
+pub returns-in_err-input-clause-answers : goal.returns-in_err-input-clause-answers
+returns-in_err-input-clause-answers g c =
+    let p = err_from_is_err_and c.from_residual.result c.from_residual.ensures.1 in
+    rw (p.1, p.2) (input_fault_writes c.in_err-input.field-0.0 _ _ c.in_err-input.ensures.faults)
+
+pub returns-in_err-script-clause-taken : goal.returns-in_err-script-clause-taken
+returns-in_err-script-clause-taken g c =
+    let p = err_from_is_err_and c.from_residual-in_err-script.result c.from_residual-in_err-script.ensures.1 in
+    rw (p.1, p.2) (takes_at_fault c.in_err-script.field-0.0 _ _ _ c.in_ok-input.ensures.ok)
+
+pub returns-in_err-script-clause-faults_of_input : goal.returns-in_err-script-clause-faults_of_input
+returns-in_err-script-clause-faults_of_input g c =
+    let p = err_from_is_err_and c.from_residual-in_err-script.result c.from_residual-in_err-script.ensures.1 in
+    let same = same_script _ _ c.in_ok-input.input.items c.in_ok-input.ensures.ok in
+    rw (p.1, p.2) (script_fault_agrees c.in_err-script.field-0.0 _ c.in_ok-input.input.items same (rw c.as_slice.ensures.value at c.in_err-script.ensures.exact))
+
+pub returns-in_err-script-clause-answers : goal.returns-in_err-script-clause-answers
+returns-in_err-script-clause-answers g c =
+    let p = err_from_is_err_and c.from_residual-in_err-script.result c.from_residual-in_err-script.ensures.1 in
+    rw (p.1, p.2) (script_fault_writes c.in_err-script.field-0.0 _ _ c.in_ok-input.input.items (rw c.as_slice.ensures.value at c.in_err-script.ensures.exact))
+
+pub returns-in_err-machine-clause-taken : goal.returns-in_err-machine-clause-taken
+returns-in_err-machine-clause-taken g c =
+    let p = err_from_is_err_and c.from_residual-in_err-machine.result c.from_residual-in_err-machine.ensures.1 in
+    rw (p.1, p.2) (takes_at_fault OutOfMemory _ _ _ c.in_ok-input.ensures.ok)
+
+pub returns-in_err-machine-clause-faults_of_input : goal.returns-in_err-machine-clause-faults_of_input
+returns-in_err-machine-clause-faults_of_input g c =
+    let p = err_from_is_err_and c.from_residual-in_err-machine.result c.from_residual-in_err-machine.ensures.1 in
+    rw (p.1, p.2) (input_fault_agrees OutOfMemory _ tt)
+
+pub returns-in_err-machine-clause-answers : goal.returns-in_err-machine-clause-answers
+returns-in_err-machine-clause-answers g c =
+    let p = err_from_is_err_and c.from_residual-in_err-machine.result c.from_residual-in_err-machine.ensures.1 in
+    rw (p.1, p.2) (input_fault_writes OutOfMemory _ _ tt)
+
+pub returns-in_err-answer_calls-clause-taken : goal.returns-in_err-answer_calls-clause-taken
+returns-in_err-answer_calls-clause-taken g c =
+    let p = err_from_is_err_and c.from_residual-in_err-answer_calls.result c.from_residual-in_err-answer_calls.ensures.1 in
+    rw (p.1, p.2) (takes_at_fault c.in_err-answer_calls.field-0.0 _ _ _ c.in_ok-input.ensures.ok)
+
+pub returns-in_err-answer_calls-clause-faults_of_input : goal.returns-in_err-answer_calls-clause-faults_of_input
+returns-in_err-answer_calls-clause-faults_of_input g c =
+    let p = err_from_is_err_and c.from_residual-in_err-answer_calls.result c.from_residual-in_err-answer_calls.ensures.1 in
+    let same = same_script _ _ c.in_ok-input.input.items c.in_ok-input.ensures.ok in
+    let right = is_right _ c.in_ok-input.input.items c.in_ok-script.script same (rw c.as_slice.ensures.value at c.in_ok-script.ensures.exact) in
+    rw (p.1, p.2) (answer_fault_agrees c.in_err-answer_calls.field-0.0 _ c.in_err-answer_calls.ensures.faults right)
+
+pub returns-in_err-answer_calls-clause-answers : goal.returns-in_err-answer_calls-clause-answers
+returns-in_err-answer_calls-clause-answers g c =
+    let p = err_from_is_err_and c.from_residual-in_err-answer_calls.result c.from_residual-in_err-answer_calls.ensures.1 in
+    let same = same_script _ _ c.in_ok-input.input.items c.in_ok-input.ensures.ok in
+    let begun = rw c.into_parts-users.ensures.calls at c.in_err-answer_calls.ensures.err in
+    let writes = answer_fault_writes c.in_err-answer_calls.field-0.0 _ _ _ c.in_err-answer_calls.ensures.faults begun in
+    rw (p.1, p.2) (at_calls
+    (λ (calls : List CallLine). WritesAtFault (g.W.Sink.written c.args.writer.now) (g.W.Sink.written c.answer_calls.new.writer) calls c.in_err-answer_calls.field-0.0)
+    _ c.in_ok-input.input.items c.in_ok-script.script same (rw c.as_slice.ensures.value at c.in_ok-script.ensures.exact) writes)
+
+pub returns-clause-taken : goal.returns-clause-taken
+returns-clause-taken g c = (_, c.in_ok-input.ensures.ok)
+
+pub returns-clause-faults_of_input : goal.returns-clause-faults_of_input
+returns-clause-faults_of_input g c =
+    let same = same_script _ _ c.in_ok-input.input.items c.in_ok-input.ensures.ok in
+    is_right _ c.in_ok-input.input.items c.in_ok-script.script same (rw c.as_slice.ensures.value at c.in_ok-script.ensures.exact)
+
+pub returns-clause-answers : goal.returns-clause-answers
+returns-clause-answers g c =
+    let same = same_script _ _ c.in_ok-input.input.items c.in_ok-input.ensures.ok in
+    at_calls
+    (λ (calls : List CallLine). AnswersCalls (g.W.Sink.written c.args.writer.now) (g.W.Sink.written c.answer_calls.new.writer) calls)
+    _ c.in_ok-input.input.items c.in_ok-script.script same (rw c.as_slice.ensures.value at c.in_ok-script.ensures.exact)
+    (rw c.into_parts-users.ensures.calls at c.in_ok-answer_calls.ensures.ok)

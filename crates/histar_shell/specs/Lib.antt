@@ -1,0 +1,6 @@
+pub mod Answers
+pub mod Device
+pub mod Input
+pub mod Outcome
+pub mod Writing
+pub mod Machine

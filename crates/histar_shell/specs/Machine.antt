@@ -1,0 +1,54 @@
+-- What a machine keeps, and what a call line does to it.
+use Rattle.std.specs.Prelude.{◌≡◌, ℕ, Bool, true, false, List, [], ◌∷◌, Result, Ok, Err, IsErr, refl}
+use Rattle.std.specs.Coded.{Coded, code_by, coded×, coded_ℕ, coded_bool}
+use Rattle.histar_flat.specs.declared.calls.UnixCall.{UnixCall}
+use Rattle.histar_flat.specs.declared.calls.UnixCall.TheVariants.{Create, Write, Read, Login}
+use Rattle.histar_flat.specs.declared.replies.Reply.{Reply}
+use Rattle.histar_flat.specs.declared.replies.Reply.TheVariants.{Gone}
+use Rattle.histar_flat.specs.Words.{ProcName}
+use Rattle.histar_syscall.specs.Traced.{Traced, coded_traced}
+use Rattle.histar_calls.specs.Replies.{Replies}
+use Rattle.histar_calls.specs.declared.stopping.Stopped.{Stopped}
+
+-- the kernel of a machine, the thread of its process, and whether it has stopped for want of memory
+pub record Running : Type 0 where
+  pub kernel : Traced
+  pub thread : ℕ
+  pub is_stopped : Bool
+
+-- stored as the tuple of its parts
+abbrev pub coded_running : Coded Running
+coded_running = code_by (Traced × (ℕ × Bool)) (coded× coded_traced (coded× coded_ℕ coded_bool)) (λ m. (m.kernel, (m.thread, m.is_stopped))) (λ p. record { kernel = p.0; thread = p.1.0; is_stopped = p.1.1 }) (λ _. refl)
+
+-- a machine that was booted: it runs, and no raw call was made yet
+pub record IsStart (m : Running) : Type 0 where
+  pub trace : m.kernel.trace ≡ []
+  pub line : m.kernel.line ≡ 0
+  pub runs : m.is_stopped ≡ false
+
+-- the line that the next raw calls stand on
+abbrev pub on_line : ℕ → Traced → Traced
+on_line line k = record { kept = k.kept; line = line; trace = k.trace }
+
+-- A call other than a login is made of raw calls of the machine's thread on its line, and tells EACCES and EPERM exactly
+-- where the kernel refused one of them so. A login makes none.
+abbrev pub Does : Traced → Traced → ℕ → ℕ → UnixCall → Reply → Type 0
+Does old new thread line (Create path mode) reply = Replies (on_line line old) new thread reply
+Does old new thread line (Write path bytes) reply = Replies (on_line line old) new thread reply
+Does old new thread line (Read path) reply = Replies (on_line line old) new thread reply
+Does old new thread line (Login name password) reply = (new.trace ≡ old.trace) × (new.line ≡ line)
+
+-- a running machine: a process that was never born is gone and nothing changes, process 0 has its call done
+abbrev pub Runs : Running → Running → ℕ → ProcName → UnixCall → Result Reply Stopped → Type 0
+Runs old new line [] call (Ok reply) = Does old.kernel new.kernel old.thread line call reply × (new.is_stopped ≡ false)
+Runs old new line [] call (Err stopped) = new.is_stopped ≡ true
+Runs old new line (n ∷ process) call result = (result ≡ Ok Gone) × (new ≡ old)
+
+-- a machine that has stopped does nothing, and answers so
+abbrev pub AnswersIf : Bool → Running → Running → ℕ → ProcName → UnixCall → Result Reply Stopped → Type 0
+AnswersIf true old new line process call result = IsErr result × (new ≡ old)
+AnswersIf false old new line process call result = Runs old new line process call result
+
+-- what a call line does to a machine
+abbrev pub Answers : Running → Running → ℕ → ProcName → UnixCall → Result Reply Stopped → Type 0
+Answers old new line process call result = AnswersIf old.is_stopped old new line process call result

@@ -1,0 +1,97 @@
+-- What the answer of a run says of its input, of its output and of its devices.
+use Rattle.std.specs.Prelude.{◌≡◌, ℕ, Bool, true, false, List, [], Option, Result, Ok, Err, IsOk, IfErr, MatchResult}
+use Rattle.std.specs.Io.KnownBytes.{Keeps}
+use Rattle.histar_script.specs.declared.fault.Fault.{Fault}
+use Rattle.histar_script.specs.declared.fault.Fault.TheVariants.{BadScript, TooLong, OutOfMemory, ReadFailed, WriteFailed}
+use Rattle.histar_script.specs.declared.items.CallLine.{CallLine}
+use Rattle.histar_script.specs.Script.{Reading}
+use Rattle.histar_shell.specs.Answers.{AnswersCalls, BeginsAnswers}
+use Rattle.histar_shell.specs.Input.{TakesAll, TakesSome}
+
+-- the answer is that a read failed
+abbrev pub is_read_failed : {A : Type 0} → Result A Fault → Bool
+is_read_failed (Ok x) = false
+is_read_failed (Err (BadScript n)) = false
+is_read_failed (Err TooLong) = false
+is_read_failed (Err OutOfMemory) = false
+is_read_failed (Err ReadFailed) = true
+is_read_failed (Err WriteFailed) = false
+
+-- the answer is that a write failed
+abbrev pub is_write_failed : {A : Type 0} → Result A Fault → Bool
+is_write_failed (Ok x) = false
+is_write_failed (Err (BadScript n)) = false
+is_write_failed (Err TooLong) = false
+is_write_failed (Err OutOfMemory) = false
+is_write_failed (Err ReadFailed) = false
+is_write_failed (Err WriteFailed) = true
+
+-- the faults that reading the whole input can have
+abbrev pub IsInputFault : Fault → Type 0
+IsInputFault (BadScript n) = ⊥
+IsInputFault TooLong = ⊥
+IsInputFault OutOfMemory = Unit {0}
+IsInputFault ReadFailed = Unit {0}
+IsInputFault WriteFailed = ⊥
+
+-- the faults that answering calls can have
+abbrev pub IsOutputFault : Fault → Type 0
+IsOutputFault (BadScript n) = ⊥
+IsOutputFault TooLong = ⊥
+IsOutputFault OutOfMemory = Unit {0}
+IsOutputFault ReadFailed = ⊥
+IsOutputFault WriteFailed = Unit {0}
+
+-- After a bad script, one that is too long and a failed read nothing was written.
+abbrev pub IsQuietFault : Option (List ℕ) → Option (List ℕ) → Fault → Type 0
+IsQuietFault old new (BadScript n) = Keeps old new
+IsQuietFault old new TooLong = Keeps old new
+IsQuietFault old new OutOfMemory = Unit {0}
+IsQuietFault old new ReadFailed = Keeps old new
+IsQuietFault old new WriteFailed = Unit {0}
+
+-- whatever the devices are, nothing was written at those faults
+abbrev pub WritesNothing : {A : Type 0} → Option (List ℕ) → Option (List ℕ) → Result A Fault → Type 0
+WritesNothing old new result = IfErr result (IsQuietFault old new)
+
+-- At want of memory and at a failed read some of the input was taken, else all that a run takes.
+abbrev pub TakesAtFault : Option (List ℕ) → Option (List ℕ) → Fault → Type 0
+TakesAtFault old new (BadScript n) = (taken : List ℕ) × TakesAll old new taken
+TakesAtFault old new TooLong = (taken : List ℕ) × TakesAll old new taken
+TakesAtFault old new OutOfMemory = TakesSome old new
+TakesAtFault old new ReadFailed = TakesSome old new
+TakesAtFault old new WriteFailed = (taken : List ℕ) × TakesAll old new taken
+
+-- the input was taken to its end or to the most that a run takes of it, and never further
+abbrev pub TakesInput : {A : Type 0} → Option (List ℕ) → Option (List ℕ) → Result A Fault → Type 0
+TakesInput old new result = MatchResult result (λ _. (taken : List ℕ) × TakesAll old new taken) (TakesAtFault old new)
+
+-- A fault in a script is answered as what it is. The others are no faults of a script, and a write fails only after a
+-- right one.
+abbrev pub IsFaultAt : Result Reading Fault → Fault → Type 0
+IsFaultAt read (BadScript n) = read ≡ Err (BadScript n)
+IsFaultAt read TooLong = read ≡ Err TooLong
+IsFaultAt read OutOfMemory = Unit {0}
+IsFaultAt read ReadFailed = Unit {0}
+IsFaultAt read WriteFailed = IsOk read
+
+-- a run ends well after a right script alone, and its faults agree with the script
+abbrev pub AgreesWith : {A : Type 0} → Result Reading Fault → Result A Fault → Type 0
+AgreesWith read result = MatchResult result (λ _. IsOk read) (IsFaultAt read)
+
+-- the call lines of a script, and none of a text with a fault
+abbrev pub calls_or_none : Result Reading Fault → List CallLine
+calls_or_none (Ok script) = script.calls
+calls_or_none (Err fault) = []
+
+-- At want of memory and at a failed write a beginning of the answers was written, at the other faults nothing.
+abbrev pub WritesAtFault : Option (List ℕ) → Option (List ℕ) → List CallLine → Fault → Type 0
+WritesAtFault old new calls (BadScript n) = Keeps old new
+WritesAtFault old new calls TooLong = Keeps old new
+WritesAtFault old new calls OutOfMemory = BeginsAnswers old new calls
+WritesAtFault old new calls ReadFailed = Keeps old new
+WritesAtFault old new calls WriteFailed = BeginsAnswers old new calls
+
+-- each call line was answered, or as many as the fault let through
+abbrev pub WritesAnswers : {A : Type 0} → Option (List ℕ) → Option (List ℕ) → List CallLine → Result A Fault → Type 0
+WritesAnswers old new calls result = MatchResult result (λ _. AnswersCalls old new calls) (WritesAtFault old new calls)

@@ -1,0 +1,38 @@
+//! Reading the whole of a source.
+ghost use Rattle.std.specs.Prelude.{IfOk, IfErr, OnErr};
+ghost use Rattle.histar_shell.specs.Device.{CountsFailure};
+ghost use Rattle.histar_shell.specs.Input.{TakesAll, TakesSome};
+ghost use Rattle.histar_shell.specs.Outcome.{IsInputFault, is_read_failed};
+
+use crate::device::Source;
+use histar_script::Fault;
+use std::alloc::Global;
+
+/// The most bytes that a run takes of its input: one more than a script may have, which is enough
+/// to know that it has too many.
+const MOST_TAKEN: usize = 1_048_577;
+
+/// How many bytes one read asks for.
+const CHUNK: usize = 4096;
+
+/// The bytes of a source up to its end, or as many as show that they are too many.
+///
+/// Each failed read is a fault, of whatever kind it is, and no read is tried again.
+pub fn read_input<R: Source>(alloc: Global, reader: &mut R) -> Result<Vec<u8>, Fault>
+    ensures ok { IfOk result (λ input. TakesAll (R.left reader.old) (R.left reader.new) input.items) }
+    ensures err { OnErr result (TakesSome (R.left reader.old) (R.left reader.new)) }
+    ensures faults { IfErr result IsInputFault }
+    ensures count { CountsFailure (R.failures reader.old) (R.failures reader.new) (is_read_failed result) }
+{
+    let mut input = Vec::new(alloc);
+    let mut chunk = [0u8; CHUNK];
+    'chunks: while input.len() < MOST_TAKEN {
+        let room = CHUNK.min(MOST_TAKEN - input.len());
+        match reader.pull(&mut chunk[..room]) {
+            Ok(0) => break 'chunks,
+            Ok(n) => input.extend_from_slice(&chunk[..n])?,
+            Err(_) => return Err(Fault::ReadFailed),
+        }
+    }
+    Ok(input)
+}

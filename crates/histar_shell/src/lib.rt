@@ -1,0 +1,17 @@
+//! Runs scripts between a source and a sink of bytes.
+#![tactic(auto)]
+
+mod boot;
+mod device;
+mod input;
+mod login;
+mod machine;
+mod output;
+mod session;
+
+pub use device::{Counted, Sink, Source};
+pub use machine::{Machine, Trace};
+pub use session::{Options, run};
+
+#[cfg(test)]
+mod tests;

@@ -1,0 +1,50 @@
+//! Logging in, while it is not made of raw calls yet.
+ghost use Rattle.std.specs.Prelude.{◌≤◌, length};
+
+use crate::boot::{label_of, own_read_category, own_write_category};
+use histar_calls::{Stopped, read_category, write_category};
+use histar_flat::{Errno, Name, Password, Reply, User};
+use histar_label::{Label, LabelStore, Level};
+use histar_object::ObjId;
+use histar_syscall::Kernel;
+use std::alloc::{AllocError, Global};
+
+/// The label and the clearance of process 0 as this user's: it owns the user's categories and its own.
+fn user_labels(alloc: Global, users: u64, number: u8) -> Result<(Label, Label), AllocError>
+    requires { users ≤ 16 }
+{
+    let owned = [
+        read_category(number),
+        write_category(number),
+        own_read_category(users),
+        own_write_category(users),
+    ];
+    let label = label_of(alloc, Level::L1, &owned.map(|category| (category, Level::Star)))?;
+    let clearance = label_of(alloc, Level::L2, &owned.map(|category| (category, Level::L3)))?;
+    Ok((label, clearance))
+}
+
+/// Gives process 0 the label and the clearance of a user, by the user's password: ENOENT where no
+/// user has the name, EAUTH where the password is another.
+pub fn login<S: LabelStore + Drop>(
+    kernel: &mut Kernel<S>,
+    alloc: Global,
+    users: &[User],
+    thread: ObjId,
+    name: Name,
+    password: Password,
+) -> Result<Reply, Stopped>
+    requires { length users.now ≤ 16 }
+{
+    let Some(at) = users.iter().position(|user| user.name == name) else {
+        return Ok(Reply::Refused(Errno::ENOENT));
+    };
+    if users[at].password != password {
+        return Ok(Reply::Refused(Errno::EAUTH));
+    }
+    let (label, clearance) = user_labels(alloc, users.len() as u64, at as u8 + 1)?;
+    match kernel.set_own(thread, label, clearance) {
+        Ok(()) => Ok(Reply::Done),
+        Err(_) => Err(Stopped),
+    }
+}

@@ -1,0 +1,138 @@
+//! The machine: a labelled kernel with its start state, and what each call line has it do.
+ghost use Rattle.std.specs.Prelude.{◌≡◌, [], true, false, IfOk, OnOk, OnErr, IsTrue, Ok, Err};
+ghost use Rattle.histar_script.specs.Script.{IsUserList};
+ghost use Rattle.histar_shell.specs.Machine.{Answers, IsStart};
+
+use crate::boot::start_objects;
+use crate::login::login;
+use histar_calls::{Places, Stopped, create, read, write};
+use histar_flat::{ProcName, Reply, UnixCall, User};
+use histar_label::LabelStore;
+use histar_object::ObjId;
+use histar_syscall::{Kernel, TraceEntry};
+use std::alloc::{AllocError, Global};
+use std::marker::Model;
+
+/// The raw calls of a run, in their order.
+#[derive(Drop)]
+pub struct Trace {
+    entries: Vec<TraceEntry>,
+}
+
+impl Model for Trace {
+    ghost use Rattle.std.specs.Prelude.{List};
+    ghost use Rattle.std.specs.Coded.{coded_list};
+    ghost use Rattle.histar_syscall.specs.declared.raw.TraceEntry.{TraceEntry};
+    ghost use Rattle.histar_syscall.specs.contracts.raw.TraceEntry as entry;
+
+    ghost Value = { List TraceEntry };
+
+    ghost coded = { coded_list entry.the_row.coded };
+
+    ghost view = { λ t. t.entries.items };
+}
+
+impl Trace {
+    /// The entries of the trace.
+    pub fn entries(&self) -> &[TraceEntry]
+        ensures { result.now ≡ self.now }
+    {
+        self.entries.as_slice()
+    }
+}
+
+/// A labelled kernel that runs the calls of a script, over any store of labels. It keeps no map of
+/// files or users' rights beside the kernel: the kernel alone grants and refuses.
+#[derive(Drop)]
+pub struct Machine<S: LabelStore + Drop> {
+    kernel: Kernel<S>,
+    places: Places,
+    thread: ObjId,
+    users: Vec<User>,
+    is_stopped: bool,
+}
+
+impl<S: LabelStore + Drop> Model for Machine<S> {
+    ghost use Rattle.std.specs.Prelude.{◌≤◌, length};
+    ghost use Rattle.histar_shell.specs.Machine.{Running, coded_running};
+
+    ghost Value = { Running };
+
+    ghost coded = { coded_running };
+
+    ghost view = { λ m. record { kernel = m.kernel; thread = m.thread; is_stopped = m.is_stopped } };
+
+    ghost invariant = { λ m. length m.users.items ≤ 16 };
+}
+
+impl<S: LabelStore + Drop> Machine<S> {
+    /// A machine with these users, before the first call: `/` is the first user's, readable and empty,
+    /// and process 0 is nobody's.
+    pub fn boot(alloc: Global, store: S, users: &[User]) -> Result<Self, AllocError>
+        requires { IsUserList users.now }
+        ensures { IfOk result IsStart }
+    {
+        let users = Vec::from_slice(alloc, users)?;
+        let (objects, places, thread) = start_objects(alloc, store, users.as_slice())?;
+        Ok(Machine {
+            kernel: Kernel::starting(alloc, objects),
+            places,
+            thread,
+            users,
+            is_stopped: false,
+        })
+    }
+
+    /// Does one call of a process, on this line of the script. `Gone` where the process was never born.
+    /// After the first `Stopped` it does nothing and answers `Stopped`.
+    pub fn step(
+        &mut self,
+        alloc: Global,
+        line: u32,
+        process: &ProcName,
+        call: UnixCall,
+    ) -> Result<Reply, Stopped>
+        ensures { Answers self.old self.new line process.now call result }
+    {
+        if self.is_stopped {
+            return Err(Stopped);
+        }
+        if !process.is_zero() {
+            return Ok(Reply::Gone);
+        }
+        self.kernel.begin(line);
+        let result = self.call(alloc, call);
+        self.is_stopped = result.is_err();
+        result
+    }
+
+    /// Does one call of process 0 on the line that was begun.
+    fn call(&mut self, alloc: Global, call: UnixCall) -> Result<Reply, Stopped> {
+        let kernel = &mut self.kernel;
+        let places = &self.places;
+        match call {
+            UnixCall::Create(path, mode) => create(kernel, alloc, places, self.thread, &path, mode),
+            UnixCall::Read(path) => read(kernel, alloc, places, self.thread, &path),
+            UnixCall::Write(path, bytes) => {
+                write(kernel, alloc, places, self.thread, &path, bytes)
+            }
+            UnixCall::Login(name, password) => login(
+                kernel,
+                alloc,
+                self.users.as_slice(),
+                self.thread,
+                name,
+                password,
+            ),
+        }
+    }
+
+    /// The raw calls so far, moved out.
+    pub fn into_trace(self) -> Trace
+        ensures { result ≡ self.kernel.trace }
+    {
+        Trace {
+            entries: self.kernel.into_trace(),
+        }
+    }
+}

@@ -1,0 +1,95 @@
+//! A run, from bytes to bytes.
+ghost use Rattle.std.specs.Prelude.{◌≡◌, IfErr, IfSome, OnOk, OnErr};
+ghost use Rattle.histar_script.specs.Reading.{script_of};
+ghost use Rattle.histar_shell.specs.Answers.{AnswersCall, AnswersCalls, BeginsAnswer, BeginsAnswers};
+ghost use Rattle.histar_shell.specs.Device.{CountsFailure};
+ghost use Rattle.histar_shell.specs.Outcome.{AgreesWith, IsOutputFault, TakesInput, WritesAnswers, WritesNothing, calls_or_none, is_read_failed, is_write_failed};
+
+use crate::device::{Sink, Source};
+use crate::input::read_input;
+use crate::machine::{Machine, Trace};
+use crate::output::{reply_line, write_bytes};
+use histar_label::{LabelStore, PlainStore};
+use histar_script::{CallLine, Fault, read_script};
+use std::alloc::Global;
+
+/// What a run is asked for beside the replies. There is nothing to ask for yet.
+#[derive(Clone, Copy)]
+pub struct Options {}
+
+/// Reads a script, runs it on a machine of its own, and writes one line for each call line as soon
+/// as the call is done.
+///
+/// The whole script is read and checked before the first call. It doesn't flush the sink.
+pub fn run<R: Source, W: Sink>(
+    alloc: Global,
+    reader: &mut R,
+    writer: &mut W,
+    options: Options,
+) -> Result<Trace, Fault>
+    // After a bad script, one that is too long and a failed read nothing was written.
+    ensures nothing { WritesNothing (W.written writer.old) (W.written writer.new) result }
+
+    // A device has failed exactly where its fault is the answer.
+    ensures reads { CountsFailure (R.failures reader.old) (R.failures reader.new) (is_read_failed result) }
+    ensures writes { CountsFailure (W.failures writer.old) (W.failures writer.new) (is_write_failed result) }
+
+    // The input is taken to its end, but never more than 1,048,577 bytes of it.
+    ensures taken { TakesInput (R.left reader.old) (R.left reader.new) result }
+
+    // Where the input is known: the fault in it is answered, and its call lines are, in their order.
+    ensures faults_of_input { IfSome (R.left reader.old) (λ input. AgreesWith (script_of input) result) }
+    ensures answers { IfSome (R.left reader.old) (λ input. WritesAnswers (W.written writer.old) (W.written writer.new)
+        (calls_or_none (script_of input)) result) }
+{
+    let Options {} = options;
+    let input = read_input(alloc, reader)?;
+    let script = read_script(alloc, input.as_slice())?;
+    let (users, calls) = script.into_parts();
+    let store = PlainStore::new(alloc);
+    let mut machine = Machine::boot(alloc, store, users.as_slice())?;
+    answer_calls(alloc, &mut machine, calls, writer)?;
+    Ok(machine.into_trace())
+}
+
+/// Has the machine do the calls in their order, and writes a line for each.
+fn answer_calls<S: LabelStore + Drop, W: Sink>(
+    alloc: Global,
+    machine: &mut Machine<S>,
+    calls: Vec<CallLine>,
+    writer: &mut W,
+) -> Result<(), Fault>
+    ensures ok { OnOk result (AnswersCalls (W.written writer.old) (W.written writer.new) calls.items) }
+    ensures err { OnErr result (BeginsAnswers (W.written writer.old) (W.written writer.new) calls.items) }
+    ensures faults { IfErr result IsOutputFault }
+    ensures count { CountsFailure (W.failures writer.old) (W.failures writer.new) (is_write_failed result) }
+{
+    'calls: for call in calls {
+        answer_call(alloc, machine, call, writer)?;
+    }
+    Ok(())
+}
+
+/// Has the machine do one call, and writes its line.
+fn answer_call<S: LabelStore + Drop, W: Sink>(
+    alloc: Global,
+    machine: &mut Machine<S>,
+    call: CallLine,
+    writer: &mut W,
+) -> Result<(), Fault>
+    ensures ok { OnOk result (AnswersCall (W.written writer.old) (W.written writer.new) call) }
+    ensures err { OnErr result (BeginsAnswer (W.written writer.old) (W.written writer.new) call) }
+    ensures faults { IfErr result IsOutputFault }
+    ensures count { CountsFailure (W.failures writer.old) (W.failures writer.new) (is_write_failed result) }
+{
+    let CallLine {
+        line: number,
+        process,
+        call,
+    } = call;
+    let Ok(reply) = machine.step(alloc, number, &process, call) else {
+        return Err(Fault::OutOfMemory);
+    };
+    let line = reply_line(alloc, number, &reply)?;
+    write_bytes(writer, line.as_slice())
+}

@@ -1,0 +1,221 @@
+//! Runs over readers and writers that move few bytes a call, or fail.
+use crate::{Counted, Options, run};
+use histar_script::Fault;
+use std::alloc::{AllocError, Global};
+use std::io;
+use std::io::{ErrorKind, Read, Write};
+use std::test::Fail;
+
+/// The first session: two users, and what each may do with the other's file.
+const SCRIPT: &[u8] = b"user root rr\n\
+    user bob bb\n\
+    0 create /a readable\n\
+    0 login root rr\n\
+    0 create /a private\n\
+    0 write /a hello world\n\
+    0 login root no\n\
+    0 read /a\n\
+    0 login bob bb\n\
+    0 read /a\n\
+    0 read /b\n\
+    0 create /a readable\n\
+    0 create /b readable\n";
+
+/// What it is answered. STAND-IN: by a machine that answers every call `ENOENT`.
+const TEXT: &[u8] = b"3 ENOENT\n\
+    4 ENOENT\n\
+    5 ENOENT\n\
+    6 ENOENT\n\
+    7 ENOENT\n\
+    8 ENOENT\n\
+    9 ENOENT\n\
+    10 ENOENT\n\
+    11 ENOENT\n\
+    12 ENOENT\n\
+    13 ENOENT\n";
+
+/// Gives at most `piece` bytes a call, and fails at call `fails_at`, counted from 1.
+#[derive(Drop)]
+struct FailingReader<'a> {
+    rest: &'a [u8],
+    piece: usize,
+    calls: usize,
+    fails_at: usize,
+}
+
+impl<'a> FailingReader<'a> {
+    fn new(text: &'a [u8], piece: usize, fails_at: usize) -> Counted<FailingReader<'a>> {
+        Counted::new(FailingReader {
+            rest: text,
+            piece,
+            calls: 0,
+            fails_at,
+        })
+    }
+}
+
+impl Read for FailingReader<'_> {
+    fn read(&mut self, buffer: &mut [u8]) -> io::Result<usize> {
+        self.calls = self.calls.saturating_add(1);
+        if self.calls == self.fails_at {
+            return Err(io::Error::from(ErrorKind::Interrupted));
+        }
+        let n = self.piece.min(buffer.len()).min(self.rest.len());
+        let (front, rest) = self.rest.split_at(n);
+        buffer[..n].copy_from_slice(front);
+        self.rest = rest;
+        Ok(n)
+    }
+}
+
+/// Takes at most `piece` bytes a call and `room` in all, and then fails, or silently takes none.
+#[derive(Drop)]
+struct FailingWriter {
+    taken: Vec<u8>,
+    piece: usize,
+    room: usize,
+    is_silent: bool,
+}
+
+impl FailingWriter {
+    fn new(alloc: Global, piece: usize, room: usize, is_silent: bool) -> Counted<FailingWriter> {
+        Counted::new(FailingWriter {
+            taken: Vec::new(alloc),
+            piece,
+            room,
+            is_silent,
+        })
+    }
+}
+
+impl Write for FailingWriter {
+    fn write(&mut self, bytes: &[u8]) -> io::Result<usize> {
+        let n = self.piece.min(bytes.len()).min(self.room);
+        if n == 0 && !self.is_silent {
+            return Err(io::Error::from(ErrorKind::StorageFull));
+        }
+        self.taken.extend_from_slice(&bytes[..n])?;
+        self.room -= n;
+        Ok(n)
+    }
+
+    fn flush(&mut self) -> io::Result<()> {
+        Ok(())
+    }
+}
+
+#[test]
+fn gives_the_same_text_in_any_pieces(rt: HostRuntime) -> Result<(), Fail> {
+    for piece in [1, 2, 7, 4096] {
+        let mut reader = FailingReader::new(SCRIPT, piece, 0);
+        let mut writer = FailingWriter::new(rt.alloc(), piece, TEXT.len(), false);
+        let _trace = run(rt.alloc(), &mut reader, &mut writer, Options {})?;
+        assert_eq!(rt; reader.failures(), 0);
+        assert_eq!(rt; writer.failures(), 0);
+        assert_eq!(rt;
+            writer.into_inner().taken.as_slice(),
+            TEXT,
+            "in pieces of {piece}"
+        );
+    }
+    Ok(())
+}
+
+#[test]
+fn stops_at_a_failed_read_of_any_kind(rt: HostRuntime) {
+    for fails_at in 1..SCRIPT.len() + 2 {
+        let mut reader = FailingReader::new(SCRIPT, 1, fails_at);
+        let mut writer = FailingWriter::new(rt.alloc(), 1, TEXT.len(), false);
+        let ran = run(rt.alloc(), &mut reader, &mut writer, Options {});
+        assert!(rt; ran.err() == Some(Fault::ReadFailed), "at call {fails_at}");
+        assert_eq!(rt; reader.failures(), 1);
+        assert_eq!(rt;
+            reader.into_inner().calls,
+            fails_at,
+            "no call after the failed one"
+        );
+        assert!(rt; writer.into_inner().taken.is_empty());
+    }
+}
+
+#[test]
+fn writes_as_much_as_the_writer_takes(rt: HostRuntime) {
+    for room in 0..TEXT.len() {
+        for is_silent in [false, true] {
+            let mut reader = FailingReader::new(SCRIPT, 9, 0);
+            let mut writer = FailingWriter::new(rt.alloc(), 4, room, is_silent);
+            let ran = run(rt.alloc(), &mut reader, &mut writer, Options {});
+            assert!(rt; ran.err() == Some(Fault::WriteFailed), "after {room} bytes");
+            assert_eq!(rt; writer.failures(), 1);
+            assert_eq!(rt; writer.into_inner().taken.as_slice(), &TEXT[..room]);
+        }
+    }
+}
+
+/// The fault of a run of the text, and how many bytes were written.
+fn outcome_of(alloc: Global, text: &[u8]) -> (Option<Fault>, usize) {
+    let mut reader = Counted::new(text);
+    let mut writer = Counted::new(Vec::new(alloc));
+    let ran = run(alloc, &mut reader, &mut writer, Options {});
+    (ran.err(), writer.into_inner().len())
+}
+
+#[test]
+fn names_the_fault_of_a_script(rt: HostRuntime) {
+    let cases: [(&[u8], u32); 6] = [
+        (b"", 1),
+        (b"0 read /a\n", 1),
+        (b"user root rr\r\n", 1),
+        (b"user root rr\n0 read /a\n0 read /a/\n0 read /b/", 3),
+        (b"user root rr\n0 read /a\nuser bob bb", 3),
+        (b"# only a comment\n\n", 3),
+    ];
+    for (text, line) in cases {
+        assert_eq!(rt;
+            outcome_of(rt.alloc(), text),
+            (Some(Fault::BadScript(line)), 0)
+        );
+    }
+}
+
+/// A comment of `#` and so many letters, with its line end.
+fn push_comment(text: &mut Vec<u8>, letters: usize) -> Result<(), AllocError> {
+    text.push(b'#')?;
+    for _ in 0..letters {
+        text.push(b'x')?;
+    }
+    text.push(b'\n')?;
+    Ok(())
+}
+
+#[test]
+fn takes_as_many_bytes_as_a_script_may_have(rt: HostRuntime) -> Result<(), Fail> {
+    let mut text = Vec::from_slice(rt.alloc(), b"user root rr\n")?;
+    for _ in 0..1022 {
+        push_comment(&mut text, 1023)?;
+    }
+    push_comment(&mut text, 1011)?;
+    assert_eq!(rt; text.len(), 1_048_576);
+    assert_eq!(rt; outcome_of(rt.alloc(), text.as_slice()), (None, 0));
+    text.push(b'\n')?;
+    assert_eq!(rt;
+        outcome_of(rt.alloc(), text.as_slice()),
+        (Some(Fault::TooLong), 0)
+    );
+    Ok(())
+}
+
+#[test]
+fn takes_as_many_lines_as_a_script_may_have(rt: HostRuntime) -> Result<(), Fail> {
+    let mut text = Vec::from_slice(rt.alloc(), b"user root rr\n")?;
+    for _ in 0..16_383 {
+        text.push(b'\n')?;
+    }
+    assert_eq!(rt; outcome_of(rt.alloc(), text.as_slice()), (None, 0));
+    text.push(b'\n')?;
+    assert_eq!(rt;
+        outcome_of(rt.alloc(), text.as_slice()),
+        (Some(Fault::TooLong), 0)
+    );
+    Ok(())
+}
