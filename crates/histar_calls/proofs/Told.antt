@@ -76,7 +76,7 @@ module _ (k0 : Traced) (t : ℕ) where
 
 -- a directory that isn't full has room for an entry
 pub room_left : (is_full : Bool) (entries : ℕ) → (is_full ≡ true) ↔ (entries ≡ 64) → entries ≤ 64 → is_full ≡ false → entries < 64
-room_left is_full entries full few open = elim (cases_lt entries 64) [
+room_left is_full entries full few other = elim (cases_lt entries 64) [
   | inl less ↦ less
-  | inr more ↦ absurd (true≢false (sym (full.1 (omega arith)) ∙ open))
+  | inr more ↦ absurd (true≢false (sym (full.1 (omega arith)) ∙ other))
 ]

@@ -1,5 +1,10 @@
--- The categories of users.
-use Rattle.std.specs.Prelude.{ℕ, ◌+◌, ◌*◌}
+-- The categories of users, the user of a thread, and the labels of files.
+use Rattle.std.specs.Prelude.{◌≡◌, ℕ, ◌+◌, ◌*◌, ◌<◌, ◌≤◌, Bool, true, false}
+use Rattle.histar_flat.specs.declared.calls.Mode.{Mode}
+use Rattle.histar_flat.specs.declared.calls.Mode.TheVariants.{Private, Readable}
+use Rattle.histar_label.specs.declared.levels.Level.TheVariants.{L0, L1, L3}
+use Rattle.histar_label.specs.Level.{is_star}
+use Rattle.histar_label.specs.Levels.{Levels, level_of, constant, with_level}
 
 -- boot makes two categories for nobody, who is number 0, and two for each user in turn; this is the first of them
 abbrev pub read_category : ℕ → ℕ
@@ -8,3 +13,19 @@ read_category user = 2 + 2 * user
 -- and this the second
 abbrev pub write_category : ℕ → ℕ
 write_category user = 3 + 2 * user
+
+-- a label owns the read category of a user
+abbrev pub owns : Levels → ℕ → Bool
+owns own user = is_star (level_of own (read_category user))
+
+-- The user whose a thread of this label is, of so many: the first whose read category the label owns, or nobody, who is 0.
+pub record IsUserOf (own : Levels) (users user : ℕ) : Type 0 where
+  pub owner : 0 < user → owns own user ≡ true
+  pub first : (other : ℕ) → 0 < other → other < user → owns own other ≡ false
+  pub nobody : user ≡ 0 → (other : ℕ) → 0 < other → other ≤ users → owns own other ≡ false
+  pub known : user ≤ users
+
+-- the label of a user's file: everyone may read a readable one, and its owner alone a private one; its owner alone writes it
+abbrev pub file_label : Mode → ℕ → Levels
+file_label Readable user = with_level (constant L1) (write_category user) L0
+file_label Private user = with_level (with_level (constant L1) (write_category user) L0) (read_category user) L3

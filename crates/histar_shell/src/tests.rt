@@ -21,18 +21,18 @@ const SCRIPT: &[u8] = b"user root rr\n\
     0 create /a readable\n\
     0 create /b readable\n";
 
-/// What it is answered. STAND-IN: by a machine that answers every call `ENOENT`.
-const TEXT: &[u8] = b"3 ENOENT\n\
-    4 ENOENT\n\
-    5 ENOENT\n\
-    6 ENOENT\n\
-    7 ENOENT\n\
-    8 ENOENT\n\
-    9 ENOENT\n\
-    10 ENOENT\n\
+/// What it is answered.
+const TEXT: &[u8] = b"3 EACCES\n\
+    4 ok\n\
+    5 ok\n\
+    6 ok\n\
+    7 EAUTH\n\
+    8 = hello world\n\
+    9 ok\n\
+    10 EACCES\n\
     11 ENOENT\n\
-    12 ENOENT\n\
-    13 ENOENT\n";
+    12 EEXIST\n\
+    13 EACCES\n";
 
 /// Gives at most `piece` bytes a call, and fails at call `fails_at`, counted from 1.
 #[derive(Drop)]
