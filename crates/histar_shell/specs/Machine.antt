@@ -4,7 +4,7 @@ use Rattle.std.specs.Coded.{Coded, code_by, coded×, coded_ℕ, coded_bool}
 use Rattle.histar_flat.specs.declared.calls.UnixCall.{UnixCall}
 use Rattle.histar_flat.specs.declared.calls.UnixCall.TheVariants.{Create, Write, Read, Login}
 use Rattle.histar_flat.specs.declared.replies.Reply.{Reply}
-use Rattle.histar_flat.specs.declared.replies.Reply.TheVariants.{Gone}
+use Rattle.histar_flat.specs.declared.replies.Reply.TheVariants.{Done, Data, Refused, Gone}
 use Rattle.histar_flat.specs.Words.{ProcName}
 use Rattle.histar_syscall.specs.Traced.{Traced, coded_traced}
 use Rattle.histar_calls.specs.Replies.{Replies}
@@ -30,17 +30,24 @@ pub record IsStart (m : Running) : Type 0 where
 abbrev pub on_line : ℕ → Traced → Traced
 on_line line k = record { kept = k.kept; line = line; trace = k.trace }
 
--- A call other than a login is made of raw calls of the machine's thread on its line, and tells EACCES and EPERM exactly
--- where the kernel refused one of them so. A login makes none.
-abbrev pub Does : Traced → Traced → ℕ → ℕ → UnixCall → Reply → Type 0
-Does old new thread line (Create path mode) reply = Replies (on_line line old) new thread reply
-Does old new thread line (Write path bytes) reply = Replies (on_line line old) new thread reply
-Does old new thread line (Read path) reply = Replies (on_line line old) new thread reply
-Does old new thread line (Login name password) reply = (new.trace ≡ old.trace) × (new.line ≡ line)
+-- a login makes no raw call; where it is refused nothing changes
+abbrev pub LogsIn : Traced → Traced → Reply → Type 0
+LogsIn old new Done = (new.trace ≡ old.trace) × (new.line ≡ old.line)
+LogsIn old new (Data bytes) = ⊥
+LogsIn old new (Refused errno) = new ≡ old
+LogsIn old new Gone = ⊥
+
+-- A call other than a login is made of raw calls of the thread on the line that was begun, and tells EACCES and EPERM exactly
+-- where the kernel refused one of them so.
+abbrev pub Makes : Traced → Traced → ℕ → UnixCall → Reply → Type 0
+Makes old new thread (Create path mode) reply = Replies old new thread reply
+Makes old new thread (Write path bytes) reply = Replies old new thread reply
+Makes old new thread (Read path) reply = Replies old new thread reply
+Makes old new thread (Login name password) reply = LogsIn old new reply
 
 -- a running machine: a process that was never born is gone and nothing changes, process 0 has its call done
 abbrev pub Runs : Running → Running → ℕ → ProcName → UnixCall → Result Reply Stopped → Type 0
-Runs old new line [] call (Ok reply) = Does old.kernel new.kernel old.thread line call reply × (new.is_stopped ≡ false)
+Runs old new line [] call (Ok reply) = Makes (on_line line old.kernel) new.kernel old.thread call reply × (new.is_stopped ≡ false)
 Runs old new line [] call (Err stopped) = new.is_stopped ≡ true
 Runs old new line (n ∷ process) call result = (result ≡ Ok Gone) × (new ≡ old)
 

@@ -1,5 +1,6 @@
 //! Logging in, while it is not made of raw calls yet.
-ghost use Rattle.std.specs.Prelude.{◌≤◌, length};
+ghost use Rattle.std.specs.Prelude.{◌≤◌, length, IfOk};
+ghost use Rattle.histar_shell.specs.Machine.{LogsIn};
 
 use crate::boot::{label_of, own_read_category, own_write_category};
 use histar_calls::{Stopped, read_category, write_category};
@@ -35,6 +36,7 @@ pub fn login<S: LabelStore + Drop>(
     password: Password,
 ) -> Result<Reply, Stopped>
     requires { length users.now ≤ 16 }
+    ensures { IfOk result (LogsIn kernel.old kernel.new) }
 {
     let Some(at) = users.iter().position(|user| user.name == name) else {
         return Ok(Reply::Refused(Errno::ENOENT));

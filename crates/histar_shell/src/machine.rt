@@ -1,7 +1,7 @@
 //! The machine: a labelled kernel with its start state, and what each call line has it do.
-ghost use Rattle.std.specs.Prelude.{◌≡◌, [], true, false, IfOk, OnOk, OnErr, IsTrue, Ok, Err};
+ghost use Rattle.std.specs.Prelude.{◌≡◌, ◌≤◌, length, IfOk};
 ghost use Rattle.histar_script.specs.Script.{IsUserList};
-ghost use Rattle.histar_shell.specs.Machine.{Answers, IsStart};
+ghost use Rattle.histar_shell.specs.Machine.{Answers, IsStart, Makes};
 
 use crate::boot::start_objects;
 use crate::login::login;
@@ -101,30 +101,10 @@ impl<S: LabelStore + Drop> Machine<S> {
             return Ok(Reply::Gone);
         }
         self.kernel.begin(line);
-        let result = self.call(alloc, call);
+        let users = self.users.as_slice();
+        let result = make(&mut self.kernel, alloc, &self.places, users, self.thread, call);
         self.is_stopped = result.is_err();
         result
-    }
-
-    /// Does one call of process 0 on the line that was begun.
-    fn call(&mut self, alloc: Global, call: UnixCall) -> Result<Reply, Stopped> {
-        let kernel = &mut self.kernel;
-        let places = &self.places;
-        match call {
-            UnixCall::Create(path, mode) => create(kernel, alloc, places, self.thread, &path, mode),
-            UnixCall::Read(path) => read(kernel, alloc, places, self.thread, &path),
-            UnixCall::Write(path, bytes) => {
-                write(kernel, alloc, places, self.thread, &path, bytes)
-            }
-            UnixCall::Login(name, password) => login(
-                kernel,
-                alloc,
-                self.users.as_slice(),
-                self.thread,
-                name,
-                password,
-            ),
-        }
     }
 
     /// The raw calls so far, moved out.
@@ -134,5 +114,25 @@ impl<S: LabelStore + Drop> Machine<S> {
         Trace {
             entries: self.kernel.into_trace(),
         }
+    }
+}
+
+/// Does one call of a thread on the line that was begun.
+fn make<S: LabelStore + Drop>(
+    kernel: &mut Kernel<S>,
+    alloc: Global,
+    places: &Places,
+    users: &[User],
+    thread: ObjId,
+    call: UnixCall,
+) -> Result<Reply, Stopped>
+    requires { length users.now ≤ 16 }
+    ensures { IfOk result (Makes kernel.old kernel.new thread call) }
+{
+    match call {
+        UnixCall::Create(path, mode) => create(kernel, alloc, places, thread, &path, mode),
+        UnixCall::Read(path) => read(kernel, alloc, places, thread, &path),
+        UnixCall::Write(path, bytes) => write(kernel, alloc, places, thread, &path, bytes),
+        UnixCall::Login(name, password) => login(kernel, alloc, users, thread, name, password),
     }
 }
