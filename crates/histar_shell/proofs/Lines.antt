@@ -8,13 +8,13 @@ use Rattle.histar_calls.specs.declared.stopping.Stopped.{Stopped}
 use Rattle.histar_shell.specs.Machine.{Running, on_line, Makes, Runs, AnswersIf, Answers}
 
 done : (old new : Running) (line : ℕ) (call : UnixCall) (result : Result Reply Stopped)
-    → IfOk result (Makes (on_line line old.kernel) new.kernel old.thread call) → new.is_stopped ≡ is_err result → Runs old new line [] call result
+    → IfOk result (Makes old.users (on_line line old.kernel) new.kernel old.thread call) → new.is_stopped ≡ is_err result → Runs old new line [] call result
 done old new line call (Ok reply) makes stopped = (makes, stopped)
 done old new line call (Err e) makes stopped = stopped
 
 -- process 0 had its call made
 pub had_made : (old new : Running) (line : ℕ) (process : ProcName) (call : UnixCall) (result : Result Reply Stopped) → old.is_stopped ≡ false → process ≡ []
-    → IfOk result (Makes (on_line line old.kernel) new.kernel old.thread call) → new.is_stopped ≡ is_err result → Answers old new line process call result
+    → IfOk result (Makes old.users (on_line line old.kernel) new.kernel old.thread call) → new.is_stopped ≡ is_err result → Answers old new line process call result
 had_made old new line process call result runs zero makes stopped =
     subst (λ (b : Bool). AnswersIf b old new line process call result) (sym runs)
     (subst (λ (p : ProcName). Runs old new line p call result) (sym zero) (done old new line call result makes stopped))

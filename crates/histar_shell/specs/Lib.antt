@@ -3,4 +3,5 @@ pub mod Device
 pub mod Input
 pub mod Outcome
 pub mod Writing
+pub mod Login
 pub mod Machine

@@ -1,27 +1,32 @@
 -- What a machine keeps, and what a call line does to it.
 use Rattle.std.specs.Prelude.{◌≡◌, ℕ, Bool, true, false, List, [], ◌∷◌, Result, Ok, Err, IsErr, refl}
-use Rattle.std.specs.Coded.{Coded, code_by, coded×, coded_ℕ, coded_bool}
+use Rattle.std.specs.Coded.{Coded, code_by, coded×, coded_ℕ, coded_bool, coded_list}
+use Rattle.histar_flat.specs.declared.calls.User.{User}
+use Rattle.histar_flat.specs.contracts.calls.User as user
 use Rattle.histar_flat.specs.declared.calls.UnixCall.{UnixCall}
 use Rattle.histar_flat.specs.declared.calls.UnixCall.TheVariants.{Create, Write, Read, Login}
 use Rattle.histar_flat.specs.declared.replies.Reply.{Reply}
-use Rattle.histar_flat.specs.declared.replies.Reply.TheVariants.{Done, Data, Refused, Gone}
+use Rattle.histar_flat.specs.declared.replies.Reply.TheVariants.{Gone}
 use Rattle.histar_flat.specs.Words.{ProcName}
 use Rattle.histar_syscall.specs.Traced.{Traced, coded_traced}
 use Rattle.histar_calls.specs.Replies.{Replies}
+use Rattle.histar_shell.specs.Login.{LogsIn}
 use Rattle.histar_calls.specs.declared.stopping.Stopped.{Stopped}
 
--- the kernel of a machine, the thread of its process, and whether it has stopped for want of memory
+-- the kernel of a machine, the thread of its process, its users, and whether it has stopped for want of memory
 pub record Running : Type 0 where
   pub kernel : Traced
   pub thread : ℕ
+  pub users : List User
   pub is_stopped : Bool
 
 -- stored as the tuple of its parts
 abbrev pub coded_running : Coded Running
-coded_running = code_by (Traced × (ℕ × Bool)) (coded× coded_traced (coded× coded_ℕ coded_bool)) (λ m. (m.kernel, (m.thread, m.is_stopped))) (λ p. record { kernel = p.0; thread = p.1.0; is_stopped = p.1.1 }) (λ _. refl)
+coded_running = code_by (Traced × (ℕ × (List User × Bool))) (coded× coded_traced (coded× coded_ℕ (coded× (coded_list user.the_row.coded) coded_bool))) (λ m. (m.kernel, (m.thread, (m.users, m.is_stopped)))) (λ p. record { kernel = p.0; thread = p.1.0; users = p.1.1.0; is_stopped = p.1.1.1 }) (λ _. refl)
 
--- a machine that was booted: it runs, and no raw call was made yet
-pub record IsStart (m : Running) : Type 0 where
+-- a machine that was booted with these users: it runs, and no raw call was made yet
+pub record IsStart (declared : List User) (m : Running) : Type 0 where
+  pub users : m.users ≡ declared
   pub trace : m.kernel.trace ≡ []
   pub line : m.kernel.line ≡ 0
   pub runs : m.is_stopped ≡ false
@@ -30,24 +35,17 @@ pub record IsStart (m : Running) : Type 0 where
 abbrev pub on_line : ℕ → Traced → Traced
 on_line line k = record { kept = k.kept; line = line; trace = k.trace }
 
--- a login makes no raw call; where it is refused nothing changes
-abbrev pub LogsIn : Traced → Traced → Reply → Type 0
-LogsIn old new Done = (new.trace ≡ old.trace) × (new.line ≡ old.line)
-LogsIn old new (Data bytes) = ⊥
-LogsIn old new (Refused errno) = new ≡ old
-LogsIn old new Gone = ⊥
-
 -- A call other than a login is made of raw calls of the thread on the line that was begun, and tells EACCES and EPERM exactly
 -- where the kernel refused one of them so.
-abbrev pub Makes : Traced → Traced → ℕ → UnixCall → Reply → Type 0
-Makes old new thread (Create path mode) reply = Replies old new thread reply
-Makes old new thread (Write path bytes) reply = Replies old new thread reply
-Makes old new thread (Read path) reply = Replies old new thread reply
-Makes old new thread (Login name password) reply = LogsIn old new reply
+abbrev pub Makes : List User → Traced → Traced → ℕ → UnixCall → Reply → Type 0
+Makes users old new thread (Create path mode) reply = Replies old new thread reply
+Makes users old new thread (Write path bytes) reply = Replies old new thread reply
+Makes users old new thread (Read path) reply = Replies old new thread reply
+Makes users old new thread (Login name password) reply = LogsIn users old new name password reply
 
 -- a running machine: a process that was never born is gone and nothing changes, process 0 has its call done
 abbrev pub Runs : Running → Running → ℕ → ProcName → UnixCall → Result Reply Stopped → Type 0
-Runs old new line [] call (Ok reply) = Makes (on_line line old.kernel) new.kernel old.thread call reply × (new.is_stopped ≡ false)
+Runs old new line [] call (Ok reply) = Makes old.users (on_line line old.kernel) new.kernel old.thread call reply × (new.is_stopped ≡ false)
 Runs old new line [] call (Err stopped) = new.is_stopped ≡ true
 Runs old new line (n ∷ process) call result = (result ≡ Ok Gone) × (new ≡ old)
 

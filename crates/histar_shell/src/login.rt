@@ -1,6 +1,7 @@
 //! Logging in, while it is not made of raw calls yet.
-ghost use Rattle.std.specs.Prelude.{◌≤◌, length, IfOk};
-ghost use Rattle.histar_shell.specs.Machine.{LogsIn};
+ghost use Rattle.std.specs.Prelude.{◌≡◌, ◌+◌, ◌<◌, ◌≤◌, length, IfOk};
+ghost use Rattle.std.specs.Option.{option_copied};
+ghost use Rattle.histar_shell.specs.Login.{place_of, has_password, LogsIn};
 
 use crate::boot::{label_of, own_read_category, own_write_category};
 use histar_calls::{Stopped, read_category, write_category};
@@ -25,6 +26,23 @@ fn user_labels(alloc: Global, users: u64, number: u8) -> Result<(Label, Label), 
     Ok((label, clearance))
 }
 
+/// The place of the user with this name.
+fn place_of(users: &[User], name: Name) -> Option<usize>
+    ensures { result ≡ place_of users.now name }
+{
+    users.iter().position(|user| user.name == name)
+}
+
+/// Whether a user has this password.
+fn has_password(user: Option<&User>, password: Password) -> bool
+    ensures { result ≡ has_password (option_copied user.entry) password }
+{
+    match user {
+        Some(user) => user.password == password,
+        None => false,
+    }
+}
+
 /// Gives process 0 the label and the clearance of a user, by the user's password: ENOENT where no
 /// user has the name, EAUTH where the password is another.
 pub fn login<S: LabelStore + Drop>(
@@ -36,17 +54,25 @@ pub fn login<S: LabelStore + Drop>(
     password: Password,
 ) -> Result<Reply, Stopped>
     requires { length users.now ≤ 16 }
-    ensures { IfOk result (LogsIn kernel.old kernel.new) }
+    ensures { IfOk result (LogsIn users.now kernel.old kernel.new name password) }
 {
-    let Some(at) = users.iter().position(|user| user.name == name) else {
+    let Some(at) = place_of(users, name) else {
         return Ok(Reply::Refused(Errno::ENOENT));
     };
-    if users[at].password != password {
+    if !has_password(users.get(at), password) {
         return Ok(Reply::Refused(Errno::EAUTH));
     }
-    let (label, clearance) = user_labels(alloc, users.len() as u64, at as u8 + 1)?;
+    let (label, clearance) = user_labels(alloc, users.len() as u64, number_of(at))?;
     match kernel.set_own(thread, label, clearance) {
         Ok(()) => Ok(Reply::Done),
         Err(_) => Err(Stopped),
     }
+}
+
+/// The number of the user at a place: users are numbered from 1 on.
+fn number_of(place: usize) -> u8
+    requires { place < 16 }
+    ensures { result ≡ place + 1 }
+{
+    place as u8 + 1
 }

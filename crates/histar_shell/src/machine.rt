@@ -60,7 +60,7 @@ impl<S: LabelStore + Drop> Model for Machine<S> {
 
     ghost coded = { coded_running };
 
-    ghost view = { λ m. record { kernel = m.kernel; thread = m.thread; is_stopped = m.is_stopped } };
+    ghost view = { λ m. record { kernel = m.kernel; thread = m.thread; users = m.users.items; is_stopped = m.is_stopped } };
 
     ghost invariant = { λ m. length m.users.items ≤ 16 };
 }
@@ -70,7 +70,7 @@ impl<S: LabelStore + Drop> Machine<S> {
     /// and process 0 is nobody's.
     pub fn boot(alloc: Global, store: S, users: &[User]) -> Result<Self, AllocError>
         requires { IsUserList users.now }
-        ensures { IfOk result IsStart }
+        ensures { IfOk result (IsStart users.now) }
     {
         let users = Vec::from_slice(alloc, users)?;
         let (objects, places, thread) = start_objects(alloc, store, users.as_slice())?;
@@ -127,7 +127,7 @@ fn make<S: LabelStore + Drop>(
     call: UnixCall,
 ) -> Result<Reply, Stopped>
     requires { length users.now ≤ 16 }
-    ensures { IfOk result (Makes kernel.old kernel.new thread call) }
+    ensures { IfOk result (Makes users.now kernel.old kernel.new thread call) }
 {
     match call {
         UnixCall::Create(path, mode) => create(kernel, alloc, places, thread, &path, mode),
