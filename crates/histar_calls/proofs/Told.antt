@@ -52,7 +52,8 @@ module _ (k0 : Traced) (t : ℕ) where
     after_two k2 call d reply two access permission = record {
       entries = _;
       ran = ran_more k0 k1 k2 t _ call d (ran_more k0 k0 k1 t [] first None (ran_none k0 t) one) two;
-      access = access; permission = permission;
+      access = access;
+      permission = permission;
     }
 
     module _ (k2 : Traced) (second : RawCall) (two : Called k1 k2 t second None) where
@@ -62,7 +63,8 @@ module _ (k0 : Traced) (t : ℕ) where
       after_three k3 call d reply three access permission = record {
         entries = _;
         ran = ran_more k0 k2 k3 t _ call d (ran_more k0 k1 k2 t _ second None (ran_more k0 k0 k1 t [] first None (ran_none k0 t) one) two) three;
-        access = access; permission = permission;
+        access = access;
+        permission = permission;
       }
 
       -- a raw call after three that were granted
@@ -71,7 +73,8 @@ module _ (k0 : Traced) (t : ℕ) where
       after_four k3 k4 third call d reply three four access permission = record {
         entries = _;
         ran = ran_more k0 k3 k4 t _ call d (ran_more k0 k2 k3 t _ third None (ran_more k0 k1 k2 t _ second None (ran_more k0 k0 k1 t [] first None (ran_none k0 t) one) two) three) four;
-        access = access; permission = permission;
+        access = access;
+        permission = permission;
       }
 
 -- a directory that isn't full has room for an entry

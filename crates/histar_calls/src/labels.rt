@@ -22,12 +22,7 @@ fn user_of(own: &Label, users: u8) -> u8
 
 /// The label of a file that a thread of this label makes. Nobody's categories are owned by no
 /// thread, so nobody may make no file with them.
-pub fn label_made(
-    alloc: Global,
-    own: &Label,
-    users: u8,
-    mode: Mode,
-) -> Result<Label, AllocError>
+pub fn label_made(alloc: Global, own: &Label, users: u8, mode: Mode) -> Result<Label, AllocError>
     ensures { IfOk result (λ label. (user : ℕ) × IsUserOf own.now users user × (label ≡ file_label mode user)) }
 {
     let user = user_of(own, users);

@@ -1,5 +1,5 @@
 -- What the table shows after a change of it, or after its store has taken more labels.
-use Rattle.std.proofs.Common.{◌≡◌, ℕ, ◌==◌, ◌+◌, Result, Ok, Err, OnOk, OnErr, ◌<◌, ◌≤◌, arith, List, ◌∷◌, Option, Some, None, IsSome, Bool, true, false, cond, inl, inr, refl, sym, ap, ◌∙◌, subst, if◌then◌else◌}
+use Rattle.std.proofs.Common.{◌≡◌, ℕ, ◌==◌, ◌+◌, Result, Ok, Err, OnOk, OnErr, ◌<◌, ◌≤◌, arith, List, Option, Some, None, IsSome, Bool, true, false, inl, inr, refl, sym, ap, ◌∙◌, subst, if◌then◌else◌}
 use Rattle.std.specs.Borrow.{Bor}
 use Rattle.std.specs.Prelude.{option_map, is_some}
 use Rattle.std.specs.Option.{option_copied}
@@ -162,10 +162,12 @@ module _ {L : Type 0} (objects : Objects L) (next : ℕ) (unused : IsUnusedFrom 
 
   -- and where one is put below them
   pub unused_put : (n above : ℕ) (o : Object L) → n < above → next ≤ above → IsUnusedFrom (put objects n o) above
-  unused_put n above o below further = record { none = λ q le.
-      let other : (q == n) ≡ false = grind (arith, nat_tests) in
-      let beyond : next ≤ q = omega arith in
-      ap (λ b. if b then Some o else objects q) other ∙ unused.none q beyond }
+  unused_put n above o below further = record {
+    none = λ q le.
+        let other : (q == n) ≡ false = grind (arith, nat_tests) in
+        let beyond : next ≤ q = omega arith in
+        ap (λ b. if b then Some o else objects q) other ∙ unused.none q beyond;
+  }
 
 -- what was copied out was there
 pub copied_some : {X : Type 0} (r : Option (Bor X)) (x : Option X) → option_copied r ≡ x → IsSome x → IsSome r

@@ -1,12 +1,12 @@
 -- What an object links, and what it links after a change.
-use Rattle.std.proofs.Common.{◌≡◌, ℕ, Bool, true, false, Option, None, Some, Result, Ok, Err, OnOk, OnErr, OnSome, refl, sym, ap, ◌∙◌}
+use Rattle.std.proofs.Common.{◌≡◌, ℕ, false, Option, None, Some, Result, Ok, Err, OnOk, OnErr, OnSome, sym, ap, ◌∙◌}
 use Rattle.std.specs.FinSet as set
 use Rattle.std.specs.Ordering.{nat_cmp}
 use mathlib.Core.Bool.{false≢true}
 use Rattle.histar_object.specs.declared.objects.Kind.{Kind}
 use Rattle.histar_object.specs.declared.objects.Kind.TheVariants.{Segment, Container, Thread, Gate}
 use Rattle.histar_object.specs.declared.objects.Object.{Object}
-use Rattle.histar_object.specs.Objects.{Numbers, Objects, put, changed_at, kind_linking, linking, with_new, kind_links, links_in, kind_is_container, is_container}
+use Rattle.histar_object.specs.Objects.{Numbers, Objects, put, changed_at, kind_linking, linking, kind_links, links_in, kind_is_container}
 use Rattle.histar_object.proofs.Changes.{put_back, put_changed}
 
 -- what holds where an object is lent holds here

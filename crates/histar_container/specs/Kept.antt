@@ -1,5 +1,5 @@
 -- What a table and its store keep together: objects by number with their labels by value, and the next numbers.
-use Rattle.std.specs.Prelude.{◌≡◌, ℕ, List, refl}
+use Rattle.std.specs.Prelude.{ℕ, List, refl}
 use Rattle.std.specs.Coded.{Coded, code_by, coded×, coded_ℕ, coded_list}
 use Rattle.histar_label.specs.Levels.{Levels, coded_levels}
 use Rattle.histar_object.specs.declared.objects.Object.{Object}

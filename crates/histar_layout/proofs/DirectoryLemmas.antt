@@ -1,6 +1,6 @@
 -- Bytes and directories: what a beginning of the entries tells of the rest.
 use Rattle.std.proofs.Common.{◌≡◌, ℕ, ◌<◌, Bool, true, false, List, [], ◌∷◌, ◌++◌, length, Option, Some, None, refl, sym, ap, subst, ◌∙◌, append_assoc, append-nil, length-append, arith}
-use Rattle.std.specs.Prelude.{T}
+use Rattle.std.specs.Prelude.{T, MatchOption}
 use Rattle.std.specs.List.{flat_map, AllByRecursion}
 use Rattle.std.specs.Ordering.{is_lt}
 use Rattle.std.specs.declared.cmp.Ordering.{Ordering}
@@ -10,6 +10,7 @@ use Rattle.std.specs.FinMap as map
 use Rattle.std.specs.FinMap.Entries.{put, is_sorted}
 use Rattle.std.proofs.lemmas.Bool.{false≢true}
 use Rattle.std.proofs.lemmas.List.{flat_map_more}
+use Rattle.std.proofs.lemmas.Option.{same_Some}
 use Rattle.histar_flat.specs.Words.{Name}
 use Rattle.histar_layout.specs.declared.entry.Target.{Target}
 use Rattle.histar_layout.specs.declared.entry.Target.TheVariants.{File, Directory}
@@ -26,9 +27,6 @@ Entry = Name × Target
 abbrev text : List Entry → List ℕ
 text = flat_map entry_bytes
 
-some_is : {A : Type 0} (x y : A) → Some x ≡ Some y → x ≡ y
-some_is x y e = cc
-
 -- some of the entries that the bytes spell are these, and the rest of the bytes spells the others
 record IsContinued (es fs : List Entry) (rest : List ℕ) : Type 0 where
   more : List Entry
@@ -36,13 +34,15 @@ record IsContinued (es fs : List Entry) (rest : List ℕ) : Type 0 where
   spelled : rest ≡ text more
   each : AllByRecursion IsEntry more
 
+-- bytes that begin with two entries begin with one
 same_head : (x y : Entry) (es fs : List Entry) (rest : List ℕ) → IsEntry x → IsEntry y → text (x ∷ es) ++ rest ≡ text (y ∷ fs) → (x ≡ y) × (text es ++ rest ≡ text fs)
 same_head x y es fs rest a b e =
     let read : Some (x, text es ++ rest) ≡ Some (y, text fs) =
     sym (entry_again x (text es ++ rest) a) ∙ ap entry_at (sym (append_assoc (entry_bytes x) (text es) rest) ∙ e) ∙ entry_again y (text fs) b in
-    let same = some_is (x, text es ++ rest) (y, text fs) read in
+    let same = same_Some (x, text es ++ rest) (y, text fs) read in
     (ap (λ (p : Entry × List ℕ). p.0) same, ap (λ (p : Entry × List ℕ). p.1) same)
 
+-- entries that the bytes begin with are the first ones of a directory
 continued : (es fs : List Entry) (rest : List ℕ) → AllByRecursion IsEntry es → AllByRecursion IsEntry fs → text es ++ rest ≡ text fs → IsContinued es fs rest
 continued [] fs rest a b e = record { more = fs; parts = refl; spelled = e; each = b }
 continued (x ∷ es) [] rest a b e = absurd cc
@@ -51,6 +51,7 @@ continued (x ∷ es) (y ∷ fs) rest a b e =
     let k = continued es fs rest a.1 b.1 h.1 in
     record { more = k.more; parts = (λ i. sym h.0 i ∷ k.parts i); spelled = k.spelled; each = k.each }
 
+-- no bytes spell no entries
 no_more : (more : List Entry) → [] ≡ text more → more ≡ []
 no_more [] e = refl
 no_more (x ∷ more) e = absurd cc
@@ -61,6 +62,11 @@ same_directory bytes a b p q =
     let k = continued (map.entries a) (map.entries b) [] p.listable.each q.listable.each (append-nil (spelling a) ∙ sym p.spelled ∙ q.spelled) in
     let same : map.entries b ≡ map.entries a = k.parts ∙ ap (λ (es : List Entry). map.entries a ++ es) (no_more k.more k.spelled) ∙ append-nil (map.entries a) in
     map.same_entries_map a b (sym same)
+
+-- what reading finds in the bytes of a directory is that directory
+pub found_directory : (bytes : List ℕ) (found : Option Entries) (dir : Entries) → MatchOption found ((other : Entries) → IsDirectory bytes other → ⊥) (IsDirectory bytes) → IsDirectory bytes dir → found ≡ Some dir
+found_directory bytes None dir none h = absurd (none dir h)
+found_directory bytes (Some other) dir is h = ap Some (same_directory bytes other dir is h)
 
 -- the last of the entries has this name, or there are none
 abbrev pub IsLast : Option Name → List Entry → Type 0
@@ -83,11 +89,13 @@ starts bytes fits = record {
   rest_fits = fits;
 }
 
+-- a test for less
 lesser : (o : Ordering) → is_lt o ≡ true → o ≡ Less
 lesser Less e = refl
 lesser Equal e = absurd cc
 lesser Greater e = absurd cc
 
+-- an entry behind the last one comes at the end
 entry_added : (last : Option Name) (dir : Entries) (name : Name) (target : Target) → IsLast last (map.entries dir) → comes_after last name ≡ true → map.entries (map.insert dir name target) ≡ map.entries dir ++ (name, target) ∷ []
 entry_added None dir name target h after =
     map.entries-insert nat_list_cmp_total dir name target ∙ ap (put by_bytes name target) h ∙ ap (λ (es : List Entry). es ++ (name, target) ∷ []) (sym h)
@@ -116,6 +124,7 @@ shorter rest after name target fits read =
     let e = entry_takes rest ((name, target), after) fits read in
     omega (arith, ap length e.parts, length-append (entry_bytes (name, target)) after)
 
+-- a target that names objects leads somewhere
 leads : (t : Target) → IsTarget t → LeadsSomewhere t
 leads (File file) h = h.0
 leads (Directory container listing) h = (h.0.0, h.1.0)
@@ -137,6 +146,7 @@ record HasNext (rest : List ℕ) (dir whole : Entries) : Type 0 where
   parts : map.entries whole ≡ map.entries dir ++ next ∷ more
   read : entry_at rest ≡ Some (next, text more)
 
+-- where bytes are left, more entries are
 next_of : (rest : List ℕ) (dir whole : Entries) → IsContinued (map.entries dir) (map.entries whole) rest → 0 < length rest → HasNext rest dir whole
 next_of rest dir whole k there = go k.more k.parts k.spelled k.each
   where
@@ -144,6 +154,7 @@ next_of rest dir whole k there = go k.more k.parts k.spelled k.each
     go [] p s a = absurd (omega (arith, ap length s))
     go (e ∷ more) p s a = record { next = e; more = more; parts = p; read = ap entry_at s ∙ entry_again e (text more) a.0 }
 
+-- a directory goes on where reading does
 further : (bytes rest : List ℕ) (last : Option Name) (dir whole : Entries) → IsReadUpTo bytes rest last dir → 0 < length rest → IsDirectory bytes whole → HasNext rest dir whole
 further bytes rest last dir whole h there w =
     next_of rest dir whole (continued (map.entries dir) (map.entries whole) rest h.listable.each w.listable.each (sym h.spelled ∙ w.spelled)) there
@@ -161,6 +172,7 @@ no_room bytes rest last dir h there full whole w =
     let k = further bytes rest last dir whole h there w in
     omega (arith, w.listable.few, map.len-entries whole, map.len-entries dir, ap length k.parts, length-append (map.entries dir) (k.next ∷ k.more))
 
+-- behind the last entry of a directory's beginning names rise
 rises : (last : Option Name) (es : List Entry) (e : Entry) (more : List Entry) → IsLast last es → T (is_sorted by_bytes (es ++ e ∷ more)) → comes_after last e.0 ≡ true
 rises None es e more h s = refl
 rises (Some last) es e more h s = ap is_lt (last_below h.0 (last, h.1) e more (subst (λ (fs : List Entry). T (is_sorted by_bytes (fs ++ e ∷ more))) h.2 s))
@@ -170,7 +182,7 @@ pub no_order : (bytes rest after : List ℕ) (last : Option Name) (dir : Entries
     → comes_after last name ≡ false → (whole : Entries) → IsDirectory bytes whole → ⊥
 no_order bytes rest after last dir name target h there read falls whole w =
     let k = further bytes rest last dir whole h there w in
-    let same : (k.next, text k.more) ≡ ((name, target), after) = some_is (k.next, text k.more) ((name, target), after) (sym k.read ∙ read) in
+    let same : (k.next, text k.more) ≡ ((name, target), after) = same_Some (k.next, text k.more) ((name, target), after) (sym k.read ∙ read) in
     let is_name : k.next.0 ≡ name = ap (λ (p : Entry × List ℕ). p.0.0) same in
     let up : comes_after last k.next.0 ≡ true = rises last (map.entries dir) k.next k.more h.last_is (subst (λ (es : List Entry). T (is_sorted by_bytes es)) k.parts (map.entries_sorted whole)) in
     false≢true (sym falls ∙ ap (comes_after last) (sym is_name) ∙ up)

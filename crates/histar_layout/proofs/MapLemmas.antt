@@ -1,16 +1,16 @@
 -- Directories as finite maps: what a `BTreeMap` shows, and what one entry more changes.
-use Rattle.std.proofs.Common.{◌≡◌, ℕ, ◌+◌, ◌<◌, ◌≤◌, Bool, true, false, cond, List, [], ◌∷◌, ◌++◌, length, Some, refl, sym, ap, subst, ◌∙◌, arith}
+use Rattle.std.proofs.Common.{◌≡◌, ℕ, ◌+◌, ◌-◌, ◌<◌, ◌≤◌, Bool, true, false, cond, List, [], ◌∷◌, ◌++◌, length, Some, refl, sym, ap, subst, ◌∙◌, arith, Option, None}
 use Rattle.std.specs.Prelude.{T, ◌&&◌}
 use Rattle.std.specs.List.{AllByRecursion}
 use Rattle.std.specs.List.Sorted.{IsStrictlySortedBy}
-use Rattle.std.specs.Ordering.{nat_cmp, is_lt, ordering_reverse}
+use Rattle.std.specs.Ordering.{nat_cmp, is_lt, ordering_reverse, is_eq, eq_by_cmp}
 use Rattle.std.specs.declared.cmp.Ordering.{Ordering}
 use Rattle.std.specs.declared.cmp.Ordering.TheVariants.{Less, Equal, Greater}
-use Rattle.std.specs.Cmp.{eq_by_cmp_equiv}
+use Rattle.std.specs.Cmp.{eq_by_cmp_equiv, tied_itself}
 use Rattle.std.specs.Cmp.Lexicographic.{slice_cmp, nat_list_cmp_total}
 use Rattle.std.specs.BTreeMap.{is_at}
 use Rattle.std.specs.Map.{lookup, keys_of}
-use Rattle.std.specs.FinMap.{IsAntisymmetric, empty, get, insert, len, contains_key, entries, from_entries, from_sorted, find, is_sorted, get-from_entries, get-from_sorted, get-insert, len-entries, len-insert, len-empty, entries-from_sorted, entries-insert, same_map, nat_cmp-IsAntisymmetric, slice_cmp-IsAntisymmetric}
+use Rattle.std.specs.FinMap.{IsAntisymmetric, empty, get, insert, len, contains_key, entries, from_entries, from_sorted, find, is_sorted, get-from_entries, get-from_sorted, get-insert, get-entries, get-remove, remove, len-entries, len-insert, len-remove, len-empty, entries-from_sorted, entries-insert, same_map, nat_cmp-IsAntisymmetric, slice_cmp-IsAntisymmetric, entries_sorted}
 use Rattle.std.specs.FinMap.Entries.{below_all, by_order, put}
 use Rattle.std.proofs.lemmas.List.{nil_from_length}
 use Rattle.histar_flat.specs.Words.{Name}
@@ -27,18 +27,22 @@ antisymmetric = slice_cmp-IsAntisymmetric nat_cmp-IsAntisymmetric
 
 -- ---- tests
 
+-- two tests that hold
 both : (a b : Bool) → T a → T b → T (a && b)
 both true b p q = q
 both false b p q = absurd p
 
-pub first : (a b : Bool) → T (a && b) → T a
+-- the first of two tests
+first : (a b : Bool) → T (a && b) → T a
 first true b p = tt
 first false b p = absurd p
 
-pub second : (a b : Bool) → T (a && b) → T b
+-- the second of two tests
+second : (a b : Bool) → T (a && b) → T b
 second true b p = p
 second false b p = absurd p
 
+-- a test for less
 less : (o : Ordering) → T (is_lt o) → o ≡ Less
 less Less p = refl
 less Equal p = absurd p
@@ -46,6 +50,7 @@ less Greater p = absurd p
 
 -- ---- the entries of a `BTreeMap`
 
+-- a search by the order is a search by ties
 find_is : (es : List (Name × Target)) (q : Name) → find by_bytes q es ≡ lookup (is_at (by_bytes q)) es
 find_is [] q = refl
 find_is (e ∷ es) q = ap (cond (is_at (by_bytes q) e.0) (Some e.1)) (find_is es q)
@@ -61,10 +66,12 @@ one_set es fs k v h = same_map nat_list_cmp_total antisymmetric _ _ (λ q.
     get_made fs q ∙ h q ∙ ap (λ b. cond b (Some v) (lookup (is_at (by_bytes q)) es)) ((eq_by_cmp_equiv nat_list_cmp_total).symm k q)
     ∙ sym (get-insert nat_list_cmp_total (from_entries es) k v q ∙ ap (cond (is_at (by_bytes q) k) (Some v)) (get_made es q)))
 
+-- a name below all keys is below all entries
 below : (x : Name) (es : List (Name × Target)) → AllByRecursion (λ y. by_bytes x y ≡ Less) (keys_of es) → T (below_all by_bytes x es)
 below x [] h = tt
 below x (e ∷ es) h = both _ _ (subst (λ o. T (is_lt o)) (sym h.0) tt) (below x es h.1)
 
+-- keys that rise make sorted entries
 rising : (es : List (Name × Target)) → IsStrictlySortedBy by_bytes (keys_of es) → T (is_sorted by_bytes es)
 unfolding IsStrictlySortedBy
 rising [] h = tt
@@ -90,6 +97,7 @@ entries-empty = nil_from_length _ (sym (len-entries empty) ∙ len-empty by_byte
 pub listable_empty : IsListable empty
 listable_empty = record { each = subst (AllByRecursion IsEntry) (sym entries-empty) tt; few = omega (arith, len-empty by_bytes Target) }
 
+-- what holds of each entry holds after one more
 all_put : (k : Name) (v : Target) (es : List (Name × Target)) → AllByRecursion IsEntry es → IsEntry (k, v) → AllByRecursion IsEntry (put by_bytes k v es)
 all_put k v [] h p = (p, tt)
 all_put k v (e ∷ es) h p = elim (by_bytes k e.0) as (λ o. AllByRecursion IsEntry (by_order o ((k, v) ∷ e ∷ es) ((e.0, v) ∷ es) (e ∷ put by_bytes k v es))) [
@@ -98,6 +106,7 @@ all_put k v (e ∷ es) h p = elim (by_bytes k e.0) as (λ o. AllByRecursion IsEn
   | Greater ↦ (h.0, all_put k v es h.1 p)
 ]
 
+-- one more than less than the most
 one_more_at_most : (b : Bool) (n : ℕ) → n < 64 → cond b n (n + 1) ≤ 64
 one_more_at_most true n h = omega arith
 one_more_at_most false n h = omega arith
@@ -109,12 +118,84 @@ listable_insert dir k v h room p = record {
   few = subst (λ (n : ℕ). n ≤ 64) (sym (len-insert nat_list_cmp_total dir k v)) (one_more_at_most (contains_key dir k) (len dir) room);
 }
 
+-- ---- one entry less
+
+-- entries of which one has nothing at a name make a directory without it
+pub one_cleared : (es fs : List (Name × Target)) (k : Name) → ((q : Name) → lookup (is_at (by_bytes q)) fs ≡ cond (is_at (by_bytes k) q) None (lookup (is_at (by_bytes q)) es))
+    → from_entries {R = by_bytes} fs ≡ remove (from_entries es) k
+one_cleared es fs k h = same_map nat_list_cmp_total antisymmetric _ _ (λ q.
+    get_made fs q ∙ h q ∙ ap (λ b. cond b None (lookup (is_at (by_bytes q)) es)) ((eq_by_cmp_equiv nat_list_cmp_total).symm k q)
+    ∙ sym (get-remove nat_list_cmp_total (from_entries es) k q ∙ ap (cond (is_at (by_bytes q) k) None) (get_made es q)))
+
+-- a test for ties
+equal : (o : Ordering) → is_eq o ≡ true → o ≡ Equal
+equal Less e = absurd cc
+equal Equal e = refl
+equal Greater e = absurd cc
+
+-- an entry that is found is one
+found_entry : (es : List (Name × Target)) (q : Name) (v : Target) → AllByRecursion IsEntry es → find by_bytes q es ≡ Some v → IsEntry (q, v)
+found_entry [] q v h e = absurd cc
+found_entry (x ∷ es) q v h e =
+    elim (eq_by_cmp by_bytes q x.0) as (λ b. eq_by_cmp by_bytes q x.0 ≡ b → cond b (Some x.1) (find by_bytes q es) ≡ Some v → IsEntry (q, v)) [
+      | true ↦ λ t f.
+          let name : x.0 ≡ q = sym (antisymmetric q x.0 (equal (by_bytes q x.0) t)) in
+          let target : x.1 ≡ v = cc in
+          subst IsEntry (λ i. (name i, target i)) h.0
+      | false ↦ λ t f. found_entry es q v h.1 f
+    ] refl e
+
+-- a name below all entries isn't found
+not_found_below : (x : Name) (es : List (Name × Target)) → T (below_all by_bytes x es) → find by_bytes x es ≡ None
+not_found_below x [] h = refl
+not_found_below x (e ∷ es) h =
+    ap (λ o. cond (is_eq o) (Some e.1) (find by_bytes x es)) (less (by_bytes x e.0) (first _ (below_all by_bytes x es) h)) ∙ not_found_below x es (second (is_lt (by_bytes x e.0)) _ h)
+
+-- what is found in the rest is found
+found_later : (e : Name × Target) (es : List (Name × Target)) (q : Name) (v : Target) → T (below_all by_bytes e.0 es) → find by_bytes q es ≡ Some v → find by_bytes q (e ∷ es) ≡ Some v
+found_later e es q v h f =
+    elim (eq_by_cmp by_bytes q e.0) as (λ b. eq_by_cmp by_bytes q e.0 ≡ b → cond b (Some e.1) (find by_bytes q es) ≡ Some v) [
+      | true ↦ λ t.
+          let name : q ≡ e.0 = antisymmetric q e.0 (equal (by_bytes q e.0) t) in
+          let none : find by_bytes q es ≡ None = ap (λ (k : Name). find by_bytes k es) name ∙ not_found_below e.0 es h in
+          absurd cc
+      | false ↦ λ t. f
+    ] refl
+
+-- where what is found is an entry, each is
+each_from_find : (es : List (Name × Target)) → T (is_sorted by_bytes es) → ((q : Name) (v : Target) → find by_bytes q es ≡ Some v → IsEntry (q, v)) → AllByRecursion IsEntry es
+each_from_find [] h p = tt
+each_from_find (e ∷ es) h p = (
+  p e.0 e.1 (ap (λ o. cond (is_eq o) (Some e.1) (find by_bytes e.0 es)) (tied_itself nat_list_cmp_total e.0)),
+  each_from_find es (second (below_all by_bytes e.0 es) _ h) (λ q v f. p q v (found_later e es q v (first _ (is_sorted by_bytes es) h) f)),
+)
+
+-- what is not cleared was there
+kept : (b : Bool) (o : Option Target) (v : Target) → cond b None o ≡ Some v → o ≡ Some v
+kept true o v e = absurd cc
+kept false o v e = e
+
+-- one less than at most the most
+one_less_at_most : (b : Bool) (n : ℕ) → n ≤ 64 → cond b (n - 1) n ≤ 64
+one_less_at_most true n h = omega arith
+one_less_at_most false n h = h
+
+-- a segment can hold one entry less
+pub listable_remove : (dir : Entries) (k : Name) → IsListable dir → IsListable (remove dir k)
+listable_remove dir k h = record {
+  each = each_from_find (entries (remove dir k)) (entries_sorted (remove dir k)) (λ q v f.
+      found_entry (entries dir) q v h.each (sym (get-entries dir q) ∙ kept (eq_by_cmp by_bytes q k) (get dir q) v (sym (get-remove nat_list_cmp_total dir k q) ∙ get-entries (remove dir k) q ∙ f)));
+  few = subst (λ (n : ℕ). n ≤ 64) (sym (len-remove nat_list_cmp_total dir k)) (one_less_at_most (contains_key dir k) (len dir) h.few);
+}
+
 -- ---- one entry more behind the last one
 
+-- what is below all entries is below the last
 below_last : (b : Name) (before : List (Name × Target)) (x : Name × Target) → T (below_all by_bytes b (before ++ x ∷ [])) → by_bytes b x.0 ≡ Less
 below_last b [] x h = less _ (first _ _ h)
 below_last b (e ∷ before) x h = below_last b before x (second (is_lt (by_bytes b e.0)) _ h)
 
+-- what is greater than the first entry comes behind it
 put_behind : (e : Name × Target) (es : List (Name × Target)) (k : Name) (v : Target) → by_bytes e.0 k ≡ Less → put by_bytes k v (e ∷ es) ≡ e ∷ put by_bytes k v es
 put_behind e es k v h = ap (λ o. by_order o ((k, v) ∷ e ∷ es) ((e.0, v) ∷ es) (e ∷ put by_bytes k v es)) (nat_list_cmp_total.antisymm k e.0 ∙ ap ordering_reverse h)
 

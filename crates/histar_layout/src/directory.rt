@@ -77,16 +77,24 @@ impl Dir {
         ensures ok { OnOk result (self.new ≡ map.insert self.old name target) }
         ensures err { OnErr result (self.new ≡ self.old) }
     {
-        // Each name has bytes of a name, and each number fits 64 bits: these calls tell the proof so.
+        // These two reads tell the proof that the name is one, and that the numbers have 64 bits.
         let _bytes = name.as_bytes();
         let _numbers = target.numbers();
         self.entries.insert(name, target)?;
         Ok(())
     }
+
+    /// Takes the entry of this name out, and answers where it led.
+    pub fn remove(&mut self, name: &Name) -> Option<Target>
+        ensures value { result ≡ map.get self.old name.now }
+        ensures without { self.new ≡ map.remove self.old name.now }
+    {
+        self.entries.remove(name)
+    }
 }
 
 /// The directory that the bytes are, if they are one: entries by rising names, none twice, at most
-/// 64, and nothing else.
+/// 64, and nothing else. It goes over the bytes once.
 pub fn read_dir(alloc: Global, bytes: &[u8]) -> Result<Option<Dir>, AllocError>
     ensures { IfOk result (λ found. MatchOption found ((dir : Entries) → IsDirectory bytes.now dir → ⊥) (IsDirectory bytes.now)) }
 {

@@ -8,3 +8,6 @@ mod writing;
 
 pub use directory::{Dir, one_directory, read_dir, write_dir};
 pub use entry::Target;
+
+#[cfg(test)]
+mod tests;

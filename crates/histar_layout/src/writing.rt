@@ -1,6 +1,5 @@
 //! Writing the entries of directories.
-ghost use Rattle.std.specs.Prelude.{◌≡◌, ◌++◌, OnOk, IsTrue};
-ghost use Rattle.histar_flat.specs.Words.{is_name};
+ghost use Rattle.std.specs.Prelude.{◌≡◌, ◌++◌, OnOk};
 ghost use Rattle.histar_layout.specs.Directory.{entry_bytes, target_bytes};
 
 use crate::entry::Target;
@@ -17,6 +16,7 @@ pub fn push_entry(out: &mut Vec<u8>, name: &Name, target: Target) -> Result<(), 
     push_target(out, target)
 }
 
+/// Writes where an entry leads at the end: a letter and two numbers.
 fn push_target(out: &mut Vec<u8>, target: Target) -> Result<(), AllocError>
     ensures { OnOk result (out.new.items ≡ out.old.items ++ target_bytes target) }
 {

@@ -18,7 +18,6 @@ pub struct Table<L> {
 impl<L> Model for Table<L> {
     ghost use Rattle.std.specs.Prelude.{List, ℕ};
     ghost use Rattle.histar_object.specs.declared.objects.Object.{Object};
-
     ghost use Rattle.std.specs.Coded.{coded×, coded_ℕ, coded_list};
     ghost use Rattle.histar_object.specs.Codes.{coded_object};
 

@@ -84,7 +84,11 @@ fn push_user<S: LabelStore + Drop>(
     let secret = label_of(alloc, Level::L1, &[(read, Level::L3), (write, Level::L0)])?;
     let password = Bytes::copy_of(alloc, user.password.as_bytes())?;
     objects.push(secret, Kind::Segment(password))?;
-    let given = label_of(alloc, Level::L1, &[(read, Level::Star), (write, Level::Star)])?;
+    let given = label_of(
+        alloc,
+        Level::L1,
+        &[(read, Level::Star), (write, Level::Star)],
+    )?;
     let most = label_of(alloc, Level::L2, &[(read, Level::L3), (write, Level::L3)])?;
     objects.push(given, Kind::Gate(most, Entry::Login(number)))
 }
@@ -132,7 +136,13 @@ fn user_table(alloc: Global, users: &[User]) -> Result<Bytes, AllocError>
     push_entry(&mut table, b"nobody", 0, 0, 0)?;
     for (i, user) in users.iter().enumerate() {
         let at = i as u64;
-        push_entry(&mut table, user.name.as_bytes(), i as u8 + 1, 2 * at + 4, 2 * at + 3)?;
+        push_entry(
+            &mut table,
+            user.name.as_bytes(),
+            i as u8 + 1,
+            2 * at + 4,
+            2 * at + 3,
+        )?;
     }
     Ok(Bytes::from_vec(table))
 }
@@ -180,7 +190,11 @@ fn push_process<S: LabelStore + Drop>(
     let secret = label_of(alloc, Level::L1, &[(read, Level::L3), (write, Level::L0)])?;
     let links = links_to(alloc, &[2 * users + 8])?;
     objects.push(secret, Kind::Container(links))?;
-    let own = label_of(alloc, Level::L1, &[(read, Level::Star), (write, Level::Star)])?;
+    let own = label_of(
+        alloc,
+        Level::L1,
+        &[(read, Level::Star), (write, Level::Star)],
+    )?;
     let most = label_of(alloc, Level::L2, &[(read, Level::L3), (write, Level::L3)])?;
     objects.push(own, Kind::Thread(most))?;
     let bytes = process_bytes(alloc, 2 * users + 7, 2 * users + 8)?;

@@ -21,8 +21,16 @@ fn user_labels(alloc: Global, users: u64, number: u8) -> Result<(Label, Label), 
         own_read_category(users),
         own_write_category(users),
     ];
-    let label = label_of(alloc, Level::L1, &owned.map(|category| (category, Level::Star)))?;
-    let clearance = label_of(alloc, Level::L2, &owned.map(|category| (category, Level::L3)))?;
+    let label = label_of(
+        alloc,
+        Level::L1,
+        &owned.map(|category| (category, Level::Star)),
+    )?;
+    let clearance = label_of(
+        alloc,
+        Level::L2,
+        &owned.map(|category| (category, Level::L3)),
+    )?;
     Ok((label, clearance))
 }
 

@@ -102,7 +102,14 @@ impl<S: LabelStore + Drop> Machine<S> {
         }
         self.kernel.begin(line);
         let users = self.users.as_slice();
-        let result = make(&mut self.kernel, alloc, &self.places, users, self.thread, call);
+        let result = make(
+            &mut self.kernel,
+            alloc,
+            &self.places,
+            users,
+            self.thread,
+            call,
+        );
         self.is_stopped = result.is_err();
         result
     }

@@ -1,5 +1,5 @@
 -- What a call that is not refused knows, and what stands at want of memory.
-use Rattle.std.proofs.Common.{◌≡◌, ℕ, ◌<◌, ◌+◌, Bool, true, false, Option, None, Some, refl, sym, ap, ◌∙◌, subst, arith, Result, Ok, Err, List, ◌∷◌, [], ◌++◌}
+use Rattle.std.proofs.Common.{◌≡◌, ℕ, ◌<◌, Bool, true, false, Option, None, Some, refl, sym, ap, ◌∙◌, subst, arith, Result, Ok, Err, List, ◌∷◌, [], ◌++◌}
 use Rattle.std.specs.Prelude.{nat_lt, length, not}
 use Rattle.std.specs.Result.{IsErrAnd}
 use Rattle.std.proofs.lemmas.Bool.Decides.{nat_tests}

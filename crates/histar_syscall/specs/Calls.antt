@@ -2,7 +2,7 @@
 use Rattle.std.specs.Prelude.{◌≡◌, ℕ, ◌+◌, Bool, not, List, [], ◌∷◌, ◌++◌, Option, None, Some, length, take, min, nat_lt, nat_le}
 use Rattle.std.specs.FinSet as set
 use Rattle.histar_base.specs.Refusals.{unless, ◌orelse◌}
-use Rattle.histar_label.specs.Levels.{Levels, is_made, has_star}
+use Rattle.histar_label.specs.Levels.{is_made, has_star}
 use Rattle.histar_object.specs.Objects.{is_there, is_segment, is_container, is_thread, links_in, bytes_in}
 use Rattle.histar_object.specs.declared.objects.Kind.TheVariants.{Segment}
 use Rattle.histar_object.specs.State.{State, observes, modifies, in_range, added, with_bytes}

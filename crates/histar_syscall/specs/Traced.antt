@@ -2,7 +2,7 @@
 use Rattle.std.specs.Prelude.{◌≡◌, ℕ, List, [], ◌∷◌, ◌++◌, Option, None, Some, Result, Ok, Err, refl}
 use Rattle.std.specs.Coded.{Coded, code_by, coded×, coded_ℕ, coded_list}
 use Rattle.histar_container.specs.Kept.{Kept, coded_kept, state_of}
-use Rattle.histar_object.specs.State.{State, empty_state}
+use Rattle.histar_object.specs.State.{State}
 use Rattle.histar_syscall.specs.declared.raw.Denied.{Denied}
 use Rattle.histar_syscall.specs.declared.raw.RawCall.{RawCall}
 use Rattle.histar_syscall.specs.declared.raw.Refusal.{Refusal}

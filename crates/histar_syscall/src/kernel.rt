@@ -81,12 +81,7 @@ impl<S: LabelStore + Drop> Kernel<S> {
 
     /// Gives a thread another label and another clearance with no raw call: for a login that is not
     /// made of raw calls yet. `NoThread` where the number is no thread's.
-    pub fn set_own(
-        &mut self,
-        thread: ObjId,
-        label: Label,
-        clearance: Label,
-    ) -> Result<(), Refusal>
+    pub fn set_own(&mut self, thread: ObjId, label: Label, clearance: Label) -> Result<(), Refusal>
         ensures ok { OnOk result (state self.new ≡ with_own (state self.old) thread label clearance) }
         ensures err { OnErr result (state self.new ≡ state self.old) }
         ensures trace { self.new.trace ≡ self.old.trace }
@@ -105,7 +100,13 @@ impl<S: LabelStore + Drop> Kernel<S> {
     {
         self.trace.reserve(1)?;
         if let Some(denied) = refuses_own_label(&self.objects, thread) {
-            log(&mut self.trace, self.line, thread, RawCall::OwnLabel, Some(denied));
+            log(
+                &mut self.trace,
+                self.line,
+                thread,
+                RawCall::OwnLabel,
+                Some(denied),
+            );
             return Err(Refusal::Denied(denied));
         }
         let Some(label) = self.objects.label(thread) else {
@@ -154,9 +155,14 @@ impl<S: LabelStore + Drop> Kernel<S> {
         ensures { Answered self.old self.new thread (RawCall.Write container segment keep bytes) result (λ _. Unit {0}) }
     {
         self.trace.reserve(1)?;
-        if let Some(denied) =
-            refuses_write(&mut self.objects, thread, container, segment, keep, &bytes)
-        {
+        if let Some(denied) = refuses_write(
+            &mut self.objects,
+            thread,
+            container,
+            segment,
+            keep,
+            &bytes,
+        ) {
             let call = RawCall::Write(container, segment, keep, bytes);
             log(&mut self.trace, self.line, thread, call, Some(denied));
             return Err(Refusal::Denied(denied));
@@ -180,9 +186,13 @@ impl<S: LabelStore + Drop> Kernel<S> {
         ensures { Answered self.old self.new thread (RawCall.MakeSegment container label bytes) result (λ number. (number ≡ self.old.kept.next_object) × (0 < number)) }
     {
         self.trace.reserve(1)?;
-        if let Some(denied) =
-            refuses_make_segment(&mut self.objects, thread, container, &label, &bytes)
-        {
+        if let Some(denied) = refuses_make_segment(
+            &mut self.objects,
+            thread,
+            container,
+            &label,
+            &bytes,
+        ) {
             let call = RawCall::MakeSegment(container, label, bytes);
             log(&mut self.trace, self.line, thread, call, Some(denied));
             return Err(Refusal::Denied(denied));
@@ -198,13 +208,7 @@ impl<S: LabelStore + Drop> Kernel<S> {
 }
 
 // Adds one entry to the trace, which has room.
-fn log(
-    trace: &mut Vec<TraceEntry>,
-    line: u32,
-    thread: ObjId,
-    call: RawCall,
-    denied: Option<Denied>,
-)
+fn log(trace: &mut Vec<TraceEntry>, line: u32, thread: ObjId, call: RawCall, denied: Option<Denied>)
     requires { vec_len trace.old < vec_capacity trace.old }
     ensures { trace.new.items ≡ trace.old.items ++ record { line = line; thread = thread; call = call; denied = denied } ∷ [] }
 {
@@ -227,12 +231,7 @@ fn copied(alloc: Global, bytes: Option<&[u8]>) -> Result<Bytes, AllocError>
 }
 
 // At most so many old bytes, and the new ones behind them.
-fn spliced(
-    alloc: Global,
-    old: Option<&[u8]>,
-    keep: u32,
-    new: &Bytes,
-) -> Result<Bytes, AllocError>
+fn spliced(alloc: Global, old: Option<&[u8]>, keep: u32, new: &Bytes) -> Result<Bytes, AllocError>
     ensures { IfOk result (λ b. b ≡ take keep (or_no_bytes (option_copied old.entry)) ++ new.now) }
 {
     let mut content = Vec::new(alloc);

@@ -7,3 +7,6 @@ mod raw;
 
 pub use kernel::Kernel;
 pub use raw::{Denied, RawCall, Refusal, TraceEntry};
+
+#[cfg(test)]
+mod session_tests;

@@ -1,4 +1,4 @@
-use Rattle.std.proofs.Common.{◌≡◌, sym, ap, ◌∙◌}
+use Rattle.std.proofs.Common.{◌≡◌, ◌∙◌}
 use Rattle.histar_object.specs.declared.objects.Object.{Object}
 use Rattle.histar_object.specs.Objects.{objects_of, with_new}
 use Rattle.histar_container.proofs.Keeping.{trans, all_on, shown_on, on_err, on_ok_from, on_err_from, container_there, none_there, linked_stand, new_stands, new_shown, shown_new, shown_same}
@@ -50,7 +50,7 @@ returns-clause-ok g c =
     let value = new_shown two three c.put.ensures.keeps c.in_ok-kind.kind c.in_ok-kind.ensures.stands c.args.kind c.in_ok-kind.ensures.value c.in_ok-label.label c.args.label c.in_ok-label.ensures.stands in
     on_ok_from c.link_new.result _ _
     (λ (e : objects_of c.link_new.new.table ≡ with_new (objects_of c.args.table.now) c.args.container c.args.number o).
-        shown_new three c.args.table.now c.link_new.new.table c.args.container c.args.number o e ∙ (λ i. with_new (same i) c.args.container c.args.number (value i)))
+    shown_new three c.args.table.now c.link_new.new.table c.args.container c.args.number o e ∙ (λ i. with_new (same i) c.args.container c.args.number (value i)))
     c.link_new.ensures.ok
 
 pub returns-clause-err : goal.returns-clause-err
@@ -60,5 +60,5 @@ returns-clause-err g c =
     let three = g.S.LabelStore.labels c.put.new.self in
     on_err_from c.link_new.result _ _
     (λ (e : objects_of c.link_new.new.table ≡ objects_of c.args.table.now).
-        shown_same three c.args.table.now c.link_new.new.table e ∙ shown_on one three (trans one two three c.put_kind.ensures.keeps c.put.ensures.keeps) c.args.table.now c.requires.stand)
+    shown_same three c.args.table.now c.link_new.new.table e ∙ shown_on one three (trans one two three c.put_kind.ensures.keeps c.put.ensures.keeps) c.args.table.now c.requires.stand)
     c.link_new.ensures.err

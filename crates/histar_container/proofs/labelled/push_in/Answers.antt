@@ -1,4 +1,4 @@
-use Rattle.std.proofs.Common.{◌≡◌, sym, ap, ◌∙◌}
+use Rattle.std.proofs.Common.{◌≡◌, ◌∙◌}
 use Rattle.histar_object.specs.declared.objects.Object.{Object}
 use Rattle.histar_object.specs.Objects.{objects_of, put}
 use Rattle.histar_container.proofs.Keeping.{trans, all_on, shown_on, on_err, on_ok_from, on_err_from, none_there, placed_stand, new_stands, new_shown, shown_put, shown_same}
@@ -47,7 +47,7 @@ returns-clause-ok g c =
     let value = new_shown two three c.put.ensures.keeps c.in_ok-kind.kind c.in_ok-kind.ensures.stands c.args.kind c.in_ok-kind.ensures.value c.in_ok-label.label c.args.label c.in_ok-label.ensures.stands in
     on_ok_from c.add.result _ _
     (λ (e : objects_of c.add.new.self ≡ put (objects_of c.args.table.now) c.args.number o).
-        shown_put three c.args.table.now c.add.new.self c.args.number o e ∙ (λ i. put (same i) c.args.number (value i)))
+    shown_put three c.args.table.now c.add.new.self c.args.number o e ∙ (λ i. put (same i) c.args.number (value i)))
     c.add.ensures.ok
 
 pub returns-clause-err : goal.returns-clause-err
@@ -57,5 +57,5 @@ returns-clause-err g c =
     let three = g.S.LabelStore.labels c.put.new.self in
     on_err_from c.add.result _ _
     (λ (e : objects_of c.add.new.self ≡ objects_of c.args.table.now).
-        shown_same three c.args.table.now c.add.new.self e ∙ shown_on one three (trans one two three c.put_kind.ensures.keeps c.put.ensures.keeps) c.args.table.now c.requires.stand)
+    shown_same three c.args.table.now c.add.new.self e ∙ shown_on one three (trans one two three c.put_kind.ensures.keeps c.put.ensures.keeps) c.args.table.now c.requires.stand)
     c.add.ensures.err

@@ -1,4 +1,4 @@
-use Rattle.std.proofs.Common.{◌≡◌, rules}
+use Rattle.std.proofs.Common.{rules}
 use Rattle.histar_object.specs.Objects.{objects_of}
 use Rattle.histar_container.proofs.Links.{on_some}
 use Rattle.histar_container.proofs.Keeping.{held_there, held_not}

@@ -44,8 +44,8 @@ returns-clause-stand g c =
     let after : objects_of (c.get_mut.follows.lender left) ≡ put (objects_of c.args.table.now) c.args.thread left = on_some c.get_mut.result c.in-Some.object _ c.in-Some.is (c.get_mut.follows.holds left) in
     subst (AllStand three) (sym after)
     (stand_put three (objects_of c.args.table.now) c.args.thread left
-        (all_on one three (trans one two three c.put.ensures.keeps c.put-2.ensures.keeps) (objects_of c.args.table.now) c.requires.stand)
-        (new_stands two three c.put-2.ensures.keeps (Thread c.in_ok-clearance.clearance) (ap is_some c.in_ok-clearance.ensures.stands) c.in_ok-label.label c.args.label c.in_ok-label.ensures.stands))
+    (all_on one three (trans one two three c.put.ensures.keeps c.put-2.ensures.keeps) (objects_of c.args.table.now) c.requires.stand)
+    (new_stands two three c.put-2.ensures.keeps (Thread c.in_ok-clearance.clearance) (ap is_some c.in_ok-clearance.ensures.stands) c.in_ok-label.label c.args.label c.in_ok-label.ensures.stands))
 
 pub returns-clause-ok : goal.returns-clause-ok
 returns-clause-ok g c =
@@ -56,5 +56,5 @@ returns-clause-ok g c =
     let after : objects_of (c.get_mut.follows.lender left) ≡ put (objects_of c.args.table.now) c.args.thread left = on_some c.get_mut.result c.in-Some.object _ c.in-Some.is (c.get_mut.follows.holds left) in
     let same = shown_on one three (trans one two three c.put.ensures.keeps c.put-2.ensures.keeps) c.args.table.now c.requires.stand in
     let value = new_shown two three c.put-2.ensures.keeps (Thread c.in_ok-clearance.clearance) (ap is_some c.in_ok-clearance.ensures.stands) (Thread c.args.clearance)
-        (ap Thread (label_at-stands two c.in_ok-clearance.clearance c.args.clearance c.in_ok-clearance.ensures.stands)) c.in_ok-label.label c.args.label c.in_ok-label.ensures.stands in
+    (ap Thread (label_at-stands two c.in_ok-clearance.clearance c.args.clearance c.in_ok-clearance.ensures.stands)) c.in_ok-label.label c.args.label c.in_ok-label.ensures.stands in
     shown_put three c.args.table.now (c.get_mut.follows.lender left) c.args.thread left after ∙ (λ i. put (same i) c.args.thread (value i))

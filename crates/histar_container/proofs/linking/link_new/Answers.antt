@@ -1,4 +1,4 @@
-use Rattle.std.proofs.Common.{◌≡◌, true, sym, ap, ◌∙◌}
+use Rattle.std.proofs.Common.{ap, ◌∙◌}
 use Rattle.histar_object.specs.Objects.{Objects, objects_of, without, is_container}
 use Rattle.histar_object.proofs.Changes.{container_stays, without_put}
 use Rattle.histar_container.proofs.linking.link_new.Goals as goal

@@ -1,5 +1,4 @@
-use Rattle.std.proofs.Common.{rules, sym, ap, ◌∙◌}
-use Rattle.std.specs.Option.{option_copied}
+use Rattle.std.proofs.Common.{rules, ap, ◌∙◌}
 use Rattle.std.specs.FinSet as set
 use Rattle.histar_object.specs.Objects.{links_in}
 use Rattle.histar_container.proofs.Links.{absent_links, kind_links_none}

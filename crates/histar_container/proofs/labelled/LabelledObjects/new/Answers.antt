@@ -1,6 +1,3 @@
-use Rattle.histar_object.specs.Objects.{Objects}
-use Rattle.histar_object.specs.State.{State}
-use Rattle.histar_label.specs.Levels.{Levels}
 use Rattle.histar_container.proofs.Keeping.{nothing_kept, nothing_shown}
 use Rattle.histar_container.proofs.labelled.LabelledObjects.new.Goals as goal
 

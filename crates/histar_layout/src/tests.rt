@@ -1,0 +1,105 @@
+use super::*;
+use histar_flat::read_name;
+use histar_object::ObjId;
+use std::alloc::{AllocError, Global};
+use std::test::Fail;
+
+/// A directory with one file `a`, object 12.
+const ONE_FILE: &[u8] = b"\x01af\0\0\0\0\0\0\0\x0c\0\0\0\0\0\0\0\0";
+
+#[test]
+fn one_file_is_read_and_written(rt: HostRuntime) -> Result<(), Fail> {
+    let name = read_name(b"a".as_slice()).ok_or("`a` is a name")?;
+    let dir = read_dir(rt.alloc(), ONE_FILE)?.ok_or("these bytes are a directory")?;
+    assert_eq!(rt; dir.len(), 1);
+    assert_eq!(rt; dir.get(&name), Some(Target::File(ObjId::new(12))));
+    assert_eq!(rt; write_dir(rt.alloc(), &dir)?.as_slice(), ONE_FILE);
+    Ok(())
+}
+
+#[test]
+fn a_directory_is_made(rt: HostRuntime) -> Result<(), Fail> {
+    let a = read_name(b"a".as_slice()).ok_or("`a` is a name")?;
+    let b = read_name(b"b".as_slice()).ok_or("`b` is a name")?;
+    let mut dir = Dir::new(rt.alloc());
+    assert!(rt; write_dir(rt.alloc(), &dir)?.is_empty());
+    assert!(rt; !dir.is_full());
+    dir.insert(b, Target::Directory(ObjId::new(258), ObjId::new(13)))?;
+    assert!(rt; !dir.is_full());
+    dir.insert(a, Target::File(ObjId::new(12)))?;
+    let bytes = write_dir(rt.alloc(), &dir)?;
+    let directory = b"\x01bd\0\0\0\0\0\0\x01\x02\0\0\0\0\0\0\0\x0d";
+    assert_eq!(rt; bytes.len(), ONE_FILE.len() + directory.len());
+    assert!(rt; bytes.as_slice().starts_with(ONE_FILE));
+    assert!(rt; bytes.as_slice().ends_with(directory.as_slice()));
+    let removed = dir.remove(&b);
+    assert_eq!(rt;
+        removed,
+        Some(Target::Directory(ObjId::new(258), ObjId::new(13)))
+    );
+    assert_eq!(rt; write_dir(rt.alloc(), &dir)?.as_slice(), ONE_FILE);
+    one_directory();
+    Ok(())
+}
+
+#[test]
+fn other_bytes_are_no_directory(rt: HostRuntime) -> Result<(), Fail> {
+    let none: [(&[u8], &str); 10] = [
+        (b"\x01af\0\0\0\0\0\0\0\x0c\0\0\0\0\0\0\0\0\x01", "a rest"),
+        (
+            b"\x01af\0\0\0\0\0\0\0\x0c\0\0\0\0\0\0\0",
+            "a number is cut off",
+        ),
+        (
+            b"\x01bf\0\0\0\0\0\0\0\x0c\0\0\0\0\0\0\0\0\x01af\0\0\0\0\0\0\0\x0d\0\0\0\0\0\0\0\0",
+            "b before a",
+        ),
+        (
+            b"\x01af\0\0\0\0\0\0\0\x0c\0\0\0\0\0\0\0\0\x01af\0\0\0\0\0\0\0\x0d\0\0\0\0\0\0\0\0",
+            "a twice",
+        ),
+        (b"\x01Af\0\0\0\0\0\0\0\x0c\0\0\0\0\0\0\0\0", "A in a name"),
+        (b"\0f\0\0\0\0\0\0\0\x0c\0\0\0\0\0\0\0\0", "an empty name"),
+        (
+            b"\x01ag\0\0\0\0\0\0\0\x0c\0\0\0\0\0\0\0\0",
+            "another letter",
+        ),
+        (b"\x01af\0\0\0\0\0\0\0\0\0\0\0\0\0\0\0\0", "object 0"),
+        (
+            b"\x01af\0\0\0\0\0\0\0\x0c\0\0\0\0\0\0\0\x0d",
+            "a file with a directory segment",
+        ),
+        (
+            b"\x01ad\0\0\0\0\0\0\0\x0c\0\0\0\0\0\0\0\0",
+            "a directory without one",
+        ),
+    ];
+    for (bytes, why) in none {
+        assert!(rt; read_dir(rt.alloc(), bytes)?.is_none(), "{why}");
+    }
+    Ok(())
+}
+
+/// So many files with names of two letters that rise.
+fn many_files(alloc: Global, count: u8) -> Result<Vec<u8>, AllocError> {
+    let mut bytes = Vec::new(alloc);
+    for i in 0..count {
+        bytes.push(2)?;
+        bytes.push(b'a' + i / 26 % 26)?;
+        bytes.push(b'a' + i % 26)?;
+        bytes.extend_from_slice(b"f\0\0\0\0\0\0\0\x0c\0\0\0\0\0\0\0\0".as_slice())?;
+    }
+    Ok(bytes)
+}
+
+#[test]
+fn there_are_64_entries_at_most(rt: HostRuntime) -> Result<(), Fail> {
+    let most = many_files(rt.alloc(), 64)?;
+    let dir = read_dir(rt.alloc(), most.as_slice())?.ok_or("64 entries are a directory")?;
+    assert_eq!(rt; dir.len(), 64);
+    assert!(rt; dir.is_full());
+    assert_eq!(rt; write_dir(rt.alloc(), &dir)?.as_slice(), most.as_slice());
+    let more = many_files(rt.alloc(), 65)?;
+    assert!(rt; read_dir(rt.alloc(), more.as_slice())?.is_none());
+    Ok(())
+}
