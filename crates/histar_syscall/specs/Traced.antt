@@ -5,6 +5,7 @@ use Rattle.histar_container.specs.Kept.{Kept, coded_kept, state_of}
 use Rattle.histar_object.specs.State.{State}
 use Rattle.histar_syscall.specs.declared.raw.Denied.{Denied}
 use Rattle.histar_syscall.specs.declared.raw.RawCall.{RawCall}
+use Rattle.histar_syscall.specs.declared.raw.RawCall.TheVariants.{OwnLabel}
 use Rattle.histar_syscall.specs.declared.raw.Refusal.{Refusal}
 use Rattle.histar_syscall.specs.declared.raw.Refusal.TheVariants as refusals
 use Rattle.histar_syscall.specs.declared.raw.TraceEntry.{TraceEntry}
@@ -43,3 +44,8 @@ abbrev pub Answered : {A : Type 0} → Traced → Traced → ℕ → RawCall →
 Answered old new t call (Ok answer) IsRight = Called old new t call None × IsRight answer
 Answered old new t call (Err (refusals.Denied denied)) IsRight = Called old new t call (Some denied)
 Answered old new t call (Err refusals.OutOfMemory) IsRight = IsUnchanged old new
+
+-- a refusal that the number is no thread's, or want of memory
+abbrev pub TellsNoThread : State → ℕ → Refusal → Type 0
+TellsNoThread s t (refusals.Denied denied) = check s t OwnLabel ≡ Some denied
+TellsNoThread s t refusals.OutOfMemory = Unit {0}

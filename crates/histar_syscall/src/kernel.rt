@@ -1,11 +1,11 @@
 //! The kernel and its raw calls.
-ghost use Rattle.std.specs.Prelude.{◌≡◌, ◌<◌, [], ◌∷◌, ◌++◌, IfOk, OnOk, OnErr, Some, None, take};
+ghost use Rattle.std.specs.Prelude.{◌≡◌, ◌<◌, [], ◌∷◌, ◌++◌, IfOk, IfErr, OnOk, OnErr, Some, None, take};
 ghost use Rattle.std.specs.Vec.{vec_len, vec_capacity};
 ghost use Rattle.histar_object.specs.Objects.{objects_of, bytes_in, or_no_bytes, label_there, clearance_there};
 ghost use Rattle.std.specs.Option.{option_copied};
 ghost use Rattle.histar_object.specs.State.{with_own};
 ghost use Rattle.histar_container.specs.Kept.{state_of};
-ghost use Rattle.histar_syscall.specs.Traced.{Called, Answered, state};
+ghost use Rattle.histar_syscall.specs.Traced.{Answered, TellsNoThread, state};
 
 use crate::checks::{refuses_make_segment, refuses_own_label, refuses_read, refuses_write};
 use crate::raw::{Denied, RawCall, Refusal, TraceEntry};
@@ -84,6 +84,7 @@ impl<S: LabelStore + Drop> Kernel<S> {
     pub fn set_own(&mut self, thread: ObjId, label: Label, clearance: Label) -> Result<(), Refusal>
         ensures ok { OnOk result (state self.new ≡ with_own (state self.old) thread label clearance) }
         ensures err { OnErr result (state self.new ≡ state self.old) }
+        ensures refused { IfErr result (TellsNoThread (state self.old) thread) }
         ensures trace { self.new.trace ≡ self.old.trace }
         ensures line { self.new.line ≡ self.old.line }
     {
