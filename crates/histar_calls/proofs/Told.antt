@@ -5,14 +5,19 @@ use Rattle.std.proofs.lemmas.Bool.{cases_lt}
 use mathlib.Core.Bool.{true≢false}
 use Rattle.histar_flat.specs.declared.replies.Errno.{Errno}
 use Rattle.histar_flat.specs.declared.replies.Reply.{Reply}
-use Rattle.histar_flat.specs.declared.replies.Reply.TheVariants.{Refused}
+use Rattle.histar_flat.specs.declared.replies.Reply.TheVariants.{Data}
 use Rattle.histar_syscall.specs.declared.raw.Denied.{Denied}
 use Rattle.histar_syscall.specs.declared.raw.Denied.TheVariants.{Observe, Modify, Range, Gate, NoEntry, NoThread, BadKind, TooBig}
 use Rattle.histar_syscall.specs.declared.raw.RawCall.{RawCall}
-use Rattle.histar_syscall.specs.Traced.{Traced, Called}
+use Rattle.histar_syscall.specs.declared.raw.RawCall.TheVariants.{Read}
+use Rattle.histar_syscall.specs.declared.raw.TraceEntry.{TraceEntry}
+use Rattle.histar_syscall.specs.Calls.{unless_denied}
+use Rattle.histar_syscall.specs.Traced.{Traced, state, Called}
 use Rattle.histar_syscall.specs.Runs.{Ran, is_label_refusal, is_range_refusal}
-use Rattle.histar_syscall.proofs.Runs.{ran_none, ran_more}
-use Rattle.histar_calls.specs.Replies.{errno_of, is_access, is_permission, is_no_access, is_no_permission, Replies}
+use Rattle.histar_syscall.proofs.Runs.{entry_of, ran_none, ran_more}
+use Rattle.histar_object.specs.Objects.{bytes_in}
+use Rattle.histar_object.specs.State.{State}
+use Rattle.histar_calls.specs.Replies.{errno_of, is_access, is_permission, is_no_access, is_no_permission, TellsWhatWasRead, Replies}
 
 errno_same : (a b : Errno) → Some a ≡ Some b → a ≡ b
 errno_same a b e = cc
@@ -39,43 +44,43 @@ permission_told NoThread e h = absurd cc
 permission_told BadKind e h = absurd cc
 permission_told TooBig e h = absurd cc
 
-module _ (k0 : Traced) (t : ℕ) where
-  -- one raw call
-  pub after_one : (k1 : Traced) (call : RawCall) (d : Option Denied) (reply : Reply) → Called k0 k1 t call d
-      → (is_label_refusal d || false) ≡ is_no_access reply → (is_range_refusal d || false) ≡ is_no_permission reply → Replies k0 k1 t reply
-  after_one k1 call d reply one access permission = record { entries = _; ran = ran_more k0 k0 k1 t [] call d (ran_none k0 t) one; access = access; permission = permission }
+module _ (k0 : Traced) (t : ℕ) (k1 : Traced) (first : RawCall) (one : Called k0 k1 t first None) where
+  -- a read changes no state
+  read_stays : (k2 : Traced) (d o : ℕ) → Called k1 k2 t (Read d o) None → state k2 ≡ state k1
+  read_stays k2 d o two = two.state ∙ ap (λ (x : Option Denied). unless_denied x (state k1) (state k1)) two.outcome
 
-  module _ (k1 : Traced) (first : RawCall) (one : Called k0 k1 t first None) where
-    -- a raw call after one that was granted
-    pub after_two : (k2 : Traced) (call : RawCall) (d : Option Denied) (reply : Reply) → Called k1 k2 t call d
-        → (is_label_refusal d || false) ≡ is_no_access reply → (is_range_refusal d || false) ≡ is_no_permission reply → Replies k0 k2 t reply
-    after_two k2 call d reply two access permission = record {
+  -- a read after a raw call that was granted, and its bytes are told
+  pub read_after_one : (k2 : Traced) (d o : ℕ) (bytes : List ℕ) → Called k1 k2 t (Read d o) None → bytes ≡ bytes_in ((state k1).objects o) → Replies k0 k2 t (Data bytes)
+  read_after_one k2 d o bytes two read = record {
+    entries = entry_of k0.line t first None ∷ entry_of k0.line t (Read d o) None ∷ [];
+    ran = ran_more k0 k1 k2 t _ (Read d o) None (ran_more k0 k0 k1 t [] first None (ran_none k0 t) one) two;
+    access = refl;
+    permission = refl;
+    told = (entry_of k0.line t first None ∷ [], entry_of k0.line t (Read d o) None, refl, (d, o, refl, refl, read ∙ ap (λ (s : State). bytes_in (s.objects o)) (sym (read_stays k2 d o two))));
+  }
+
+  module _ (k2 : Traced) (second : RawCall) (two : Called k1 k2 t second None) where
+    -- a raw call after two that were granted, where no bytes are told
+    pub after_two : (k3 : Traced) (call : RawCall) (d : Option Denied) (reply : Reply) → Called k2 k3 t call d
+        → (is_label_refusal d || false) ≡ is_no_access reply → (is_range_refusal d || false) ≡ is_no_permission reply → ((es : List TraceEntry) → TellsWhatWasRead (state k3) es reply) → Replies k0 k3 t reply
+    after_two k3 call d reply three access permission quiet = record {
       entries = _;
-      ran = ran_more k0 k1 k2 t _ call d (ran_more k0 k0 k1 t [] first None (ran_none k0 t) one) two;
+      ran = ran_more k0 k2 k3 t _ call d (ran_more k0 k1 k2 t _ second None (ran_more k0 k0 k1 t [] first None (ran_none k0 t) one) two) three;
       access = access;
       permission = permission;
+      told = quiet _;
     }
 
-    module _ (k2 : Traced) (second : RawCall) (two : Called k1 k2 t second None) where
-      -- a raw call after two that were granted
-      pub after_three : (k3 : Traced) (call : RawCall) (d : Option Denied) (reply : Reply) → Called k2 k3 t call d
-          → (is_label_refusal d || false) ≡ is_no_access reply → (is_range_refusal d || false) ≡ is_no_permission reply → Replies k0 k3 t reply
-      after_three k3 call d reply three access permission = record {
-        entries = _;
-        ran = ran_more k0 k2 k3 t _ call d (ran_more k0 k1 k2 t _ second None (ran_more k0 k0 k1 t [] first None (ran_none k0 t) one) two) three;
-        access = access;
-        permission = permission;
-      }
-
-      -- a raw call after three that were granted
-      pub after_four : (k3 k4 : Traced) (third call : RawCall) (d : Option Denied) (reply : Reply) → Called k2 k3 t third None → Called k3 k4 t call d
-          → (is_label_refusal d || false) ≡ is_no_access reply → (is_range_refusal d || false) ≡ is_no_permission reply → Replies k0 k4 t reply
-      after_four k3 k4 third call d reply three four access permission = record {
-        entries = _;
-        ran = ran_more k0 k3 k4 t _ call d (ran_more k0 k2 k3 t _ third None (ran_more k0 k1 k2 t _ second None (ran_more k0 k0 k1 t [] first None (ran_none k0 t) one) two) three) four;
-        access = access;
-        permission = permission;
-      }
+    -- a raw call after three that were granted, where no bytes are told
+    pub after_three : (k3 k4 : Traced) (third call : RawCall) (d : Option Denied) (reply : Reply) → Called k2 k3 t third None → Called k3 k4 t call d
+        → (is_label_refusal d || false) ≡ is_no_access reply → (is_range_refusal d || false) ≡ is_no_permission reply → ((es : List TraceEntry) → TellsWhatWasRead (state k4) es reply) → Replies k0 k4 t reply
+    after_three k3 k4 third call d reply three four access permission quiet = record {
+      entries = _;
+      ran = ran_more k0 k3 k4 t _ call d (ran_more k0 k2 k3 t _ third None (ran_more k0 k1 k2 t _ second None (ran_more k0 k0 k1 t [] first None (ran_none k0 t) one) two) three) four;
+      access = access;
+      permission = permission;
+      told = quiet _;
+    }
 
 -- a directory that isn't full has room for an entry
 pub room_left : (is_full : Bool) (entries : ℕ) → (is_full ≡ true) ↔ (entries ≡ 64) → entries ≤ 64 → is_full ≡ false → entries < 64

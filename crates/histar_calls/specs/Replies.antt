@@ -1,14 +1,16 @@
 -- What a call of the Unix library tells of its raw calls.
-use Rattle.std.specs.Prelude.{◌≡◌, ℕ, Bool, true, false, List, Option, None, Some, Result, Ok, Err}
+use Rattle.std.specs.Prelude.{◌≡◌, ℕ, Bool, true, false, List, [], ◌∷◌, ◌++◌, Option, None, Some, Result, Ok, Err}
 use Rattle.histar_flat.specs.declared.replies.Errno.{Errno}
 use Rattle.histar_flat.specs.declared.replies.Errno.TheVariants.{EACCES, EPERM}
 use Rattle.histar_flat.specs.declared.replies.Reply.{Reply}
-use Rattle.histar_flat.specs.declared.replies.Reply.TheVariants.{Refused}
+use Rattle.histar_flat.specs.declared.replies.Reply.TheVariants.{Done, Data, Refused, Gone}
+use Rattle.histar_object.specs.Objects.{bytes_in}
+use Rattle.histar_object.specs.State.{State}
 use Rattle.histar_syscall.specs.declared.raw.Denied.{Denied}
 use Rattle.histar_syscall.specs.declared.raw.Denied.TheVariants.{Observe, Modify, Range, Gate, NoEntry, NoThread, BadKind, TooBig}
 use Rattle.histar_syscall.specs.declared.raw.RawCall.TheVariants.{Read}
 use Rattle.histar_syscall.specs.declared.raw.TraceEntry.{TraceEntry}
-use Rattle.histar_syscall.specs.Traced.{Traced, Called}
+use Rattle.histar_syscall.specs.Traced.{Traced, Called, state}
 use Rattle.histar_syscall.specs.Runs.{Ran, some_label_refusal, some_range_refusal}
 use Rattle.histar_calls.specs.declared.places.Places.{Places}
 
@@ -41,13 +43,26 @@ abbrev pub is_no_permission : Reply → Bool
 is_no_permission (Refused errno) = is_permission errno
 is_no_permission _ = false
 
+-- an entry is a read that the kernel granted and that answers these bytes
+abbrev pub IsReadOf : State → List ℕ → TraceEntry → Type 0
+IsReadOf s bytes e = (container : ℕ) × (segment : ℕ) × (e.call ≡ Read container segment) × (e.denied ≡ None) × (bytes ≡ bytes_in (s.objects segment))
+
+-- bytes that are told are those that the last of the raw calls has read
+abbrev pub TellsWhatWasRead : State → List TraceEntry → Reply → Type 0
+TellsWhatWasRead s entries Done = Unit {0}
+TellsWhatWasRead s entries (Data bytes) = (before : List TraceEntry) × (last : TraceEntry) × (entries ≡ before ++ last ∷ []) × IsReadOf s bytes last
+TellsWhatWasRead s entries (Refused errno) = Unit {0}
+TellsWhatWasRead s entries Gone = Unit {0}
+
 -- The call was made of raw calls of this thread on the line that was begun, which are a run of the kernel; it answers EACCES
--- exactly where one of them was refused by label, and EPERM exactly where one was refused by range.
+-- exactly where one of them was refused by label, and EPERM exactly where one was refused by range; bytes that it answers are
+-- those that the last of them has read.
 pub record Replies (old new : Traced) (thread : ℕ) (reply : Reply) : Type 0 where
   pub entries : List TraceEntry
   pub ran : Ran old new thread entries
   pub access : some_label_refusal entries ≡ is_no_access reply
   pub permission : some_range_refusal entries ≡ is_no_permission reply
+  pub told : TellsWhatWasRead (state new) entries reply
 
 -- the directory segment of `/` was read, and nothing else was done
 abbrev pub ReadsRoot : Places → Traced → Traced → ℕ → Type 0
