@@ -10,3 +10,6 @@ pub use ids::ObjId;
 pub use links::Links;
 pub use objects::{Entry, Kind, Object};
 pub use table::Table;
+
+#[cfg(test)]
+mod tests;
