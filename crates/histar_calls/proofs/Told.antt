@@ -1,5 +1,5 @@
 -- From raw calls to what a call of the Unix library tells of them.
-use Rattle.std.proofs.Common.{◌≡◌, ℕ, Bool, true, false, List, [], ◌∷◌, ◌++◌, Option, None, Some, ◌<◌, ◌≤◌, inl, inr, arith, refl, sym, ap, ◌∙◌}
+use Rattle.std.proofs.Common.{◌≡◌, ℕ, Bool, true, false, List, [], ◌∷◌, Option, None, Some, ◌<◌, ◌≤◌, inl, inr, arith, refl, sym, ap, ◌∙◌}
 use Rattle.std.specs.Prelude.{◌||◌, ◌↔◌}
 use Rattle.std.proofs.lemmas.Bool.{cases_lt}
 use mathlib.Core.Bool.{true≢false}
@@ -13,7 +13,7 @@ use Rattle.histar_syscall.specs.declared.raw.RawCall.TheVariants.{Read}
 use Rattle.histar_syscall.specs.declared.raw.TraceEntry.{TraceEntry}
 use Rattle.histar_syscall.specs.Calls.{unless_denied}
 use Rattle.histar_syscall.specs.Traced.{Traced, state, Called}
-use Rattle.histar_syscall.specs.Runs.{Ran, is_label_refusal, is_range_refusal}
+use Rattle.histar_syscall.specs.Runs.{is_label_refusal, is_range_refusal}
 use Rattle.histar_syscall.proofs.Runs.{entry_of, ran_none, ran_more}
 use Rattle.histar_object.specs.Objects.{bytes_in}
 use Rattle.histar_object.specs.State.{State}

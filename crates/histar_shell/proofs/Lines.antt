@@ -1,5 +1,5 @@
 -- What a call line does to a machine that runs.
-use Rattle.std.proofs.Common.{◌≡◌, ℕ, Bool, true, false, List, [], Result, Ok, Err, refl, sym, subst}
+use Rattle.std.proofs.Common.{◌≡◌, ℕ, Bool, false, [], Result, Ok, Err, sym, subst}
 use Rattle.std.specs.Prelude.{IfOk, is_err}
 use Rattle.histar_flat.specs.declared.calls.UnixCall.{UnixCall}
 use Rattle.histar_flat.specs.declared.replies.Reply.{Reply}

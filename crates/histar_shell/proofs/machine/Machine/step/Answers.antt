@@ -1,7 +1,7 @@
 use Rattle.std.proofs.Common.{◌≡◌, true, List, rules, subst}
 use Rattle.std.specs.Prelude.{IfOk}
 use Rattle.histar_flat.specs.declared.calls.User.{User}
-use Rattle.histar_shell.specs.Machine.{Running, on_line, Makes, Answers}
+use Rattle.histar_shell.specs.Machine.{Running, Makes, Answers}
 use Rattle.histar_syscall.specs.Traced.{Traced}
 use Rattle.histar_shell.proofs.Lines.{had_made}
 use Rattle.histar_shell.proofs.machine.Machine.step.Goals as goal
