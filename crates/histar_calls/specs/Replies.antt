@@ -8,7 +8,7 @@ use Rattle.histar_object.specs.Objects.{bytes_in}
 use Rattle.histar_object.specs.State.{State}
 use Rattle.histar_syscall.specs.declared.raw.Denied.{Denied}
 use Rattle.histar_syscall.specs.declared.raw.Denied.TheVariants.{Observe, Modify, Range, Gate, NoEntry, NoThread, BadKind, TooBig}
-use Rattle.histar_syscall.specs.declared.raw.RawCall.TheVariants.{Read}
+use Rattle.histar_syscall.specs.declared.raw.RawCall.TheVariants.{Read, Write}
 use Rattle.histar_syscall.specs.declared.raw.TraceEntry.{TraceEntry}
 use Rattle.histar_syscall.specs.Traced.{Traced, Called, state}
 use Rattle.histar_syscall.specs.Runs.{Ran, some_label_refusal, some_range_refusal}
@@ -47,22 +47,26 @@ is_no_permission _ = false
 abbrev pub IsReadOf : State → List ℕ → TraceEntry → Type 0
 IsReadOf s bytes e = (container : ℕ) × (segment : ℕ) × (e.call ≡ Read container segment) × (e.denied ≡ None) × (bytes ≡ bytes_in (s.objects segment))
 
--- bytes that are told are those that the last of the raw calls has read
-abbrev pub TellsWhatWasRead : State → List TraceEntry → Reply → Type 0
-TellsWhatWasRead s entries Done = Unit {0}
-TellsWhatWasRead s entries (Data bytes) = (before : List TraceEntry) × (last : TraceEntry) × (entries ≡ before ++ last ∷ []) × IsReadOf s bytes last
-TellsWhatWasRead s entries (Refused errno) = Unit {0}
-TellsWhatWasRead s entries Gone = Unit {0}
+-- an entry is a write that the kernel granted
+abbrev pub IsWritten : TraceEntry → Type 0
+IsWritten e = (container : ℕ) × (segment : ℕ) × (keep : ℕ) × (bytes : List ℕ) × (e.call ≡ Write container segment keep bytes) × (e.denied ≡ None)
+
+-- what is told as done ended with a write that was granted, and bytes that are told are those that the last of the raw calls has read
+abbrev pub TellsWhatWasDone : State → List TraceEntry → Reply → Type 0
+TellsWhatWasDone s entries Done = (before : List TraceEntry) × (last : TraceEntry) × (entries ≡ before ++ last ∷ []) × IsWritten last
+TellsWhatWasDone s entries (Data bytes) = (before : List TraceEntry) × (last : TraceEntry) × (entries ≡ before ++ last ∷ []) × IsReadOf s bytes last
+TellsWhatWasDone s entries (Refused errno) = Unit {0}
+TellsWhatWasDone s entries Gone = Unit {0}
 
 -- The call was made of raw calls of this thread on the line that was begun, which are a run of the kernel; it answers EACCES
--- exactly where one of them was refused by label, and EPERM exactly where one was refused by range; bytes that it answers are
--- those that the last of them has read.
+-- exactly where one of them was refused by label, and EPERM exactly where one was refused by range; where it answers that it
+-- is done the last of them is a write that was granted, and bytes that it answers are those that the last of them has read.
 pub record Replies (old new : Traced) (thread : ℕ) (reply : Reply) : Type 0 where
   pub entries : List TraceEntry
   pub ran : Ran old new thread entries
   pub access : some_label_refusal entries ≡ is_no_access reply
   pub permission : some_range_refusal entries ≡ is_no_permission reply
-  pub told : TellsWhatWasRead (state new) entries reply
+  pub told : TellsWhatWasDone (state new) entries reply
 
 -- the directory segment of `/` was read, and nothing else was done
 abbrev pub ReadsRoot : Places → Traced → Traced → ℕ → Type 0
