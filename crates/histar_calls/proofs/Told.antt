@@ -1,100 +1,155 @@
--- From raw calls to what a call of the Unix library tells of them.
-use Rattle.std.proofs.Common.{◌≡◌, ℕ, Bool, true, false, List, [], ◌∷◌, Option, None, Some, ◌<◌, ◌≤◌, inl, inr, arith, refl, sym, ap, ◌∙◌}
-use Rattle.std.specs.Prelude.{◌||◌, ◌↔◌}
-use Rattle.std.proofs.lemmas.Bool.{cases_lt}
-use mathlib.Core.Bool.{true≢false}
+-- From raw calls to what a call of the Unix library answers.
+use Rattle.std.proofs.Common.{◌≡◌, ℕ, false, List, [], ◌∷◌, ◌++◌, Option, None, Some, Result, Ok, Err, refl, sym, ap, ◌∙◌, subst, append_assoc}
+use Rattle.std.proofs.lemmas.List.{append-nil}
+use Rattle.std.specs.Prelude.{option_map, IsErr}
 use Rattle.histar_flat.specs.declared.replies.Errno.{Errno}
 use Rattle.histar_flat.specs.declared.replies.Reply.{Reply}
-use Rattle.histar_flat.specs.declared.replies.Reply.TheVariants.{Done, Data}
+use Rattle.histar_flat.specs.declared.replies.Reply.TheVariants.{Refused}
 use Rattle.histar_syscall.specs.declared.raw.Denied.{Denied}
 use Rattle.histar_syscall.specs.declared.raw.Denied.TheVariants.{Observe, Modify, Range, Gate, NoEntry, NoThread, BadKind, TooBig}
 use Rattle.histar_syscall.specs.declared.raw.RawCall.{RawCall}
-use Rattle.histar_syscall.specs.declared.raw.RawCall.TheVariants.{Read, Write}
-use Rattle.histar_syscall.specs.declared.raw.TraceEntry.{TraceEntry}
-use Rattle.histar_syscall.specs.Calls.{unless_denied}
-use Rattle.histar_syscall.specs.Traced.{Traced, state, Called}
-use Rattle.histar_syscall.specs.Runs.{is_label_refusal, is_range_refusal}
-use Rattle.histar_syscall.proofs.Runs.{entry_of, ran_none, ran_more}
-use Rattle.histar_object.specs.Objects.{bytes_in}
-use Rattle.histar_object.specs.State.{State}
-use Rattle.histar_calls.specs.Replies.{errno_of, is_access, is_permission, is_no_access, is_no_permission, TellsWhatWasDone, Replies}
+use Rattle.histar_syscall.specs.declared.raw.RawCall.TheVariants.{OwnLabel, MakeSegment, Read, Write}
+use Rattle.histar_syscall.specs.declared.raw.Refusal.{Refusal}
+use Rattle.histar_syscall.specs.declared.raw.Refusal.TheVariants as refusals
+use Rattle.histar_syscall.specs.Traced.{Traced, state, Called, Answered}
+use Rattle.histar_syscall.specs.Runs.{is_label_refusal, is_range_refusal, first_refusal, entries_until, Made, Granted}
+use Rattle.histar_syscall.proofs.Runs.{granted_none, granted_more, some_refused, denied_of, made_ran, made_unchanged, made_longer, made_more, refusal_after, refusal_longer}
+use Rattle.histar_layout.specs.Directory.{Entries}
+use Rattle.histar_calls.specs.declared.places.Places.{Places}
+use Rattle.histar_calls.specs.declared.stopping.Stopped.{Stopped}
+use Rattle.histar_calls.specs.Plans.{Plan, walking}
+use Rattle.histar_calls.specs.Follows.{errno_of, write_errno_of, told_as, answer, IsUntold, StopsWithin, Follows}
+use Rattle.histar_calls.specs.Replies.{is_access, is_permission, is_no_access, is_no_permission, Replies}
+use Rattle.histar_calls.specs.Walks.{IsTold, IsRefused, walk, Walks}
 
 errno_same : (a b : Errno) → Some a ≡ Some b → a ≡ b
 errno_same a b e = cc
 
--- a denial is told as EACCES exactly where it is one by label
-pub access_told : (d : Denied) (e : Errno) → errno_of d ≡ Some e → (is_label_refusal (Some d) || false) ≡ is_access e
-access_told Observe e h = ap is_access (errno_same _ _ h)
-access_told Modify e h = ap is_access (errno_same _ _ h)
-access_told Range e h = ap is_access (errno_same _ _ h)
-access_told Gate e h = ap is_access (errno_same _ _ h)
-access_told NoEntry e h = absurd cc
-access_told NoThread e h = absurd cc
-access_told BadKind e h = absurd cc
-access_told TooBig e h = absurd cc
+-- a denial is told as EACCES exactly where it is one by label, and as EPERM exactly where it is one by range
+abbrev Agrees : Denied → Errno → Type 0
+Agrees d e = (is_label_refusal (Some d) ≡ is_access e) × (is_range_refusal (Some d) ≡ is_permission e)
 
--- and as EPERM exactly where it is one by range
-pub permission_told : (d : Denied) (e : Errno) → errno_of d ≡ Some e → (is_range_refusal (Some d) || false) ≡ is_permission e
-permission_told Observe e h = ap is_permission (errno_same _ _ h)
-permission_told Modify e h = ap is_permission (errno_same _ _ h)
-permission_told Range e h = ap is_permission (errno_same _ _ h)
-permission_told Gate e h = ap is_permission (errno_same _ _ h)
-permission_told NoEntry e h = absurd cc
-permission_told NoThread e h = absurd cc
-permission_told BadKind e h = absurd cc
-permission_told TooBig e h = absurd cc
+both : (d : Denied) (x e : Errno) → Agrees d x → Some x ≡ Some e → Agrees d e
+both d x e agrees same = subst (λ (y : Errno). Agrees d y) (errno_same x e same) agrees
 
-module _ (k0 : Traced) (t : ℕ) (k1 : Traced) (first : RawCall) (one : Called k0 k1 t first None) where
-  -- a read changes no state
-  read_stays : (k2 : Traced) (d o : ℕ) → Called k1 k2 t (Read d o) None → state k2 ≡ state k1
-  read_stays k2 d o two = two.state ∙ ap (λ (x : Option Denied). unless_denied x (state k1) (state k1)) two.outcome
+errno_agrees : (d : Denied) (e : Errno) → errno_of d ≡ Some e → Agrees d e
+errno_agrees Observe e h = both Observe _ e (refl, refl) h
+errno_agrees Modify e h = both Modify _ e (refl, refl) h
+errno_agrees Range e h = both Range _ e (refl, refl) h
+errno_agrees Gate e h = both Gate _ e (refl, refl) h
+errno_agrees NoEntry e h = absurd cc
+errno_agrees NoThread e h = absurd cc
+errno_agrees BadKind e h = absurd cc
+errno_agrees TooBig e h = absurd cc
 
-  -- a read after a raw call that was granted, and its bytes are told
-  pub read_after_one : (k2 : Traced) (d o : ℕ) (bytes : List ℕ) → Called k1 k2 t (Read d o) None → bytes ≡ bytes_in ((state k1).objects o) → Replies k0 k2 t (Data bytes)
-  read_after_one k2 d o bytes two read = record {
-    entries = entry_of k0.line t first None ∷ entry_of k0.line t (Read d o) None ∷ [];
-    ran = ran_more k0 k1 k2 t _ (Read d o) None (ran_more k0 k0 k1 t [] first None (ran_none k0 t) one) two;
-    access = refl;
-    permission = refl;
-    told = (entry_of k0.line t first None ∷ [], entry_of k0.line t (Read d o) None, refl, (d, o, refl, refl, read ∙ ap (λ (s : State). bytes_in (s.objects o)) (sym (read_stays k2 d o two))));
+write_errno_agrees : (d : Denied) (e : Errno) → write_errno_of d ≡ Some e → Agrees d e
+write_errno_agrees Observe e h = both Observe _ e (refl, refl) h
+write_errno_agrees Modify e h = both Modify _ e (refl, refl) h
+write_errno_agrees Range e h = both Range _ e (refl, refl) h
+write_errno_agrees Gate e h = both Gate _ e (refl, refl) h
+write_errno_agrees NoEntry e h = absurd cc
+write_errno_agrees NoThread e h = absurd cc
+write_errno_agrees BadKind e h = absurd cc
+write_errno_agrees TooBig e h = both TooBig _ e (refl, refl) h
+
+told_agrees : (call : RawCall) (d : Denied) (e : Errno) → told_as call d ≡ Some e → Agrees d e
+told_agrees OwnLabel d e h = errno_agrees d e h
+told_agrees (MakeSegment container label bytes) d e h = errno_agrees d e h
+told_agrees (Read container segment) d e h = errno_agrees d e h
+told_agrees (Write container segment keep bytes) d e h = write_errno_agrees d e h
+
+module _ (old new : Traced) (t : ℕ) (calls : List RawCall) where
+  -- where every raw call was granted the answer is neither EACCES nor EPERM
+  pub replies_granted : (reply : Reply) → Granted old new t calls → is_no_access reply ≡ false → is_no_permission reply ≡ false → Replies old new t reply
+  replies_granted reply granted access permission = record {
+    entries = entries_until old.line (state old) t calls;
+    ran = made_ran old new t calls granted.made;
+    access = some_refused is_label_refusal refl old.line (state old) t calls ∙ ap (λ (r : Option (RawCall × Denied)). is_label_refusal (denied_of r)) granted.all ∙ sym access;
+    permission = some_refused is_range_refusal refl old.line (state old) t calls ∙ ap (λ (r : Option (RawCall × Denied)). is_range_refusal (denied_of r)) granted.all ∙ sym permission;
   }
 
-  -- a write after a raw call that was granted, which is told as done
-  pub written_after_one : (k2 : Traced) (d o keep : ℕ) (bytes : List ℕ) → Called k1 k2 t (Write d o keep bytes) None → Replies k0 k2 t Done
-  written_after_one k2 d o keep bytes two = record {
-    entries = entry_of k0.line t first None ∷ entry_of k0.line t (Write d o keep bytes) None ∷ [];
-    ran = ran_more k0 k1 k2 t _ (Write d o keep bytes) None (ran_more k0 k0 k1 t [] first None (ran_none k0 t) one) two;
-    access = refl;
-    permission = refl;
-    told = (entry_of k0.line t first None ∷ [], entry_of k0.line t (Write d o keep bytes) None, refl, (d, o, keep, bytes, refl, refl));
+  -- where one was refused the answer is what that is told as
+  pub replies_refused : (errno : Errno) → IsRefused old new t calls errno → Replies old new t (Refused errno)
+  replies_refused errno refused = record {
+    entries = entries_until old.line (state old) t calls;
+    ran = made_ran old new t calls refused.made;
+    access = some_refused is_label_refusal refl old.line (state old) t calls ∙ ap (λ (r : Option (RawCall × Denied)). is_label_refusal (denied_of r)) refused.first
+        ∙ (told_agrees refused.refusal.0 refused.refusal.1 errno refused.told).0;
+    permission = some_refused is_range_refusal refl old.line (state old) t calls ∙ ap (λ (r : Option (RawCall × Denied)). is_range_refusal (denied_of r)) refused.first
+        ∙ (told_agrees refused.refusal.0 refused.refusal.1 errno refused.told).1;
   }
 
-  module _ (k2 : Traced) (second : RawCall) (two : Called k1 k2 t second None) where
-    -- a raw call after two that were granted
-    pub after_two : (k3 : Traced) (call : RawCall) (d : Option Denied) (reply : Reply) → Called k2 k3 t call d
-        → (is_label_refusal d || false) ≡ is_no_access reply → (is_range_refusal d || false) ≡ is_no_permission reply → TellsWhatWasDone (state k3) (entry_of k0.line t first None ∷ entry_of k0.line t second None ∷ entry_of k0.line t call d ∷ []) reply → Replies k0 k3 t reply
-    after_two k3 call d reply three access permission told = record {
-      entries = _;
-      ran = ran_more k0 k2 k3 t _ call d (ran_more k0 k1 k2 t _ second None (ran_more k0 k0 k1 t [] first None (ran_none k0 t) one) two) three;
-      access = access;
-      permission = permission;
-      told = told;
-    }
+  -- a plan whose raw calls were all granted is followed to its reply
+  pub follows_granted : (plan : Plan) (reply : Reply) → plan.calls ≡ calls → plan.reply ≡ Some reply → Granted old new t calls → Follows old new t plan (Ok reply)
+  follows_granted plan reply same told granted = (
+    subst (λ (c : List RawCall). Made old new t c) (sym same) granted.made,
+    ap (answer plan.reply) (ap (first_refusal (state old) t) same ∙ granted.all) ∙ told,
+  )
 
-    -- a raw call after three that were granted
-    pub after_three : (k3 k4 : Traced) (third call : RawCall) (d : Option Denied) (reply : Reply) → Called k2 k3 t third None → Called k3 k4 t call d
-        → (is_label_refusal d || false) ≡ is_no_access reply → (is_range_refusal d || false) ≡ is_no_permission reply → TellsWhatWasDone (state k4) (entry_of k0.line t first None ∷ entry_of k0.line t second None ∷ entry_of k0.line t third None ∷ entry_of k0.line t call d ∷ []) reply → Replies k0 k4 t reply
-    after_three k3 k4 third call d reply three four access permission told = record {
-      entries = _;
-      ran = ran_more k0 k3 k4 t _ call d (ran_more k0 k2 k3 t _ third None (ran_more k0 k1 k2 t _ second None (ran_more k0 k0 k1 t [] first None (ran_none k0 t) one) two) three) four;
-      access = access;
-      permission = permission;
-      told = told;
-    }
+  -- a plan of which these raw calls are the first is followed up to a refusal
+  pub follows_refused : (plan : Plan) (more : List RawCall) (errno : Errno) → plan.calls ≡ calls ++ more → IsRefused old new t calls errno → Follows old new t plan (Ok (Refused errno))
+  follows_refused plan more errno same refused = (
+    subst (λ (c : List RawCall). Made old new t c) (sym same) (made_longer old new t calls more refused.refusal refused.made refused.first),
+    ap (answer plan.reply) (ap (first_refusal (state old) t) same ∙ refusal_longer (state old) t calls more refused.refusal refused.first) ∙ ap (option_map Refused) refused.told,
+  )
 
--- a directory that isn't full has room for an entry
-pub room_left : (is_full : Bool) (entries : ℕ) → (is_full ≡ true) ↔ (entries ≡ 64) → entries ≤ 64 → is_full ≡ false → entries < 64
-room_left is_full entries full few other = elim (cases_lt entries 64) [
-  | inl less ↦ less
-  | inr more ↦ absurd (true≢false (sym (full.1 (omega arith)) ∙ other))
-]
+  -- and the call may end among them
+  pub stops_longer : (longer more : List RawCall) → longer ≡ calls ++ more → StopsWithin old new t calls → StopsWithin old new t longer
+  stops_longer longer more same stops = record {
+    front = stops.front;
+    rest = stops.rest ++ more;
+    parts = same ∙ ap (λ (c : List RawCall). c ++ more) stops.parts ∙ append_assoc stops.front stops.rest more;
+    made = stops.made;
+    untold = stops.untold;
+  }
+
+  -- the call may end where all that it made was granted
+  pub stops_granted : (rest : List RawCall) → Granted old new t calls → StopsWithin old new t (calls ++ rest)
+  stops_granted rest granted = record { front = calls; rest = rest; parts = refl; made = granted.made; untold = subst IsUntold (sym granted.all) tt }
+
+module _ (old mid new : Traced) (t : ℕ) (before : List RawCall) (call : RawCall) (granted : Granted old mid t before) where
+  -- a raw call more that was refused for a reason that is told
+  pub refused_more : {A : Type 0} (P : A → Type 0) (refusal : Refusal) (errno : Errno) → Answered {A = A} mid new t call (Err refusal) P → IsTold (told_as call) refusal (Ok errno) → IsRefused old new t (before ++ call ∷ []) errno
+  refused_more P (refusals.Denied denied) errno called told = record {
+    made = made_more old mid new t before call (Some denied) granted called;
+    refusal = (call, denied);
+    first = refusal_after old mid new t before call (Some denied) granted called;
+    told = told;
+  }
+  refused_more P refusals.OutOfMemory errno same told = absurd told
+
+  -- a raw call more that was refused for no reason that is told, or that found no memory
+  pub stops_more : {A : Type 0} (P : A → Type 0) (refusal : Refusal) (stopped : Stopped) → Answered {A = A} mid new t call (Err refusal) P → IsTold (told_as call) refusal (Err stopped) → StopsWithin old new t (before ++ call ∷ [])
+  stops_more P (refusals.Denied denied) stopped called told = record {
+    front = before ++ call ∷ [];
+    rest = [];
+    parts = sym (append-nil (before ++ call ∷ []));
+    made = made_more old mid new t before call (Some denied) granted called;
+    untold = subst IsUntold (sym (refusal_after old mid new t before call (Some denied) granted called)) told;
+  }
+  stops_more P refusals.OutOfMemory stopped same told = record {
+    front = before;
+    rest = call ∷ [];
+    parts = refl;
+    made = made_unchanged old mid new t before granted.made same;
+    untold = subst IsUntold (sym granted.all) tt;
+  }
+
+-- a walk comes first, whatever its directory segment holds
+pub walk_first : (places : Places) (listed : Option Entries) (within : Entries → Plan) → (more : List RawCall) × ((walking places listed within).calls ≡ walk places ++ more)
+walk_first places None within = ([], refl)
+walk_first places (Some dir) within = ((within dir).calls, refl)
+
+-- a call that ends without an answer has made the first raw calls of its plan
+pub follows_stopped : (old new : Traced) (t : ℕ) (plan : Plan) (result : Result Reply Stopped) → IsErr result → StopsWithin old new t plan.calls → Follows old new t plan result
+follows_stopped old new t plan (Ok reply) err stops = absurd cc
+follows_stopped old new t plan (Err stopped) err stops = stops
+
+-- and so has a walk
+pub walk_stopped : (places : Places) (old new : Traced) (t : ℕ) (result : Result (Result Entries Errno) Stopped) → IsErr result → StopsWithin old new t (walk places) → Walks places old new t result
+walk_stopped places old new t (Ok found) err stops = absurd cc
+walk_stopped places old new t (Err stopped) err stops = stops
+
+-- a walk that was granted
+pub walked : (places : Places) (old new : Traced) (t : ℕ) → Called old new t (Read places.root places.listing) None → Granted old new t (walk places)
+walked places old new t called = granted_more old old new t [] (Read places.root places.listing) (granted_none old t) called

@@ -1,3 +1,5 @@
 pub mod Categories
-pub mod Finding
+pub mod Plans
+pub mod Follows
 pub mod Replies
+pub mod Walks

@@ -1,10 +1,11 @@
 //! Making files.
 ghost use Rattle.std.specs.Prelude.{IfOk};
+ghost use Rattle.histar_calls.specs.Follows.{MakesFile};
 ghost use Rattle.histar_calls.specs.Replies.{Replies};
 
 use crate::labels::label_made;
 use crate::places::Places;
-use crate::refusals::errno_of;
+use crate::refusals::{told, told_of_write};
 use crate::stopping::Stopped;
 use crate::walking::walk;
 use histar_base::Bytes;
@@ -12,7 +13,7 @@ use histar_flat::{Errno, Mode, Path, Reply};
 use histar_label::LabelStore;
 use histar_layout::{Target, write_dir};
 use histar_object::ObjId;
-use histar_syscall::{Kernel, Refusal};
+use histar_syscall::Kernel;
 use std::alloc::Global;
 
 /// Makes an empty file. EEXIST where the path is `/` or something stands there, ENOSPC at 64
@@ -26,7 +27,8 @@ pub fn create<S: LabelStore + Drop>(
     path: &Path,
     mode: Mode,
 ) -> Result<Reply, Stopped>
-    ensures { IfOk result (λ reply. Replies kernel.old kernel.new thread reply) }
+    ensures follows { MakesFile places.now kernel.old kernel.new thread path.now mode result }
+    ensures told { IfOk result (λ reply. Replies kernel.old kernel.new thread reply) }
 {
     let Some(name) = path.last() else {
         return Ok(Reply::Refused(Errno::EEXIST));
@@ -41,23 +43,20 @@ pub fn create<S: LabelStore + Drop>(
     if dir.is_full() {
         return Ok(Reply::Refused(Errno::ENOSPC));
     }
-    let Ok((own, _)) = kernel.own_label(thread) else {
-        return Err(Stopped);
+    let (own, _) = match kernel.own_label(thread) {
+        Ok(own) => own,
+        Err(refusal) => return Ok(Reply::Refused(told(refusal)?)),
     };
     let label = label_made(alloc, &own, places.users, mode)?;
     let empty = Bytes::new(alloc);
     let file = match kernel.make_segment(alloc, thread, places.root, label, empty) {
         Ok(file) => file,
-        Err(Refusal::Denied(denied)) => {
-            let errno = errno_of(denied).ok_or(Stopped)?;
-            return Ok(Reply::Refused(errno));
-        }
-        Err(Refusal::OutOfMemory) => return Err(Stopped),
+        Err(refusal) => return Ok(Reply::Refused(told(refusal)?)),
     };
     dir.insert(*name, Target::File(file))?;
     let bytes = write_dir(alloc, &dir)?;
     match kernel.write(alloc, thread, places.root, places.listing, 0, bytes) {
         Ok(()) => Ok(Reply::Done),
-        Err(_) => Err(Stopped),
+        Err(refusal) => Ok(Reply::Refused(told_of_write(refusal)?)),
     }
 }

@@ -1,10 +1,13 @@
 //! Reading and writing files.
-ghost use Rattle.std.specs.Prelude.{IfOk};
+ghost use Rattle.std.specs.Prelude.{◌≡◌, IfOk};
+ghost use Rattle.std.specs.FinMap as map;
+ghost use Rattle.histar_calls.specs.Follows.{ReadsFile, WritesFile};
+ghost use Rattle.histar_calls.specs.Plans.{last_name};
 ghost use Rattle.histar_calls.specs.Replies.{Replies};
-ghost use Rattle.histar_calls.specs.Finding.{FindsFile, FindsEntry};
+ghost use Rattle.histar_calls.specs.Walks.{FindsFile, found_at};
 
 use crate::places::Places;
-use crate::refusals::errno_of;
+use crate::refusals::{told, told_of_write};
 use crate::stopping::Stopped;
 use crate::walking::walk;
 use histar_base::Bytes;
@@ -12,7 +15,7 @@ use histar_flat::{Errno, Name, Path, Reply};
 use histar_label::LabelStore;
 use histar_layout::{Dir, Target};
 use histar_object::ObjId;
-use histar_syscall::{Denied, Kernel, Refusal};
+use histar_syscall::Kernel;
 use std::alloc::Global;
 
 /// What stands at a path.
@@ -31,7 +34,7 @@ fn find<S: LabelStore + Drop>(
     thread: ObjId,
     path: &Path,
 ) -> Result<Found, Stopped>
-    ensures { IfOk result (λ found. FindsFile places.now kernel.old kernel.new thread found) }
+    ensures { FindsFile places.now kernel.old kernel.new thread (last_name path.now) result }
 {
     let Some(name) = path.last() else {
         return Ok(Found::Refused(Errno::EISDIR));
@@ -44,7 +47,7 @@ fn find<S: LabelStore + Drop>(
 
 /// Where the entry of this name leads, if it leads to a file.
 fn file_at(dir: &Dir, name: &Name) -> Found
-    ensures { FindsEntry result }
+    ensures { result ≡ found_at (map.get dir.now name.now) }
 {
     let Some(target) = dir.get(name) else {
         return Found::Refused(Errno::ENOENT);
@@ -63,7 +66,8 @@ pub fn read<S: LabelStore + Drop>(
     thread: ObjId,
     path: &Path,
 ) -> Result<Reply, Stopped>
-    ensures { IfOk result (λ reply. Replies kernel.old kernel.new thread reply) }
+    ensures follows { ReadsFile places.now kernel.old kernel.new thread path.now result }
+    ensures told { IfOk result (λ reply. Replies kernel.old kernel.new thread reply) }
 {
     let file = match find(kernel, alloc, places, thread, path)? {
         Found::File(file) => file,
@@ -71,11 +75,7 @@ pub fn read<S: LabelStore + Drop>(
     };
     match kernel.read(alloc, thread, places.root, file) {
         Ok(bytes) => Ok(Reply::Data(bytes)),
-        Err(Refusal::Denied(denied)) => {
-            let errno = errno_of(denied).ok_or(Stopped)?;
-            Ok(Reply::Refused(errno))
-        }
-        Err(Refusal::OutOfMemory) => Err(Stopped),
+        Err(refusal) => Ok(Reply::Refused(told(refusal)?)),
     }
 }
 
@@ -89,7 +89,8 @@ pub fn write<S: LabelStore + Drop>(
     path: &Path,
     bytes: Bytes,
 ) -> Result<Reply, Stopped>
-    ensures { IfOk result (λ reply. Replies kernel.old kernel.new thread reply) }
+    ensures follows { WritesFile places.now kernel.old kernel.new thread path.now bytes result }
+    ensures told { IfOk result (λ reply. Replies kernel.old kernel.new thread reply) }
 {
     let file = match find(kernel, alloc, places, thread, path)? {
         Found::File(file) => file,
@@ -97,13 +98,6 @@ pub fn write<S: LabelStore + Drop>(
     };
     match kernel.write(alloc, thread, places.root, file, 0, bytes) {
         Ok(()) => Ok(Reply::Done),
-        Err(Refusal::Denied(denied)) => match denied {
-            Denied::TooBig => Ok(Reply::Refused(Errno::EFBIG)),
-            _ => {
-                let errno = errno_of(denied).ok_or(Stopped)?;
-                Ok(Reply::Refused(errno))
-            }
-        },
-        Err(Refusal::OutOfMemory) => Err(Stopped),
+        Err(refusal) => Ok(Reply::Refused(told_of_write(refusal)?)),
     }
 }

@@ -1,15 +1,14 @@
 //! The walk to a path's directory.
-ghost use Rattle.std.specs.Prelude.{IfOk};
-ghost use Rattle.histar_calls.specs.Replies.{Finds};
+ghost use Rattle.histar_calls.specs.Walks.{Walks};
 
 use crate::places::Places;
-use crate::refusals::errno_of;
+use crate::refusals::told;
 use crate::stopping::Stopped;
 use histar_flat::Errno;
 use histar_label::LabelStore;
 use histar_layout::{Dir, read_dir};
 use histar_object::ObjId;
-use histar_syscall::{Kernel, Refusal};
+use histar_syscall::Kernel;
 use std::alloc::Global;
 
 /// The entries of `/`, asked of the kernel, or EACCES where the thread may not observe them.
@@ -19,7 +18,7 @@ pub fn walk<S: LabelStore + Drop>(
     places: &Places,
     thread: ObjId,
 ) -> Result<Result<Dir, Errno>, Stopped>
-    ensures { IfOk result (λ answer. Finds places.now kernel.old kernel.new thread answer) }
+    ensures { Walks places.now kernel.old kernel.new thread result }
 {
     match kernel.read(alloc, thread, places.root, places.listing) {
         Ok(bytes) => {
@@ -28,10 +27,6 @@ pub fn walk<S: LabelStore + Drop>(
             };
             Ok(Ok(dir))
         }
-        Err(Refusal::Denied(denied)) => {
-            let errno = errno_of(denied).ok_or(Stopped)?;
-            Ok(Err(errno))
-        }
-        Err(Refusal::OutOfMemory) => Err(Stopped),
+        Err(refusal) => Ok(Err(told(refusal)?)),
     }
 }
