@@ -1,6 +1,7 @@
 //! The state in which a machine starts, while it is not made of raw calls yet. Every object has the number,
 //! the label and the bytes that it is to have once boot makes it by a raw call.
-ghost use Rattle.std.specs.Prelude.{◌≡◌, ◌+◌, ◌*◌, ◌<◌, ◌≤◌, length, OnOk};
+ghost use Rattle.std.specs.Prelude.{◌≡◌, ◌+◌, ◌*◌, ◌<◌, ◌≤◌, length, IfOk, OnOk};
+ghost use Rattle.histar_shell.specs.Start.{places_of, thread_number};
 
 use histar_base::Bytes;
 use histar_calls::{Places, read_category, write_category};
@@ -208,6 +209,8 @@ pub fn start_objects<S: LabelStore + Drop>(
     users: &[User],
 ) -> Result<(LabelledObjects<S>, Places, ObjId), AllocError>
     requires { length users.now ≤ 16 }
+    ensures places { IfOk result (λ r. r.1 ≡ places_of (length users.now)) }
+    ensures thread { IfOk result (λ r. r.2 ≡ thread_number (length users.now)) }
 {
     let count = users.len() as u64;
     let mut objects = LabelledObjects::new(alloc, store, 1, 2 * count + 6);
