@@ -125,6 +125,6 @@ process_made s0 s1 s2 s3 s4 guarded copied secret own most links inner bytes n r
     let inner_is : inner ≡ set.from_list ((8 + 2 * n) ∷ []) = i ∙ (λ j. set.from_list {R = nat_cmp} (eight j ∷ [])) in
     let bytes_is : bytes ≡ process_bytes (7 + 2 * n) (8 + 2 * n) = b ∙ (λ j. process_bytes (seven j) (eight j)) in
     let made : s4 ≡ with_all s0 (Some first ∷ Some second ∷ Some third ∷ Some fourth ∷ []) =
-        e4 ∙ ap (λ (t : State). with_next t fourth) (e3 ∙ ap (λ (t : State). with_next t third) (e2 ∙ ap (λ (t : State). with_next t second) e1)) in
+    e4 ∙ ap (λ (t : State). with_next t fourth) (e3 ∙ ap (λ (t : State). with_next t third) (e2 ∙ ap (λ (t : State). with_next t second) e1)) in
     made ∙ (λ j. with_next (with_next (with_next (with_next s0 (record { label = copied_is j; kind = Container (links_is j) })) (record { label = secret_is j; kind = Container (inner_is j) }))
     (record { label = own_is j; kind = Thread (most_is j) })) (record { label = guarded_is j; kind = Segment (bytes_is j) }))

@@ -8,12 +8,12 @@ use Rattle.histar_flat.specs.declared.calls.UnixCall.TheVariants.{Create, Write,
 use Rattle.histar_flat.specs.declared.replies.Reply.{Reply}
 use Rattle.histar_flat.specs.declared.replies.Reply.TheVariants.{Gone}
 use Rattle.histar_flat.specs.Words.{ProcName}
-use Rattle.histar_syscall.specs.Traced.{Traced, coded_traced}
+use Rattle.histar_syscall.specs.Traced.{Traced, coded_traced, state}
 use Rattle.histar_calls.specs.declared.places.Places.{Places}
 use Rattle.histar_calls.specs.contracts.places.Places as where_is
 use Rattle.histar_calls.specs.Replies.{Replies}
 use Rattle.histar_shell.specs.Login.{LogsIn}
-use Rattle.histar_shell.specs.Start.{places_of, thread_number}
+use Rattle.histar_shell.specs.Start.{places_of, thread_number, start_state}
 use Rattle.histar_calls.specs.declared.stopping.Stopped.{Stopped}
 
 -- the kernel of a machine, the places of `/`, the thread of its process, its users, and whether it has stopped for want of memory
@@ -33,6 +33,7 @@ pub record IsStart (declared : List User) (m : Running) : Type 0 where
   pub users : m.users ≡ declared
   pub places : m.places ≡ places_of (length declared)
   pub thread : m.thread ≡ thread_number (length declared)
+  pub state : state m.kernel ≡ start_state declared
   pub trace : m.kernel.trace ≡ []
   pub line : m.kernel.line ≡ 0
   pub runs : m.is_stopped ≡ false
