@@ -48,7 +48,7 @@ abbrev pub Makes : List User → Traced → Traced → ℕ → UnixCall → Repl
 Makes users old new thread (Create path mode) reply = Replies old new thread reply
 Makes users old new thread (Write path bytes) reply = Replies old new thread reply
 Makes users old new thread (Read path) reply = Replies old new thread reply
-Makes users old new thread (Login name password) reply = LogsIn users old new name password reply
+Makes users old new thread (Login name password) reply = LogsIn users old new thread name password reply
 
 -- a running machine: a process that was never born is gone and nothing changes, process 0 has its call done
 abbrev pub Runs : Running → Running → ℕ → ProcName → UnixCall → Result Reply Stopped → Type 0
