@@ -3,3 +3,5 @@ pub mod InputLemmas
 pub mod RunLemmas
 pub mod WritingLemmas
 pub mod Lines
+pub mod StartLemmas
+pub mod TableLemmas

@@ -4,4 +4,5 @@ pub mod Input
 pub mod Outcome
 pub mod Writing
 pub mod Login
+pub mod Start
 pub mod Machine

@@ -1,5 +1,5 @@
 -- What a machine keeps, and what a call line does to it.
-use Rattle.std.specs.Prelude.{◌≡◌, ℕ, Bool, true, false, List, [], ◌∷◌, Result, Ok, Err, IsErr, refl}
+use Rattle.std.specs.Prelude.{◌≡◌, ℕ, Bool, true, false, List, [], ◌∷◌, length, Result, Ok, Err, IsErr, refl}
 use Rattle.std.specs.Coded.{Coded, code_by, coded×, coded_ℕ, coded_bool, coded_list}
 use Rattle.histar_flat.specs.declared.calls.User.{User}
 use Rattle.histar_flat.specs.contracts.calls.User as user
@@ -8,25 +8,32 @@ use Rattle.histar_flat.specs.declared.calls.UnixCall.TheVariants.{Create, Write,
 use Rattle.histar_flat.specs.declared.replies.Reply.{Reply}
 use Rattle.histar_flat.specs.declared.replies.Reply.TheVariants.{Gone}
 use Rattle.histar_flat.specs.Words.{ProcName}
-use Rattle.histar_syscall.specs.Traced.{Traced, coded_traced}
+use Rattle.histar_syscall.specs.Traced.{Traced, coded_traced, state}
+use Rattle.histar_calls.specs.declared.places.Places.{Places}
+use Rattle.histar_calls.specs.contracts.places.Places as where_is
 use Rattle.histar_calls.specs.Replies.{Replies}
 use Rattle.histar_shell.specs.Login.{LogsIn}
+use Rattle.histar_shell.specs.Start.{places_of, thread_number, start_state}
 use Rattle.histar_calls.specs.declared.stopping.Stopped.{Stopped}
 
--- the kernel of a machine, the thread of its process, its users, and whether it has stopped for want of memory
+-- the kernel of a machine, the places of `/`, the thread of its process, its users, and whether it has stopped for want of memory
 pub record Running : Type 0 where
   pub kernel : Traced
+  pub places : Places
   pub thread : ℕ
   pub users : List User
   pub is_stopped : Bool
 
 -- stored as the tuple of its parts
 abbrev pub coded_running : Coded Running
-coded_running = code_by (Traced × (ℕ × (List User × Bool))) (coded× coded_traced (coded× coded_ℕ (coded× (coded_list user.the_row.coded) coded_bool))) (λ m. (m.kernel, (m.thread, (m.users, m.is_stopped)))) (λ p. record { kernel = p.0; thread = p.1.0; users = p.1.1.0; is_stopped = p.1.1.1 }) (λ _. refl)
+coded_running = code_by (Traced × (Places × (ℕ × (List User × Bool)))) (coded× coded_traced (coded× where_is.the_row.coded (coded× coded_ℕ (coded× (coded_list user.the_row.coded) coded_bool)))) (λ m. (m.kernel, (m.places, (m.thread, (m.users, m.is_stopped))))) (λ p. record { kernel = p.0; places = p.1.0; thread = p.1.1.0; users = p.1.1.1.0; is_stopped = p.1.1.1.1 }) (λ _. refl)
 
 -- a machine that was booted with these users: it runs, and no raw call was made yet
 pub record IsStart (declared : List User) (m : Running) : Type 0 where
   pub users : m.users ≡ declared
+  pub places : m.places ≡ places_of (length declared)
+  pub thread : m.thread ≡ thread_number (length declared)
+  pub state : state m.kernel ≡ start_state declared
   pub trace : m.kernel.trace ≡ []
   pub line : m.kernel.line ≡ 0
   pub runs : m.is_stopped ≡ false
@@ -41,7 +48,7 @@ abbrev pub Makes : List User → Traced → Traced → ℕ → UnixCall → Repl
 Makes users old new thread (Create path mode) reply = Replies old new thread reply
 Makes users old new thread (Write path bytes) reply = Replies old new thread reply
 Makes users old new thread (Read path) reply = Replies old new thread reply
-Makes users old new thread (Login name password) reply = LogsIn users old new name password reply
+Makes users old new thread (Login name password) reply = LogsIn users old new thread name password reply
 
 -- a running machine: a process that was never born is gone and nothing changes, process 0 has its call done
 abbrev pub Runs : Running → Running → ℕ → ProcName → UnixCall → Result Reply Stopped → Type 0

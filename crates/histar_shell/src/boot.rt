@@ -1,6 +1,9 @@
 //! The state in which a machine starts, while it is not made of raw calls yet. Every object has the number,
 //! the label and the bytes that it is to have once boot makes it by a raw call.
-ghost use Rattle.std.specs.Prelude.{◌≡◌, ◌+◌, ◌*◌, ◌<◌, ◌≤◌, length, OnOk};
+ghost use Rattle.std.specs.Prelude.{◌≡◌, ◌+◌, ◌*◌, ◌<◌, ◌≤◌, ◌++◌, length, IfOk, OnOk};
+ghost use Rattle.std.specs.FinSet as set;
+ghost use Rattle.histar_container.specs.Kept.{state_of};
+ghost use Rattle.histar_shell.specs.Start.{labelled, own_read_category, own_write_category, of_root, of_user, of_users, of_directory, of_process, user_entry, user_table, process_bytes, with_all, start_state, places_of, thread_number};
 
 use histar_base::Bytes;
 use histar_calls::{Places, read_category, write_category};
@@ -18,7 +21,9 @@ pub fn label_of(
     alloc: Global,
     default: Level,
     exceptions: &[(Category, Level)],
-) -> Result<Label, AllocError> {
+) -> Result<Label, AllocError>
+    ensures { IfOk result (λ v. v ≡ labelled exceptions.now default) }
+{
     let mut label = Label::new(alloc, default);
     for &(category, level) in exceptions {
         label = label.with(category, level)?;
@@ -29,6 +34,7 @@ pub fn label_of(
 /// The category that process 0 owns to keep its secrets, where there are so many users.
 pub fn own_read_category(users: u64) -> Category
     requires { users ≤ 16 }
+    ensures { result ≡ own_read_category users }
 {
     Category::new(4 + 2 * users)
 }
@@ -36,12 +42,15 @@ pub fn own_read_category(users: u64) -> Category
 /// The category that process 0 owns to keep its objects from being written.
 pub fn own_write_category(users: u64) -> Category
     requires { users ≤ 16 }
+    ensures { result ≡ own_write_category users }
 {
     Category::new(5 + 2 * users)
 }
 
 /// Links to these objects.
-fn links_to(alloc: Global, numbers: &[u64]) -> Result<Links, AllocError> {
+fn links_to(alloc: Global, numbers: &[u64]) -> Result<Links, AllocError>
+    ensures { IfOk result (λ v. v ≡ set.from_list numbers.now) }
+{
     let mut links = Links::new(alloc);
     for number in numbers {
         links.insert(ObjId::new(*number))?;
@@ -50,6 +59,7 @@ fn links_to(alloc: Global, numbers: &[u64]) -> Result<Links, AllocError> {
 }
 
 /// The root container, which links all that boot makes in it; object 2 was boot's thread.
+#[tactic(auto, using(crate::proofs::StartLemmas::range_next))]
 fn push_root<S: LabelStore + Drop>(
     alloc: Global,
     objects: &mut LabelledObjects<S>,
@@ -57,7 +67,8 @@ fn push_root<S: LabelStore + Drop>(
 ) -> Result<(), AllocError>
     requires first { objects.old.next_object ≡ 1 }
     requires few { users ≤ 16 }
-    ensures { OnOk result (objects.new.next_object ≡ 3) }
+    ensures counted { OnOk result (objects.new.next_object ≡ 3) }
+    ensures made { OnOk result (state_of objects.new ≡ with_all (state_of objects.old) (of_root users)) }
 {
     let label = label_of(alloc, Level::L1, &[(Category::new(BOOT), Level::L0)])?;
     let mut links = Links::new(alloc);
@@ -78,7 +89,8 @@ fn push_user<S: LabelStore + Drop>(
     user: &User,
 ) -> Result<(), AllocError>
     requires { objects.old.next_object < 1000 }
-    ensures { OnOk result (objects.new.next_object ≡ objects.old.next_object + 2) }
+    ensures counted { OnOk result (objects.new.next_object ≡ objects.old.next_object + 2) }
+    ensures made { OnOk result (state_of objects.new ≡ with_all (state_of objects.old) (of_user number user.now)) }
 {
     let (read, write) = (read_category(number), write_category(number));
     let secret = label_of(alloc, Level::L1, &[(read, Level::L3), (write, Level::L0)])?;
@@ -101,7 +113,8 @@ fn push_users<S: LabelStore + Drop>(
 ) -> Result<(), AllocError>
     requires first { objects.old.next_object ≡ 3 }
     requires few { length users.now ≤ 16 }
-    ensures { OnOk result (objects.new.next_object ≡ 3 + 2 * length users.now) }
+    ensures counted { OnOk result (objects.new.next_object ≡ 3 + 2 * length users.now) }
+    ensures made { OnOk result (state_of objects.new ≡ with_all (state_of objects.old) (of_users users.now)) }
 {
     for (i, user) in users.iter().enumerate() {
         push_user(alloc, objects, i as u8 + 1, user)?;
@@ -119,18 +132,21 @@ fn push_entry(
     password: u64,
 ) -> Result<(), AllocError>
     requires { length name.now ≤ 32 }
+    ensures { OnOk result (table.new.items ≡ table.old.items ++ user_entry name.now number gate password) }
 {
     table.push(name.len() as u8)?;
     table.extend_from_slice(name)?;
     table.extend_from_slice(&read_category(number).number().to_be_bytes())?;
     table.extend_from_slice(&write_category(number).number().to_be_bytes())?;
     table.extend_from_slice(&gate.to_be_bytes())?;
-    table.extend_from_slice(&password.to_be_bytes())
+    table.extend_from_slice(&password.to_be_bytes())?;
+    Ok(())
 }
 
 /// The bytes of the user table: nobody first, then the users in their order.
 fn user_table(alloc: Global, users: &[User]) -> Result<Bytes, AllocError>
     requires { length users.now ≤ 16 }
+    ensures { IfOk result (λ b. b ≡ user_table users.now) }
 {
     let mut table = Vec::new(alloc);
     push_entry(&mut table, b"nobody", 0, 0, 0)?;
@@ -155,7 +171,8 @@ fn push_directory<S: LabelStore + Drop>(
 ) -> Result<(), AllocError>
     requires room { objects.old.next_object < 1000 }
     requires few { length users.now ≤ 16 }
-    ensures { OnOk result (objects.new.next_object ≡ objects.old.next_object + 3) }
+    ensures counted { OnOk result (objects.new.next_object ≡ objects.old.next_object + 3) }
+    ensures made { OnOk result (state_of objects.new ≡ with_all (state_of objects.old) (of_directory (length users.now) users.now)) }
 {
     let label = label_of(alloc, Level::L1, &[(Category::new(BOOT), Level::L0)])?;
     let table = user_table(alloc, users)?;
@@ -167,7 +184,9 @@ fn push_directory<S: LabelStore + Drop>(
 }
 
 /// The bytes of the process segment of process 0: it runs, and no child was born.
-fn process_bytes(alloc: Global, internal: u64, thread: u64) -> Result<Bytes, AllocError> {
+fn process_bytes(alloc: Global, internal: u64, thread: u64) -> Result<Bytes, AllocError>
+    ensures { IfOk result (λ b. b ≡ process_bytes internal thread) }
+{
     let mut bytes = Vec::from_slice(alloc, b"r\0\0")?;
     bytes.extend_from_slice(&internal.to_be_bytes())?;
     bytes.extend_from_slice(&thread.to_be_bytes())?;
@@ -182,6 +201,7 @@ fn push_process<S: LabelStore + Drop>(
 ) -> Result<(), AllocError>
     requires room { objects.old.next_object < 1000 }
     requires few { users ≤ 16 }
+    ensures { OnOk result (state_of objects.new ≡ with_all (state_of objects.old) (of_process users)) }
 {
     let (read, write) = (own_read_category(users), own_write_category(users));
     let guarded = label_of(alloc, Level::L1, &[(write, Level::L0)])?;
@@ -198,7 +218,8 @@ fn push_process<S: LabelStore + Drop>(
     let most = label_of(alloc, Level::L2, &[(read, Level::L3), (write, Level::L3)])?;
     objects.push(own, Kind::Thread(most))?;
     let bytes = process_bytes(alloc, 2 * users + 7, 2 * users + 8)?;
-    objects.push(guarded, Kind::Segment(bytes))
+    objects.push(guarded, Kind::Segment(bytes))?;
+    Ok(())
 }
 
 /// The objects with which a machine starts, the places of `/`, and the thread of process 0.
@@ -208,6 +229,9 @@ pub fn start_objects<S: LabelStore + Drop>(
     users: &[User],
 ) -> Result<(LabelledObjects<S>, Places, ObjId), AllocError>
     requires { length users.now ≤ 16 }
+    ensures state { IfOk result (λ r. state_of r.0 ≡ start_state users.now) }
+    ensures places { IfOk result (λ r. r.1 ≡ places_of (length users.now)) }
+    ensures thread { IfOk result (λ r. r.2 ≡ thread_number (length users.now)) }
 {
     let count = users.len() as u64;
     let mut objects = LabelledObjects::new(alloc, store, 1, 2 * count + 6);

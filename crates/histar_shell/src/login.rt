@@ -1,7 +1,7 @@
 //! Logging in, while it is not made of raw calls yet.
 ghost use Rattle.std.specs.Prelude.{◌≡◌, ◌+◌, ◌<◌, ◌≤◌, length, IfOk};
 ghost use Rattle.std.specs.Option.{option_copied};
-ghost use Rattle.histar_shell.specs.Login.{place_of, has_password, LogsIn};
+ghost use Rattle.histar_shell.specs.Login.{place_of, has_password, user_label, user_clearance, LogsIn};
 
 use crate::boot::{label_of, own_read_category, own_write_category};
 use histar_calls::{Stopped, read_category, write_category};
@@ -14,6 +14,7 @@ use std::alloc::{AllocError, Global};
 /// The label and the clearance of process 0 as this user's: it owns the user's categories and its own.
 fn user_labels(alloc: Global, users: u64, number: u8) -> Result<(Label, Label), AllocError>
     requires { users ≤ 16 }
+    ensures { IfOk result (λ own. (own.0 ≡ user_label users number) × (own.1 ≡ user_clearance users number)) }
 {
     let owned = [
         read_category(number),
@@ -62,7 +63,7 @@ pub fn login<S: LabelStore + Drop>(
     password: Password,
 ) -> Result<Reply, Stopped>
     requires { length users.now ≤ 16 }
-    ensures { IfOk result (LogsIn users.now kernel.old kernel.new name password) }
+    ensures { IfOk result (LogsIn users.now kernel.old kernel.new thread name password) }
 {
     let Some(at) = place_of(users, name) else {
         return Ok(Reply::Refused(Errno::ENOENT));

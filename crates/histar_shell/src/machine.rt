@@ -60,7 +60,7 @@ impl<S: LabelStore + Drop> Model for Machine<S> {
 
     ghost coded = { coded_running };
 
-    ghost view = { λ m. record { kernel = m.kernel; thread = m.thread; users = m.users.items; is_stopped = m.is_stopped } };
+    ghost view = { λ m. record { kernel = m.kernel; places = m.places; thread = m.thread; users = m.users.items; is_stopped = m.is_stopped } };
 
     ghost invariant = { λ m. length m.users.items ≤ 16 };
 }

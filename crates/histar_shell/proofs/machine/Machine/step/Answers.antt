@@ -8,8 +8,8 @@ use Rattle.histar_shell.proofs.machine.Machine.step.Goals as goal
 
 pub returns : goal.returns
 returns g c =
-    let before : Running = record { kernel = c.self.inside.kernel; thread = c.self.inside.thread; users = c.self.inside.users.items; is_stopped = c.self.inside.is_stopped } in
-    let left : Running = record { kernel = c.make-result.new.kernel; thread = c.self.inside.thread; users = c.self.inside.users.items; is_stopped = c.is_err-self-inside.result } in
+    let before : Running = record { kernel = c.self.inside.kernel; places = c.self.inside.places; thread = c.self.inside.thread; users = c.self.inside.users.items; is_stopped = c.self.inside.is_stopped } in
+    let left : Running = record { kernel = c.make-result.new.kernel; places = c.self.inside.places; thread = c.self.inside.thread; users = c.self.inside.users.items; is_stopped = c.is_err-self-inside.result } in
     let is_zero : c.is_zero.result ≡ true = search rules in
     let made = subst (λ (users : List User). IfOk c.make-result.result (Makes users c.begin.new.self c.make-result.new.kernel c.self.inside.thread c.args.call)) c.as_slice-users.ensures.value c.make-result.ensures in
     let makes = subst (λ (k : Traced). IfOk c.make-result.result (Makes c.self.inside.users.items k c.make-result.new.kernel c.self.inside.thread c.args.call)) c.begin.ensures made in
