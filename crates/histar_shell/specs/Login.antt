@@ -1,5 +1,5 @@
 -- Logging in, while it is not made of raw calls yet.
-use Rattle.std.specs.Prelude.{◌≡◌, ℕ, ◌+◌, Bool, true, false, List, [], ◌∷◌, length, Option, None, Some, position, slice_get}
+use Rattle.std.specs.Prelude.{◌≡◌, ℕ, ◌+◌, Bool, true, false, List, [], ◌∷◌, length, Option, None, Some, position, slice_get, Result, Ok, Err}
 use Rattle.std.specs.Str.{bytes_eq}
 use Rattle.histar_flat.specs.declared.calls.User.{User}
 use Rattle.histar_flat.specs.declared.replies.Errno.TheVariants.{ENOENT, EAUTH}
@@ -10,7 +10,8 @@ use Rattle.histar_label.specs.declared.levels.Level.{Level}
 use Rattle.histar_label.specs.declared.levels.Level.TheVariants.{Star, L1, L2, L3}
 use Rattle.histar_label.specs.Levels.{Levels}
 use Rattle.histar_object.specs.State.{with_own}
-use Rattle.histar_syscall.specs.Traced.{Traced, state}
+use Rattle.histar_syscall.specs.Traced.{Traced, state, IsUnchanged}
+use Rattle.histar_calls.specs.declared.stopping.Stopped.{Stopped}
 use Rattle.histar_calls.specs.Categories.{read_category, write_category}
 use Rattle.histar_shell.specs.Start.{labelled, own_read_category, own_write_category}
 
@@ -68,6 +69,7 @@ ChangesAsTold users place thread old new (Data bytes) = ⊥
 ChangesAsTold users place thread old new (Refused errno) = new ≡ old
 ChangesAsTold users place thread old new Gone = ⊥
 
--- what a login does to the kernel, and what it is answered
-abbrev pub LogsIn : List User → Traced → Traced → ℕ → Name → List ℕ → Reply → Type 0
-LogsIn users old new thread name password reply = (reply ≡ login_reply users name password) × ChangesAsTold users (place_of users name) thread old new reply
+-- what a login does to the kernel, and what it is answered; where memory ran out nothing has changed
+abbrev pub LogsIn : List User → Traced → Traced → ℕ → Name → List ℕ → Result Reply Stopped → Type 0
+LogsIn users old new thread name password (Ok reply) = (reply ≡ login_reply users name password) × ChangesAsTold users (place_of users name) thread old new reply
+LogsIn users old new thread name password (Err stopped) = IsUnchanged old new

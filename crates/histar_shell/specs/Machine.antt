@@ -1,5 +1,5 @@
 -- What a machine keeps, and what a call line does to it.
-use Rattle.std.specs.Prelude.{◌≡◌, ℕ, Bool, true, false, List, [], ◌∷◌, length, Result, Ok, Err, IsErr, refl}
+use Rattle.std.specs.Prelude.{◌≡◌, ℕ, Bool, true, false, List, [], ◌∷◌, length, Result, Ok, IfOk, IsErr, is_err, refl}
 use Rattle.std.specs.Coded.{Coded, code_by, coded×, coded_ℕ, coded_bool, coded_list}
 use Rattle.histar_flat.specs.declared.calls.User.{User}
 use Rattle.histar_flat.specs.contracts.calls.User as user
@@ -11,6 +11,7 @@ use Rattle.histar_flat.specs.Words.{ProcName}
 use Rattle.histar_syscall.specs.Traced.{Traced, coded_traced, state}
 use Rattle.histar_calls.specs.declared.places.Places.{Places}
 use Rattle.histar_calls.specs.contracts.places.Places as where_is
+use Rattle.histar_calls.specs.Follows.{ReadsFile, WritesFile, MakesFile}
 use Rattle.histar_calls.specs.Replies.{Replies}
 use Rattle.histar_shell.specs.Login.{LogsIn}
 use Rattle.histar_shell.specs.Start.{places_of, thread_number, start_state}
@@ -42,18 +43,26 @@ pub record IsStart (declared : List User) (m : Running) : Type 0 where
 abbrev pub on_line : ℕ → Traced → Traced
 on_line line k = record { kept = k.kept; line = line; trace = k.trace }
 
--- A call other than a login is made of raw calls of the thread on the line that was begun, and tells EACCES and EPERM exactly
--- where the kernel refused one of them so.
-abbrev pub Makes : List User → Traced → Traced → ℕ → UnixCall → Reply → Type 0
-Makes users old new thread (Create path mode) reply = Replies old new thread reply
-Makes users old new thread (Write path bytes) reply = Replies old new thread reply
-Makes users old new thread (Read path) reply = Replies old new thread reply
-Makes users old new thread (Login name password) reply = LogsIn users old new thread name password reply
+-- A call other than a login follows its plan of raw calls, by the thread on the line that was begun, and answers EACCES and
+-- EPERM exactly where the kernel refused one of them so.
+abbrev pub Makes : List User → Places → Traced → Traced → ℕ → UnixCall → Result Reply Stopped → Type 0
+Makes users places old new thread (Create path mode) result = MakesFile places old new thread path mode result × IfOk result (Replies old new thread)
+Makes users places old new thread (Write path bytes) result = WritesFile places old new thread path bytes result × IfOk result (Replies old new thread)
+Makes users places old new thread (Read path) result = ReadsFile places old new thread path result × IfOk result (Replies old new thread)
+Makes users places old new thread (Login name password) result = LogsIn users old new thread name password result
 
--- a running machine: a process that was never born is gone and nothing changes, process 0 has its call done
+-- The call was made by the thread on the line that was begun; the machine has the places, the thread and the users that it
+-- had, and has stopped where the call ended without an answer.
+pub record HasMade (old new : Running) (line : ℕ) (call : UnixCall) (result : Result Reply Stopped) : Type 0 where
+  pub made : Makes old.users old.places (on_line line old.kernel) new.kernel old.thread call result
+  pub places : new.places ≡ old.places
+  pub thread : new.thread ≡ old.thread
+  pub users : new.users ≡ old.users
+  pub stops : new.is_stopped ≡ is_err result
+
+-- a running machine: a process that was never born is gone and nothing changes, process 0 has its call made
 abbrev pub Runs : Running → Running → ℕ → ProcName → UnixCall → Result Reply Stopped → Type 0
-Runs old new line [] call (Ok reply) = Makes old.users (on_line line old.kernel) new.kernel old.thread call reply × (new.is_stopped ≡ false)
-Runs old new line [] call (Err stopped) = new.is_stopped ≡ true
+Runs old new line [] call result = HasMade old new line call result
 Runs old new line (n ∷ process) call result = (result ≡ Ok Gone) × (new ≡ old)
 
 -- a machine that has stopped does nothing, and answers so

@@ -63,7 +63,7 @@ pub fn login<S: LabelStore + Drop>(
     password: Password,
 ) -> Result<Reply, Stopped>
     requires { length users.now ≤ 16 }
-    ensures { IfOk result (LogsIn users.now kernel.old kernel.new thread name password) }
+    ensures { LogsIn users.now kernel.old kernel.new thread name password result }
 {
     let Some(at) = place_of(users, name) else {
         return Ok(Reply::Refused(Errno::ENOENT));

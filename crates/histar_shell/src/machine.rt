@@ -134,7 +134,7 @@ fn make<S: LabelStore + Drop>(
     call: UnixCall,
 ) -> Result<Reply, Stopped>
     requires { length users.now ≤ 16 }
-    ensures { IfOk result (Makes users.now kernel.old kernel.new thread call) }
+    ensures { Makes users.now places.now kernel.old kernel.new thread call result }
 {
     match call {
         UnixCall::Create(path, mode) => create(kernel, alloc, places, thread, &path, mode),

@@ -1,5 +1,4 @@
-use Rattle.std.proofs.Common.{◌≡◌, true, List, rules, subst}
-use Rattle.std.specs.Prelude.{IfOk}
+use Rattle.std.proofs.Common.{◌≡◌, true, List, rules, refl, subst}
 use Rattle.histar_flat.specs.declared.calls.User.{User}
 use Rattle.histar_shell.specs.Machine.{Running, Makes, Answers}
 use Rattle.histar_syscall.specs.Traced.{Traced}
@@ -11,7 +10,8 @@ returns g c =
     let before : Running = record { kernel = c.self.inside.kernel; places = c.self.inside.places; thread = c.self.inside.thread; users = c.self.inside.users.items; is_stopped = c.self.inside.is_stopped } in
     let left : Running = record { kernel = c.make-result.new.kernel; places = c.self.inside.places; thread = c.self.inside.thread; users = c.self.inside.users.items; is_stopped = c.is_err-self-inside.result } in
     let is_zero : c.is_zero.result ≡ true = search rules in
-    let made = subst (λ (users : List User). IfOk c.make-result.result (Makes users c.begin.new.self c.make-result.new.kernel c.self.inside.thread c.args.call)) c.as_slice-users.ensures.value c.make-result.ensures in
-    let makes = subst (λ (k : Traced). IfOk c.make-result.result (Makes c.self.inside.users.items k c.make-result.new.kernel c.self.inside.thread c.args.call)) c.begin.ensures made in
+    let made = subst (λ (users : List User). Makes users c.self.inside.places c.begin.new.self c.make-result.new.kernel c.self.inside.thread c.args.call c.make-result.result) c.as_slice-users.ensures.value c.make-result.ensures in
+    let makes = subst (λ (k : Traced). Makes c.self.inside.users.items c.self.inside.places k c.make-result.new.kernel c.self.inside.thread c.args.call c.make-result.result) c.begin.ensures made in
     subst (λ (m : Running). Answers m left c.args.line c.args.process.now c.args.call c.make-result.result) c.self.view_is
-    (had_made before left c.args.line c.args.process.now c.args.call c.make-result.result c.if-self.false (c.is_zero.ensures.0 is_zero) makes c.is_err-self-inside.ensures.value)
+    (had_made before left c.args.line c.args.process.now c.args.call c.make-result.result c.if-self.false (c.is_zero.ensures.0 is_zero)
+    (record { made = makes; places = refl; thread = refl; users = refl; stops = c.is_err-self-inside.ensures.value }))
