@@ -231,3 +231,62 @@ fn a_plain_store(rt: HostRuntime) -> Result<(), Fail> {
     assert!(rt; empty.get(id).is_none());
     Ok(())
 }
+
+/// A label that needs an allocation of its own: this level at categories 1 to 6, and 1 elsewhere.
+fn at_six(alloc: Global, level: Level) -> Result<Label, OutOfMemory> {
+    let mut label = Label::new(alloc, Level::L1);
+    for category in 1..7 {
+        label = label.with(Category::new(category), level)?;
+    }
+    Ok(label)
+}
+
+/// The label has this level at categories 1 to 6, and 1 elsewhere.
+fn is_at_six(rt: &impl Abort, label: &Label, level: Level) {
+    for category in 1..7 {
+        assert_eq!(rt; label.get(Category::new(category)), level);
+    }
+    assert_eq!(rt; label.exceptions().len(), 6);
+    assert_eq!(rt; label.default_level(), Level::L1);
+}
+
+/// Tried with each allocation failing in turn: a call that finds no memory leaves its labels as they
+/// were, and one that finds some makes the right label.
+#[test]
+fn labels_stay_without_memory(rt: HostRuntime) -> Result<(), Fail> {
+    let low = at_six(rt.alloc(), Level::L0)?;
+    let high = at_six(rt.alloc(), Level::L3)?;
+    if let Ok(more) = low.with(seven(), Level::L2) {
+        assert_eq!(rt; more.get(seven()), Level::L2);
+        assert_eq!(rt; more.get(Category::new(6)), Level::L0);
+    }
+    if let Ok(joined) = low.join(&high) {
+        is_at_six(&rt, &joined, Level::L3);
+    }
+    if let Ok(floored) = high.floor(&low) {
+        is_at_six(&rt, &floored, Level::L3);
+    }
+    if let Ok(copied) = low.copy() {
+        is_at_six(&rt, &copied, Level::L0);
+    }
+    is_at_six(&rt, &low, Level::L0);
+    is_at_six(&rt, &high, Level::L3);
+    Ok(())
+}
+
+/// Tried with each allocation failing in turn: a put that finds no memory leaves the labels of a
+/// store as they were.
+#[test]
+fn a_store_stays_without_memory(rt: HostRuntime) -> Result<(), Fail> {
+    let mut store = PlainStore::new(rt.alloc());
+    let first = store.put(at_seven(rt.alloc(), Level::L2)?)?;
+    for &row in &ROWS {
+        if let Ok(id) = store.put(at_seven(rt.alloc(), row.0)?) {
+            let found = store.get(id).map(|label| label.get(seven()));
+            assert_eq!(rt; found, Some(row.0));
+        }
+        let found = store.get(first).map(|label| label.get(seven()));
+        assert_eq!(rt; found, Some(Level::L2));
+    }
+    Ok(())
+}
