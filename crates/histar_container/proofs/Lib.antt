@@ -1,3 +1,6 @@
 pub mod Links
 pub mod Shows
 pub mod Keeping
+pub mod Addresses
+pub mod Reaching
+pub mod Moves
