@@ -4,3 +4,4 @@ pub mod Keeping
 pub mod Addresses
 pub mod Reaching
 pub mod Moves
+pub mod Cutting

@@ -1,12 +1,14 @@
 -- What an object links, and what it links after a change.
-use Rattle.std.proofs.Common.{◌≡◌, ℕ, false, Option, None, Some, Result, Ok, Err, OnOk, OnErr, OnSome, sym, ap, ◌∙◌}
+use Rattle.std.proofs.Common.{◌≡◌, ℕ, Bool, true, false, ◌||◌, ◌&&◌, not, nat_eq, Option, None, Some, Result, Ok, Err, OnOk, OnErr, OnSome, refl, sym, ap, ◌∙◌}
+use Rattle.std.specs.Prelude.{option_map}
+use Rattle.std.specs.Cmp.{nat_cmp_total, unsigned_tied}
 use Rattle.std.specs.FinSet as set
 use Rattle.std.specs.Ordering.{nat_cmp}
 use mathlib.Core.Bool.{false≢true}
 use Rattle.histar_object.specs.declared.objects.Kind.{Kind}
 use Rattle.histar_object.specs.declared.objects.Kind.TheVariants.{Segment, Container, Thread, Gate}
 use Rattle.histar_object.specs.declared.objects.Object.{Object}
-use Rattle.histar_object.specs.Objects.{Numbers, Objects, put, changed_at, kind_linking, linking, kind_links, links_in, kind_is_container}
+use Rattle.histar_object.specs.Objects.{Numbers, Objects, put, changed_at, kind_linking, linking, kind_unlinking, unlinking, kind_links, links_in, kind_is_container, is_container}
 use Rattle.histar_object.proofs.Changes.{put_back, put_changed}
 
 -- what holds where an object is lent holds here
@@ -17,6 +19,11 @@ on_some (Some y) x P e h = h
 -- the empty set has no number
 pub none_linked : (n : ℕ) → false ≡ set.contains (set.empty {R = nat_cmp}) n
 none_linked n = sym (set.contains-empty nat_cmp n)
+
+-- the empty set has no number, whatever is tested too
+none_linked_and : (b : Bool) (c : ℕ) → set.contains (set.empty {R = nat_cmp}) c ≡ (b && set.contains (set.empty {R = nat_cmp}) c)
+none_linked_and true c = refl
+none_linked_and false c = sym (none_linked c)
 
 module _ {L : Type 0} where
   -- what is not there links nothing
@@ -29,6 +36,30 @@ module _ {L : Type 0} where
   kind_links_none (Container links) n e = absurd (false≢true (sym e))
   kind_links_none (Thread clearance) n e = none_linked n
   kind_links_none (Gate clearance entry) n e = none_linked n
+
+  -- what a kind links with one link less
+  kind_unlinked_links : (k : Kind L) (n c : ℕ) → set.contains (kind_links (kind_unlinking n k)) c ≡ (not (nat_eq c n) && set.contains (kind_links k) c)
+  kind_unlinked_links (Segment bytes) n c = none_linked_and _ c
+  kind_unlinked_links (Container links) n c = set.contains-remove nat_cmp_total links n c ∙ ap (λ b. not b && set.contains links c) (unsigned_tied c n)
+  kind_unlinked_links (Thread clearance) n c = none_linked_and _ c
+  kind_unlinked_links (Gate clearance entry) n c = none_linked_and _ c
+
+  -- what an object links with one link less
+  pub unlinked_links : (o : Option (Object L)) (n c : ℕ) → set.contains (links_in (option_map (unlinking n) o)) c ≡ (not (nat_eq c n) && set.contains (links_in o) c)
+  unlinked_links None n c = none_linked_and _ c
+  unlinked_links (Some o) n c = kind_unlinked_links o.kind n c
+
+  -- what a container links with one link more
+  kind_linked_links : (k : Kind L) (n c : ℕ) → kind_is_container k ≡ true → set.contains (kind_links (kind_linking n k)) c ≡ (nat_eq c n || set.contains (kind_links k) c)
+  kind_linked_links (Segment bytes) n c e = absurd (false≢true e)
+  kind_linked_links (Container links) n c e = set.contains-insert nat_cmp_total links n c ∙ ap (λ b. b || set.contains links c) (unsigned_tied c n)
+  kind_linked_links (Thread clearance) n c e = absurd (false≢true e)
+  kind_linked_links (Gate clearance entry) n c e = absurd (false≢true e)
+
+  -- what a container that is there links with one link more
+  pub linked_links : (o : Option (Object L)) (n c : ℕ) → is_container o ≡ true → set.contains (links_in (option_map (linking n) o)) c ≡ (nat_eq c n || set.contains (links_in o) c)
+  linked_links None n c e = absurd (false≢true e)
+  linked_links (Some o) n c e = kind_linked_links o.kind n c e
 
   module _ (objects : Objects L) (d n : ℕ) (o : Object L) (links : Numbers) (here : Some o ≡ objects d) (is : o.kind ≡ Container links) where
     -- a container whose links grew is the container that links one more
