@@ -5,3 +5,4 @@ pub mod Addresses
 pub mod Reaching
 pub mod Moves
 pub mod Cutting
+pub mod TableMoves

@@ -11,6 +11,10 @@ use Rattle.histar_container.specs.Tree.{Address, Naming, wanted, same, under, is
 use Rattle.histar_container.proofs.Addresses.{Tells, inner, not_true, or_true, or_false, same_tells, same_itself, same_other, under_itself, under_child, under_other, above, longer}
 use Rattle.histar_container.proofs.Reaching.{same_number, reached_under, not_reached, is_reached}
 
+-- what has an address is not the next number
+pub next_unused : {X : Type 0} (same_step : X → X → Bool) {L : Type 0} (objects : Objects L) (next : ℕ) (expected : Address X → Option (Object L)) (naming : Naming X) → IsLaid same_step objects next expected naming → (d : ℕ) (a : Address X) → naming.address d ≡ Some a → d ≢ next
+next_unused same_step objects next expected naming laid d a at_d e = let k : Some a ≡ None = sym at_d ∙ ap naming.address e ∙ laid.unused next (omega arith) in cc
+
 module _ {X : Type 0} (same_step : X → X → Bool) (tells : Tells same_step) {L : Type 0} (objects : Objects L) (next : ℕ) (expected : Address X → Option (Object L)) (naming : Naming X) (laid : IsLaid same_step objects next expected naming) where
   -- the object at n is set, and its links stay
   module _ (new : Objects L) (n : ℕ) (a : Address X) (at_n : naming.address n ≡ Some a) (others : (q : ℕ) → q ≢ n → new q ≡ objects q)
@@ -55,7 +59,7 @@ module _ {X : Type 0} (same_step : X → X → Bool) (tells : Tells same_step) {
     next_empty = laid.unused next (omega arith)
 
     d_old : d ≢ next
-    d_old e = let k : Some a ≡ None = sym at_d ∙ ap naming.address e ∙ next_empty in cc
+    d_old = next_unused same_step objects next expected naming laid d a at_d
 
     new_here : grown.address next ≡ Some (x ∷ a)
     unfolding grown
