@@ -12,7 +12,7 @@ use Rattle.histar_container.proofs.Addresses.{Tells, inner, not_true, same_tells
 use Rattle.histar_container.proofs.Reaching.{same_number, not_reached, is_reached}
 
 -- what is left of a value that may be taken away is that value
-some_left : {A : Type 0} (b : Bool) (y : Option A) (z : A) → (if b then None else y) ≡ Some z → (b ≡ false) × (y ≡ Some z)
+pub some_left : {A : Type 0} (b : Bool) (y : Option A) (z : A) → (if b then None else y) ≡ Some z → (b ≡ false) × (y ≡ Some z)
 some_left true y z e = cc
 some_left false y z e = (refl, e)
 

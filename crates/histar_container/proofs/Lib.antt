@@ -6,3 +6,4 @@ pub mod Reaching
 pub mod Moves
 pub mod Cutting
 pub mod TableMoves
+pub mod Trees
