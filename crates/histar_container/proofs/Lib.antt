@@ -7,3 +7,5 @@ pub mod Moves
 pub mod Cutting
 pub mod TableMoves
 pub mod Trees
+pub mod Gathering
+pub mod Removals

@@ -3,6 +3,8 @@
 
 mod labelled;
 mod linking;
+mod removing;
 
 pub use labelled::LabelledObjects;
 pub use linking::{link_new, linked};
+pub use removing::remove_tree;
