@@ -9,3 +9,4 @@ pub mod TableMoves
 pub mod Trees
 pub mod Gathering
 pub mod Removals
+pub mod Roots

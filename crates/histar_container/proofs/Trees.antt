@@ -9,6 +9,7 @@ use Rattle.histar_object.specs.declared.objects.Kind.{Kind}
 use Rattle.histar_object.specs.declared.objects.Kind.TheVariants.{Segment, Container, Thread, Gate}
 use Rattle.histar_object.specs.declared.objects.Object.{Object}
 use Rattle.histar_object.specs.Objects.{Objects, put, changed_at, with_new, no_objects, linking, unlinking, kind_holding, holding, links_in, kind_links, is_there, is_container}
+use Rattle.histar_object.proofs.Changes.{at_each, put_changed}
 use Rattle.histar_container.specs.Tree.{Address, Naming, wanted, under, is_under, is_child, with_number, without_below, objects_at, IsLaid, IsTree, Reached, IsCut}
 use Rattle.histar_container.proofs.Links.{none_linked}
 use Rattle.histar_container.proofs.Addresses.{inner, or_true}
@@ -19,7 +20,7 @@ use Rattle.histar_container.proofs.TableMoves.{put_here, put_other, new_there, n
 
 module _ {L : Type 0} where
   -- objects that are laid out in some way are laid out as themselves
-  laid_itself : (objects : Objects L) (next : ℕ) (expected : Address ℕ → Option (Object L)) (naming : Naming ℕ) → IsLaid nat_eq objects next expected naming → IsLaid nat_eq objects next (objects_at objects naming) naming
+  pub laid_itself : (objects : Objects L) (next : ℕ) (expected : Address ℕ → Option (Object L)) (naming : Naming ℕ) → IsLaid nat_eq objects next expected naming → IsLaid nat_eq objects next (objects_at objects naming) naming
   laid_itself objects next expected naming laid = record {
     as_expected = λ q. by q (naming.address q) refl;
     numbered = laid.numbered;
@@ -49,6 +50,13 @@ module _ {L : Type 0} where
   changed_there : (f : Object L → Object L) (o : Option (Object L)) → is_there o ≡ true → is_there (option_map f o) ≡ true
   changed_there f None t = t
   changed_there f (Some o) t = refl
+
+  -- other bytes are no other links
+  kind_held_links : (bytes : List ℕ) (k : Kind L) → kind_links (kind_holding bytes k) ≡ kind_links k
+  kind_held_links bytes (Segment old) = refl
+  kind_held_links bytes (Container links) = refl
+  kind_held_links bytes (Thread clearance) = refl
+  kind_held_links bytes (Gate clearance entry) = refl
 
   module _ (objects : Objects L) (root next : ℕ) (tree : IsTree objects root next) where
     -- what is there has an address
@@ -112,6 +120,23 @@ module _ {L : Type 0} where
             | inr e ↦ ap is_there (put_other objects n o q e.1) ∙ tree.filled q a i
           ];
         }
+
+    -- an object is changed, and its links stay
+    pub tree_changed : (n : ℕ) (f : Object L → Object L) → ((o : Object L) → kind_links (f o).kind ≡ kind_links o.kind) → IsTree (changed_at objects n f) root next
+    tree_changed n f same_links = by (objects n) refl
+      where
+        unchanged : objects n ≡ None → objects ≡ changed_at objects n f
+        unchanged none i q = sym (at_each objects n q (option_map f (objects q)) (objects q) (objects q) (λ e. ap (option_map f) (ap objects e ∙ none) ∙ sym (ap objects e ∙ none)) (λ e. refl)) i
+
+        by : (y : Option (Object L)) → objects n ≡ y → IsTree (changed_at objects n f) root next
+        by None is = subst (λ (x : Objects L). IsTree x root next) (unchanged is) tree
+        by (Some o) is =
+            subst (λ (x : Objects L). IsTree x root next) (put_changed objects n f o (sym is))
+            (tree_put n (f o) (ap is_there is) (λ c. ap (λ l. set.contains l c) (same_links o) ∙ ap (λ y. set.contains (links_in y) c) (sym is)))
+
+    -- a segment is given other bytes
+    pub tree_held : (n : ℕ) (bytes : List ℕ) → IsTree (changed_at objects n (holding bytes)) root next
+    tree_held n bytes = tree_changed n (holding bytes) (λ o. kind_held_links bytes o.kind)
 
     -- a new object that links nothing is linked by a container, under the next number
     pub tree_new : (d : ℕ) (o : Object L) → is_container (objects d) ≡ true → ((c : ℕ) → set.contains (kind_links o.kind) c ≡ false) → IsTree (with_new objects d next o) root (next + 1)
