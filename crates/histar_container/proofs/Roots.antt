@@ -86,6 +86,10 @@ module _ {L : Type 0} (root next : ℕ) (o : Object L) (below : root < next) (le
     filled = λ q a i. ap is_there (ap (put no_objects root o) (is_root q a i).0 ∙ put_here no_objects root o);
   }
 
+-- a table that was given its root alone has a tree
+pub tree_first : {L : Type 0} (before after : Objects L) (root : ℕ) (o : Object L) (next : ℕ) → root < next → ((c : ℕ) → set.contains (kind_links o.kind) c ≡ false) → before ≡ no_objects → after ≡ put before root o → IsTree after root next
+tree_first before after root o next below leaf none is = subst (λ (x : Objects _). IsTree x root next) (sym (is ∙ ap (λ (x : Objects _). put x root o) none)) (tree_root root next o below leaf)
+
 -- the root container of the empty kernel before it links the boot thread
 bare_root : Object Levels
 bare_root = record { label = root_object.label; kind = Container set.empty }

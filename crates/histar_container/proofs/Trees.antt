@@ -10,7 +10,7 @@ use Rattle.histar_object.specs.declared.objects.Kind.TheVariants.{Segment, Conta
 use Rattle.histar_object.specs.declared.objects.Object.{Object}
 use Rattle.histar_object.specs.Objects.{Objects, put, changed_at, with_new, no_objects, linking, unlinking, kind_holding, holding, links_in, kind_links, is_there, is_container}
 use Rattle.histar_object.proofs.Changes.{at_each, put_changed}
-use Rattle.histar_container.specs.Tree.{Address, Naming, wanted, under, is_under, is_child, with_number, without_below, objects_at, IsLaid, IsTree, Reached, IsCut}
+use Rattle.histar_container.specs.Tree.{Address, Naming, wanted, under, is_under, is_child, with_number, without_below, objects_at, IsLaid, IsTree, AreTree, Reached, IsCut}
 use Rattle.histar_container.proofs.Links.{none_linked}
 use Rattle.histar_container.proofs.Addresses.{inner, or_true}
 use Rattle.histar_container.proofs.Reaching.{linked_child, child_is, reached_under, under_reached, not_reached, no_way_back, one_holder}
@@ -66,6 +66,10 @@ module _ {L : Type 0} where
         by : (y : Option (Address ℕ)) → tree.naming.address q ≡ y → (a : Address ℕ) × (tree.naming.address q ≡ Some a)
         by None i = absurd (there_not_none (objects q) t (tree.laid.as_expected q ∙ ap (wanted (objects_at objects tree.naming)) i))
         by (Some a) i = (a, i)
+
+    -- nothing is there at the next number
+    pub none_next : objects next ≡ None
+    none_next = tree.laid.as_expected next ∙ ap (wanted (objects_at objects tree.naming)) (tree.laid.unused next (omega arith))
 
     -- what is linked is there
     pub linked_there : (p c : ℕ) → set.contains (links_in (objects p)) c ≡ true → is_there (objects c) ≡ true
@@ -190,3 +194,11 @@ module _ {L : Type 0} where
               | inr e ↦ ap is_there (is_cut.stays q (not_reached nat_eq eqb_tells objects next (objects_at objects tree.naming) tree.naming tree.laid o (at_o.0 ∷ up.0) at_o.1 q kept.0) e.1) ∙ tree.filled q a kept.1
             ];
         }
+
+  -- so what is left is a tree again
+  pub trees_cut : (objects new : Objects L) (d o : ℕ) → AreTree objects → set.contains (links_in (objects d)) o ≡ true → IsCut objects d o new → AreTree new
+  trees_cut objects new d o trees linked is_cut = record { root = trees.root; next = trees.next; tree = tree_cut objects trees.root trees.next trees.tree d o new linked is_cut }
+
+  -- and a table that was given one object more has a tree too
+  pub tree_linked : (before after : Objects L) (root next d n : ℕ) (o : Object L) → IsTree before root next → n ≡ next → is_container (before d) ≡ true → ((c : ℕ) → set.contains (kind_links o.kind) c ≡ false) → after ≡ with_new before d n o → IsTree after root (next + 1)
+  tree_linked before after root next d n o tree same container leaf is = subst (λ (x : Objects L). IsTree x root (next + 1)) (sym (is ∙ ap (λ (k : ℕ). with_new before d k o) same)) (tree_new before root next tree d o container leaf)

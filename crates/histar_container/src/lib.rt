@@ -8,3 +8,6 @@ mod removing;
 pub use labelled::LabelledObjects;
 pub use linking::{link_new, linked};
 pub use removing::remove_tree;
+
+#[cfg(test)]
+mod tests;
