@@ -10,3 +10,4 @@ pub mod Trees
 pub mod Gathering
 pub mod Removals
 pub mod Roots
+pub mod KeepingTrees

@@ -1,5 +1,5 @@
 -- A table whose objects are a tree stays one: an object is put or changed, a new one is linked, a tree is cut off.
-use Rattle.std.proofs.Common.{◌≡◌, ◌≢◌, ℕ, ◌+◌, ◌<◌, ◌≤◌, ◌||◌, ◌==◌, nat_eq, Bool, true, false, List, [], ◌∷◌, Option, None, Some, arith, inl, inr, refl, sym, ap, ◌∙◌, subst, if◌then◌else◌}
+use Rattle.std.proofs.Common.{◌≡◌, ◌≢◌, ℕ, ◌+◌, ◌<◌, ◌≤◌, ◌||◌, ◌==◌, nat_eq, Bool, true, false, List, [], ◌∷◌, Option, None, Some, arith, ◌⊎◌, inl, inr, refl, sym, ap, ◌∙◌, subst, if◌then◌else◌}
 use Rattle.std.specs.Prelude.{is_some, option_map, option_and_then}
 use Rattle.std.specs.FinSet as set
 use mathlib.Core.Bool.{true≢false, false≢true}
@@ -13,7 +13,7 @@ use Rattle.histar_object.proofs.Changes.{at_each, put_changed}
 use Rattle.histar_container.specs.Tree.{Address, Naming, wanted, under, is_under, is_child, with_number, without_below, objects_at, IsLaid, IsTree, AreTree, Reached, IsCut}
 use Rattle.histar_container.proofs.Links.{none_linked}
 use Rattle.histar_container.proofs.Addresses.{inner, or_true}
-use Rattle.histar_container.proofs.Reaching.{linked_child, child_is, reached_under, under_reached, not_reached, no_way_back, one_holder}
+use Rattle.histar_container.proofs.Reaching.{linked_child, child_is, reached_under, under_reached, not_reached, reached_or_not, no_way_back, one_holder}
 use Rattle.histar_container.proofs.Moves.{next_unused}
 use Rattle.histar_container.proofs.Cutting.{some_left}
 use Rattle.histar_container.proofs.TableMoves.{put_here, put_other, new_there, new_holder, new_other, laid_put, laid_new, laid_without}
@@ -109,6 +109,12 @@ module _ {L : Type 0} where
         let up = linked_child nat_eq eqb_tells objects next (objects_at objects tree.naming) tree.naming tree.laid d o k in
         let at_o = child_is nat_eq eqb_tells objects next (objects_at objects tree.naming) tree.naming tree.laid up.0 o up.2 in
         not_reached nat_eq eqb_tells objects next (objects_at objects tree.naming) tree.naming tree.laid o (at_o.0 ∷ up.0) at_o.1 root (ap (is_under nat_eq (at_o.0 ∷ up.0)) tree.rooted)
+
+    -- what is linked reaches each number or does not
+    pub reached_decided : (d o : ℕ) → set.contains (links_in (objects d)) o ≡ true → (q : ℕ) → Reached objects o q ⊎ (Reached objects o q → ⊥)
+    reached_decided d o k =
+        let at_o = address_of o (linked_there d o k) in
+        reached_or_not nat_eq eqb_tells objects next (objects_at objects tree.naming) tree.naming tree.laid o at_o.0 at_o.1
 
     -- an object with the same links is put in the place of one that is there
     pub tree_put : (n : ℕ) (o : Object L) → is_there (objects n) ≡ true → ((c : ℕ) → set.contains (kind_links o.kind) c ≡ set.contains (links_in (objects n)) c) → IsTree (put objects n o) root next
