@@ -1,12 +1,12 @@
 -- The third move of a kernel over objects that are laid out by a naming: a tree is cut off.
-use Rattle.std.proofs.Common.{◌≡◌, ◌≢◌, ℕ, ◌≤◌, ◌||◌, ◌&&◌, not, nat_eq, Bool, true, false, List, [], ◌∷◌, Option, None, Some, ◌⊎◌, inl, inr, refl, sym, ap, ◌∙◌, subst, if◌then◌else◌}
+use Rattle.std.proofs.Common.{◌≡◌, ◌≢◌, ℕ, ◌&&◌, not, nat_eq, Bool, true, false, [], ◌∷◌, Option, None, Some, inl, inr, refl, sym, ap, ◌∙◌, subst, if◌then◌else◌}
 use Rattle.std.specs.Prelude.{is_some}
 use Rattle.std.specs.FinSet as set
 use mathlib.Core.Bool.{true≢false}
 use Rattle.std.proofs.lemmas.Bool.Decides.{eqb_tells}
 use Rattle.histar_object.specs.declared.objects.Object.{Object}
 use Rattle.histar_object.specs.Objects.{Objects, links_in}
-use Rattle.histar_container.specs.Tree.{Address, Naming, wanted, same, under, is_child, is_under, without_below, set_at, cut, IsLaid, Reached, IsCut}
+use Rattle.histar_container.specs.Tree.{Address, Naming, wanted, same, under, is_child, is_under, without_below, set_at, cut, IsLaid, IsCut}
 use Rattle.histar_container.proofs.Links.{unlinked_links}
 use Rattle.histar_container.proofs.Addresses.{Tells, inner, not_true, same_tells, same_itself, same_other, under_itself, under_child, under_other, above}
 use Rattle.histar_container.proofs.Reaching.{same_number, not_reached, is_reached}

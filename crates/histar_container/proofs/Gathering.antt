@@ -1,5 +1,5 @@
 -- How the numbers that are reached from an object are gathered: each number is read once, and what it links is put behind the others.
-use Rattle.std.proofs.Common.{◌≡◌, ◌≢◌, ℕ, ◌+◌, ◌<◌, ◌≤◌, ◌||◌, nat_eq, Bool, true, false, List, [], ◌∷◌, ◌++◌, Some, ◌⊎◌, inl, inr, arith, suc, refl, sym, ap, ◌∙◌, subst, append_assoc, cond, if◌then◌else◌}
+use Rattle.std.proofs.Common.{◌≡◌, ◌≢◌, ℕ, ◌<◌, ◌≤◌, ◌||◌, nat_eq, Bool, true, false, List, [], ◌∷◌, ◌++◌, Some, ◌⊎◌, inl, inr, arith, suc, refl, sym, ap, ◌∙◌, subst, cond, if◌then◌else◌}
 use Rattle.std.specs.List.{AllByRecursion, IsDistinct}
 use Rattle.std.specs.Set.{is_member}
 use Rattle.std.specs.FinSet as set
@@ -62,9 +62,10 @@ at_middle P (y ∷ xs) x ys a = at_middle P xs x ys a.1
 distinct_append : (xs ys : List ℕ) → IsDistinct nat_eq xs → IsDistinct nat_eq ys → ((q : ℕ) → is_member nat_eq xs q ≡ true → is_member nat_eq ys q ≡ false) → IsDistinct nat_eq (xs ++ ys)
 unfolding IsDistinct
 distinct_append [] ys a b apart = b
-distinct_append (x ∷ xs) ys a b apart =
-    (all_append _ xs ys a.0 (differs x ys (apart x (ap (λ t. t || is_member nat_eq xs x) (eq-eqb x x refl)))),
-      distinct_append xs ys a.1 b (λ q k. apart q (ap (λ t. nat_eq q x || t) k ∙ or_true (nat_eq q x))))
+distinct_append (x ∷ xs) ys a b apart = (
+  all_append _ xs ys a.0 (differs x ys (apart x (ap (λ t. t || is_member nat_eq xs x) (eq-eqb x x refl)))),
+  distinct_append xs ys a.1 b (λ q k. apart q (ap (λ t. nat_eq q x || t) k ∙ or_true (nat_eq q x))),
+)
 
 -- a number of a distinct list is not among those before it
 pub distinct_before : (xs : List ℕ) (x : ℕ) (ys : List ℕ) → IsDistinct nat_eq (xs ++ x ∷ ys) → is_member nat_eq xs x ≡ false

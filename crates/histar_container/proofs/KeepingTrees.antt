@@ -1,5 +1,5 @@
 -- What a table keeps, and what it shows, when a tree is taken out of it.
-use Rattle.std.proofs.Common.{◌≡◌, ◌≢◌, ℕ, ◌≤◌, ◌<◌, nat_eq, Bool, true, List, [], ◌∷◌, Option, None, Some, Result, Ok, Err, OnOk, OnErr, IsTrue, inl, inr, refl, sym, ap, ◌∙◌, subst}
+use Rattle.std.proofs.Common.{◌≡◌, ℕ, nat_eq, true, List, Option, None, Some, Result, Ok, Err, OnOk, OnErr, inl, inr, refl, sym, ap, ◌∙◌, subst}
 use Rattle.std.specs.Prelude.{option_map, option_and_then}
 use Rattle.std.specs.FinSet as set
 use Rattle.std.proofs.lemmas.Bool.Decides.{eqb_tells}
@@ -11,10 +11,10 @@ use Rattle.histar_object.specs.declared.objects.Object.{Object}
 use Rattle.histar_object.specs.Objects.{Objects, objects_of, changed_at, kind_unlinking, unlinking, links_in, kind_links, is_there}
 use Rattle.histar_container.specs.Shown.{kind_by, object_by, shown, KindStands, Stands, AllStand, IsUnusedFrom, IsKept}
 use Rattle.histar_container.specs.Kept.{Kept, state_of, CutsOff}
-use Rattle.histar_container.specs.Tree.{Address, Naming, wanted, objects_at, IsLaid, Reached, here, there, IsTree, AreTree, IsCut}
+use Rattle.histar_container.specs.Tree.{Address, Naming, wanted, objects_at, IsLaid, Reached, here, there, AreTree, IsCut}
 use Rattle.histar_container.proofs.Keeping.{by_value, shows_all, stand_changed, unused_changed, map_none}
 use Rattle.histar_container.proofs.TableMoves.{changed_here, changed_other}
-use Rattle.histar_container.proofs.Trees.{laid_itself, reached_decided}
+use Rattle.histar_container.proofs.Trees.{reached_decided}
 
 module _ {L : Type 0} (objects new : Objects L) (trees : AreTree objects) (d o : ℕ) (linked : set.contains (links_in (objects d)) o ≡ true) (is_cut : IsCut objects d o new) where
   -- what is not reached is what it was, but for the link

@@ -10,7 +10,7 @@ use Rattle.std.proofs.lemmas.List.{append-nil}
 use Rattle.histar_object.specs.declared.objects.Kind.{Kind}
 use Rattle.histar_object.specs.declared.objects.Kind.TheVariants.{Segment, Container, Thread, Gate}
 use Rattle.histar_object.specs.declared.objects.Object.{Object}
-use Rattle.histar_object.specs.Objects.{Numbers, Objects, put, changed_at, kind_linking, linking, kind_unlinking, unlinking, IsListOf, AppendsAll, kind_links, links_in, kind_is_container, is_container}
+use Rattle.histar_object.specs.Objects.{Numbers, Objects, put, changed_at, kind_linking, linking, kind_unlinking, unlinking, AppendsAll, kind_links, links_in, kind_is_container, is_container}
 use Rattle.histar_object.proofs.Changes.{put_back, put_changed}
 
 -- what holds where an object is lent holds here

@@ -1,15 +1,15 @@
 -- The three moves of a kernel over objects that are laid out by a naming: an object is set, one is added, a tree is cut off.
-use Rattle.std.proofs.Common.{◌≡◌, ◌≢◌, ℕ, ◌+◌, ◌≤◌, ◌==◌, ◌||◌, ◌&&◌, not, nat_eq, Bool, true, false, List, [], ◌∷◌, Option, None, Some, ◌⊎◌, inl, inr, arith, refl, sym, ap, ◌∙◌, subst, if◌then◌else◌}
-use Rattle.std.specs.Prelude.{is_some, option_map}
+use Rattle.std.proofs.Common.{◌≡◌, ◌≢◌, ℕ, ◌+◌, ◌||◌, nat_eq, Bool, true, false, [], ◌∷◌, Option, None, Some, inl, inr, arith, refl, sym, ap, ◌∙◌, if◌then◌else◌}
+use Rattle.std.specs.Prelude.{is_some}
 use Rattle.std.specs.FinSet as set
 use mathlib.Core.Bool.{true≢false}
 use Rattle.std.proofs.lemmas.Bool.{eq-eqb}
 use Rattle.std.proofs.lemmas.Bool.Decides.{eqb_tells}
 use Rattle.histar_object.specs.declared.objects.Object.{Object}
-use Rattle.histar_object.specs.Objects.{Objects, links_in, unlinking}
-use Rattle.histar_container.specs.Tree.{Address, Naming, wanted, same, under, is_child, is_under, with_number, without_below, set_at, cut, IsLaid, Reached, IsCut}
-use Rattle.histar_container.proofs.Addresses.{Tells, inner, not_true, or_true, or_false, same_tells, same_itself, same_other, under_itself, under_child, under_other, above, longer}
-use Rattle.histar_container.proofs.Reaching.{same_number, reached_under, not_reached, is_reached}
+use Rattle.histar_object.specs.Objects.{Objects, links_in}
+use Rattle.histar_container.specs.Tree.{Address, Naming, wanted, same, is_child, with_number, set_at, IsLaid}
+use Rattle.histar_container.proofs.Addresses.{Tells, inner, same_tells, same_itself, same_other, longer}
+use Rattle.histar_container.proofs.Reaching.{same_number}
 
 -- what has an address is not the next number
 pub next_unused : {X : Type 0} (same_step : X → X → Bool) {L : Type 0} (objects : Objects L) (next : ℕ) (expected : Address X → Option (Object L)) (naming : Naming X) → IsLaid same_step objects next expected naming → (d : ℕ) (a : Address X) → naming.address d ≡ Some a → d ≢ next

@@ -1,14 +1,13 @@
 -- The removal of a tree: the list of what is reached grows as it is read, and then each number of it is taken out of the table.
-use Rattle.std.proofs.Common.{◌≡◌, ◌≢◌, ℕ, ◌+◌, ◌<◌, ◌≤◌, ◌==◌, nat_eq, Bool, true, false, List, [], ◌∷◌, ◌++◌, Option, None, length, get_or, take, drop, inl, inr, arith, refl, sym, ap, ◌∙◌, subst, add-one, length-append, drop-cons, if◌then◌else◌}
+use Rattle.std.proofs.Common.{◌≡◌, ◌≢◌, ℕ, ◌+◌, ◌<◌, ◌≤◌, nat_eq, Bool, true, false, List, [], ◌∷◌, ◌++◌, None, length, get_or, take, drop, inl, inr, arith, refl, sym, ap, ◌∙◌, subst, add-one, length-append, drop-cons, if◌then◌else◌}
 use Rattle.std.proofs.lemmas.List.{append-nil, take-append-le, take-append-drop}
 use Rattle.std.proofs.Math.Seq.{take-suc}
 use Rattle.std.proofs.Math.ListN.{drop_of_length-le}
-use Rattle.std.specs.Prelude.{option_map, ◌↔◌}
+use Rattle.std.specs.Prelude.{◌↔◌}
 use Rattle.std.specs.Set.{is_member}
 use Rattle.std.specs.List.{IsDistinct}
 use Rattle.std.specs.FinSet as set
 use mathlib.Core.Bool.{true≢false}
-use Rattle.std.proofs.lemmas.Bool.{eq-eqb}
 use Rattle.std.proofs.lemmas.Bool.Decides.{eqb_tells}
 use Rattle.histar_object.specs.declared.objects.Object.{Object}
 use Rattle.histar_object.specs.Objects.{Objects, AppendsAll, objects_of, without, changed_at, unlinking, links_in, is_there}
@@ -16,7 +15,7 @@ use Rattle.histar_container.specs.Tree.{Reached, AreTree, IsCut}
 use Rattle.histar_container.proofs.Addresses.{not_true}
 use Rattle.histar_container.proofs.TableMoves.{changed_here, changed_other}
 use Rattle.histar_container.proofs.Trees.{not_back, linked_there, reached_there}
-use Rattle.histar_container.proofs.Gathering.{Gathers, gathers_first, gathers_all, gathers_more, unread, unread_fewer, distinct_before, member_append, member_first, member_second, member_either, member_one, member_itself}
+use Rattle.histar_container.proofs.Gathering.{Gathers, gathers_first, gathers_all, gathers_more, unread, unread_fewer, distinct_before, member_first, member_second, member_either, member_one, member_itself}
 
 -- the first i numbers of a list that has no more are all
 pub take_all : (list : List ℕ) (i : ℕ) → length list ≤ i → take i list ≡ list

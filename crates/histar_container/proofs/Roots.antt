@@ -1,5 +1,5 @@
 -- A root container alone is a tree, and so are the objects of the empty kernel.
-use Rattle.std.proofs.Common.{◌≡◌, ◌≢◌, ℕ, ◌<◌, nat_eq, Bool, true, false, List, [], ◌∷◌, Option, None, Some, ◌⊎◌, inl, inr, arith, refl, sym, ap, ◌∙◌, subst, lit<, if◌then◌else◌}
+use Rattle.std.proofs.Common.{◌≡◌, ◌≢◌, ℕ, ◌<◌, nat_eq, true, false, [], ◌∷◌, Option, None, Some, inl, inr, arith, refl, sym, ap, ◌∙◌, subst, lit<, if◌then◌else◌}
 use Rattle.std.specs.Prelude.{is_some}
 use Rattle.std.specs.FinSet as set
 use Rattle.std.specs.Ordering.{nat_cmp}
@@ -11,7 +11,7 @@ use Rattle.histar_object.specs.declared.objects.Kind.TheVariants.{Container}
 use Rattle.histar_object.specs.declared.objects.Object.{Object}
 use Rattle.histar_object.specs.Objects.{Objects, put, no_objects, with_new, links_in, kind_links, is_there}
 use Rattle.histar_object.specs.State.{root_object, boot_thread, empty_state}
-use Rattle.histar_container.specs.Tree.{Address, Naming, wanted, same, is_child, objects_at, IsLaid, IsTree}
+use Rattle.histar_container.specs.Tree.{Address, Naming, wanted, same, is_child, IsTree}
 use Rattle.histar_container.proofs.Addresses.{inner, same_tells}
 use Rattle.histar_container.proofs.TableMoves.{put_here, put_other}
 use Rattle.histar_container.proofs.Trees.{laid_itself, tree_new}

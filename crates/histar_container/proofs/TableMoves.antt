@@ -1,5 +1,5 @@
 -- The three moves as a table makes them: an object is put or changed, a new one is linked, a tree is cut off.
-use Rattle.std.proofs.Common.{◌≡◌, ◌≢◌, ℕ, ◌+◌, ◌==◌, ◌||◌, nat_eq, Bool, true, false, List, ◌∷◌, Option, None, Some, inl, inr, refl, sym, ap, ◌∙◌, subst, if◌then◌else◌}
+use Rattle.std.proofs.Common.{◌≡◌, ◌≢◌, ℕ, ◌+◌, Bool, true, false, ◌∷◌, Option, None, Some, inl, inr, refl, sym, ap, ◌∙◌, subst, if◌then◌else◌}
 use Rattle.std.specs.Prelude.{option_map}
 use Rattle.std.specs.FinSet as set
 use Rattle.std.proofs.lemmas.Bool.{eq-eqb}
@@ -78,7 +78,7 @@ module _ {X : Type 0} (same_step : X → X → Bool) (tells : Tells same_step) {
       subst (λ (y : Option (Object L)). IsLaid same_step (with_new objects d next o) (next + 1) (set_at same_step (set_at same_step expected (x ∷ a) (Some o)) a y) (with_number same_step naming next (x ∷ a))) (holder ∙ ap (option_map (linking next)) (expected_there d a at_d))
       (subst (λ (y : Option (Object L)). IsLaid same_step (with_new objects d next o) (next + 1) (set_at same_step (set_at same_step expected (x ∷ a) y) a (with_new objects d next o d)) (with_number same_step naming next (x ∷ a))) found
       (laid_added same_step tells objects next expected naming laid (with_new objects d next o) d x a at_d free (new_other objects next d o)
-        (λ c. ap (λ y. set.contains (links_in y) c) found ∙ leaf c) (λ c. ap (λ y. set.contains (links_in y) c) holder ∙ linked_links (objects d) next c container)))
+      (λ c. ap (λ y. set.contains (links_in y) c) found ∙ leaf c) (λ c. ap (λ y. set.contains (links_in y) c) holder ∙ linked_links (objects d) next c container)))
 
   -- what the container d links one step below it is cut off
   pub laid_without : (new : Objects L) (d o : ℕ) (a : Address X) (x : X) → IsCut objects d o new → naming.address o ≡ Some (x ∷ a) → naming.address d ≡ Some a

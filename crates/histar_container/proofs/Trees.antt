@@ -1,18 +1,17 @@
 -- A table whose objects are a tree stays one: an object is put or changed, a new one is linked, a tree is cut off.
-use Rattle.std.proofs.Common.{◌≡◌, ◌≢◌, ℕ, ◌+◌, ◌<◌, ◌≤◌, ◌||◌, ◌==◌, nat_eq, Bool, true, false, List, [], ◌∷◌, Option, None, Some, arith, ◌⊎◌, inl, inr, refl, sym, ap, ◌∙◌, subst, if◌then◌else◌}
-use Rattle.std.specs.Prelude.{is_some, option_map, option_and_then}
+use Rattle.std.proofs.Common.{◌≡◌, ℕ, ◌+◌, nat_eq, true, false, List, [], ◌∷◌, Option, None, Some, arith, ◌⊎◌, inl, inr, refl, sym, ap, ◌∙◌, subst, if◌then◌else◌}
+use Rattle.std.specs.Prelude.{option_map, option_and_then}
 use Rattle.std.specs.FinSet as set
 use mathlib.Core.Bool.{true≢false, false≢true}
-use Rattle.std.proofs.lemmas.Bool.{eq-eqb}
 use Rattle.std.proofs.lemmas.Bool.Decides.{eqb_tells}
 use Rattle.histar_object.specs.declared.objects.Kind.{Kind}
 use Rattle.histar_object.specs.declared.objects.Kind.TheVariants.{Segment, Container, Thread, Gate}
 use Rattle.histar_object.specs.declared.objects.Object.{Object}
-use Rattle.histar_object.specs.Objects.{Objects, put, changed_at, with_new, no_objects, linking, unlinking, kind_holding, holding, links_in, kind_links, is_there, is_container}
+use Rattle.histar_object.specs.Objects.{Objects, put, changed_at, with_new, linking, unlinking, kind_holding, holding, links_in, kind_links, is_there, is_container}
 use Rattle.histar_object.proofs.Changes.{at_each, put_changed}
-use Rattle.histar_container.specs.Tree.{Address, Naming, wanted, under, is_under, is_child, with_number, without_below, objects_at, IsLaid, IsTree, AreTree, Reached, IsCut}
+use Rattle.histar_container.specs.Tree.{Address, Naming, wanted, under, is_under, with_number, without_below, objects_at, IsLaid, IsTree, AreTree, Reached, IsCut}
 use Rattle.histar_container.proofs.Links.{none_linked}
-use Rattle.histar_container.proofs.Addresses.{inner, or_true}
+use Rattle.histar_container.proofs.Addresses.{inner}
 use Rattle.histar_container.proofs.Reaching.{linked_child, child_is, reached_under, under_reached, not_reached, reached_or_not, no_way_back, one_holder}
 use Rattle.histar_container.proofs.Moves.{next_unused}
 use Rattle.histar_container.proofs.Cutting.{some_left}
@@ -156,7 +155,7 @@ module _ {L : Type 0} where
         record {
           naming = with_number nat_eq tree.naming next (next ∷ at_d.0);
           laid = laid_itself (with_new objects d next o) (next + 1) _ (with_number nat_eq tree.naming next (next ∷ at_d.0))
-            (laid_new nat_eq eqb_tells objects next (objects_at objects tree.naming) tree.naming tree.laid d at_d.0 next o at_d.1 (free at_d.0 (tree.naming.number (next ∷ at_d.0)) refl) container leaf);
+              (laid_new nat_eq eqb_tells objects next (objects_at objects tree.naming) tree.naming tree.laid d at_d.0 next o at_d.1 (free at_d.0 (tree.naming.number (next ∷ at_d.0)) refl) container leaf);
           rooted = elim (eqb_tells root next) [
             | inl e ↦ absurd (next_unused nat_eq objects next (objects_at objects tree.naming) tree.naming tree.laid root [] tree.rooted e.1)
             | inr e ↦ ap (λ b. if b then Some (next ∷ at_d.0) else tree.naming.address root) e.0 ∙ tree.rooted
@@ -194,11 +193,11 @@ module _ {L : Type 0} where
           rooted = ap (λ y. if is_under nat_eq (at_o.0 ∷ up.0) y then None else y) tree.rooted;
           own_step = λ q x a i. tree.own_step q x a (some_left _ _ (x ∷ a) i).1;
           filled = λ q a i.
-            let kept = some_left _ _ a i in
-            elim (eqb_tells q d) [
-              | inl e ↦ ap is_there (ap new e.1 ∙ is_cut.unlinked) ∙ changed_there (unlinking o) (objects d) (linker_there (objects d) o k)
-              | inr e ↦ ap is_there (is_cut.stays q (not_reached nat_eq eqb_tells objects next (objects_at objects tree.naming) tree.naming tree.laid o (at_o.0 ∷ up.0) at_o.1 q kept.0) e.1) ∙ tree.filled q a kept.1
-            ];
+              let kept = some_left _ _ a i in
+              elim (eqb_tells q d) [
+                | inl e ↦ ap is_there (ap new e.1 ∙ is_cut.unlinked) ∙ changed_there (unlinking o) (objects d) (linker_there (objects d) o k)
+                | inr e ↦ ap is_there (is_cut.stays q (not_reached nat_eq eqb_tells objects next (objects_at objects tree.naming) tree.naming tree.laid o (at_o.0 ∷ up.0) at_o.1 q kept.0) e.1) ∙ tree.filled q a kept.1
+              ];
         }
 
   -- so what is left is a tree again

@@ -54,11 +54,7 @@ fn reached_from<L>(
 }
 
 // Appends to a list what an object links.
-fn append_links<L>(
-    table: &Table<L>,
-    object: ObjId,
-    list: &mut Vec<ObjId>,
-) -> Result<(), AllocError>
+fn append_links<L>(table: &Table<L>, object: ObjId, list: &mut Vec<ObjId>) -> Result<(), AllocError>
     ensures { OnOk result (AppendsAll (links_in (objects_of table.now object)) list.old.items list.new.items) }
 {
     match table.get(object) {

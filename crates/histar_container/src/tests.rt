@@ -49,12 +49,7 @@ fn is_container(table: &Table<u8>, object: ObjId) -> bool
 }
 
 // The containers below a number, as a tree of some shape.
-fn tree_of(
-    rt: &impl Abort,
-    alloc: Global,
-    shape: Shape,
-    end: u64,
-) -> Result<Table<u8>, AllocError>
+fn tree_of(rt: &impl Abort, alloc: Global, shape: Shape, end: u64) -> Result<Table<u8>, AllocError>
     requires { 2 ≤ end }
     ensures { IfOk result (λ t. IsTree (objects_of t) 1 end) }
 {

@@ -1,4 +1,4 @@
-use Rattle.std.proofs.Common.{◌∙◌, arith}
+use Rattle.std.proofs.Common.{arith}
 use Rattle.histar_object.specs.Objects.{objects_of}
 use Rattle.histar_container.proofs.Removals.{gathers_init, step_gathers, step_in_list, step_fewer, gathers_end}
 use Rattle.histar_container.proofs.removing.reached_from.Goals as goal
@@ -17,9 +17,9 @@ loop-read-smaller g c =
 pub loop-read-preserved : goal.loop-read-preserved
 loop-read-preserved g c = record {
   in_list = step_in_list c.args.table.now c.requires.tree c.args.container c.args.object c.requires.linked c.loop-read.list.items c.append_links.new.list.items c.loop-read.read c.index-number.result.now
-    (omega arith) c.index-number.ensures c.loop-read.invariant.gathers c.in_ok-append_links.ensures;
+      (omega arith) c.index-number.ensures c.loop-read.invariant.gathers c.in_ok-append_links.ensures;
   gathers = step_gathers c.args.table.now c.requires.tree c.args.container c.args.object c.requires.linked c.loop-read.list.items c.append_links.new.list.items c.loop-read.read c.index-number.result.now
-    (omega arith) c.index-number.ensures c.loop-read.invariant.gathers c.in_ok-append_links.ensures;
+      (omega arith) c.index-number.ensures c.loop-read.invariant.gathers c.in_ok-append_links.ensures;
 }
 
 pub returns : goal.returns
