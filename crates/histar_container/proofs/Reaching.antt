@@ -9,6 +9,13 @@ use Rattle.histar_container.specs.Tree.{Address, Naming, wanted, same, under, is
 use Rattle.histar_container.proofs.Links.{none_linked}
 use Rattle.histar_container.proofs.Addresses.{Tells, inner, same_itself, same_is, under_itself, under_child, above}
 
+-- a link from p to c leads from an address to one a step below it
+pub record LinkAt {X : Type 0} (naming : Naming X) (p c : ℕ) : Type 0 where
+  pub above : Address X
+  pub step : X
+  pub at_holder : naming.address p ≡ Some above
+  pub at_linked : naming.address c ≡ Some (step ∷ above)
+
 module _ {X : Type 0} (same_step : X → X → Bool) (tells : Tells same_step) {L : Type 0} (objects : Objects L) (next : ℕ) (expected : Address X → Option (Object L)) (naming : Naming X) (laid : IsLaid same_step objects next expected naming) where
   -- two numbers of one address are the same
   pub same_number : (p q : ℕ) (a : Address X) → naming.address p ≡ Some a → naming.address q ≡ Some a → p ≡ q
@@ -23,7 +30,7 @@ module _ {X : Type 0} (same_step : X → X → Bool) (tells : Tells same_step) {
       by (Some q) i k = (q, laid.addressed a q i)
 
   -- what links something has an address, and what it links has one a step below
-  pub linked_child : (p c : ℕ) → set.contains (links_in (objects p)) c ≡ true → (a : Address X) × (naming.address p ≡ Some a) × (is_child same_step a (naming.address c) ≡ true)
+  linked_child : (p c : ℕ) → set.contains (links_in (objects p)) c ≡ true → (a : Address X) × (naming.address p ≡ Some a) × (is_child same_step a (naming.address c) ≡ true)
   linked_child p c k = by (naming.address p) refl
     where
       by : (x : Option (Address X)) → naming.address p ≡ x → (a : Address X) × (naming.address p ≡ Some a) × (is_child same_step a (naming.address c) ≡ true)
@@ -33,7 +40,7 @@ module _ {X : Type 0} (same_step : X → X → Bool) (tells : Tells same_step) {
       by (Some a) i = (a, i, sym (laid.links p c a i) ∙ k)
 
   -- a child's address is one step below
-  pub child_is : (a : Address X) (c : ℕ) → is_child same_step a (naming.address c) ≡ true → (x : X) × (naming.address c ≡ Some (x ∷ a))
+  child_is : (a : Address X) (c : ℕ) → is_child same_step a (naming.address c) ≡ true → (x : X) × (naming.address c ≡ Some (x ∷ a))
   child_is a c k = by (naming.address c) refl k
     where
       by : (y : Option (Address X)) → naming.address c ≡ y → is_child same_step a y ≡ true → (x : X) × (naming.address c ≡ Some (x ∷ a))
@@ -81,20 +88,24 @@ module _ {X : Type 0} (same_step : X → X → Bool) (tells : Tells same_step) {
         by true e = inl (is_reached q e)
         by false e = inr (not_reached q e)
 
+  -- a link leads one step down
+  pub link_at : (p c : ℕ) → set.contains (links_in (objects p)) c ≡ true → LinkAt naming p c
+  link_at p c k =
+      let up = linked_child p c k in
+      let down = child_is up.0 c up.2 in
+      record { above = up.0; step = down.0; at_holder = up.1; at_linked = down.1 }
+
   -- nothing links what it was reached from
   pub no_way_back : (o q : ℕ) → Reached objects o q → set.contains (links_in (objects q)) o ≡ true → ⊥
   no_way_back o q r k =
-      let up = linked_child q o k in
-      let at_o = child_is up.0 o up.2 in
-      not_reached o (at_o.0 ∷ up.0) at_o.1 q (ap (is_under same_step (at_o.0 ∷ up.0)) up.1 ∙ above same_step tells up.0 at_o.0) r
+      let l = link_at q o k in
+      not_reached o (l.step ∷ l.above) l.at_linked q (ap (is_under same_step (l.step ∷ l.above)) l.at_holder ∙ above same_step tells l.above l.step) r
 
   -- an object is linked by one other at most
   pub one_holder : (p q c : ℕ) → set.contains (links_in (objects p)) c ≡ true → set.contains (links_in (objects q)) c ≡ true → p ≡ q
   one_holder p q c i j =
-      let up = linked_child p c i in
-      let over = linked_child q c j in
-      let first = child_is up.0 c up.2 in
-      let second = child_is over.0 c over.2 in
-      let e : first.0 ∷ up.0 ≡ second.0 ∷ over.0 = inner (first.0 ∷ up.0) (second.0 ∷ over.0) (sym first.1 ∙ second.1) in
-      let tail : up.0 ≡ over.0 = cc in
-      same_number p q up.0 up.1 (over.1 ∙ ap Some (sym tail))
+      let l = link_at p c i in
+      let m = link_at q c j in
+      let e : l.step ∷ l.above ≡ m.step ∷ m.above = inner (l.step ∷ l.above) (m.step ∷ m.above) (sym l.at_linked ∙ m.at_linked) in
+      let same_above : l.above ≡ m.above = cc in
+      same_number p q l.above l.at_holder (m.at_holder ∙ ap Some (sym same_above))

@@ -1,5 +1,5 @@
 -- A table whose objects are a tree stays one: an object is put or changed, a new one is linked, a tree is cut off.
-use Rattle.std.proofs.Common.{◌≡◌, ℕ, ◌+◌, nat_eq, true, false, List, [], ◌∷◌, Option, None, Some, arith, ◌⊎◌, inl, inr, refl, sym, ap, ◌∙◌, subst, if◌then◌else◌}
+use Rattle.std.proofs.Common.{◌≡◌, ◌≢◌, ℕ, ◌+◌, nat_eq, true, false, List, [], ◌∷◌, Option, None, Some, arith, ◌⊎◌, inl, inr, refl, sym, ap, ◌∙◌, subst, if◌then◌else◌}
 use Rattle.std.specs.Prelude.{option_map, option_and_then}
 use Rattle.std.specs.FinSet as set
 use mathlib.Core.Bool.{true≢false, false≢true}
@@ -12,7 +12,7 @@ use Rattle.histar_object.proofs.Changes.{at_each, put_changed}
 use Rattle.histar_container.specs.Tree.{Address, Naming, wanted, under, is_under, with_number, without_below, objects_at, IsLaid, IsTree, AreTree, Reached, IsCut}
 use Rattle.histar_container.proofs.Links.{none_linked}
 use Rattle.histar_container.proofs.Addresses.{inner}
-use Rattle.histar_container.proofs.Reaching.{linked_child, child_is, reached_under, under_reached, not_reached, reached_or_not, no_way_back, one_holder}
+use Rattle.histar_container.proofs.Reaching.{LinkAt, link_at, reached_under, under_reached, not_reached, reached_or_not, no_way_back, one_holder}
 use Rattle.histar_container.proofs.Moves.{next_unused}
 use Rattle.histar_container.proofs.Cutting.{some_left}
 use Rattle.histar_container.proofs.TableMoves.{put_here, put_other, new_there, new_holder, new_other, laid_put, laid_new, laid_without}
@@ -51,7 +51,7 @@ module _ {L : Type 0} where
   changed_there f (Some o) t = refl
 
   -- other bytes are no other links
-  kind_held_links : (bytes : List ℕ) (k : Kind L) → kind_links (kind_holding bytes k) ≡ kind_links k
+  pub kind_held_links : (bytes : List ℕ) (k : Kind L) → kind_links (kind_holding bytes k) ≡ kind_links k
   kind_held_links bytes (Segment old) = refl
   kind_held_links bytes (Container links) = refl
   kind_held_links bytes (Thread clearance) = refl
@@ -66,6 +66,18 @@ module _ {L : Type 0} where
         by None i = absurd (there_not_none (objects q) t (tree.laid.as_expected q ∙ ap (wanted (objects_at objects tree.naming)) i))
         by (Some a) i = (a, i)
 
+    -- a link leads one step down
+    link_addresses : (p c : ℕ) → set.contains (links_in (objects p)) c ≡ true → LinkAt tree.naming p c
+    link_addresses = link_at nat_eq eqb_tells objects next (objects_at objects tree.naming) tree.naming tree.laid
+
+    -- what has no address at a or below is not reached from there
+    not_below : (o : ℕ) (a : Address ℕ) → tree.naming.address o ≡ Some a → (q : ℕ) → is_under nat_eq a (tree.naming.address q) ≡ false → Reached objects o q → ⊥
+    not_below = not_reached nat_eq eqb_tells objects next (objects_at objects tree.naming) tree.naming tree.laid
+
+    -- what has an address is not the next number
+    not_next : (q : ℕ) (a : Address ℕ) → tree.naming.address q ≡ Some a → q ≢ next
+    not_next = next_unused nat_eq objects next (objects_at objects tree.naming) tree.naming tree.laid
+
     -- nothing is there at the next number
     pub none_next : objects next ≡ None
     none_next = tree.laid.as_expected next ∙ ap (wanted (objects_at objects tree.naming)) (tree.laid.unused next (omega arith))
@@ -73,9 +85,7 @@ module _ {L : Type 0} where
     -- what is linked is there
     pub linked_there : (p c : ℕ) → set.contains (links_in (objects p)) c ≡ true → is_there (objects c) ≡ true
     linked_there p c k =
-        let up = linked_child nat_eq eqb_tells objects next (objects_at objects tree.naming) tree.naming tree.laid p c k in
-        let at_c = child_is nat_eq eqb_tells objects next (objects_at objects tree.naming) tree.naming tree.laid up.0 c up.2 in
-        tree.filled c (at_c.0 ∷ up.0) at_c.1
+        let l = link_addresses p c k in tree.filled c (l.step ∷ l.above) l.at_linked
 
     -- what is reached from what is there is there
     pub reached_there : (o q : ℕ) → is_there (objects o) ≡ true → Reached objects o q → is_there (objects q) ≡ true
@@ -105,9 +115,7 @@ module _ {L : Type 0} where
     -- and the root is reached from nothing that is linked
     pub root_not_reached : (d o : ℕ) → set.contains (links_in (objects d)) o ≡ true → Reached objects o root → ⊥
     root_not_reached d o k =
-        let up = linked_child nat_eq eqb_tells objects next (objects_at objects tree.naming) tree.naming tree.laid d o k in
-        let at_o = child_is nat_eq eqb_tells objects next (objects_at objects tree.naming) tree.naming tree.laid up.0 o up.2 in
-        not_reached nat_eq eqb_tells objects next (objects_at objects tree.naming) tree.naming tree.laid o (at_o.0 ∷ up.0) at_o.1 root (ap (is_under nat_eq (at_o.0 ∷ up.0)) tree.rooted)
+        let l = link_addresses d o k in not_below o (l.step ∷ l.above) l.at_linked root (ap (is_under nat_eq (l.step ∷ l.above)) tree.rooted)
 
     -- what is linked reaches each number or does not
     pub reached_decided : (d o : ℕ) → set.contains (links_in (objects d)) o ≡ true → (q : ℕ) → Reached objects o q ⊎ (Reached objects o q → ⊥)
@@ -151,13 +159,13 @@ module _ {L : Type 0} where
     pub tree_new : (d : ℕ) (o : Object L) → is_container (objects d) ≡ true → ((c : ℕ) → set.contains (kind_links o.kind) c ≡ false) → IsTree (with_new objects d next o) root (next + 1)
     tree_new d o container leaf =
         let at_d = address_of d (container_there (objects d) container) in
-        let apart = next_unused nat_eq objects next (objects_at objects tree.naming) tree.naming tree.laid d at_d.0 at_d.1 in
+        let apart = not_next d at_d.0 at_d.1 in
         record {
           naming = with_number nat_eq tree.naming next (next ∷ at_d.0);
           laid = laid_itself (with_new objects d next o) (next + 1) _ (with_number nat_eq tree.naming next (next ∷ at_d.0))
               (laid_new nat_eq eqb_tells objects next (objects_at objects tree.naming) tree.naming tree.laid d at_d.0 next o at_d.1 (free at_d.0 (tree.naming.number (next ∷ at_d.0)) refl) container leaf);
           rooted = elim (eqb_tells root next) [
-            | inl e ↦ absurd (next_unused nat_eq objects next (objects_at objects tree.naming) tree.naming tree.laid root [] tree.rooted e.1)
+            | inl e ↦ absurd (not_next root [] tree.rooted e.1)
             | inr e ↦ ap (λ b. if b then Some (next ∷ at_d.0) else tree.naming.address root) e.0 ∙ tree.rooted
           ];
           own_step = λ q x a i. elim (eqb_tells q next) [
@@ -180,23 +188,22 @@ module _ {L : Type 0} where
         free a None i = refl
         free a (Some q) i =
             let at_q = tree.laid.addressed (next ∷ a) q i in
-            absurd (next_unused nat_eq objects next (objects_at objects tree.naming) tree.naming tree.laid q (next ∷ a) at_q (sym (tree.own_step q next a at_q)))
+            absurd (not_next q (next ∷ a) at_q (sym (tree.own_step q next a at_q)))
 
     -- what a container links is cut off
     pub tree_cut : (d o : ℕ) (new : Objects L) → set.contains (links_in (objects d)) o ≡ true → IsCut objects d o new → IsTree new root next
     tree_cut d o new k is_cut =
-        let up = linked_child nat_eq eqb_tells objects next (objects_at objects tree.naming) tree.naming tree.laid d o k in
-        let at_o = child_is nat_eq eqb_tells objects next (objects_at objects tree.naming) tree.naming tree.laid up.0 o up.2 in
+        let l = link_addresses d o k in
         record {
-          naming = without_below nat_eq tree.naming (at_o.0 ∷ up.0);
-          laid = laid_itself new next _ (without_below nat_eq tree.naming (at_o.0 ∷ up.0)) (laid_without nat_eq eqb_tells objects next (objects_at objects tree.naming) tree.naming tree.laid new d o up.0 at_o.0 is_cut at_o.1 up.1);
-          rooted = ap (λ y. if is_under nat_eq (at_o.0 ∷ up.0) y then None else y) tree.rooted;
+          naming = without_below nat_eq tree.naming (l.step ∷ l.above);
+          laid = laid_itself new next _ (without_below nat_eq tree.naming (l.step ∷ l.above)) (laid_without nat_eq eqb_tells objects next (objects_at objects tree.naming) tree.naming tree.laid new d o l.above l.step is_cut l.at_linked l.at_holder);
+          rooted = ap (λ y. if is_under nat_eq (l.step ∷ l.above) y then None else y) tree.rooted;
           own_step = λ q x a i. tree.own_step q x a (some_left _ _ (x ∷ a) i).1;
           filled = λ q a i.
               let kept = some_left _ _ a i in
               elim (eqb_tells q d) [
                 | inl e ↦ ap is_there (ap new e.1 ∙ is_cut.unlinked) ∙ changed_there (unlinking o) (objects d) (linker_there (objects d) o k)
-                | inr e ↦ ap is_there (is_cut.stays q (not_reached nat_eq eqb_tells objects next (objects_at objects tree.naming) tree.naming tree.laid o (at_o.0 ∷ up.0) at_o.1 q kept.0) e.1) ∙ tree.filled q a kept.1
+                | inr e ↦ ap is_there (is_cut.stays q (not_below o (l.step ∷ l.above) l.at_linked q kept.0) e.1) ∙ tree.filled q a kept.1
               ];
         }
 
