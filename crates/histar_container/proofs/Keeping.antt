@@ -174,7 +174,7 @@ pub copied_some : {X : Type 0} (r : Option (Bor X)) (x : Option X) → option_co
 copied_some None x e s = ap is_some e ∙ s
 copied_some (Some b) x e s = refl
 
-map_none : {A B : Type 0} (f : A → B) (o : Option A) → option_map f o ≡ None → o ≡ None
+pub map_none : {A B : Type 0} (f : A → B) (o : Option A) → option_map f o ≡ None → o ≡ None
 map_none f None e = refl
 map_none f (Some x) e = cc
 

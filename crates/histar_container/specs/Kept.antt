@@ -1,11 +1,12 @@
 -- What a table and its store keep together: objects by number with their labels by value, and the next numbers.
-use Rattle.std.specs.Prelude.{ℕ, List, refl}
+use Rattle.std.specs.Prelude.{◌≡◌, ℕ, List, refl}
 use Rattle.std.specs.Coded.{Coded, code_by, coded×, coded_ℕ, coded_list}
 use Rattle.histar_label.specs.Levels.{Levels, coded_levels}
 use Rattle.histar_object.specs.declared.objects.Object.{Object}
 use Rattle.histar_object.specs.Codes.{coded_object}
 use Rattle.histar_object.specs.Objects.{objects_of}
 use Rattle.histar_object.specs.State.{State}
+use Rattle.histar_container.specs.Tree.{IsCut}
 
 -- the listed objects, and the numbers that the next object and the next category get
 pub record Kept : Type 0 where
@@ -20,3 +21,9 @@ coded_kept = code_by (List (ℕ × Object Levels) × (ℕ × ℕ)) (coded× (cod
 -- the state of the kernel that it is
 abbrev pub state_of : Kept → State
 state_of k = record { objects = objects_of k.objects; next_object = k.next_object; next_category = k.next_category }
+
+-- the container d links o no more, what was reached from o is gone, and all else is as it was
+pub record CutsOff (old : State) (d o : ℕ) (new : State) : Type 0 where
+  pub is_cut : IsCut old.objects d o new.objects
+  pub next_object : new.next_object ≡ old.next_object
+  pub next_category : new.next_category ≡ old.next_category

@@ -1,4 +1,5 @@
 pub mod Kept
 pub mod Shown
+pub mod Tree
 pub use Rattle.histar_object.specs.Objects
 pub use Rattle.histar_object.specs.State

@@ -7,9 +7,11 @@ ghost use Rattle.histar_label.specs.Store.{label_at, Keeps};
 ghost use Rattle.histar_object.specs.Objects.{objects_of, put, changed_at, with_new, holding, no_objects, thread_of, is_there, is_segment, is_container, is_thread, is_gate, links_in, bytes_there, label_there, clearance_there};
 ghost use Rattle.histar_object.specs.State.{observes, modifies, in_range, added, with_next, skipping, with_own, with_bytes};
 ghost use Rattle.histar_container.specs.Shown.{shown, kind_by, AllStand, KindStands, IsKept};
-ghost use Rattle.histar_container.specs.Kept.{state_of};
+ghost use Rattle.histar_container.specs.Kept.{state_of, CutsOff};
+ghost use Rattle.histar_container.specs.Tree.{AreTree};
 
 use crate::linking::{link_new, linked};
+use crate::removing::remove_tree;
 use histar_base::Bytes;
 use histar_label::{Label, LabelStore};
 use histar_object::{Kind, ObjId, Object, Table};
@@ -219,6 +221,21 @@ impl<S: LabelStore + Drop> LabelledObjects<S> {
         )?;
         self.next_object += 1;
         Ok(())
+    }
+
+    /// Takes a container's link to an object away, with the object and all that is reached from it.
+    pub fn remove(
+        &mut self,
+        alloc: Global,
+        container: ObjId,
+        object: ObjId,
+    ) -> Result<(), AllocError>
+        requires tree { AreTree (objects_of self.old.objects) }
+        requires linked { IsTrue (set.contains (links_in (objects_of self.old.objects container)) object) }
+        ensures ok { OnOk result (CutsOff (state_of self.old) container object (state_of self.new)) }
+        ensures err { OnErr result (state_of self.new ≡ state_of self.old) }
+    {
+        remove_tree(&mut self.table, alloc, container, object)
     }
 
     /// Gives a thread another label and another clearance.

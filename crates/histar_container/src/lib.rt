@@ -3,6 +3,11 @@
 
 mod labelled;
 mod linking;
+mod removing;
 
 pub use labelled::LabelledObjects;
 pub use linking::{link_new, linked};
+pub use removing::remove_tree;
+
+#[cfg(test)]
+mod tests;

@@ -1,7 +1,7 @@
 //! Links of containers.
 ghost use Rattle.std.specs.Prelude.{◌≡◌, None, OnOk, OnErr, IsTrue};
 ghost use Rattle.std.specs.FinSet as set;
-ghost use Rattle.histar_object.specs.Objects.{objects_of, put, changed_at, linking, with_new, links_in, is_container};
+ghost use Rattle.histar_object.specs.Objects.{objects_of, put, changed_at, linking, unlinking, with_new, links_in, is_container};
 
 use histar_object::{Kind, ObjId, Object, Table};
 use std::alloc::AllocError;
@@ -54,5 +54,16 @@ fn link<L>(table: &mut Table<L>, container: ObjId, object: ObjId) -> Result<(), 
     match &mut holder.kind {
         Kind::Container(links) => links.insert(object),
         _ => unreachable!(),
+    }
+}
+
+/// Links an object in a container no more.
+pub(crate) fn unlink<L>(table: &mut Table<L>, container: ObjId, object: ObjId)
+    ensures { objects_of table.new ≡ changed_at (objects_of table.old) container (unlinking object) }
+{
+    if let Some(holder) = table.get_mut(container) {
+        if let Kind::Container(links) = &mut holder.kind {
+            links.remove(object);
+        }
     }
 }

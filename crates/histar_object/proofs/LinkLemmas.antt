@@ -1,12 +1,16 @@
 -- Sets of numbers, as their keys are listed.
-use Rattle.std.proofs.Common.{◌≡◌, ℕ, Bool, true, false, cond, List, refl, sym, ◌∙◌}
+use Rattle.std.proofs.Common.{◌≡◌, ℕ, Bool, true, false, cond, List, [], ◌++◌, refl, sym, ap, subst, ◌∙◌}
+use Rattle.std.proofs.lemmas.List.{append-nil}
+use Rattle.std.proofs.lemmas.Map.Keys.{IsDistinct-from_sorted}
 use Rattle.std.specs.Prelude.{◌||◌, ◌&&◌, not}
-use Rattle.std.specs.List.{list_any}
+use Rattle.std.specs.List.{list_any, IsDistinct}
+use Rattle.std.specs.List.Sorted.{IsStrictlySortedBy}
 use Rattle.std.specs.Ordering.{nat_cmp, eq_by_cmp}
 use Rattle.std.specs.Cmp.{nat_cmp_total, unsigned_tied, nat_eq_equiv}
 use Rattle.std.specs.FinSet as set
 use Rattle.std.specs.FinSet.{nat_cmp-IsAntisymmetric}
 use Rattle.std.specs.BTreeMap.{is_at}
+use Rattle.histar_object.specs.Objects.{Numbers, IsListOf, AppendsAll}
 
 -- whether a number is listed
 abbrev pub is_listed : List ℕ → ℕ → Bool
@@ -41,3 +45,18 @@ removed old new n updates = set.same_set nat_cmp_total nat_cmp-IsAntisymmetric _
     contains_listed new q ∙ updates q ∙ neither (is_at (nat_cmp n) q) (is_listed old q)
     ∙ (λ i. not (tied_back n q i) && sym (contains_listed old q) i)
     ∙ sym (set.contains-remove nat_cmp_total (set.from_list old) n q))
+
+-- keys that rise list their set
+pub lists_keys : (ks : List ℕ) → IsStrictlySortedBy nat_cmp ks → IsListOf ks (set.from_list ks)
+lists_keys ks rise = record {
+  members = λ q. ap (λ (t : ℕ → Bool). list_any t ks) (sym (λ i y. unsigned_tied q y i)) ∙ sym (set.contains-from_list nat_cmp_total ks q);
+  once = subst (λ (e : ℕ → ℕ → Bool). IsDistinct e ks) (λ i x y. unsigned_tied x y i) (IsDistinct-from_sorted nat_cmp ks rise);
+}
+
+-- a list that took all keys of a set
+pub appended : (ks all left old new : List ℕ) (links : Numbers) → set.from_list ks ≡ links → all ≡ ks → IsStrictlySortedBy nat_cmp ks → left ≡ [] → new ++ left ≡ old ++ all → AppendsAll links old new
+appended ks all left old new links is all_is rise done e = record {
+  added = ks;
+  is = sym (append-nil new) ∙ ap (λ (l : List ℕ). new ++ l) (sym done) ∙ e ∙ ap (λ (l : List ℕ). old ++ l) all_is;
+  listed = subst (IsListOf ks) is (lists_keys ks rise);
+}

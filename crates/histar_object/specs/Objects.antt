@@ -1,6 +1,8 @@
 -- Objects by number, what each says of itself, and how they change. L is what stands for a label.
-use Rattle.std.specs.Prelude.{ℕ, Bool, true, false, ◌==◌, List, [], Option, None, Some, option_map, if◌then◌else◌}
+use Rattle.std.specs.Prelude.{◌≡◌, ℕ, Bool, true, false, ◌==◌, nat_eq, List, [], ◌++◌, Option, None, Some, option_map, if◌then◌else◌}
 use Rattle.std.specs.Ordering.{nat_cmp}
+use Rattle.std.specs.List.{IsDistinct}
+use Rattle.std.specs.Set.{is_member}
 use Rattle.std.specs.FinSet as set
 use Rattle.std.specs.Map.{lookup}
 use Rattle.std.specs.BTreeMap.{is_at}
@@ -11,6 +13,17 @@ use Rattle.histar_object.specs.declared.objects.Object.{Object}
 -- the numbers that a container links
 abbrev pub Numbers : Type 0
 Numbers = set.FinSet nat_cmp
+
+-- a list has each number of a set once, and no other
+pub record IsListOf (numbers : List ℕ) (links : Numbers) : Type 0 where
+  pub members : (q : ℕ) → is_member nat_eq numbers q ≡ set.contains links q
+  pub once : IsDistinct nat_eq numbers
+
+-- the new list is the old one, and then the numbers of a set
+pub record AppendsAll (links : Numbers) (old new : List ℕ) : Type 0 where
+  pub added : List ℕ
+  pub is : new ≡ old ++ added
+  pub listed : IsListOf added links
 
 -- an object for some numbers
 abbrev pub Objects : Type 0 → Type 0
@@ -52,6 +65,17 @@ module _ {L : Type 0} where
   -- an object with its label, and one link more if it is a container
   abbrev pub linking : ℕ → Object L → Object L
   linking n o = record { label = o.label; kind = kind_linking n o.kind }
+
+  -- a container that links one number no more; no other object links any
+  abbrev pub kind_unlinking : ℕ → Kind L → Kind L
+  kind_unlinking n (Segment bytes) = Segment bytes
+  kind_unlinking n (Container links) = Container (set.remove links n)
+  kind_unlinking n (Thread clearance) = Thread clearance
+  kind_unlinking n (Gate clearance entry) = Gate clearance entry
+
+  -- an object with its label, and one link less if it is a container
+  abbrev pub unlinking : ℕ → Object L → Object L
+  unlinking n o = record { label = o.label; kind = kind_unlinking n o.kind }
 
   -- the objects with a new one at the number n, which the container d links
   abbrev pub with_new : Objects L → ℕ → ℕ → Object L → Objects L

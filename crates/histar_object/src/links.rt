@@ -2,6 +2,7 @@
 ghost use Rattle.std.specs.Prelude.{◌≡◌, OnOk, OnErr};
 ghost use Rattle.std.specs.Ordering.{nat_cmp};
 ghost use Rattle.std.specs.FinSet as set;
+ghost use Rattle.histar_object.specs.Objects.{AppendsAll};
 
 use crate::ids::ObjId;
 use std::alloc::{AllocError, Global};
@@ -49,6 +50,16 @@ impl Links {
         ensures err { OnErr result (self.new ≡ self.old) }
     {
         self.numbers.insert(object.number())?;
+        Ok(())
+    }
+
+    /// Appends each linked object to a list, once. Where memory runs out the list may have grown.
+    pub fn append_to(&self, list: &mut Vec<ObjId>) -> Result<(), AllocError>
+        ensures { OnOk result (AppendsAll self.now list.old.items list.new.items) }
+    {
+        for number in &self.numbers {
+            list.push(ObjId::new(*number))?;
+        }
         Ok(())
     }
 

@@ -1,0 +1,77 @@
+-- Addresses: when two are the same, and which lie below which. The test same_step tells whether two steps are equal.
+use Rattle.std.proofs.Common.{◌≡◌, ◌≢◌, ◌≤◌, ◌||◌, ◌⊎◌, inl, inr, Bool, true, false, [], ◌∷◌, length, Some, arith, refl, sym, ap, ◌∙◌}
+use mathlib.Core.Bool.{true≢false}
+use Rattle.histar_container.specs.Tree.{Address, same, under}
+
+-- a test answers for each two values whether they are equal
+abbrev pub Tells : {X : Type 0} → (X → X → Bool) → Type 0
+Tells test = (x y : _) → ((test x y ≡ true) × (x ≡ y)) ⊎ ((test x y ≡ false) × (x ≢ y))
+
+-- what is in a Some is one value
+pub inner : {X : Type 0} (x y : X) → Some x ≡ Some y → x ≡ y
+inner x y e = cc
+
+-- what is not true is false
+pub not_true : (b : Bool) → (b ≡ true → ⊥) → b ≡ false
+not_true true k = absurd (k refl)
+not_true false k = refl
+
+pub or_true : (b : Bool) → (b || true) ≡ true
+or_true true = refl
+or_true false = refl
+
+pub or_false : (b : Bool) → (b || false) ≡ b
+or_false true = refl
+or_false false = refl
+
+module _ {X : Type 0} (same_step : X → X → Bool) (tells : Tells same_step) where
+  -- whether two addresses are the same tells whether they are equal
+  pub same_tells : Tells (same same_step)
+  same_tells [] [] = inl (refl, refl)
+  same_tells [] (y ∷ b) = inr (refl, λ e. cc)
+  same_tells (x ∷ a) [] = inr (refl, λ e. cc)
+  same_tells (x ∷ a) (y ∷ b) = elim (tells x y) [
+    | inl e ↦ elim (same_tells a b) [
+      | inl r ↦ inl (rw (e.0, r.0) refl, rw (e.1, r.1) refl)
+      | inr r ↦ inr (rw (e.0, r.0) refl, λ i. let k : a ≡ b = cc in r.1 k)
+    ]
+    | inr e ↦ inr (rw e.0 refl, λ i. let k : x ≡ y = cc in e.1 k)
+  ]
+
+  pub same_itself : (a : Address X) → same same_step a a ≡ true
+  same_itself a = elim (same_tells a a) [ inl e ↦ e.0 | inr e ↦ absurd (e.1 refl) ]
+
+  pub same_is : (a b : Address X) → same same_step a b ≡ true → a ≡ b
+  same_is a b h = elim (same_tells a b) [ inl e ↦ e.1 | inr e ↦ absurd (true≢false (sym h ∙ e.0)) ]
+
+  pub same_other : (a b : Address X) → a ≢ b → same same_step a b ≡ false
+  same_other a b other = elim (same_tells a b) [ inl e ↦ absurd (other e.1) | inr e ↦ e.0 ]
+
+  -- an address is at or below itself
+  pub under_itself : (a : Address X) → under same_step a a ≡ true
+  under_itself [] = refl
+  under_itself (x ∷ a) = rw (same_itself (x ∷ a)) refl
+
+  -- what is one step below what is below a is below a
+  pub under_child : (a b : Address X) (x : X) → under same_step a b ≡ true → under same_step a (x ∷ b) ≡ true
+  under_child a b x h = rw h (or_true (same same_step a (x ∷ b)))
+
+  -- what lies below an address has no fewer steps
+  pub under_long : (a b : Address X) → under same_step a b ≡ true → length a ≤ length b
+  under_long a [] h = omega (arith, ap length (same_is a [] h))
+  under_long a (y ∷ b) h = elim (same_tells a (y ∷ b)) [
+    | inl e ↦ omega (arith, ap length e.1)
+    | inr e ↦ let u : under same_step a b ≡ true = sym (ap (λ t. t || under same_step a b) e.0) ∙ h in omega (arith, under_long a b u)
+  ]
+
+  -- an address does not lie below what is one step below it
+  pub above : (a : Address X) (x : X) → under same_step (x ∷ a) a ≡ false
+  above a x = not_true _ (λ h. let l = under_long (x ∷ a) a h in omega arith)
+
+  -- and is another one than that
+  pub longer : (x : X) (a : Address X) → x ∷ a ≢ a
+  longer x a e = true≢false (sym (under_itself (x ∷ a)) ∙ ap (under same_step (x ∷ a)) e ∙ above a x)
+
+  -- what is neither a nor one step below what is below a is not below a
+  pub under_other : (a b : Address X) (x : X) → a ≢ x ∷ b → under same_step a b ≡ false → under same_step a (x ∷ b) ≡ false
+  under_other a b x other h = ap (λ t. t || under same_step a b) (same_other a (x ∷ b) other) ∙ h

@@ -1,0 +1,114 @@
+-- Objects as a tree. L is what stands for a label; X is the type of a step, with a test of whether two steps are the same.
+use Rattle.std.specs.Prelude.{◌≡◌, ◌≢◌, ℕ, ◌≤◌, nat_eq, Bool, true, false, ◌||◌, ◌&&◌, List, [], ◌∷◌, Option, None, Some, is_some, option_map, option_and_then, if◌then◌else◌}
+use Rattle.std.specs.FinSet as set
+use Rattle.histar_object.specs.declared.objects.Object.{Object}
+use Rattle.histar_object.specs.Objects.{Objects, links_in, is_there, unlinking}
+
+-- an address is the steps from the root container to an object, the last step first
+abbrev pub Address : Type 0 → Type 0
+Address X = List X
+
+-- a naming says which address a number has, and which number an address has
+pub record Naming (X : Type 0) : Type 0 where
+  pub address : ℕ → Option (Address X)
+  pub number : Address X → Option ℕ
+
+-- the object that is expected at an address, and none where there is no address
+abbrev pub wanted : {L X : Type 0} → (Address X → Option (Object L)) → Option (Address X) → Option (Object L)
+wanted expected None = None
+wanted expected (Some a) = expected a
+
+module _ {X : Type 0} (same_step : X → X → Bool) where
+  -- two addresses are the same, step by step
+  abbrev pub same : Address X → Address X → Bool
+  same [] [] = true
+  same [] (y ∷ b) = false
+  same (x ∷ a) [] = false
+  same (x ∷ a) (y ∷ b) = same_step x y && same a b
+
+  -- an address is a, or lies below it
+  abbrev pub under : Address X → Address X → Bool
+  under a [] = same a []
+  under a (y ∷ b) = same a (y ∷ b) || under a b
+
+  -- what has an address has it one step below a
+  abbrev pub is_child : Address X → Option (Address X) → Bool
+  is_child a None = false
+  is_child a (Some []) = false
+  is_child a (Some (y ∷ b)) = same a b
+
+  -- what has an address has it at a or below a
+  abbrev pub is_under : Address X → Option (Address X) → Bool
+  is_under a None = false
+  is_under a (Some b) = under a b
+
+  -- the naming in which n has the address a too
+  abbrev pub with_number : Naming X → ℕ → Address X → Naming X
+  with_number naming n a = record {
+    address = λ q. if nat_eq q n then Some a else naming.address q;
+    number = λ b. if same a b then Some n else naming.number b;
+  }
+
+  -- the naming in which a and what lies below it name nothing
+  abbrev pub without_below : Naming X → Address X → Naming X
+  without_below naming a = record {
+    address = λ q. if is_under a (naming.address q) then None else naming.address q;
+    number = λ b. if under a b then None else naming.number b;
+  }
+
+  module _ {L : Type 0} where
+    -- the objects at addresses, with another one at a
+    abbrev pub set_at : (Address X → Option (Object L)) → Address X → Option (Object L) → Address X → Option (Object L)
+    set_at expected a o b = if same a b then o else expected b
+
+    -- the objects at addresses, with none at a or below it
+    abbrev pub cut : (Address X → Option (Object L)) → Address X → Address X → Option (Object L)
+    cut expected a b = if under a b then None else expected b
+
+    -- the objects are those expected at their addresses and no others, and each links what stands one step below it
+    pub record IsLaid (objects : Objects L) (next : ℕ) (expected : Address X → Option (Object L)) (naming : Naming X) : Type 0 where
+      -- the object at a number is the one expected at its address; without an address there is none
+      pub as_expected : (q : ℕ) → objects q ≡ wanted expected (naming.address q)
+      -- the address of a number has that number
+      pub numbered : (q : ℕ) (a : Address X) → naming.address q ≡ Some a → naming.number a ≡ Some q
+      -- the number of an address has that address
+      pub addressed : (a : Address X) (q : ℕ) → naming.number a ≡ Some q → naming.address q ≡ Some a
+      -- an address lies below one that has a number
+      pub held : (x : X) (a : Address X) → is_some (naming.number (x ∷ a)) ≡ true → is_some (naming.number a) ≡ true
+      -- an object links exactly the numbers whose addresses lie one step below its own
+      pub links : (q c : ℕ) (a : Address X) → naming.address q ≡ Some a → set.contains (links_in (objects q)) c ≡ is_child a (naming.address c)
+      -- the next number and those above it have no address
+      pub unused : (q : ℕ) → next ≤ q → naming.address q ≡ None
+
+module _ {L : Type 0} where
+  -- what is reached from an object by links: the object itself, and what something reached links
+  pub data Reached (objects : Objects L) (o : ℕ) : ℕ → Type 0 where
+    here : Reached objects o o
+    there : (q c : ℕ) → Reached objects o q → set.contains (links_in (objects q)) c ≡ true → Reached objects o c
+
+  -- the objects at addresses are the ones at the numbers of these
+  abbrev pub objects_at : Objects L → Naming ℕ → Address ℕ → Option (Object L)
+  objects_at objects naming a = option_and_then objects (naming.number a)
+
+  -- links lead from the root to each object that there is, in one way, and to no number without an object
+  pub record IsTree (objects : Objects L) (root next : ℕ) : Type 0 where
+    pub naming : Naming ℕ
+    pub laid : IsLaid nat_eq objects next (objects_at objects naming) naming
+    -- the root has the address of no steps
+    pub rooted : naming.address root ≡ Some []
+    -- the last step to an object is its own number
+    pub own_step : (q x : ℕ) (a : Address ℕ) → naming.address q ≡ Some (x ∷ a) → x ≡ q
+    -- what has an address is there
+    pub filled : (q : ℕ) (a : Address ℕ) → naming.address q ≡ Some a → is_there (objects q) ≡ true
+
+  -- the objects are a tree from some root, under numbers below some next one
+  pub record AreTree (objects : Objects L) : Type 0 where
+    pub root : ℕ
+    pub next : ℕ
+    pub tree : IsTree objects root next
+
+  -- what is left when the container d links o no more: nothing that was reached from o, and all else as it was but for that link
+  pub record IsCut (objects : Objects L) (d o : ℕ) (new : Objects L) : Type 0 where
+    pub gone : (q : ℕ) → Reached objects o q → new q ≡ None
+    pub stays : (q : ℕ) → ¬ Reached objects o q → q ≢ d → new q ≡ objects q
+    pub unlinked : new d ≡ option_map (unlinking o) (objects d)

@@ -1,0 +1,133 @@
+ghost use Rattle.std.specs.Prelude.{◌≡◌, ℕ, ◌≤◌, false, IfOk, OnOk};
+ghost use Rattle.std.specs.FinSet as set;
+ghost use Rattle.histar_object.specs.Objects.{objects_of, kind_links, is_container};
+ghost use Rattle.histar_container.specs.Tree.{IsTree, AreTree};
+
+use super::*;
+use histar_object::{Kind, Links, ObjId, Object, Table};
+use std::alloc::{AllocError, Global};
+use std::process::Abort;
+use std::test::Fail;
+
+// A tree of containers from 1 on, by the container that links each.
+#[derive(Clone, Copy)]
+enum Shape {
+    // Each links the next.
+    Chain,
+    // The first links all others.
+    Wide,
+    // Each links twice its number and the one after.
+    Halves,
+}
+
+impl Shape {
+    fn holder(self, number: u64) -> ObjId {
+        ObjId::new(match self {
+            Shape::Chain => number.saturating_sub(1),
+            Shape::Wide => 1,
+            Shape::Halves => number / 2,
+        })
+    }
+}
+
+fn empty_container(alloc: Global) -> Object<u8>
+    ensures { (c : ℕ) → set.contains (kind_links result.kind) c ≡ false }
+{
+    Object {
+        label: 0,
+        kind: Kind::Container(Links::new(alloc)),
+    }
+}
+
+fn is_container(table: &Table<u8>, object: ObjId) -> bool
+    ensures { result ≡ is_container (objects_of table.now object) }
+{
+    match table.get(object) {
+        Some(object) => matches!(object.kind, Kind::Container(_)),
+        None => false,
+    }
+}
+
+// The containers below a number, as a tree of some shape.
+fn tree_of(rt: &impl Abort, alloc: Global, shape: Shape, end: u64) -> Result<Table<u8>, AllocError>
+    requires { 2 ≤ end }
+    ensures { IfOk result (λ t. IsTree (objects_of t) 1 end) }
+{
+    let mut table = Table::new(alloc);
+    table.add(ObjId::new(1), empty_container(alloc))?;
+    for number in 2..end {
+        let holder = shape.holder(number);
+        assert!(rt; is_container(&table, holder));
+        link_new(
+            &mut table,
+            holder,
+            ObjId::new(number),
+            empty_container(alloc),
+        )?;
+    }
+    Ok(table)
+}
+
+// Removes what a container links, and the link.
+fn cut(
+    rt: &impl Abort,
+    alloc: Global,
+    table: &mut Table<u8>,
+    container: u64,
+    object: u64,
+) -> Result<(), AllocError>
+    requires { AreTree (objects_of table.old) }
+    ensures { OnOk result (AreTree (objects_of table.new)) }
+{
+    let container = ObjId::new(container);
+    let object = ObjId::new(object);
+    assert!(rt; linked(table, container, object));
+    remove_tree(table, alloc, container, object)?;
+    assert!(rt; !linked(table, container, object));
+    Ok(())
+}
+
+fn is_there(table: &Table<u8>, number: u64) -> bool {
+    table.get(ObjId::new(number)).is_some()
+}
+
+#[test]
+fn a_chain_goes_from_the_cut_on(rt: HostRuntime) -> Result<(), Fail> {
+    let mut table = tree_of(&rt, rt.alloc(), Shape::Chain, 202)?;
+    cut(&rt, rt.alloc(), &mut table, 150, 151)?;
+    for number in 1..202 {
+        assert_eq!(rt; is_there(&table, number), number <= 150);
+    }
+    cut(&rt, rt.alloc(), &mut table, 1, 2)?;
+    for number in 1..202 {
+        assert_eq!(rt; is_there(&table, number), number <= 1);
+    }
+    Ok(())
+}
+
+#[test]
+fn of_many_links_one_goes(rt: HostRuntime) -> Result<(), Fail> {
+    let mut table = tree_of(&rt, rt.alloc(), Shape::Wide, 2002)?;
+    cut(&rt, rt.alloc(), &mut table, 1, 1000)?;
+    for number in 1..2002 {
+        assert_eq!(rt; is_there(&table, number), number != 1000);
+    }
+    assert!(rt; linked(&table, ObjId::new(1), ObjId::new(999)));
+    assert!(rt; linked(&table, ObjId::new(1), ObjId::new(1001)));
+    Ok(())
+}
+
+#[test]
+fn of_two_branches_one_goes_whole(rt: HostRuntime) -> Result<(), Fail> {
+    let mut table = tree_of(&rt, rt.alloc(), Shape::Halves, 64)?;
+    cut(&rt, rt.alloc(), &mut table, 2, 5)?;
+    for number in 1..64 {
+        let below_five = number == 5 || number / 2 == 5 || number / 4 == 5 || number / 8 == 5;
+        assert_eq!(rt; is_there(&table, number), !below_five);
+    }
+    cut(&rt, rt.alloc(), &mut table, 1, 2)?;
+    assert!(rt; is_there(&table, 3));
+    assert!(rt; !is_there(&table, 4));
+    assert!(rt; is_there(&table, 63));
+    Ok(())
+}
