@@ -7,13 +7,11 @@ use Rattle.histar_flat.specs.declared.replies.Errno.{Errno}
 use Rattle.histar_flat.specs.declared.replies.Errno.TheVariants.{EISDIR}
 use Rattle.histar_flat.specs.declared.replies.Reply.{Reply}
 use Rattle.histar_flat.specs.declared.replies.Reply.TheVariants as replies
-use Rattle.histar_syscall.specs.declared.raw.Denied.{Denied}
 use Rattle.histar_syscall.specs.declared.raw.RawCall.{RawCall}
 use Rattle.histar_syscall.specs.declared.raw.RawCall.TheVariants.{Read}
-use Rattle.histar_syscall.specs.Calls.{check, unless_denied}
 use Rattle.histar_syscall.specs.Traced.{Traced, state, Called}
-use Rattle.histar_syscall.specs.Runs.{Granted, state_until}
-use Rattle.histar_syscall.proofs.Runs.{granted_none, granted_more}
+use Rattle.histar_syscall.specs.Runs.{Granted}
+use Rattle.histar_syscall.proofs.Runs.{granted_none, granted_more, granted_one}
 use Rattle.histar_layout.specs.Directory.{Entries, IsDirectory}
 use Rattle.histar_layout.specs.declared.entry.Target.{Target}
 use Rattle.histar_layout.specs.declared.entry.Target.TheVariants as targets
@@ -37,11 +35,9 @@ follows_at_once k t errno = follows_granted k k t [] (answering (replies.Refused
 
 -- a walk changes no object
 pub walk_stays : (places : Places) (old mid : Traced) (t : ℕ) → Granted old mid t (walk places) → state mid ≡ state old
-unfolding state_until
-walk_stays places old mid t walked = walked.made.state ∙ elim (check (state old) t (Read places.root places.listing)) as (λ (d : Option Denied). unless_denied d (state old) (state old) ≡ state old) [
-  | None ↦ refl
-  | Some denied ↦ refl
-]
+walk_stays places old mid t walked =
+    let called = granted_one t old mid (Read places.root places.listing) walked in
+    called.state
 
 module _ (places : Places) (old new : Traced) (t : ℕ) (name : Option Name) where
   -- `/` is no file
@@ -98,7 +94,7 @@ module _ (places : Places) (old mid new : Traced) (t : ℕ) (name : Option Name)
   followed result follows listed lists = subst (λ (plan : Plan). Follows old new t plan result) (sym (calls_there listed lists)) follows
 
   pub file_granted : Called mid new t call None → Granted old new t (walk places ++ call ∷ [])
-  file_granted called = granted_more old mid new t (walk places) call has.walked called
+  file_granted called = granted_more t old mid new (walk places) call has.walked called
 
   pub file_done : (reply : Reply) → Called mid new t call None → (plan_of file).reply ≡ Some reply → (listed : Option Entries) → Lists (listing_of places old) listed → Follows old new t (at_name places listed name plan_of) (Ok reply)
   file_done reply called told = followed (Ok reply)

@@ -15,8 +15,6 @@ use Rattle.histar_object.specs.Objects.{label_there}
 use Rattle.histar_object.specs.State.{State}
 use Rattle.histar_syscall.specs.declared.raw.RawCall.{RawCall}
 use Rattle.histar_syscall.specs.declared.raw.RawCall.TheVariants.{OwnLabel, MakeSegment, Write}
-use Rattle.histar_syscall.specs.declared.raw.Denied.{Denied}
-use Rattle.histar_syscall.specs.Calls.{unless_denied}
 use Rattle.histar_syscall.specs.Traced.{Traced, state, Called}
 use Rattle.histar_syscall.specs.Runs.{Granted}
 use Rattle.histar_layout.specs.Directory.{Entries, IsDirectory, most_entries, spelling}
@@ -35,7 +33,7 @@ use Rattle.histar_calls.proofs.Owners.{one_user}
 
 -- asking for the own label changes no object
 pub own_stays : (old new : Traced) (t : ℕ) → Called old new t OwnLabel None → state new ≡ state old
-own_stays old new t called = called.state ∙ ap (λ (d : Option Denied). unless_denied d (state old) (state old)) called.outcome
+own_stays old new t called = called.state
 
 module _ (places : Places) (old new : Traced) (t : ℕ) (path : Path) (mode : Mode) where
   -- `/` stands already

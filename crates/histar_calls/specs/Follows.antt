@@ -12,9 +12,9 @@ use Rattle.histar_object.specs.Objects.{bytes_in, label_there}
 use Rattle.histar_syscall.specs.declared.raw.Denied.{Denied}
 use Rattle.histar_syscall.specs.declared.raw.Denied.TheVariants.{Observe, Modify, Range, Gate, NoEntry, NoThread, BadKind, TooBig}
 use Rattle.histar_syscall.specs.declared.raw.RawCall.{RawCall}
-use Rattle.histar_syscall.specs.declared.raw.RawCall.TheVariants.{OwnLabel, MakeSegment, Read, Write}
+use Rattle.histar_syscall.specs.declared.raw.RawCall.TheVariants.{MakeCategory, OwnLabel, SetLabel, SetClearance, MakeSegment, MakeContainer, MakeThread, MakeGate, Enter, Read, Write, Unlink, LabelOf}
 use Rattle.histar_syscall.specs.Traced.{Traced, state}
-use Rattle.histar_syscall.specs.Runs.{Made, first_refusal}
+use Rattle.histar_syscall.specs.Runs.{Made}
 use Rattle.histar_layout.specs.Directory.{Entries}
 use Rattle.histar_calls.specs.declared.places.Places.{Places}
 use Rattle.histar_calls.specs.declared.stopping.Stopped.{Stopped}
@@ -45,12 +45,21 @@ write_errno_of TooBig = Some EFBIG
 
 -- what the refusal of a raw call is told as
 abbrev pub told_as : RawCall → Denied → Option Errno
+told_as MakeCategory denied = errno_of denied
 told_as OwnLabel denied = errno_of denied
+told_as (SetLabel label) denied = errno_of denied
+told_as (SetClearance clearance) denied = errno_of denied
 told_as (MakeSegment container label bytes) denied = errno_of denied
+told_as (MakeContainer container label) denied = errno_of denied
+told_as (MakeThread container label clearance) denied = errno_of denied
+told_as (MakeGate container label clearance entry) denied = errno_of denied
+told_as (Enter container gate wanted clearance shown) denied = errno_of denied
 told_as (Read container segment) denied = errno_of denied
 told_as (Write container segment keep bytes) denied = write_errno_of denied
+told_as (Unlink container object) denied = errno_of denied
+told_as (LabelOf container object) denied = errno_of denied
 
--- what a plan answers: its reply where all its raw calls were granted, and else what the first refusal is told as
+-- what a plan answers: its reply where all its raw calls were granted, and else what the refusal is told as
 abbrev pub answer : Option Reply → Option (RawCall × Denied) → Option Reply
 answer reply None = reply
 answer reply (Some refusal) = option_map Refused (told_as refusal.0 refusal.1)
@@ -65,13 +74,19 @@ pub record StopsWithin (old new : Traced) (thread : ℕ) (calls : List RawCall) 
   pub front : List RawCall
   pub rest : List RawCall
   pub parts : calls ≡ front ++ rest
-  pub made : Made old new thread front
-  pub untold : IsUntold (first_refusal (state old) thread front)
+  pub refusal : Option (RawCall × Denied)
+  pub made : Made old new thread front refusal
+  pub untold : IsUntold refusal
 
--- The call makes the raw calls of its plan, one after another up to the first that is refused, and answers what the plan
--- does. Where it ends without an answer it has made the first of them.
+-- The call made the raw calls of its plan, one after another up to the first that was refused, and answers what the plan does.
+pub record Completes (old new : Traced) (thread : ℕ) (plan : Plan) (reply : Reply) : Type 0 where
+  pub refusal : Option (RawCall × Denied)
+  pub made : Made old new thread plan.calls refusal
+  pub answers : answer plan.reply refusal ≡ Some reply
+
+-- a call follows its plan to its answer; where it ends without one it has made the first raw calls of the plan
 abbrev pub Follows : Traced → Traced → ℕ → Plan → Result Reply Stopped → Type 0
-Follows old new thread plan (Ok reply) = Made old new thread plan.calls × (answer plan.reply (first_refusal (state old) thread plan.calls) ≡ Some reply)
+Follows old new thread plan (Ok reply) = Completes old new thread plan reply
 Follows old new thread plan (Err stopped) = StopsWithin old new thread plan.calls
 
 -- what the directory segment of `/` holds

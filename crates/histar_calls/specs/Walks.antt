@@ -11,8 +11,8 @@ use Rattle.histar_syscall.specs.declared.raw.RawCall.{RawCall}
 use Rattle.histar_syscall.specs.declared.raw.RawCall.TheVariants.{Read}
 use Rattle.histar_syscall.specs.declared.raw.Refusal.{Refusal}
 use Rattle.histar_syscall.specs.declared.raw.Refusal.TheVariants as refusals
-use Rattle.histar_syscall.specs.Traced.{Traced, state}
-use Rattle.histar_syscall.specs.Runs.{Made, Granted, first_refusal}
+use Rattle.histar_syscall.specs.Traced.{Traced}
+use Rattle.histar_syscall.specs.Runs.{Made, Granted}
 use Rattle.histar_layout.specs.Directory.{Entries, IsDirectory}
 use Rattle.histar_layout.specs.declared.entry.Target.{Target}
 use Rattle.histar_layout.specs.declared.entry.Target.TheVariants as targets
@@ -33,9 +33,8 @@ IsTold tells refusals.OutOfMemory (Err stopped) = Unit {0}
 
 -- The thread made these raw calls up to the first that was refused, and that refusal is told as this.
 pub record IsRefused (old new : Traced) (thread : ℕ) (calls : List RawCall) (errno : Errno) : Type 0 where
-  pub made : Made old new thread calls
   pub refusal : RawCall × Denied
-  pub first : first_refusal (state old) thread calls ≡ Some refusal
+  pub made : Made old new thread calls (Some refusal)
   pub told : told_as refusal.0 refusal.1 ≡ Some errno
 
 -- the raw call of a walk

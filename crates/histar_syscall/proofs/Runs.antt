@@ -7,174 +7,148 @@ use Rattle.histar_object.specs.State.{State}
 use Rattle.histar_syscall.specs.declared.raw.Denied.{Denied}
 use Rattle.histar_syscall.specs.declared.raw.RawCall.{RawCall}
 use Rattle.histar_syscall.specs.declared.raw.TraceEntry.{TraceEntry}
-use Rattle.histar_syscall.specs.Calls.{check, change, after, unless_denied, IsRun}
+use Rattle.histar_syscall.specs.Calls.{check, Leaves}
 use Rattle.histar_syscall.specs.Traced.{Traced, state, Called, IsUnchanged}
-use Rattle.histar_syscall.specs.Runs.{IsBy, Ran, refusal_or, first_refusal, if_granted, entries_until, state_until, Made, Granted}
+use Rattle.histar_syscall.specs.Runs.{IsBy, Ran, GoesOn, Made, Granted}
 
 -- the entry of a raw call
 abbrev pub entry_of : ℕ → ℕ → RawCall → Option Denied → TraceEntry
 entry_of line thread call denied = record { line = line; thread = thread; call = call; denied = denied }
 
-module _ (t : ℕ) where
-  -- one call more, behind calls that were all granted
-  refusal_more : (s : State) (before : List RawCall) (call : RawCall) → first_refusal s t before ≡ None
-      → first_refusal s t (before ++ call ∷ []) ≡ refusal_or call (check (state_until s t before) t call) None
-  unfolding first_refusal state_until
-  refusal_more s [] call none = refl
-  refusal_more s (c ∷ before) call none =
-      elim (check s t c) as (λ (d : Option Denied). refusal_or c d (first_refusal (change s t c) t before) ≡ None
-          → refusal_or c d (first_refusal (change s t c) t (before ++ call ∷ [])) ≡ refusal_or call (check (unless_denied d s (state_until (change s t c) t before)) t call) None) [
-        | None ↦ λ granted. refusal_more (change s t c) before call granted
-        | Some denied ↦ λ granted. absurd cc
-      ] none
+-- the refusal of a raw call, if it was refused
+abbrev pub refusal_of : RawCall → Option Denied → Option (RawCall × Denied)
+refusal_of call None = None
+refusal_of call (Some denied) = Some (call, denied)
 
-  state_more : (s : State) (before : List RawCall) (call : RawCall) → first_refusal s t before ≡ None
-      → state_until s t (before ++ call ∷ []) ≡ after (state_until s t before) t call
-  unfolding first_refusal state_until
-  state_more s [] call none = refl
-  state_more s (c ∷ before) call none =
-      elim (check s t c) as (λ (d : Option Denied). refusal_or c d (first_refusal (change s t c) t before) ≡ None
-          → unless_denied d s (state_until (change s t c) t (before ++ call ∷ [])) ≡ after (unless_denied d s (state_until (change s t c) t before)) t call) [
-        | None ↦ λ granted. state_more (change s t c) before call granted
-        | Some denied ↦ λ granted. absurd cc
-      ] none
-
-  entries_more : (line : ℕ) (s : State) (before : List RawCall) (call : RawCall) → first_refusal s t before ≡ None
-      → entries_until line s t (before ++ call ∷ []) ≡ entries_until line s t before ++ entry_of line t call (check (state_until s t before) t call) ∷ []
-  unfolding first_refusal state_until entries_until
-  entries_more line s [] call none =
-      elim (check s t call) as (λ (d : Option Denied). entry_of line t call d ∷ if_granted d [] ≡ entry_of line t call d ∷ []) [
-        | None ↦ refl
-        | Some denied ↦ refl
-      ]
-  entries_more line s (c ∷ before) call none =
-      elim (check s t c) as (λ (d : Option Denied). refusal_or c d (first_refusal (change s t c) t before) ≡ None
-          → entry_of line t c d ∷ if_granted d (entries_until line (change s t c) t (before ++ call ∷ []))
-            ≡ (entry_of line t c d ∷ if_granted d (entries_until line (change s t c) t before)) ++ entry_of line t call (check (unless_denied d s (state_until (change s t c) t before)) t call) ∷ []) [
-        | None ↦ λ granted. ap (λ (es : List TraceEntry). entry_of line t c None ∷ es) (entries_more line (change s t c) before call granted)
-        | Some denied ↦ λ granted. absurd cc
-      ] none
-
-  -- nothing comes behind a call that was refused
-  refusal_stays : (s : State) (before more : List RawCall) (r : RawCall × Denied) → first_refusal s t before ≡ Some r → first_refusal s t (before ++ more) ≡ Some r
-  unfolding first_refusal
-  refusal_stays s [] more r found = absurd cc
-  refusal_stays s (c ∷ before) more r found =
-      elim (check s t c) as (λ (d : Option Denied). refusal_or c d (first_refusal (change s t c) t before) ≡ Some r → refusal_or c d (first_refusal (change s t c) t (before ++ more)) ≡ Some r) [
-        | None ↦ λ later. refusal_stays (change s t c) before more r later
-        | Some denied ↦ λ now. now
-      ] found
-
-  state_stays : (s : State) (before more : List RawCall) (r : RawCall × Denied) → first_refusal s t before ≡ Some r → state_until s t (before ++ more) ≡ state_until s t before
-  unfolding first_refusal state_until
-  state_stays s [] more r found = absurd cc
-  state_stays s (c ∷ before) more r found =
-      elim (check s t c) as (λ (d : Option Denied). refusal_or c d (first_refusal (change s t c) t before) ≡ Some r
-          → unless_denied d s (state_until (change s t c) t (before ++ more)) ≡ unless_denied d s (state_until (change s t c) t before)) [
-        | None ↦ λ later. state_stays (change s t c) before more r later
-        | Some denied ↦ λ now. refl
-      ] found
-
-  entries_stay : (line : ℕ) (s : State) (before more : List RawCall) (r : RawCall × Denied) → first_refusal s t before ≡ Some r → entries_until line s t (before ++ more) ≡ entries_until line s t before
-  unfolding first_refusal entries_until
-  entries_stay line s [] more r found = absurd cc
-  entries_stay line s (c ∷ before) more r found =
-      elim (check s t c) as (λ (d : Option Denied). refusal_or c d (first_refusal (change s t c) t before) ≡ Some r
-          → entry_of line t c d ∷ if_granted d (entries_until line (change s t c) t (before ++ more)) ≡ entry_of line t c d ∷ if_granted d (entries_until line (change s t c) t before)) [
-        | None ↦ λ later. ap (λ (es : List TraceEntry). entry_of line t c None ∷ es) (entries_stay line (change s t c) before more r later)
-        | Some denied ↦ λ now. refl
-      ] found
-
-  -- the entries are a run of the kernel by this thread on this line
-  entries_run : (line : ℕ) (s : State) (calls : List RawCall) → IsRun s (entries_until line s t calls) (state_until s t calls)
-  unfolding entries_until state_until
-  entries_run line s [] = refl
-  entries_run line s (c ∷ calls) =
-      elim (check s t c) as (λ (d : Option Denied). check s t c ≡ d
-          → (check s t c ≡ d) × IsRun (unless_denied d s (change s t c)) (if_granted d (entries_until line (change s t c) t calls)) (unless_denied d s (state_until (change s t c) t calls))) [
-        | None ↦ λ e. (e, entries_run line (change s t c) calls)
-        | Some denied ↦ λ e. (e, refl)
-      ] refl
-
-  entries_own : (line : ℕ) (s : State) (calls : List RawCall) → AllByRecursion (IsBy line t) (entries_until line s t calls)
-  unfolding entries_until
-  entries_own line s [] = tt
-  entries_own line s (c ∷ calls) =
-      elim (check s t c) as (λ (d : Option Denied). IsBy line t (entry_of line t c d) × AllByRecursion (IsBy line t) (if_granted d (entries_until line (change s t c) t calls))) [
-        | None ↦ ((refl, refl), entries_own line (change s t c) calls)
-        | Some denied ↦ ((refl, refl), tt)
-      ]
-
--- why the first refusal was made
+-- why the refused call was refused
 abbrev pub denied_of : Option (RawCall × Denied) → Option Denied
 denied_of None = None
 denied_of (Some r) = Some r.1
 
--- some entry has a property that no granted call has exactly where the first refusal has it
-pub some_refused : (p : Option Denied → Bool) → p None ≡ false → (line : ℕ) (s : State) (t : ℕ) (calls : List RawCall)
-    → list_any (λ (e : TraceEntry). p e.denied) (entries_until line s t calls) ≡ p (denied_of (first_refusal s t calls))
-unfolding first_refusal entries_until
-some_refused p none line s t [] = sym none
-some_refused p none line s t (c ∷ calls) =
-    elim (check s t c) as (λ (d : Option Denied). list_any (λ (e : TraceEntry). p e.denied) (entry_of line t c d ∷ if_granted d (entries_until line (change s t c) t calls)) ≡ p (denied_of (refusal_or c d (first_refusal (change s t c) t calls)))) [
-      | None ↦ ap (λ (b : Bool). b || list_any (λ (e : TraceEntry). p e.denied) (entries_until line (change s t c) t calls)) none ∙ some_refused p none line (change s t c) t calls
-      | Some denied ↦ or_false (p (Some denied))
-    ]
-  where
-    or_false : (b : Bool) → (b || false) ≡ b
-    or_false true = refl
-    or_false false = refl
+same_kernel : (k : Traced) → IsUnchanged k k
+same_kernel k = record { state = refl; trace = refl; line = refl }
+
+still_same : (a b c : Traced) → IsUnchanged a b → IsUnchanged b c → IsUnchanged a c
+still_same a b c first second = record { state = second.state ∙ first.state; trace = second.trace ∙ first.trace; line = second.line ∙ first.line }
+
+-- a raw call after nothing
+call_after : (a b c : Traced) (t : ℕ) (call : RawCall) (d : Option Denied) → IsUnchanged a b → Called b c t call d → Called a c t call d
+call_after a b c t call d same called = record {
+  outcome = subst (λ (s : State). check s t call ≡ d) same.state called.outcome;
+  state = subst (λ (s : State). Leaves d s t call (state c)) same.state called.state;
+  trace = called.trace ∙ ap (λ (es : List TraceEntry). es ++ entry_of b.line t call d ∷ []) same.trace ∙ ap (λ (l : ℕ). a.trace ++ entry_of l t call d ∷ []) same.line;
+  line = called.line ∙ same.line;
+}
+
+-- nothing after a raw call
+call_before : (a b c : Traced) (t : ℕ) (call : RawCall) (d : Option Denied) → Called a b t call d → IsUnchanged b c → Called a c t call d
+call_before a b c t call d called same = record {
+  outcome = called.outcome;
+  state = subst (λ (s : State). Leaves d (state a) t call s) (sym same.state) called.state;
+  trace = same.trace ∙ called.trace;
+  line = same.line ∙ called.line;
+}
 
 -- a thread that made no call
 pub granted_none : (k : Traced) (t : ℕ) → Granted k k t []
-unfolding first_refusal entries_until state_until
-granted_none k t = record { made = record { trace = sym (append-nil k.trace); state = refl; line = refl }; all = refl }
+granted_none k t = (same_kernel k, refl)
 
--- what was made is a run of the kernel
-pub made_ran : (old new : Traced) (t : ℕ) (calls : List RawCall) → Made old new t calls → Ran old new t (entries_until old.line (state old) t calls)
-made_ran old new t calls made = record {
-  trace = made.trace;
-  run = subst (λ (s : State). IsRun (state old) (entries_until old.line (state old) t calls) s) (sym made.state) (entries_run t old.line (state old) calls);
-  own = entries_own t old.line (state old) calls;
-  line = made.line;
-}
+module _ (t : ℕ) where
+  last_call : (call : RawCall) (d : Option Denied) (k : Traced) → GoesOn d call (Made k k t [] (refusal_of call d)) k k (refusal_of call d)
+  last_call call None k = (same_kernel k, refl)
+  last_call call (Some denied) k = (same_kernel k, refl)
 
--- a kernel that is as it was has made what it had made
-pub made_unchanged : (old mid new : Traced) (t : ℕ) (calls : List RawCall) → Made old mid t calls → IsUnchanged mid new → Made old new t calls
-made_unchanged old mid new t calls made same = record { trace = same.trace ∙ made.trace; state = same.state ∙ made.state; line = same.line ∙ made.line }
+  -- one raw call more, behind calls that were all granted
+  pub made_more : (old mid new : Traced) (before : List RawCall) (call : RawCall) (d : Option Denied) → Granted old mid t before → Called mid new t call d → Made old new t (before ++ call ∷ []) (refusal_of call d)
+  made_more old mid new [] call d granted called = (new, d, call_after old mid new t call d granted.0 called, last_call call d new)
+  made_more old mid new (c ∷ before) call d granted called = (
+    granted.0,
+    granted.1,
+    granted.2,
+    (elim granted.1 as (λ (x : Option Denied). GoesOn x c (Made granted.0 mid t before None) granted.0 mid None
+        → GoesOn x c (Made granted.0 new t (before ++ call ∷ []) (refusal_of call d)) granted.0 new (refusal_of call d)) [
+          | None ↦ λ rest. made_more granted.0 mid new before call d rest called
+          | Some denied ↦ λ rest. absurd cc
+        ]) granted.3,
+  )
 
--- nothing comes behind a call that was refused
-pub made_longer : (old new : Traced) (t : ℕ) (calls more : List RawCall) (r : RawCall × Denied) → Made old new t calls → first_refusal (state old) t calls ≡ Some r → Made old new t (calls ++ more)
-made_longer old new t calls more r made refused = record {
-  trace = made.trace ∙ ap (λ (es : List TraceEntry). old.trace ++ es) (sym (entries_stay t old.line (state old) calls more r refused));
-  state = made.state ∙ sym (state_stays t (state old) calls more r refused);
-  line = made.line;
-}
+  -- nothing comes behind a call that was refused
+  pub made_longer : (old new : Traced) (calls more : List RawCall) (r : RawCall × Denied) → Made old new t calls (Some r) → Made old new t (calls ++ more) (Some r)
+  made_longer old new [] more r made = absurd cc
+  made_longer old new (c ∷ calls) more r made = (
+    made.0,
+    made.1,
+    made.2,
+    (elim made.1 as (λ (x : Option Denied). GoesOn x c (Made made.0 new t calls (Some r)) made.0 new (Some r) → GoesOn x c (Made made.0 new t (calls ++ more) (Some r)) made.0 new (Some r)) [
+      | None ↦ λ rest. made_longer made.0 new calls more r rest
+      | Some denied ↦ λ rest. rest
+    ]) made.3,
+  )
 
-pub refusal_longer : (s : State) (t : ℕ) (calls more : List RawCall) (r : RawCall × Denied) → first_refusal s t calls ≡ Some r → first_refusal s t (calls ++ more) ≡ Some r
-refusal_longer s t calls more r refused = refusal_stays t s calls more r refused
+  -- a kernel that is as it was has made what it had made
+  pub made_unchanged : (old mid new : Traced) (calls : List RawCall) (refusal : Option (RawCall × Denied)) → Made old mid t calls refusal → IsUnchanged mid new → Made old new t calls refusal
+  made_unchanged old mid new [] refusal made same = (still_same old mid new made.0 same, made.1)
+  made_unchanged old mid new (c ∷ calls) refusal made same = (
+    made.0,
+    made.1,
+    made.2,
+    (elim made.1 as (λ (x : Option Denied). GoesOn x c (Made made.0 mid t calls refusal) made.0 mid refusal → GoesOn x c (Made made.0 new t calls refusal) made.0 new refusal) [
+      | None ↦ λ rest. made_unchanged made.0 mid new calls refusal rest same
+      | Some denied ↦ λ rest. (still_same made.0 mid new rest.0 same, rest.1)
+    ]) made.3,
+  )
 
-module _ (old mid new : Traced) (t : ℕ) (before : List RawCall) (call : RawCall) (d : Option Denied) (granted : Granted old mid t before) (called : Called mid new t call d) where
-  outcome_there : check (state_until (state old) t before) t call ≡ d
-  outcome_there = ap (λ (s : State). check s t call) (sym granted.made.state) ∙ called.outcome
+  -- The entries of raw calls that were made: a run of the kernel by this thread on this line, of which one has a property that
+  -- no granted call has exactly where the refused call has it.
+  pub record HasRun (old new : Traced) (refusal : Option (RawCall × Denied)) : Type 0 where
+    pub entries : List TraceEntry
+    pub ran : Ran old new t entries
+    pub some : (p : Option Denied → Bool) → p None ≡ false → list_any (λ (e : TraceEntry). p e.denied) entries ≡ p (denied_of refusal)
 
-  -- one raw call more
-  pub made_more : Made old new t (before ++ call ∷ [])
-  made_more = record {
-    trace = called.trace ∙ ap (λ (es : List TraceEntry). es ++ entry_of mid.line t call d ∷ []) granted.made.trace ∙ append_assoc old.trace (entries_until old.line (state old) t before) (entry_of mid.line t call d ∷ [])
-        ∙ ap (λ (l : ℕ). old.trace ++ (entries_until old.line (state old) t before ++ entry_of l t call d ∷ [])) granted.made.line
-        ∙ ap (λ (x : Option Denied). old.trace ++ (entries_until old.line (state old) t before ++ entry_of old.line t call x ∷ [])) (sym outcome_there)
-        ∙ ap (λ (es : List TraceEntry). old.trace ++ es) (sym (entries_more t old.line (state old) before call granted.all));
-    state = called.state ∙ ap (λ (s : State). after s t call) granted.made.state ∙ sym (state_more t (state old) before call granted.all);
-    line = called.line ∙ granted.made.line;
+  or_false : (b : Bool) → (b || false) ≡ b
+  or_false true = refl
+  or_false false = refl
+
+  run_none : (old new : Traced) → IsUnchanged old new → HasRun old new None
+  run_none old new same = record {
+    entries = [];
+    ran = record { trace = same.trace ∙ sym (append-nil old.trace); run = same.state; own = tt; line = same.line };
+    some = λ p none. sym none;
   }
 
-  pub refusal_after : first_refusal (state old) t (before ++ call ∷ []) ≡ refusal_or call d None
-  refusal_after = refusal_more t (state old) before call granted.all ∙ ap (λ (x : Option Denied). refusal_or call x None) outcome_there
+  run_one : (old new : Traced) (call : RawCall) (denied : Denied) → Called old new t call (Some denied) → HasRun old new (Some (call, denied))
+  run_one old new call denied called = record {
+    entries = entry_of old.line t call (Some denied) ∷ [];
+    ran = record { trace = called.trace; run = (state new, called.outcome, called.state, refl); own = ((refl, refl), tt); line = called.line };
+    some = λ p none. or_false (p (Some denied));
+  }
 
--- a raw call more that was granted
-pub granted_more : (old mid new : Traced) (t : ℕ) (before : List RawCall) (call : RawCall) → Granted old mid t before → Called mid new t call None → Granted old new t (before ++ call ∷ [])
-granted_more old mid new t before call granted called = record {
-  made = made_more old mid new t before call None granted called;
-  all = refusal_after old mid new t before call None granted called;
-}
+  run_first : (old mid new : Traced) (call : RawCall) (refusal : Option (RawCall × Denied)) → Called old mid t call None → HasRun mid new refusal → HasRun old new refusal
+  run_first old mid new call refusal called later = record {
+    entries = entry_of old.line t call None ∷ later.entries;
+    ran = record {
+      trace = later.ran.trace ∙ ap (λ (es : List TraceEntry). es ++ later.entries) called.trace ∙ append_assoc old.trace (entry_of old.line t call None ∷ []) later.entries;
+      run = (state mid, called.outcome, called.state, later.ran.run);
+      own = ((refl, refl), subst (λ (l : ℕ). AllByRecursion (IsBy l t) later.entries) called.line later.ran.own);
+      line = later.ran.line ∙ called.line;
+    };
+    some = λ p none. ap (λ (b : Bool). b || list_any (λ (e : TraceEntry). p e.denied) later.entries) none ∙ later.some p none;
+  }
+
+  pub made_run : (old new : Traced) (calls : List RawCall) (refusal : Option (RawCall × Denied)) → Made old new t calls refusal → HasRun old new refusal
+  made_run old new [] refusal made = subst (HasRun old new) (sym made.1) (run_none old new made.0)
+  made_run old new (c ∷ calls) refusal made = (elim made.1 as (λ (x : Option Denied). Called old made.0 t c x → GoesOn x c (Made made.0 new t calls refusal) made.0 new refusal → HasRun old new refusal) [
+    | None ↦ λ called rest. run_first old made.0 new c refusal called (made_run made.0 new calls refusal rest)
+    | Some denied ↦ λ called rest. subst (HasRun old new) (sym rest.1) (run_one old new c denied (call_before old made.0 new t c (Some denied) called rest.0))
+  ]) made.2 made.3
+
+  -- a raw call more that was granted
+  pub granted_more : (old mid new : Traced) (before : List RawCall) (call : RawCall) → Granted old mid t before → Called mid new t call None → Granted old new t (before ++ call ∷ [])
+  granted_more old mid new before call granted called = made_more old mid new before call None granted called
+
+  -- a raw call that was granted and leaves its state has left it
+  pub granted_one : (old new : Traced) (call : RawCall) → Granted old new t (call ∷ []) → Called old new t call None
+  granted_one old new call granted = (elim granted.1 as (λ (x : Option Denied). Called old granted.0 t call x → GoesOn x call (Made granted.0 new t [] None) granted.0 new None → Called old new t call None) [
+    | None ↦ λ called rest. call_before old granted.0 new t call None called rest.0
+    | Some denied ↦ λ called rest. absurd cc
+  ]) granted.2 granted.3

@@ -1,15 +1,18 @@
--- One raw call: its first failing check, its change, and a run of calls.
+-- One raw call of each kind: its first failing check, what it leaves, and a run of calls.
 use Rattle.std.specs.Prelude.{◌≡◌, ℕ, ◌+◌, Bool, not, List, [], ◌∷◌, ◌++◌, Option, None, Some, length, take, min, nat_lt, nat_le}
 use Rattle.std.specs.FinSet as set
 use Rattle.histar_base.specs.Refusals.{unless, ◌orelse◌}
-use Rattle.histar_label.specs.Levels.{is_made, has_star}
-use Rattle.histar_object.specs.Objects.{is_there, is_segment, is_container, is_thread, links_in, bytes_in}
-use Rattle.histar_object.specs.declared.objects.Kind.TheVariants.{Segment}
-use Rattle.histar_object.specs.State.{State, observes, modifies, in_range, added, with_bytes}
+use Rattle.histar_label.specs.Levels.{Levels, is_made, has_star}
+use Rattle.histar_object.specs.Objects.{is_there, is_segment, is_container, is_thread, is_gate, thread_of, links_in, bytes_in}
+use Rattle.histar_object.specs.declared.objects.Kind.TheVariants.{Segment, Container}
+use Rattle.histar_object.specs.declared.objects.Kind.TheVariants as gates
+use Rattle.histar_object.specs.Rights.{in_span, may_clear, is_under, is_let_in, in_gate, relabelled, clearing, with_changed, with_category}
+use Rattle.histar_object.specs.State.{State, observes, modifies, in_range, added, with_own, with_bytes}
+use Rattle.histar_container.specs.Kept.{CutsOff}
 use Rattle.histar_syscall.specs.declared.raw.Denied.{Denied}
-use Rattle.histar_syscall.specs.declared.raw.Denied.TheVariants.{Observe, Modify, Range, NoEntry, NoThread, BadKind, TooBig}
+use Rattle.histar_syscall.specs.declared.raw.Denied.TheVariants.{Observe, Modify, Range, Gate, NoEntry, NoThread, BadKind, TooBig}
 use Rattle.histar_syscall.specs.declared.raw.RawCall.{RawCall}
-use Rattle.histar_syscall.specs.declared.raw.RawCall.TheVariants.{OwnLabel, MakeSegment, Read, Write}
+use Rattle.histar_syscall.specs.declared.raw.RawCall.TheVariants.{MakeCategory, OwnLabel, SetLabel, SetClearance, MakeSegment, MakeContainer, MakeThread, MakeGate, Enter, Read, Write, Unlink, LabelOf}
 use Rattle.histar_syscall.specs.declared.raw.TraceEntry.{TraceEntry}
 
 -- the greatest number of 64 bits: a counter that has it can't rise
@@ -28,28 +31,84 @@ no_container s t d =
     orelse unless (is_container (s.objects d)) BadKind
     orelse unless (observes (s.objects t) (s.objects d)) Observe
 
--- then of every call that names a segment in it: it is linked there, and it is one
-abbrev pub no_segment : State → ℕ → ℕ → ℕ → Option Denied
-no_segment s t d o =
+-- then of every call that names an object in it: it is linked there
+abbrev pub no_link : State → ℕ → ℕ → ℕ → Option Denied
+no_link s t d o =
     no_container s t d
     orelse unless (set.contains (links_in (s.objects d)) o) NoEntry
-    orelse unless (is_segment (s.objects o)) BadKind
+
+-- and of a call on a segment: it is one
+abbrev pub no_segment : State → ℕ → ℕ → ℕ → Option Denied
+no_segment s t d o = no_link s t d o orelse unless (is_segment (s.objects o)) BadKind
+
+-- and of a call on a gate: it is one
+abbrev pub no_gate : State → ℕ → ℕ → ℕ → Option Denied
+no_gate s t d o = no_link s t d o orelse unless (is_gate (s.objects o)) BadKind
+
+-- of every call that makes an object in a container: the thread may modify the container
+abbrev pub no_making : State → ℕ → ℕ → Option Denied
+no_making s t d = no_container s t d orelse unless (modifies (s.objects t) (s.objects d)) Modify
 
 -- a segment holds at most 4,096 bytes
 abbrev pub fits_segment : ℕ → Bool
 fits_segment n = nat_le n 4096
 
--- the first failing check of a raw call
+-- there is a number for one object more
+abbrev pub has_number : State → Bool
+has_number s = nat_lt s.next_object greatest
+
+-- a label that was handed in names no category that was never made
+abbrev pub known : State → Levels → Bool
+known s label = is_made s.next_category label
+
+-- The first failing check of a raw call. First come the caller, the container and the object; then whether labels let the
+-- thread observe, modify or enter; then the ranges of the labels that were handed in; then sizes and counters.
 abbrev pub check : State → ℕ → RawCall → Option Denied
+check s t MakeCategory =
+    no_thread s t
+    orelse unless (nat_lt s.next_category greatest) TooBig
 check s t OwnLabel = no_thread s t
-check s t (MakeSegment d label bytes) =
-    no_container s t d
-    orelse unless (modifies (s.objects t) (s.objects d)) Modify
+check s t (SetLabel label) =
+    no_thread s t
     orelse unless (in_range (s.objects t) label) Range
-    orelse unless (is_made s.next_category label) Range
+    orelse unless (known s label) Range
+check s t (SetClearance clearance) =
+    no_thread s t
+    orelse unless (may_clear (s.objects t) clearance) Range
+    orelse unless (known s clearance) Range
+check s t (MakeSegment d label bytes) =
+    no_making s t d
+    orelse unless (in_range (s.objects t) label) Range
+    orelse unless (known s label) Range
     orelse unless (not (has_star label)) Range
     orelse unless (fits_segment (length bytes)) TooBig
-    orelse unless (nat_lt s.next_object greatest) TooBig
+    orelse unless (has_number s) TooBig
+check s t (MakeContainer d label) =
+    no_making s t d
+    orelse unless (in_range (s.objects t) label) Range
+    orelse unless (known s label) Range
+    orelse unless (not (has_star label)) Range
+    orelse unless (has_number s) TooBig
+check s t (MakeThread d label clearance) =
+    no_making s t d
+    orelse unless (in_span (s.objects t) label clearance) Range
+    orelse unless (known s label) Range
+    orelse unless (known s clearance) Range
+    orelse unless (has_number s) TooBig
+check s t (MakeGate d label clearance entry) =
+    no_making s t d
+    orelse unless (in_span (s.objects t) label clearance) Range
+    orelse unless (known s label) Range
+    orelse unless (known s clearance) Range
+    orelse unless (has_number s) TooBig
+check s t (Enter d o wanted clearance shown) =
+    no_gate s t d o
+    orelse unless (is_let_in (s.objects t) (s.objects o)) Gate
+    orelse unless (is_under (s.objects t) shown) Gate
+    orelse unless (in_gate (s.objects t) (s.objects o) wanted clearance) Range
+    orelse unless (known s wanted) Range
+    orelse unless (known s clearance) Range
+    orelse unless (known s shown) Range
 check s t (Read d o) =
     no_segment s t d o
     orelse unless (observes (s.objects t) (s.objects o)) Observe
@@ -57,24 +116,37 @@ check s t (Write d o keep bytes) =
     no_segment s t d o
     orelse unless (modifies (s.objects t) (s.objects o)) Modify
     orelse unless (fits_segment (min keep (length (bytes_in (s.objects o))) + length bytes)) TooBig
+check s t (Unlink d o) =
+    no_link s t d o
+    orelse unless (modifies (s.objects t) (s.objects d)) Modify
+check s t (LabelOf d o) =
+    no_link s t d o
+    orelse unless (not (is_thread (s.objects o))) BadKind
 
--- the change of a raw call that passes its checks
-abbrev pub change : State → ℕ → RawCall → State
-change s t OwnLabel = s
-change s t (MakeSegment d label bytes) = added s d (record { label = label; kind = Segment bytes })
-change s t (Read d o) = s
-change s t (Write d o keep bytes) = with_bytes s o (take keep (bytes_in (s.objects o)) ++ bytes)
+-- What a raw call that passes its checks leaves. A new object gets the next number, and the container links it; an object
+-- that is taken away goes with all that is reached from it by links.
+abbrev pub Changes : State → ℕ → RawCall → State → Type 0
+Changes s t MakeCategory new = new ≡ with_category s t
+Changes s t OwnLabel new = new ≡ s
+Changes s t (SetLabel label) new = new ≡ with_changed s t (relabelled label)
+Changes s t (SetClearance clearance) new = new ≡ with_changed s t (clearing clearance)
+Changes s t (MakeSegment d label bytes) new = new ≡ added s d (record { label = label; kind = Segment bytes })
+Changes s t (MakeContainer d label) new = new ≡ added s d (record { label = label; kind = Container set.empty })
+Changes s t (MakeThread d label clearance) new = new ≡ added s d (thread_of label clearance)
+Changes s t (MakeGate d label clearance entry) new = new ≡ added s d (record { label = label; kind = gates.Gate clearance entry })
+Changes s t (Enter d o wanted clearance shown) new = new ≡ with_own s t wanted clearance
+Changes s t (Read d o) new = new ≡ s
+Changes s t (Write d o keep bytes) new = new ≡ with_bytes s o (take keep (bytes_in (s.objects o)) ++ bytes)
+Changes s t (Unlink d o) new = CutsOff s d o new
+Changes s t (LabelOf d o) new = new ≡ s
 
--- a refused call changes nothing
-abbrev pub unless_denied : Option Denied → State → State → State
-unless_denied None old new = new
-unless_denied (Some denied) old new = old
+-- the state after a raw call: what the call leaves where it was granted, and where it was refused the old one
+abbrev pub Leaves : Option Denied → State → ℕ → RawCall → State → Type 0
+Leaves None s t call new = Changes s t call new
+Leaves (Some denied) s t call new = new ≡ s
 
--- the state after a raw call
-abbrev pub after : State → ℕ → RawCall → State
-after s t call = unless_denied (check s t call) s (change s t call)
-
--- the entries are a run of the kernel from a state to another: each outcome is the first failing check, each state follows
+-- The entries are a run of the kernel from a state to another: each outcome is the first failing check at the state before
+-- it, and each state is what the call before it left.
 abbrev pub IsRun : State → List TraceEntry → State → Type 0
 IsRun s [] end = end ≡ s
-IsRun s (e ∷ es) end = (check s e.thread e.call ≡ e.denied) × IsRun (after s e.thread e.call) es end
+IsRun s (e ∷ es) end = (mid : State) × (check s e.thread e.call ≡ e.denied) × Leaves e.denied s e.thread e.call mid × IsRun mid es end

@@ -2,5 +2,6 @@ pub mod Calls
 pub mod Runs
 pub mod Traced
 pub use Rattle.histar_object.specs.Objects
+pub use Rattle.histar_object.specs.Rights
 pub use Rattle.histar_object.specs.State
 pub use Rattle.histar_container.specs.Kept

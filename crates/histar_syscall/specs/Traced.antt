@@ -10,7 +10,7 @@ use Rattle.histar_syscall.specs.declared.raw.Refusal.{Refusal}
 use Rattle.histar_syscall.specs.declared.raw.Refusal.TheVariants as refusals
 use Rattle.histar_syscall.specs.declared.raw.TraceEntry.{TraceEntry}
 use Rattle.histar_syscall.specs.contracts.raw.TraceEntry as entry
-use Rattle.histar_syscall.specs.Calls.{check, after}
+use Rattle.histar_syscall.specs.Calls.{check, Leaves}
 
 -- what a kernel keeps: its objects, the line that was begun last, and the trace of its calls
 pub record Traced : Type 0 where
@@ -29,7 +29,7 @@ state k = state_of k.kept
 -- the kernel made this call and nothing else: its outcome, its state, and one entry of the trace on the line that was begun
 pub record Called (old new : Traced) (thread : ℕ) (call : RawCall) (denied : Option Denied) : Type 0 where
   pub outcome : check (state old) thread call ≡ denied
-  pub state : state new ≡ after (state old) thread call
+  pub state : Leaves denied (state old) thread call (state new)
   pub trace : new.trace ≡ old.trace ++ record { line = old.line; thread = thread; call = call; denied = denied } ∷ []
   pub line : new.line ≡ old.line
 

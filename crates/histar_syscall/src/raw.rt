@@ -1,7 +1,7 @@
 //! Raw calls, and what becomes of them.
 use histar_base::Bytes;
 use histar_label::Label;
-use histar_object::ObjId;
+use histar_object::{Entry, ObjId};
 use std::alloc::{AllocError, AllocFailed};
 
 /// Why the kernel refuses a raw call: the first failing check, in the order of the variants' use by
@@ -27,17 +27,37 @@ pub enum Denied {
     TooBig,
 }
 
-/// A raw call, as the trace keeps it.
+/// A raw call, as the trace keeps it: the calls of HiStar's kernel, in this kernel's profile. Four of them are made so far: `OwnLabel`, `MakeSegment`, `Read`
+/// and `Write`; the rules of all stand in `specs/Calls.antt`.
 #[derive(Drop)]
 pub enum RawCall {
+    /// Makes a category, which the thread owns.
+    MakeCategory,
     /// Asks for the thread's own label and clearance.
     OwnLabel,
+    /// Gives the thread another label.
+    SetLabel(Label),
+    /// Gives the thread another clearance.
+    SetClearance(Label),
     /// Makes a segment in a container, with a label and bytes.
     MakeSegment(ObjId, Label, Bytes),
+    /// Makes a container in a container, with a label.
+    MakeContainer(ObjId, Label),
+    /// Makes a thread in a container, with a label and a clearance.
+    MakeThread(ObjId, Label, Label),
+    /// Makes a gate in a container, with a label, a clearance and what it gives to those who enter.
+    MakeGate(ObjId, Label, Label, Entry),
+    /// Enters a gate that a container links: the label and the clearance that the thread wants, and a
+    /// label that it shows.
+    Enter(ObjId, ObjId, Label, Label, Label),
     /// Reads a segment that a container links.
     Read(ObjId, ObjId),
     /// Keeps at most so many bytes of a segment that a container links, and puts these behind them.
     Write(ObjId, ObjId, u32, Bytes),
+    /// Takes an object that a container links away, with all that hangs below it.
+    Unlink(ObjId, ObjId),
+    /// Asks for the label of an object that a container links, which is no thread.
+    LabelOf(ObjId, ObjId),
 }
 
 /// One raw call in the trace: on which line, by which thread, and why it was refused, if it was.

@@ -66,7 +66,7 @@ returns-in_err-label-clause-follows g c =
     let walked = subst (λ (found : Result Entries Errno). Walks c.args.places.now c.args.kernel.now c.walk.new.kernel c.args.thread (Ok found)) c.in-Ok.is c.in_ok-dir.ensures in
     let at : map.get c.in-Ok.dir c.in-Some.name.now ≡ None = (sym c.get.ensures ∙ none_there c.get.result c.is_some.result c.is_some.ensures c.if-is_some.false) in
     let room : (map.len c.in-Ok.dir == most_entries) ≡ false = not_most c.is_full.result (map.len c.in-Ok.dir) c.is_full.ensures.full c.if-is_full.false in
-    let owned = granted_more c.args.kernel.now c.walk.new.kernel c.own_label.new.self c.args.thread (walk c.args.places.now) OwnLabel walked.0 c.in-Ok-own_label.ensures.0 in
+    let owned = granted_more c.args.thread c.args.kernel.now c.walk.new.kernel c.own_label.new.self (walk c.args.places.now) OwnLabel walked.0 c.in-Ok-own_label.ensures.0 in
     create_stopped c.args.places.now c.args.kernel.now c.own_label.new.self c.args.thread c.args.path.now c.args.mode c.in-Some.name.now (sym c.last.ensures ∙ ap option_copied c.in-Some.is) c.in-Ok.dir walked.1 at room (walk c.args.places.now ++ OwnLabel ∷ []) (front_own c.args.places.now c.args.kernel.now c.own_label.new.self c.args.thread c.args.path.now c.args.mode c.in-Some.name.now (sym c.last.ensures ∙ ap option_copied c.in-Some.is) c.in-Ok.dir walked.1 at room) c.from_residual-in_err-label.result c.from_residual-in_err-label.ensures.0
     (stops_granted c.args.kernel.now c.own_label.new.self c.args.thread (walk c.args.places.now ++ OwnLabel ∷ []) [] owned)
 
@@ -75,7 +75,7 @@ returns-in_err-told-in-Err-make_segment-clause-follows g c =
     let walked = subst (λ (found : Result Entries Errno). Walks c.args.places.now c.args.kernel.now c.walk.new.kernel c.args.thread (Ok found)) c.in-Ok.is c.in_ok-dir.ensures in
     let at : map.get c.in-Ok.dir c.in-Some.name.now ≡ None = (sym c.get.ensures ∙ none_there c.get.result c.is_some.result c.is_some.ensures c.if-is_some.false) in
     let room : (map.len c.in-Ok.dir == most_entries) ≡ false = not_most c.is_full.result (map.len c.in-Ok.dir) c.is_full.ensures.full c.if-is_full.false in
-    let owned = granted_more c.args.kernel.now c.walk.new.kernel c.own_label.new.self c.args.thread (walk c.args.places.now) OwnLabel walked.0 c.in-Ok-own_label.ensures.0 in
+    let owned = granted_more c.args.thread c.args.kernel.now c.walk.new.kernel c.own_label.new.self (walk c.args.places.now) OwnLabel walked.0 c.in-Ok-own_label.ensures.0 in
     let own_is : c.in-Ok-own_label.own.0 ≡ label_of_thread c.args.kernel.now c.args.thread = own_label_is c.args.places.now c.args.kernel.now c.walk.new.kernel c.args.thread walked.0 c.in-Ok-own_label.own.0 c.in-Ok-own_label.ensures.1.0 in
     let labelled = c.in_ok-label.ensures in
     create_stopped c.args.places.now c.args.kernel.now c.make_segment.new.self c.args.thread c.args.path.now c.args.mode c.in-Some.name.now (sym c.last.ensures ∙ ap option_copied c.in-Some.is) c.in-Ok.dir walked.1 at room (walk c.args.places.now ++ OwnLabel ∷ MakeSegment c.args.places.now.root c.in_ok-label.label c.new-empty.result ∷ []) (front_make c.args.places.now c.args.kernel.now c.make_segment.new.self c.args.thread c.args.path.now c.args.mode c.in-Some.name.now (sym c.last.ensures ∙ ap option_copied c.in-Some.is) c.in-Ok.dir walked.1 at room c.in-Ok-own_label.own.0 c.in_ok-label.label c.new-empty.result labelled.0 own_is labelled.1 labelled.2 c.new-empty.ensures) c.from_residual-in_err-told-in-Err-make_segment.result c.from_residual-in_err-told-in-Err-make_segment.ensures.0
@@ -86,7 +86,7 @@ returns-in-Err-make_segment-clause-follows g c =
     let walked = subst (λ (found : Result Entries Errno). Walks c.args.places.now c.args.kernel.now c.walk.new.kernel c.args.thread (Ok found)) c.in-Ok.is c.in_ok-dir.ensures in
     let at : map.get c.in-Ok.dir c.in-Some.name.now ≡ None = (sym c.get.ensures ∙ none_there c.get.result c.is_some.result c.is_some.ensures c.if-is_some.false) in
     let room : (map.len c.in-Ok.dir == most_entries) ≡ false = not_most c.is_full.result (map.len c.in-Ok.dir) c.is_full.ensures.full c.if-is_full.false in
-    let owned = granted_more c.args.kernel.now c.walk.new.kernel c.own_label.new.self c.args.thread (walk c.args.places.now) OwnLabel walked.0 c.in-Ok-own_label.ensures.0 in
+    let owned = granted_more c.args.thread c.args.kernel.now c.walk.new.kernel c.own_label.new.self (walk c.args.places.now) OwnLabel walked.0 c.in-Ok-own_label.ensures.0 in
     let own_is : c.in-Ok-own_label.own.0 ≡ label_of_thread c.args.kernel.now c.args.thread = own_label_is c.args.places.now c.args.kernel.now c.walk.new.kernel c.args.thread walked.0 c.in-Ok-own_label.own.0 c.in-Ok-own_label.ensures.1.0 in
     let labelled = c.in_ok-label.ensures in
     create_refused c.args.places.now c.args.kernel.now c.make_segment.new.self c.args.thread c.args.path.now c.args.mode c.in-Some.name.now (sym c.last.ensures ∙ ap option_copied c.in-Some.is) c.in-Ok.dir walked.1 at room (walk c.args.places.now ++ OwnLabel ∷ MakeSegment c.args.places.now.root c.in_ok-label.label c.new-empty.result ∷ []) (front_make c.args.places.now c.args.kernel.now c.make_segment.new.self c.args.thread c.args.path.now c.args.mode c.in-Some.name.now (sym c.last.ensures ∙ ap option_copied c.in-Some.is) c.in-Ok.dir walked.1 at room c.in-Ok-own_label.own.0 c.in_ok-label.label c.new-empty.result labelled.0 own_is labelled.1 labelled.2 c.new-empty.ensures) _ (refused_more c.args.kernel.now c.own_label.new.self c.make_segment.new.self c.args.thread (walk c.args.places.now ++ OwnLabel ∷ []) (MakeSegment c.args.places.now.root c.in_ok-label.label c.new-empty.result) owned _ c.in-Err-make_segment.refusal _ c.in-Err-make_segment.ensures c.in_ok-told-in-Err-make_segment.ensures)
@@ -94,7 +94,7 @@ returns-in-Err-make_segment-clause-follows g c =
 pub returns-in-Err-make_segment-clause-told : goal.returns-in-Err-make_segment-clause-told
 returns-in-Err-make_segment-clause-told g c =
     let walked = subst (λ (found : Result Entries Errno). Walks c.args.places.now c.args.kernel.now c.walk.new.kernel c.args.thread (Ok found)) c.in-Ok.is c.in_ok-dir.ensures in
-    let owned = granted_more c.args.kernel.now c.walk.new.kernel c.own_label.new.self c.args.thread (walk c.args.places.now) OwnLabel walked.0 c.in-Ok-own_label.ensures.0 in
+    let owned = granted_more c.args.thread c.args.kernel.now c.walk.new.kernel c.own_label.new.self (walk c.args.places.now) OwnLabel walked.0 c.in-Ok-own_label.ensures.0 in
     replies_refused c.args.kernel.now c.make_segment.new.self c.args.thread (walk c.args.places.now ++ OwnLabel ∷ MakeSegment c.args.places.now.root c.in_ok-label.label c.new-empty.result ∷ []) _ (refused_more c.args.kernel.now c.own_label.new.self c.make_segment.new.self c.args.thread (walk c.args.places.now ++ OwnLabel ∷ []) (MakeSegment c.args.places.now.root c.in_ok-label.label c.new-empty.result) owned _ c.in-Err-make_segment.refusal _ c.in-Err-make_segment.ensures c.in_ok-told-in-Err-make_segment.ensures)
 
 pub returns-in_err-insert-clause-follows : goal.returns-in_err-insert-clause-follows
@@ -102,10 +102,10 @@ returns-in_err-insert-clause-follows g c =
     let walked = subst (λ (found : Result Entries Errno). Walks c.args.places.now c.args.kernel.now c.walk.new.kernel c.args.thread (Ok found)) c.in-Ok.is c.in_ok-dir.ensures in
     let at : map.get c.in-Ok.dir c.in-Some.name.now ≡ None = (sym c.get.ensures ∙ none_there c.get.result c.is_some.result c.is_some.ensures c.if-is_some.false) in
     let room : (map.len c.in-Ok.dir == most_entries) ≡ false = not_most c.is_full.result (map.len c.in-Ok.dir) c.is_full.ensures.full c.if-is_full.false in
-    let owned = granted_more c.args.kernel.now c.walk.new.kernel c.own_label.new.self c.args.thread (walk c.args.places.now) OwnLabel walked.0 c.in-Ok-own_label.ensures.0 in
+    let owned = granted_more c.args.thread c.args.kernel.now c.walk.new.kernel c.own_label.new.self (walk c.args.places.now) OwnLabel walked.0 c.in-Ok-own_label.ensures.0 in
     let own_is : c.in-Ok-own_label.own.0 ≡ label_of_thread c.args.kernel.now c.args.thread = own_label_is c.args.places.now c.args.kernel.now c.walk.new.kernel c.args.thread walked.0 c.in-Ok-own_label.own.0 c.in-Ok-own_label.ensures.1.0 in
     let labelled = c.in_ok-label.ensures in
-    let made = granted_more c.args.kernel.now c.own_label.new.self c.make_segment.new.self c.args.thread (walk c.args.places.now ++ OwnLabel ∷ []) (MakeSegment c.args.places.now.root c.in_ok-label.label c.new-empty.result) owned c.in-Ok-make_segment.ensures.0 in
+    let made = granted_more c.args.thread c.args.kernel.now c.own_label.new.self c.make_segment.new.self (walk c.args.places.now ++ OwnLabel ∷ []) (MakeSegment c.args.places.now.root c.in_ok-label.label c.new-empty.result) owned c.in-Ok-make_segment.ensures.0 in
     create_stopped c.args.places.now c.args.kernel.now c.make_segment.new.self c.args.thread c.args.path.now c.args.mode c.in-Some.name.now (sym c.last.ensures ∙ ap option_copied c.in-Some.is) c.in-Ok.dir walked.1 at room (walk c.args.places.now ++ OwnLabel ∷ MakeSegment c.args.places.now.root c.in_ok-label.label c.new-empty.result ∷ []) (front_make c.args.places.now c.args.kernel.now c.make_segment.new.self c.args.thread c.args.path.now c.args.mode c.in-Some.name.now (sym c.last.ensures ∙ ap option_copied c.in-Some.is) c.in-Ok.dir walked.1 at room c.in-Ok-own_label.own.0 c.in_ok-label.label c.new-empty.result labelled.0 own_is labelled.1 labelled.2 c.new-empty.ensures) c.from_residual-in_err-insert.result c.from_residual-in_err-insert.ensures.0
     (stops_granted c.args.kernel.now c.make_segment.new.self c.args.thread (walk c.args.places.now ++ OwnLabel ∷ MakeSegment c.args.places.now.root c.in_ok-label.label c.new-empty.result ∷ []) [] made)
 
@@ -114,10 +114,10 @@ returns-in_err-bytes-clause-follows g c =
     let walked = subst (λ (found : Result Entries Errno). Walks c.args.places.now c.args.kernel.now c.walk.new.kernel c.args.thread (Ok found)) c.in-Ok.is c.in_ok-dir.ensures in
     let at : map.get c.in-Ok.dir c.in-Some.name.now ≡ None = (sym c.get.ensures ∙ none_there c.get.result c.is_some.result c.is_some.ensures c.if-is_some.false) in
     let room : (map.len c.in-Ok.dir == most_entries) ≡ false = not_most c.is_full.result (map.len c.in-Ok.dir) c.is_full.ensures.full c.if-is_full.false in
-    let owned = granted_more c.args.kernel.now c.walk.new.kernel c.own_label.new.self c.args.thread (walk c.args.places.now) OwnLabel walked.0 c.in-Ok-own_label.ensures.0 in
+    let owned = granted_more c.args.thread c.args.kernel.now c.walk.new.kernel c.own_label.new.self (walk c.args.places.now) OwnLabel walked.0 c.in-Ok-own_label.ensures.0 in
     let own_is : c.in-Ok-own_label.own.0 ≡ label_of_thread c.args.kernel.now c.args.thread = own_label_is c.args.places.now c.args.kernel.now c.walk.new.kernel c.args.thread walked.0 c.in-Ok-own_label.own.0 c.in-Ok-own_label.ensures.1.0 in
     let labelled = c.in_ok-label.ensures in
-    let made = granted_more c.args.kernel.now c.own_label.new.self c.make_segment.new.self c.args.thread (walk c.args.places.now ++ OwnLabel ∷ []) (MakeSegment c.args.places.now.root c.in_ok-label.label c.new-empty.result) owned c.in-Ok-make_segment.ensures.0 in
+    let made = granted_more c.args.thread c.args.kernel.now c.own_label.new.self c.make_segment.new.self (walk c.args.places.now ++ OwnLabel ∷ []) (MakeSegment c.args.places.now.root c.in_ok-label.label c.new-empty.result) owned c.in-Ok-make_segment.ensures.0 in
     create_stopped c.args.places.now c.args.kernel.now c.make_segment.new.self c.args.thread c.args.path.now c.args.mode c.in-Some.name.now (sym c.last.ensures ∙ ap option_copied c.in-Some.is) c.in-Ok.dir walked.1 at room (walk c.args.places.now ++ OwnLabel ∷ MakeSegment c.args.places.now.root c.in_ok-label.label c.new-empty.result ∷ []) (front_make c.args.places.now c.args.kernel.now c.make_segment.new.self c.args.thread c.args.path.now c.args.mode c.in-Some.name.now (sym c.last.ensures ∙ ap option_copied c.in-Some.is) c.in-Ok.dir walked.1 at room c.in-Ok-own_label.own.0 c.in_ok-label.label c.new-empty.result labelled.0 own_is labelled.1 labelled.2 c.new-empty.ensures) c.from_residual-in_err-bytes.result c.from_residual-in_err-bytes.ensures.0
     (stops_granted c.args.kernel.now c.make_segment.new.self c.args.thread (walk c.args.places.now ++ OwnLabel ∷ MakeSegment c.args.places.now.root c.in_ok-label.label c.new-empty.result ∷ []) [] made)
 
@@ -126,30 +126,30 @@ returns-in-Ok-write-clause-follows g c =
     let walked = subst (λ (found : Result Entries Errno). Walks c.args.places.now c.args.kernel.now c.walk.new.kernel c.args.thread (Ok found)) c.in-Ok.is c.in_ok-dir.ensures in
     let at : map.get c.in-Ok.dir c.in-Some.name.now ≡ None = (sym c.get.ensures ∙ none_there c.get.result c.is_some.result c.is_some.ensures c.if-is_some.false) in
     let room : (map.len c.in-Ok.dir == most_entries) ≡ false = not_most c.is_full.result (map.len c.in-Ok.dir) c.is_full.ensures.full c.if-is_full.false in
-    let owned = granted_more c.args.kernel.now c.walk.new.kernel c.own_label.new.self c.args.thread (walk c.args.places.now) OwnLabel walked.0 c.in-Ok-own_label.ensures.0 in
+    let owned = granted_more c.args.thread c.args.kernel.now c.walk.new.kernel c.own_label.new.self (walk c.args.places.now) OwnLabel walked.0 c.in-Ok-own_label.ensures.0 in
     let own_is : c.in-Ok-own_label.own.0 ≡ label_of_thread c.args.kernel.now c.args.thread = own_label_is c.args.places.now c.args.kernel.now c.walk.new.kernel c.args.thread walked.0 c.in-Ok-own_label.own.0 c.in-Ok-own_label.ensures.1.0 in
     let labelled = c.in_ok-label.ensures in
-    let made = granted_more c.args.kernel.now c.own_label.new.self c.make_segment.new.self c.args.thread (walk c.args.places.now ++ OwnLabel ∷ []) (MakeSegment c.args.places.now.root c.in_ok-label.label c.new-empty.result) owned c.in-Ok-make_segment.ensures.0 in
+    let made = granted_more c.args.thread c.args.kernel.now c.own_label.new.self c.make_segment.new.self (walk c.args.places.now ++ OwnLabel ∷ []) (MakeSegment c.args.places.now.root c.in_ok-label.label c.new-empty.result) owned c.in-Ok-make_segment.ensures.0 in
     let file_is : c.in-Ok-make_segment.file ≡ (state c.args.kernel.now).next_object = c.in-Ok-make_segment.ensures.1.0 ∙ next_is c.args.places.now c.args.kernel.now c.walk.new.kernel c.own_label.new.self c.args.thread walked.0 c.in-Ok-own_label.ensures.0 in
     let written : IsDirectory c.in_ok-bytes.bytes (map.insert c.in-Ok.dir c.in-Some.name.now (File c.in-Ok-make_segment.file)) = subst (λ (dir : Entries). IsDirectory c.in_ok-bytes.bytes dir) c.in_ok-insert.ensures.ok c.in_ok-bytes.ensures in
-    create_done c.args.places.now c.args.kernel.now c.write.new.self c.args.thread c.args.path.now c.args.mode c.in-Some.name.now (sym c.last.ensures ∙ ap option_copied c.in-Some.is) c.in-Ok.dir walked.1 at room (walk c.args.places.now ++ OwnLabel ∷ MakeSegment c.args.places.now.root c.in_ok-label.label c.new-empty.result ∷ Write c.args.places.now.root c.args.places.now.listing 0 c.in_ok-bytes.bytes ∷ []) (all_made c.args.places.now c.args.kernel.now c.write.new.self c.args.thread c.args.path.now c.args.mode c.in-Some.name.now (sym c.last.ensures ∙ ap option_copied c.in-Some.is) c.in-Ok.dir walked.1 at room c.in-Ok-own_label.own.0 c.in_ok-label.label c.new-empty.result labelled.0 own_is labelled.1 labelled.2 c.new-empty.ensures c.in-Ok-make_segment.file file_is c.in_ok-bytes.bytes written) (granted_more c.args.kernel.now c.make_segment.new.self c.write.new.self c.args.thread (walk c.args.places.now ++ OwnLabel ∷ MakeSegment c.args.places.now.root c.in_ok-label.label c.new-empty.result ∷ []) (Write c.args.places.now.root c.args.places.now.listing 0 c.in_ok-bytes.bytes) made c.in-Ok-write.ensures.0)
+    create_done c.args.places.now c.args.kernel.now c.write.new.self c.args.thread c.args.path.now c.args.mode c.in-Some.name.now (sym c.last.ensures ∙ ap option_copied c.in-Some.is) c.in-Ok.dir walked.1 at room (walk c.args.places.now ++ OwnLabel ∷ MakeSegment c.args.places.now.root c.in_ok-label.label c.new-empty.result ∷ Write c.args.places.now.root c.args.places.now.listing 0 c.in_ok-bytes.bytes ∷ []) (all_made c.args.places.now c.args.kernel.now c.write.new.self c.args.thread c.args.path.now c.args.mode c.in-Some.name.now (sym c.last.ensures ∙ ap option_copied c.in-Some.is) c.in-Ok.dir walked.1 at room c.in-Ok-own_label.own.0 c.in_ok-label.label c.new-empty.result labelled.0 own_is labelled.1 labelled.2 c.new-empty.ensures c.in-Ok-make_segment.file file_is c.in_ok-bytes.bytes written) (granted_more c.args.thread c.args.kernel.now c.make_segment.new.self c.write.new.self (walk c.args.places.now ++ OwnLabel ∷ MakeSegment c.args.places.now.root c.in_ok-label.label c.new-empty.result ∷ []) (Write c.args.places.now.root c.args.places.now.listing 0 c.in_ok-bytes.bytes) made c.in-Ok-write.ensures.0)
 
 pub returns-in-Ok-write-clause-told : goal.returns-in-Ok-write-clause-told
 returns-in-Ok-write-clause-told g c =
     let walked = subst (λ (found : Result Entries Errno). Walks c.args.places.now c.args.kernel.now c.walk.new.kernel c.args.thread (Ok found)) c.in-Ok.is c.in_ok-dir.ensures in
-    let owned = granted_more c.args.kernel.now c.walk.new.kernel c.own_label.new.self c.args.thread (walk c.args.places.now) OwnLabel walked.0 c.in-Ok-own_label.ensures.0 in
-    let made = granted_more c.args.kernel.now c.own_label.new.self c.make_segment.new.self c.args.thread (walk c.args.places.now ++ OwnLabel ∷ []) (MakeSegment c.args.places.now.root c.in_ok-label.label c.new-empty.result) owned c.in-Ok-make_segment.ensures.0 in
-    replies_granted c.args.kernel.now c.write.new.self c.args.thread (walk c.args.places.now ++ OwnLabel ∷ MakeSegment c.args.places.now.root c.in_ok-label.label c.new-empty.result ∷ Write c.args.places.now.root c.args.places.now.listing 0 c.in_ok-bytes.bytes ∷ []) _ (granted_more c.args.kernel.now c.make_segment.new.self c.write.new.self c.args.thread (walk c.args.places.now ++ OwnLabel ∷ MakeSegment c.args.places.now.root c.in_ok-label.label c.new-empty.result ∷ []) (Write c.args.places.now.root c.args.places.now.listing 0 c.in_ok-bytes.bytes) made c.in-Ok-write.ensures.0) refl refl
+    let owned = granted_more c.args.thread c.args.kernel.now c.walk.new.kernel c.own_label.new.self (walk c.args.places.now) OwnLabel walked.0 c.in-Ok-own_label.ensures.0 in
+    let made = granted_more c.args.thread c.args.kernel.now c.own_label.new.self c.make_segment.new.self (walk c.args.places.now ++ OwnLabel ∷ []) (MakeSegment c.args.places.now.root c.in_ok-label.label c.new-empty.result) owned c.in-Ok-make_segment.ensures.0 in
+    replies_granted c.args.kernel.now c.write.new.self c.args.thread (walk c.args.places.now ++ OwnLabel ∷ MakeSegment c.args.places.now.root c.in_ok-label.label c.new-empty.result ∷ Write c.args.places.now.root c.args.places.now.listing 0 c.in_ok-bytes.bytes ∷ []) _ (granted_more c.args.thread c.args.kernel.now c.make_segment.new.self c.write.new.self (walk c.args.places.now ++ OwnLabel ∷ MakeSegment c.args.places.now.root c.in_ok-label.label c.new-empty.result ∷ []) (Write c.args.places.now.root c.args.places.now.listing 0 c.in_ok-bytes.bytes) made c.in-Ok-write.ensures.0) refl refl
 
 pub returns-in_err-told_of_write-in-Err-write-clause-follows : goal.returns-in_err-told_of_write-in-Err-write-clause-follows
 returns-in_err-told_of_write-in-Err-write-clause-follows g c =
     let walked = subst (λ (found : Result Entries Errno). Walks c.args.places.now c.args.kernel.now c.walk.new.kernel c.args.thread (Ok found)) c.in-Ok.is c.in_ok-dir.ensures in
     let at : map.get c.in-Ok.dir c.in-Some.name.now ≡ None = (sym c.get.ensures ∙ none_there c.get.result c.is_some.result c.is_some.ensures c.if-is_some.false) in
     let room : (map.len c.in-Ok.dir == most_entries) ≡ false = not_most c.is_full.result (map.len c.in-Ok.dir) c.is_full.ensures.full c.if-is_full.false in
-    let owned = granted_more c.args.kernel.now c.walk.new.kernel c.own_label.new.self c.args.thread (walk c.args.places.now) OwnLabel walked.0 c.in-Ok-own_label.ensures.0 in
+    let owned = granted_more c.args.thread c.args.kernel.now c.walk.new.kernel c.own_label.new.self (walk c.args.places.now) OwnLabel walked.0 c.in-Ok-own_label.ensures.0 in
     let own_is : c.in-Ok-own_label.own.0 ≡ label_of_thread c.args.kernel.now c.args.thread = own_label_is c.args.places.now c.args.kernel.now c.walk.new.kernel c.args.thread walked.0 c.in-Ok-own_label.own.0 c.in-Ok-own_label.ensures.1.0 in
     let labelled = c.in_ok-label.ensures in
-    let made = granted_more c.args.kernel.now c.own_label.new.self c.make_segment.new.self c.args.thread (walk c.args.places.now ++ OwnLabel ∷ []) (MakeSegment c.args.places.now.root c.in_ok-label.label c.new-empty.result) owned c.in-Ok-make_segment.ensures.0 in
+    let made = granted_more c.args.thread c.args.kernel.now c.own_label.new.self c.make_segment.new.self (walk c.args.places.now ++ OwnLabel ∷ []) (MakeSegment c.args.places.now.root c.in_ok-label.label c.new-empty.result) owned c.in-Ok-make_segment.ensures.0 in
     let file_is : c.in-Ok-make_segment.file ≡ (state c.args.kernel.now).next_object = c.in-Ok-make_segment.ensures.1.0 ∙ next_is c.args.places.now c.args.kernel.now c.walk.new.kernel c.own_label.new.self c.args.thread walked.0 c.in-Ok-own_label.ensures.0 in
     let written : IsDirectory c.in_ok-bytes.bytes (map.insert c.in-Ok.dir c.in-Some.name.now (File c.in-Ok-make_segment.file)) = subst (λ (dir : Entries). IsDirectory c.in_ok-bytes.bytes dir) c.in_ok-insert.ensures.ok c.in_ok-bytes.ensures in
     create_stopped c.args.places.now c.args.kernel.now c.write.new.self c.args.thread c.args.path.now c.args.mode c.in-Some.name.now (sym c.last.ensures ∙ ap option_copied c.in-Some.is) c.in-Ok.dir walked.1 at room (walk c.args.places.now ++ OwnLabel ∷ MakeSegment c.args.places.now.root c.in_ok-label.label c.new-empty.result ∷ Write c.args.places.now.root c.args.places.now.listing 0 c.in_ok-bytes.bytes ∷ []) (front_all c.args.places.now c.args.kernel.now c.write.new.self c.args.thread c.args.path.now c.args.mode c.in-Some.name.now (sym c.last.ensures ∙ ap option_copied c.in-Some.is) c.in-Ok.dir walked.1 at room c.in-Ok-own_label.own.0 c.in_ok-label.label c.new-empty.result labelled.0 own_is labelled.1 labelled.2 c.new-empty.ensures c.in-Ok-make_segment.file file_is c.in_ok-bytes.bytes written) c.from_residual-in_err-told_of_write-in-Err-write.result c.from_residual-in_err-told_of_write-in-Err-write.ensures.0
@@ -160,10 +160,10 @@ returns-clause-follows g c =
     let walked = subst (λ (found : Result Entries Errno). Walks c.args.places.now c.args.kernel.now c.walk.new.kernel c.args.thread (Ok found)) c.in-Ok.is c.in_ok-dir.ensures in
     let at : map.get c.in-Ok.dir c.in-Some.name.now ≡ None = (sym c.get.ensures ∙ none_there c.get.result c.is_some.result c.is_some.ensures c.if-is_some.false) in
     let room : (map.len c.in-Ok.dir == most_entries) ≡ false = not_most c.is_full.result (map.len c.in-Ok.dir) c.is_full.ensures.full c.if-is_full.false in
-    let owned = granted_more c.args.kernel.now c.walk.new.kernel c.own_label.new.self c.args.thread (walk c.args.places.now) OwnLabel walked.0 c.in-Ok-own_label.ensures.0 in
+    let owned = granted_more c.args.thread c.args.kernel.now c.walk.new.kernel c.own_label.new.self (walk c.args.places.now) OwnLabel walked.0 c.in-Ok-own_label.ensures.0 in
     let own_is : c.in-Ok-own_label.own.0 ≡ label_of_thread c.args.kernel.now c.args.thread = own_label_is c.args.places.now c.args.kernel.now c.walk.new.kernel c.args.thread walked.0 c.in-Ok-own_label.own.0 c.in-Ok-own_label.ensures.1.0 in
     let labelled = c.in_ok-label.ensures in
-    let made = granted_more c.args.kernel.now c.own_label.new.self c.make_segment.new.self c.args.thread (walk c.args.places.now ++ OwnLabel ∷ []) (MakeSegment c.args.places.now.root c.in_ok-label.label c.new-empty.result) owned c.in-Ok-make_segment.ensures.0 in
+    let made = granted_more c.args.thread c.args.kernel.now c.own_label.new.self c.make_segment.new.self (walk c.args.places.now ++ OwnLabel ∷ []) (MakeSegment c.args.places.now.root c.in_ok-label.label c.new-empty.result) owned c.in-Ok-make_segment.ensures.0 in
     let file_is : c.in-Ok-make_segment.file ≡ (state c.args.kernel.now).next_object = c.in-Ok-make_segment.ensures.1.0 ∙ next_is c.args.places.now c.args.kernel.now c.walk.new.kernel c.own_label.new.self c.args.thread walked.0 c.in-Ok-own_label.ensures.0 in
     let written : IsDirectory c.in_ok-bytes.bytes (map.insert c.in-Ok.dir c.in-Some.name.now (File c.in-Ok-make_segment.file)) = subst (λ (dir : Entries). IsDirectory c.in_ok-bytes.bytes dir) c.in_ok-insert.ensures.ok c.in_ok-bytes.ensures in
     create_refused c.args.places.now c.args.kernel.now c.write.new.self c.args.thread c.args.path.now c.args.mode c.in-Some.name.now (sym c.last.ensures ∙ ap option_copied c.in-Some.is) c.in-Ok.dir walked.1 at room (walk c.args.places.now ++ OwnLabel ∷ MakeSegment c.args.places.now.root c.in_ok-label.label c.new-empty.result ∷ Write c.args.places.now.root c.args.places.now.listing 0 c.in_ok-bytes.bytes ∷ []) (front_all c.args.places.now c.args.kernel.now c.write.new.self c.args.thread c.args.path.now c.args.mode c.in-Some.name.now (sym c.last.ensures ∙ ap option_copied c.in-Some.is) c.in-Ok.dir walked.1 at room c.in-Ok-own_label.own.0 c.in_ok-label.label c.new-empty.result labelled.0 own_is labelled.1 labelled.2 c.new-empty.ensures c.in-Ok-make_segment.file file_is c.in_ok-bytes.bytes written) _ (refused_more c.args.kernel.now c.make_segment.new.self c.write.new.self c.args.thread (walk c.args.places.now ++ OwnLabel ∷ MakeSegment c.args.places.now.root c.in_ok-label.label c.new-empty.result ∷ []) (Write c.args.places.now.root c.args.places.now.listing 0 c.in_ok-bytes.bytes) made _ c.in-Err-write.refusal _ c.in-Err-write.ensures c.in_ok-told_of_write-in-Err-write.ensures)
@@ -171,6 +171,6 @@ returns-clause-follows g c =
 pub returns-clause-told : goal.returns-clause-told
 returns-clause-told g c =
     let walked = subst (λ (found : Result Entries Errno). Walks c.args.places.now c.args.kernel.now c.walk.new.kernel c.args.thread (Ok found)) c.in-Ok.is c.in_ok-dir.ensures in
-    let owned = granted_more c.args.kernel.now c.walk.new.kernel c.own_label.new.self c.args.thread (walk c.args.places.now) OwnLabel walked.0 c.in-Ok-own_label.ensures.0 in
-    let made = granted_more c.args.kernel.now c.own_label.new.self c.make_segment.new.self c.args.thread (walk c.args.places.now ++ OwnLabel ∷ []) (MakeSegment c.args.places.now.root c.in_ok-label.label c.new-empty.result) owned c.in-Ok-make_segment.ensures.0 in
+    let owned = granted_more c.args.thread c.args.kernel.now c.walk.new.kernel c.own_label.new.self (walk c.args.places.now) OwnLabel walked.0 c.in-Ok-own_label.ensures.0 in
+    let made = granted_more c.args.thread c.args.kernel.now c.own_label.new.self c.make_segment.new.self (walk c.args.places.now ++ OwnLabel ∷ []) (MakeSegment c.args.places.now.root c.in_ok-label.label c.new-empty.result) owned c.in-Ok-make_segment.ensures.0 in
     replies_refused c.args.kernel.now c.write.new.self c.args.thread (walk c.args.places.now ++ OwnLabel ∷ MakeSegment c.args.places.now.root c.in_ok-label.label c.new-empty.result ∷ Write c.args.places.now.root c.args.places.now.listing 0 c.in_ok-bytes.bytes ∷ []) _ (refused_more c.args.kernel.now c.make_segment.new.self c.write.new.self c.args.thread (walk c.args.places.now ++ OwnLabel ∷ MakeSegment c.args.places.now.root c.in_ok-label.label c.new-empty.result ∷ []) (Write c.args.places.now.root c.args.places.now.listing 0 c.in_ok-bytes.bytes) made _ c.in-Err-write.refusal _ c.in-Err-write.ensures c.in_ok-told_of_write-in-Err-write.ensures)

@@ -1,0 +1,81 @@
+-- What a thread may do with labels: the ranges in which it chooses them, and the gates that it may enter.
+use Rattle.std.specs.Prelude.{ℕ, ◌+◌, Bool, false, ◌&&◌, Option, None, Some}
+use Rattle.histar_label.specs.declared.levels.Level.TheVariants.{Star, L3}
+use Rattle.histar_label.specs.Levels.{Levels, with_level, is_below, is_below_join, is_below_join_raised}
+use Rattle.histar_label.specs.Floors.{floor_of}
+use Rattle.histar_object.specs.declared.objects.Kind.{Kind}
+use Rattle.histar_object.specs.declared.objects.Kind.TheVariants.{Segment, Container, Thread, Gate}
+use Rattle.histar_object.specs.declared.objects.Object.{Object}
+use Rattle.histar_object.specs.Objects.{changed_at, kind_clearance}
+use Rattle.histar_object.specs.State.{State, Found}
+
+-- the label of an object, and its clearance
+abbrev pub paired : Levels → Option Levels → Option (Levels × Levels)
+paired label None = None
+paired label (Some clearance) = Some (label, clearance)
+
+-- the label and the clearance of a thread or a gate that is there
+abbrev pub rights : Found → Option (Levels × Levels)
+rights None = None
+rights (Some o) = paired o.label (kind_clearance o.kind)
+
+-- a test of a label and a clearance, which nothing passes that has not both
+abbrev pub holds_of : Option (Levels × Levels) → (Levels → Levels → Bool) → Bool
+holds_of None test = false
+holds_of (Some r) test = test r.0 r.1
+
+-- a label and a clearance above it lie between t's own label and t's clearance
+abbrev pub in_span : Found → Levels → Levels → Bool
+in_span t label clearance = holds_of (rights t) (λ own most. is_below own label && is_below label clearance && is_below clearance most)
+
+-- a clearance is above t's own label, and above t's clearance only where t owns
+abbrev pub may_clear : Found → Levels → Bool
+may_clear t clearance = holds_of (rights t) (λ own most. is_below own clearance && is_below_join_raised clearance most own)
+
+-- t's own label is below a label
+abbrev pub is_under : Found → Levels → Bool
+is_under t label = holds_of (rights t) (λ own most. is_below own label)
+
+-- t's own label is below the clearance of a gate
+abbrev pub is_let_in : Found → Found → Bool
+is_let_in t gate = holds_of (rights gate) (λ given limit. is_under t limit)
+
+-- a label and a clearance above it that t may have behind a gate: what t or the gate owns is owned, elsewhere the label is at
+-- least both, and the clearance at most the greater of both
+abbrev pub in_gate : Found → Found → Levels → Levels → Bool
+in_gate t gate label clearance =
+    holds_of (rights t) (λ own most. holds_of (rights gate) (λ given limit.
+    is_below (floor_of own given) label && is_below label clearance && is_below_join clearance most limit))
+
+-- a clearance with level 3 at a category
+abbrev pub kind_cleared : ℕ → Kind Levels → Kind Levels
+kind_cleared c (Segment bytes) = Segment bytes
+kind_cleared c (Container links) = Container links
+kind_cleared c (Thread clearance) = Thread (with_level clearance c L3)
+kind_cleared c (Gate clearance entry) = Gate (with_level clearance c L3) entry
+
+-- a thread that owns one category more, and may give anyone level 3 there
+abbrev pub owning : ℕ → Object Levels → Object Levels
+owning c o = record { label = with_level o.label c Star; kind = kind_cleared c o.kind }
+
+-- an object with another label
+abbrev pub relabelled : Levels → Object Levels → Object Levels
+relabelled label o = record { label = label; kind = o.kind }
+
+-- a thread with another clearance
+abbrev pub kind_clearing : Levels → Kind Levels → Kind Levels
+kind_clearing clearance (Segment bytes) = Segment bytes
+kind_clearing clearance (Container links) = Container links
+kind_clearing clearance (Thread old) = Thread clearance
+kind_clearing clearance (Gate old entry) = Gate clearance entry
+
+abbrev pub clearing : Levels → Object Levels → Object Levels
+clearing clearance o = record { label = o.label; kind = kind_clearing clearance o.kind }
+
+-- the state with one object changed, if it is there
+abbrev pub with_changed : State → ℕ → (Object Levels → Object Levels) → State
+with_changed s t f = record { objects = changed_at s.objects t f; next_object = s.next_object; next_category = s.next_category }
+
+-- the state in which the next category was made, which t owns
+abbrev pub with_category : State → ℕ → State
+with_category s t = record { objects = changed_at s.objects t (owning s.next_category); next_object = s.next_object; next_category = s.next_category + 1 }
