@@ -3,5 +3,3 @@ pub mod InputLemmas
 pub mod RunLemmas
 pub mod WritingLemmas
 pub mod Lines
-pub mod StartLemmas
-pub mod TableLemmas

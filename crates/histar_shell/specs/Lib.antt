@@ -3,6 +3,4 @@ pub mod Device
 pub mod Input
 pub mod Outcome
 pub mod Writing
-pub mod Login
-pub mod Start
 pub mod Machine

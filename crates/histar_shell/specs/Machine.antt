@@ -13,8 +13,8 @@ use Rattle.histar_calls.specs.declared.places.Places.{Places}
 use Rattle.histar_calls.specs.contracts.places.Places as where_is
 use Rattle.histar_calls.specs.Follows.{ReadsFile, WritesFile, MakesFile}
 use Rattle.histar_calls.specs.Replies.{Replies}
-use Rattle.histar_shell.specs.Login.{LogsIn}
-use Rattle.histar_shell.specs.Start.{places_of, thread_number, start_state}
+use Rattle.histar_login.specs.Login.{LogsIn}
+use Rattle.histar_login.specs.Start.{places_of, thread_number, start_state}
 use Rattle.histar_calls.specs.declared.stopping.Stopped.{Stopped}
 
 -- the kernel of a machine, the places of `/`, the thread of its process, its users, and whether it has stopped for want of memory

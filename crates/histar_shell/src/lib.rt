@@ -1,10 +1,8 @@
 //! Runs scripts between a source and a sink of bytes.
 #![tactic(auto)]
 
-mod boot;
 mod device;
 mod input;
-mod login;
 mod machine;
 mod output;
 mod session;

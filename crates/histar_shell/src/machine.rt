@@ -3,11 +3,10 @@ ghost use Rattle.std.specs.Prelude.{◌≡◌, ◌≤◌, length, IfOk};
 ghost use Rattle.histar_script.specs.Script.{IsUserList};
 ghost use Rattle.histar_shell.specs.Machine.{Answers, IsStart, Makes};
 
-use crate::boot::start_objects;
-use crate::login::login;
 use histar_calls::{Places, Stopped, create, read, write};
 use histar_flat::{ProcName, Reply, UnixCall, User};
 use histar_label::LabelStore;
+use histar_login::{login, start_objects};
 use histar_object::ObjId;
 use histar_syscall::{Kernel, TraceEntry};
 use std::alloc::{AllocError, Global};

@@ -1,6 +1,6 @@
 use Rattle.std.proofs.Common.{◌≡◌, List, length, refl, ap, ◌∙◌}
 use Rattle.histar_flat.specs.declared.calls.User.{User}
-use Rattle.histar_shell.specs.Start.{places_of, thread_number, start_state}
+use Rattle.histar_login.specs.Start.{places_of, thread_number, start_state}
 use Rattle.histar_shell.proofs.machine.Machine.boot.Goals as goal
 
 pub returns : goal.returns

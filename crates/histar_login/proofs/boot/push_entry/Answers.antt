@@ -1,0 +1,23 @@
+use Rattle.std.proofs.Common.{◌≡◌, ℕ, ◌++◌, ap, ◌∙◌}
+use Rattle.std.specs.Int.{w64, to_be_bytes}
+use Rattle.histar_calls.specs.Categories.{read_category, write_category}
+use Rattle.histar_login.proofs.StartLemmas.{entry_grows}
+use Rattle.histar_login.proofs.boot.push_entry.Goals as goal
+
+pub returns : goal.returns
+returns c =
+    let t0 = c.args.table.now.items in
+    let t1 = c.push.new.self.items in
+    let t2 = c.extend_from_slice.new.self.items in
+    let t3 = c.extend_from_slice-2.new.self.items in
+    let t4 = c.extend_from_slice-3.new.self.items in
+    let t5 = c.extend_from_slice-4.new.self.items in
+    let t6 = c.extend_from_slice-5.new.self.items in
+    let read : c.number.result ≡ read_category c.args.number = c.number.ensures ∙ c.read_category.ensures in
+    let write : c.number-2.result ≡ write_category c.args.number = c.number-2.ensures ∙ c.write_category.ensures in
+    entry_grows t0 t1 t2 t3 t4 t5 t6 c.args.name.now c.args.number c.args.gate c.args.password
+    c.in_ok-push.ensures.items c.in_ok-extend_from_slice.ensures.items
+    (c.in_ok-extend_from_slice-2.ensures.items ∙ ap (λ n. t2 ++ n) (c.to_be_bytes.ensures ∙ ap (to_be_bytes w64) read))
+    (c.in_ok-extend_from_slice-3.ensures.items ∙ ap (λ n. t3 ++ n) (c.to_be_bytes-2.ensures ∙ ap (to_be_bytes w64) write))
+    (c.in_ok-extend_from_slice-4.ensures.items ∙ ap (λ n. t4 ++ n) c.to_be_bytes-3.ensures)
+    (c.in_ok-extend_from_slice-5.ensures.items ∙ ap (λ n. t5 ++ n) c.to_be_bytes-4.ensures)
