@@ -6,3 +6,4 @@ pub mod Writing
 pub mod Login
 pub mod Start
 pub mod Machine
+pub mod Session
