@@ -12,7 +12,7 @@ use Rattle.histar_label.specs.declared.levels.Level.{Level}
 use Rattle.histar_label.specs.Levels.{Levels, with_level}
 use Rattle.histar_object.specs.Objects.{Numbers}
 use Rattle.histar_object.specs.declared.objects.Kind.TheVariants.{Container}
-use Rattle.histar_object.specs.State.{State, Found, with_next, skipping}
+use Rattle.histar_object.specs.State.{State, with_next, skipping}
 use Rattle.histar_flat.specs.Words.{Name}
 use Rattle.std.specs.Int.{w64, to_be_bytes}
 use Rattle.histar_calls.specs.Categories.{read_category, write_category}

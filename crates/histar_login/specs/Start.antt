@@ -1,6 +1,6 @@
 -- The state in which a machine starts: a table of its objects in the order of their numbers, where the first has the number 1.
 -- The users are numbered from 1 on in the order of the script, and nobody is number 0.
-use Rattle.std.specs.Prelude.{ℕ, zero, suc, ◌+◌, ◌*◌, List, [], ◌∷◌, ◌++◌, length, codes, Option, None, Some, slice_index_or}
+use Rattle.std.specs.Prelude.{ℕ, zero, suc, ◌+◌, ◌*◌, List, [], ◌∷◌, ◌++◌, length, codes, None, Some, slice_index_or}
 use Rattle.std.specs.Int.{w64, to_be_bytes}
 use Rattle.std.specs.List.{range_with_len}
 use Rattle.std.specs.FinSet as set

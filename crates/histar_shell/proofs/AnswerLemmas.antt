@@ -1,58 +1,101 @@
 -- Answering call lines one by one.
-use Rattle.std.proofs.Common.{◌≡◌, ℕ, ◌+◌, ◌<◌, List, [], ◌∷◌, ◌++◌, length, take, drop, get_or, Option, refl, sym, ap, ap₂, subst, ◌∙◌, append-nil, take-append-drop}
-use Rattle.std.specs.Prelude.{map}
+use Rattle.std.proofs.Common.{◌≡◌, ℕ, ◌+◌, ◌<◌, List, [], ◌∷◌, ◌++◌, length, take, drop, get_or, Option, Result, Ok, Err, refl, sym, ap, ap₂, subst, ◌∙◌, append-nil, append_assoc, take-append-drop}
+use Rattle.std.specs.Prelude.{MatchResult, OnOk, OnErr}
 use Rattle.std.proofs.lemmas.List.{map-append, drop_more}
 use Rattle.std.proofs.lemmas.Grind.{flat_map-append}
-use Rattle.std.proofs.KnownBytes.{Appends-nil, Appends-trans}
-use Rattle.std.specs.Io.KnownBytes.{Appends}
-use Rattle.histar_flat.specs.declared.replies.Reply.TheVariants.{Done}
+use Rattle.std.proofs.KnownBytes.{Appends-nil, Appends-kept, Appends-trans, Keeps-refl}
+use Rattle.std.specs.Io.KnownBytes.{Appends, Keeps}
+use Rattle.histar_calls.specs.declared.stopping.Stopped.{Stopped}
+use Rattle.histar_flat.specs.declared.replies.Reply.{Reply}
+use Rattle.histar_script.specs.declared.fault.Fault.{Fault}
 use Rattle.histar_script.specs.declared.items.CallLine.{CallLine}
-use Rattle.histar_shell.specs.Answers.{Answered, AnswersCall, AnswersCalls, BeginsAnswer, BeginsAnswers, answer_text, answers_text, calls_of}
+use Rattle.histar_shell.specs.Answers.{Answered, answer_text, answers_text, calls_of, line_text}
+use Rattle.histar_shell.specs.Machine.{Running, AnswersLine}
+use Rattle.histar_shell.specs.Session.{Session, AnswersCall, AnswersCalls, BeginsAnswer, BeginsAnswers}
 use Rattle.histar_shell.specs.Writing.{AppendsFront}
 use Rattle.histar_shell.proofs.WritingLemmas.{sent_none, front_after}
 
--- nothing is a beginning of an answer
-pub begins_nothing : (a : Option (List ℕ)) (call : CallLine) → BeginsAnswer a a call
-begins_nothing a call = record { reply = Done; written = (_, sent_none a _) }
+-- a whole text is a beginning of itself
+whole_front : (a b : Option (List ℕ)) (text : List ℕ) → Appends a b text → AppendsFront a b text
+whole_front a b text whole = ([], record { front = text; parts = sym (append-nil text); appended = whole })
 
--- call lines with a reply to each, whatever it is
-abbrev any_answers : List CallLine → List Answered
-any_answers calls = map (λ c. record { call = c; reply = Done }) calls
+-- one more call line of a session
+session_more : (first mid last : Running) (answers : List Answered) (a : Answered) → Session first answers mid → AnswersLine mid last a.call.line a.call.process a.call.call (Ok a.reply) → Session first (answers ++ a ∷ []) last
+session_more first mid last [] a same one = (last, subst (λ (m : Running). AnswersLine m last a.call.line a.call.process a.call.call (Ok a.reply)) same one, refl)
+session_more first mid last (b ∷ answers) a done one = (done.0, done.1, session_more done.0 mid last answers a done.2 one)
 
--- they answer these call lines
-any_answers_each : (calls : List CallLine) → calls_of (any_answers calls) ≡ calls
-any_answers_each [] = refl
-any_answers_each (call ∷ calls) = ap (λ (l : List CallLine). call ∷ l) (any_answers_each calls)
+-- the text of one more answer
+text_more : (answers : List Answered) (a : Answered) → answers_text (answers ++ a ∷ []) ≡ answers_text answers ++ answer_text a
+text_more answers a = flat_map-append answer_text answers (a ∷ []) ∙ ap (λ (l : List ℕ). answers_text answers ++ l) (append-nil (answer_text a))
 
--- nothing is a beginning of answers
-pub begins_none : (a : Option (List ℕ)) (calls : List CallLine) → BeginsAnswers a a calls
-begins_none a calls = record { answers = any_answers calls; each = any_answers_each calls; written = (_, sent_none a _) }
+-- the call line of one more answer
+calls_more : (answers : List Answered) (a : Answered) → calls_of (answers ++ a ∷ []) ≡ calls_of answers ++ a.call ∷ []
+calls_more answers a = map-append (λ (x : Answered). x.call) answers (a ∷ [])
 
 -- before the first call line nothing is written
-pub answers_none : (a : Option (List ℕ)) → AnswersCalls a a []
-answers_none a = record { answers = []; each = refl; written = Appends-nil a }
+pub answers_none : (m : Running) (a : Option (List ℕ)) → AnswersCalls m m a a []
+answers_none m a = record { answers = []; each = refl; session = refl; written = Appends-nil a }
 
 -- one more call line is answered
-pub answers_more : (a b c : Option (List ℕ)) (calls : List CallLine) (call : CallLine) → AnswersCalls a b calls → AnswersCall b c call → AnswersCalls a c (calls ++ call ∷ [])
-answers_more a b c calls call done one =
-    let last : Answered = record { call = call; reply = one.reply } in
-    let text : answers_text (done.answers ++ last ∷ []) ≡ answers_text done.answers ++ answer_text last = flat_map-append answer_text done.answers (last ∷ []) ∙ ap (λ (l : List ℕ). answers_text done.answers ++ l) (append-nil (answer_text last)) in record {
-      answers = done.answers ++ last ∷ [];
-      each = map-append (λ (x : Answered). x.call) done.answers (last ∷ []) ∙ ap (λ (l : List CallLine). l ++ call ∷ []) done.each;
-      written = subst (Appends a c) (sym text) (Appends-trans a b c (answers_text done.answers) (answer_text last) done.written one.written);
+pub answers_more : (first mid last : Running) (a b c : Option (List ℕ)) (calls : List CallLine) (call : CallLine) → AnswersCalls first mid a b calls → AnswersCall mid last b c call → AnswersCalls first last a c (calls ++ call ∷ [])
+answers_more first mid last a b c calls call done one =
+    let next : Answered = record { call = call; reply = one.reply } in record {
+      answers = done.answers ++ next ∷ [];
+      each = calls_more done.answers next ∙ ap (λ (l : List CallLine). l ++ call ∷ []) done.each;
+      session = session_more first mid last done.answers next done.session one.answered;
+      written = subst (Appends a c) (sym (text_more done.answers next)) (Appends-trans a b c (answers_text done.answers) (answer_text next) done.written one.written);
+    }
+
+-- where the machine stopped at the next line, nothing was written of it
+begins_stopped : (first mid : Running) (a b c : Option (List ℕ)) (calls front rest : List CallLine) → calls ≡ front ++ rest → AnswersCalls first mid a b front → Keeps b c → BeginsAnswers first a c calls
+begins_stopped first mid a b c calls front rest parts done keeps = record {
+  answers = done.answers;
+  rest = rest;
+  parts = parts ∙ ap (λ (l : List CallLine). l ++ rest) (sym done.each);
+  end = mid;
+  session = done.session;
+  written = whole_front a c (answers_text done.answers) (Appends-kept a b c (answers_text done.answers) done.written keeps);
+}
+
+-- where it answered, a beginning of the next line makes a beginning of all
+begins_next : (first mid last : Running) (a b c : Option (List ℕ)) (calls front rest : List CallLine) (call : CallLine) (reply : Reply) → calls ≡ front ++ call ∷ rest → AnswersCalls first mid a b front → AnswersLine mid last call.line call.process call.call (Ok reply) → AppendsFront b c (line_text call.line reply) → BeginsAnswers first a c calls
+begins_next first mid last a b c calls front rest call reply parts done answered begun =
+    let next : Answered = record { call = call; reply = reply } in
+    let each : calls_of (done.answers ++ next ∷ []) ≡ front ++ call ∷ [] = calls_more done.answers next ∙ ap (λ (l : List CallLine). l ++ call ∷ []) done.each in
+    let text : answers_text (done.answers ++ next ∷ []) ≡ answers_text done.answers ++ (answer_text next ++ []) = flat_map-append answer_text done.answers (next ∷ []) in record {
+      answers = done.answers ++ next ∷ [];
+      rest = rest;
+      parts = parts ∙ sym (append_assoc front (call ∷ []) rest) ∙ ap (λ (l : List CallLine). l ++ rest) (sym each);
+      end = last;
+      session = session_more first mid last done.answers next done.session answered;
+      written = subst (AppendsFront a c) (sym text) (front_after a b c (answers_text done.answers) (answer_text next) [] done.written begun);
     }
 
 -- a beginning of the next line makes a beginning of all
-pub begins_more : (a b c : Option (List ℕ)) (calls front rest : List CallLine) (call : CallLine) → calls ≡ front ++ call ∷ rest → AnswersCalls a b front → BeginsAnswer b c call → BeginsAnswers a c calls
-begins_more a b c calls front rest call parts done begun =
-    let next : Answered = record { call = call; reply = begun.reply } in
-    let text : answers_text (done.answers ++ next ∷ any_answers rest) ≡ answers_text done.answers ++ (answer_text next ++ answers_text (any_answers rest)) = flat_map-append answer_text done.answers (next ∷ any_answers rest) in record {
-      answers = done.answers ++ next ∷ any_answers rest;
-      each =
-          map-append (λ (x : Answered). x.call) done.answers (next ∷ any_answers rest)
-          ∙ ap₂ (λ (l m : List CallLine). l ++ call ∷ m) done.each (any_answers_each rest) ∙ sym parts;
-      written = subst (AppendsFront a c) (sym text) (front_after a b c (answers_text done.answers) (answer_text next) (answers_text (any_answers rest)) done.written begun.written);
-    }
+pub begins_more : (first mid last : Running) (a b c : Option (List ℕ)) (calls front rest : List CallLine) (call : CallLine) → calls ≡ front ++ call ∷ rest → AnswersCalls first mid a b front → BeginsAnswer mid last b c call → BeginsAnswers first a c calls
+begins_more first mid last a b c calls front rest call parts done begun =
+    elim begun.outcome as (λ (o : Result Reply Stopped). AnswersLine mid last call.line call.process call.call o → MatchResult o (λ reply. AppendsFront b c (line_text call.line reply)) (λ _. Keeps b c) → BeginsAnswers first a c calls) [
+      | Ok reply ↦ (λ answered written. begins_next first mid last a b c calls front rest call reply parts done answered written)
+      | Err stopped ↦ (λ answered written. begins_stopped first mid a b c calls front (call ∷ rest) parts done written)
+    ] begun.answered begun.written
+
+-- a whole line that tells the machine's reply answers the call line
+pub answers_where_ok : (result : Result (Unit {0}) Fault) (before after : Running) (old new : Option (List ℕ)) (call : CallLine) (reply : Reply) (line bytes : List ℕ) → AnswersLine before after call.line call.process call.call (Ok reply) → line ≡ line_text call.line reply → bytes ≡ line → OnOk result (Appends old new bytes) → OnOk result (AnswersCall before after old new call)
+answers_where_ok (Ok x) before after old new call reply line bytes answered text same written = record { reply = reply; answered = answered; written = subst (Appends old new) (same ∙ text) written }
+answers_where_ok (Err e) before after old new call reply line bytes answered text same written = tt
+
+-- and a beginning of it begins to
+pub begins_where_err : (result : Result (Unit {0}) Fault) (before after : Running) (old new : Option (List ℕ)) (call : CallLine) (reply : Reply) (line bytes : List ℕ) → AnswersLine before after call.line call.process call.call (Ok reply) → line ≡ line_text call.line reply → bytes ≡ line → OnErr result (AppendsFront old new bytes) → OnErr result (BeginsAnswer before after old new call)
+begins_where_err (Ok x) before after old new call reply line bytes answered text same written = tt
+begins_where_err (Err e) before after old new call reply line bytes answered text same written = record { outcome = Ok reply; answered = answered; written = subst (AppendsFront old new) (same ∙ text) written }
+
+-- a reply of which nothing was written
+pub begins_unwritten : (before after : Running) (a : Option (List ℕ)) (call : CallLine) (reply : Reply) → AnswersLine before after call.line call.process call.call (Ok reply) → BeginsAnswer before after a a call
+begins_unwritten before after a call reply answered = record { outcome = Ok reply; answered = answered; written = (_, sent_none a _) }
+
+-- where the machine stopped nothing was written
+pub begins_unanswered : (before after : Running) (a : Option (List ℕ)) (call : CallLine) (stopped : Stopped) → AnswersLine before after call.line call.process call.call (Err stopped) → BeginsAnswer before after a a call
+begins_unanswered before after a call stopped answered = record { outcome = Err stopped; answered = answered; written = Keeps-refl a }
 
 -- a list is what comes before a place, what stands there, and what comes after it
 pub parts_at : (calls front : List CallLine) (call : CallLine) → front ≡ take (length front) calls → (length front < length calls) × (call ≡ get_or calls (length front) call) → calls ≡ front ++ call ∷ drop (length front + 1) calls

@@ -4,10 +4,10 @@ use Rattle.histar_flat.specs.declared.calls.UnixCall.{UnixCall}
 use Rattle.histar_flat.specs.declared.replies.Reply.{Reply}
 use Rattle.histar_flat.specs.Words.{ProcName}
 use Rattle.histar_calls.specs.declared.stopping.Stopped.{Stopped}
-use Rattle.histar_shell.specs.Machine.{Running, HasMade, Runs, AnswersIf, Answers}
+use Rattle.histar_shell.specs.Machine.{Running, HasMade, Runs, AnswersIf, AnswersLine}
 
 -- process 0 had its call made
 pub had_made : (old new : Running) (line : ℕ) (process : ProcName) (call : UnixCall) (result : Result Reply Stopped) → old.is_stopped ≡ false → process ≡ [] → HasMade old new line call result
-    → Answers old new line process call result
+    → AnswersLine old new line process call result
 had_made old new line process call result runs zero made =
     subst (λ (b : Bool). AnswersIf b old new line process call result) (sym runs) (subst (λ (p : ProcName). Runs old new line p call result) (sym zero) made)

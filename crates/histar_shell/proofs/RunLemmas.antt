@@ -6,14 +6,16 @@ use Rattle.std.proofs.lemmas.List.{length-append}
 use Rattle.std.proofs.KnownBytes.{Keeps-refl}
 use Rattle.histar_script.specs.declared.fault.Fault.{Fault}
 use Rattle.histar_script.specs.declared.fault.Fault.TheVariants.{BadScript, TooLong, OutOfMemory, ReadFailed, WriteFailed}
-use Rattle.histar_script.specs.declared.items.CallLine.{CallLine}
 use Rattle.histar_script.specs.Script.{Reading}
 use Rattle.histar_script.specs.Outcome.{Gives}
 use Rattle.histar_script.specs.Reading.{script_of}
-use Rattle.histar_shell.specs.Answers.{BeginsAnswers}
 use Rattle.histar_shell.specs.Input.{TakesAll, TakesSome}
-use Rattle.histar_shell.specs.Outcome.{IsInputFault, IsOutputFault, IsFaultAt, TakesAtFault, WritesAtFault, calls_or_none}
-use Rattle.histar_shell.proofs.AnswerLemmas.{begins_none}
+use Rattle.histar_shell.specs.Outcome.{IsInputFault, IsOutputFault, IsFaultAt, TakesAtFault, AnswersScript, BeginsScript, WritesAtFault}
+use Rattle.histar_shell.specs.Machine.{Running, IsStart}
+use Rattle.histar_shell.specs.Session.{AnswersCalls, BeginsAnswers}
+use Rattle.histar_syscall.specs.declared.raw.TraceEntry.{TraceEntry}
+use Rattle.histar_flat.specs.declared.calls.User.{User}
+use Rattle.histar_script.specs.declared.items.CallLine.{CallLine}
 
 -- the script that the bytes that were taken are is that of the whole input
 abbrev pub IsScriptOfAll : Option (List ℕ) → List ℕ → Type 0
@@ -43,11 +45,11 @@ input_fault_agrees ReadFailed (Some input) h = tt
 input_fault_agrees WriteFailed (Some input) h = absurd h
 
 -- and nothing was written then
-pub input_fault_writes : (f : Fault) (left w : Option (List ℕ)) → IsInputFault f → IfSome left (λ input. WritesAtFault w w (calls_or_none (script_of input)) f)
+pub input_fault_writes : (f : Fault) (left w : Option (List ℕ)) → IsInputFault f → IfSome left (λ input. WritesAtFault w w (script_of input) f)
 input_fault_writes f None w h = tt
 input_fault_writes (BadScript n) (Some input) w h = absurd h
 input_fault_writes TooLong (Some input) w h = absurd h
-input_fault_writes OutOfMemory (Some input) w h = begins_none w _
+input_fault_writes OutOfMemory (Some input) w h = inl (Keeps-refl w)
 input_fault_writes ReadFailed (Some input) w h = Keeps-refl w
 input_fault_writes WriteFailed (Some input) w h = absurd h
 
@@ -77,11 +79,11 @@ script_fault_agrees ReadFailed (Some input) taken same given = tt
 script_fault_agrees WriteFailed (Some input) taken same given = absurd given
 
 -- and nothing was written then
-pub script_fault_writes : (f : Fault) (left w : Option (List ℕ)) (taken : List ℕ) → Gives (Err f) (script_of taken) → IfSome left (λ input. WritesAtFault w w (calls_or_none (script_of input)) f)
+pub script_fault_writes : (f : Fault) (left w : Option (List ℕ)) (taken : List ℕ) → Gives (Err f) (script_of taken) → IfSome left (λ input. WritesAtFault w w (script_of input) f)
 script_fault_writes f None w taken given = tt
 script_fault_writes (BadScript n) (Some input) w taken given = Keeps-refl w
 script_fault_writes TooLong (Some input) w taken given = Keeps-refl w
-script_fault_writes OutOfMemory (Some input) w taken given = begins_none w _
+script_fault_writes OutOfMemory (Some input) w taken given = inl (Keeps-refl w)
 script_fault_writes ReadFailed (Some input) w taken given = Keeps-refl w
 script_fault_writes WriteFailed (Some input) w taken given = absurd given
 
@@ -99,15 +101,27 @@ answer_fault_agrees OutOfMemory (Some input) h right = tt
 answer_fault_agrees ReadFailed (Some input) h right = absurd h
 answer_fault_agrees WriteFailed (Some input) h right = right
 
--- what holds of the call lines that were read holds of those of the input
-pub at_calls : (P : List CallLine → Type 0) (left : Option (List ℕ)) (taken : List ℕ) (script : Reading) → IsScriptOfAll left taken → script_of taken ≡ Ok script → P script.calls → IfSome left (λ input. P (calls_or_none (script_of input)))
-at_calls P None taken script same given holds = tt
-at_calls P (Some input) taken script same given holds = subst (λ (read : Result Reading Fault). P (calls_or_none read)) (sym (same ∙ given)) holds
+-- what holds of each reading of the script that was read holds of that of the input
+pub at_script : (P : Result Reading Fault → Type 0) (left : Option (List ℕ)) (taken : List ℕ) (script : Reading) → IsScriptOfAll left taken → script_of taken ≡ Ok script → ((read : Result Reading Fault) → read ≡ Ok script → P read) → IfSome left (λ input. P (script_of input))
+at_script P None taken script same given holds = tt
+at_script P (Some input) taken script same given holds = holds (script_of input) (same ∙ given)
 
 -- a beginning of the answers was written where answering failed
-pub answer_fault_writes : (f : Fault) (old new : Option (List ℕ)) (calls : List CallLine) → IsOutputFault f → BeginsAnswers old new calls → WritesAtFault old new calls f
-answer_fault_writes (BadScript n) old new calls h begun = absurd h
-answer_fault_writes TooLong old new calls h begun = absurd h
-answer_fault_writes OutOfMemory old new calls h begun = begun
-answer_fault_writes ReadFailed old new calls h begun = absurd h
-answer_fault_writes WriteFailed old new calls h begun = begun
+pub answer_fault_writes : (f : Fault) (old new : Option (List ℕ)) (read : Result Reading Fault) → IsOutputFault f → BeginsScript old new read → WritesAtFault old new read f
+answer_fault_writes (BadScript n) old new read h begun = absurd h
+answer_fault_writes TooLong old new read h begun = absurd h
+answer_fault_writes OutOfMemory old new read h begun = inr begun
+answer_fault_writes ReadFailed old new read h begun = absurd h
+answer_fault_writes WriteFailed old new read h begun = begun
+
+-- the machine was booted with the users that the script has
+pub starts_with : (m : Running) (script : Reading) (slice users : List User) → slice ≡ users → users ≡ script.users → IsStart slice m → IsStart script.users m
+starts_with m script slice users same listed starts = subst (λ (l : List User). IsStart l m) (same ∙ listed) starts
+
+-- a beginning of the calls of the script was answered
+pub begins_script : (old new : Option (List ℕ)) (script : Reading) (start : Running) (calls : List CallLine) → IsStart script.users start → calls ≡ script.calls → BeginsAnswers start old new calls → (read : Result Reading Fault) → read ≡ Ok script → BeginsScript old new read
+begins_script old new script start calls starts listed begun read is_read = record { script = script; is_read = is_read; start = start; starts = starts; begun = subst (λ (l : List CallLine). BeginsAnswers start old new l) listed begun }
+
+-- the calls of the script were answered, and the trace is that of the machine at the end
+pub answers_script : (old new : Option (List ℕ)) (script : Reading) (start end : Running) (calls : List CallLine) (trace : List TraceEntry) → IsStart script.users start → calls ≡ script.calls → AnswersCalls start end old new calls → trace ≡ end.kernel.trace → (read : Result Reading Fault) → read ≡ Ok script → AnswersScript old new read trace
+answers_script old new script start end calls trace starts listed answered recorded read is_read = record { script = script; is_read = is_read; start = start; starts = starts; end = end; answered = subst (λ (l : List CallLine). AnswersCalls start end old new l) listed answered; recorded = recorded }

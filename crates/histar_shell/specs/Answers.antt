@@ -1,11 +1,9 @@
 -- The lines that answer the call lines of a script.
-use Rattle.std.specs.Prelude.{◌≡◌, ℕ, List, ◌++◌, Option, codes, decimal, map}
+use Rattle.std.specs.Prelude.{ℕ, List, ◌++◌, codes, decimal, map}
 use Rattle.std.specs.List.{flat_map}
-use Rattle.std.specs.Io.KnownBytes.{Appends}
 use Rattle.histar_flat.specs.declared.replies.Reply.{Reply}
 use Rattle.histar_flat.specs.Texts.{reply_text}
 use Rattle.histar_script.specs.declared.items.CallLine.{CallLine}
-use Rattle.histar_shell.specs.Writing.{AppendsFront}
 
 -- the number of a call line, a space, the text of the reply, and a line end
 abbrev pub line_text : ℕ → Reply → List ℕ
@@ -27,25 +25,3 @@ answers_text answers = flat_map answer_text answers
 -- the call lines that were answered
 abbrev pub calls_of : List Answered → List CallLine
 calls_of answers = map (λ a. a.call) answers
-
--- one line was written, which answers this call line
-pub record AnswersCall (old new : Option (List ℕ)) (call : CallLine) : Type 0 where
-  pub reply : Reply
-  pub written : Appends old new (line_text call.line reply)
-
--- a beginning of such a line was written
-pub record BeginsAnswer (old new : Option (List ℕ)) (call : CallLine) : Type 0 where
-  pub reply : Reply
-  pub written : AppendsFront old new (line_text call.line reply)
-
--- one line was written for each of these call lines, in their order
-pub record AnswersCalls (old new : Option (List ℕ)) (calls : List CallLine) : Type 0 where
-  pub answers : List Answered
-  pub each : calls_of answers ≡ calls
-  pub written : Appends old new (answers_text answers)
-
--- a beginning of such a text was written
-pub record BeginsAnswers (old new : Option (List ℕ)) (calls : List CallLine) : Type 0 where
-  pub answers : List Answered
-  pub each : calls_of answers ≡ calls
-  pub written : AppendsFront old new (answers_text answers)

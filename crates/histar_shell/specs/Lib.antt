@@ -4,3 +4,4 @@ pub mod Input
 pub mod Outcome
 pub mod Writing
 pub mod Machine
+pub mod Session

@@ -71,5 +71,5 @@ AnswersIf true old new line process call result = IsErr result × (new ≡ old)
 AnswersIf false old new line process call result = Runs old new line process call result
 
 -- what a call line does to a machine
-abbrev pub Answers : Running → Running → ℕ → ProcName → UnixCall → Result Reply Stopped → Type 0
-Answers old new line process call result = AnswersIf old.is_stopped old new line process call result
+abbrev pub AnswersLine : Running → Running → ℕ → ProcName → UnixCall → Result Reply Stopped → Type 0
+AnswersLine old new line process call result = AnswersIf old.is_stopped old new line process call result

@@ -1,12 +1,13 @@
 -- What the answer of a run says of its input, of its output and of its devices.
-use Rattle.std.specs.Prelude.{◌≡◌, ℕ, Bool, true, false, List, [], Option, Result, Ok, Err, IsOk, IfErr, MatchResult}
+use Rattle.std.specs.Prelude.{◌≡◌, ℕ, Bool, true, false, ◌⊎◌, List, Option, Result, Ok, Err, IsOk, IfErr, MatchResult}
 use Rattle.std.specs.Io.KnownBytes.{Keeps}
 use Rattle.histar_script.specs.declared.fault.Fault.{Fault}
 use Rattle.histar_script.specs.declared.fault.Fault.TheVariants.{BadScript, TooLong, OutOfMemory, ReadFailed, WriteFailed}
-use Rattle.histar_script.specs.declared.items.CallLine.{CallLine}
 use Rattle.histar_script.specs.Script.{Reading}
-use Rattle.histar_shell.specs.Answers.{AnswersCalls, BeginsAnswers}
 use Rattle.histar_shell.specs.Input.{TakesAll, TakesSome}
+use Rattle.histar_shell.specs.Machine.{Running, IsStart}
+use Rattle.histar_shell.specs.Session.{AnswersCalls, BeginsAnswers}
+use Rattle.histar_syscall.specs.declared.raw.TraceEntry.{TraceEntry}
 
 -- the answer is that a read failed
 abbrev pub is_read_failed : {A : Type 0} → Result A Fault → Bool
@@ -79,19 +80,34 @@ IsFaultAt read WriteFailed = IsOk read
 abbrev pub AgreesWith : {A : Type 0} → Result Reading Fault → Result A Fault → Type 0
 AgreesWith read result = MatchResult result (λ _. IsOk read) (IsFaultAt read)
 
--- the call lines of a script, and none of a text with a fault
-abbrev pub calls_or_none : Result Reading Fault → List CallLine
-calls_or_none (Ok script) = script.calls
-calls_or_none (Err fault) = []
+-- The reading is of a script. A machine that was booted with its users answered each of its call lines, the lines that tell the
+-- replies were written, and the trace is the one that the machine has at the end.
+pub record AnswersScript (old new : Option (List ℕ)) (read : Result Reading Fault) (trace : List TraceEntry) : Type 0 where
+  pub script : Reading
+  pub is_read : read ≡ Ok script
+  pub start : Running
+  pub starts : IsStart script.users start
+  pub end : Running
+  pub answered : AnswersCalls start end old new script.calls
+  pub recorded : trace ≡ end.kernel.trace
 
--- At want of memory and at a failed write a beginning of the answers was written, at the other faults nothing.
-abbrev pub WritesAtFault : Option (List ℕ) → Option (List ℕ) → List CallLine → Fault → Type 0
-WritesAtFault old new calls (BadScript n) = Keeps old new
-WritesAtFault old new calls TooLong = Keeps old new
-WritesAtFault old new calls OutOfMemory = BeginsAnswers old new calls
-WritesAtFault old new calls ReadFailed = Keeps old new
-WritesAtFault old new calls WriteFailed = BeginsAnswers old new calls
+-- The reading is of a script. A machine that was booted with its users answered the first of its call lines, and a beginning of
+-- the lines that tell the replies was written.
+pub record BeginsScript (old new : Option (List ℕ)) (read : Result Reading Fault) : Type 0 where
+  pub script : Reading
+  pub is_read : read ≡ Ok script
+  pub start : Running
+  pub starts : IsStart script.users start
+  pub begun : BeginsAnswers start old new script.calls
 
--- each call line was answered, or as many as the fault let through
-abbrev pub WritesAnswers : {A : Type 0} → Option (List ℕ) → Option (List ℕ) → List CallLine → Result A Fault → Type 0
-WritesAnswers old new calls result = MatchResult result (λ _. AnswersCalls old new calls) (WritesAtFault old new calls)
+-- At a failed write a beginning of the answers was written, at want of memory that or nothing, at the other faults nothing.
+abbrev pub WritesAtFault : Option (List ℕ) → Option (List ℕ) → Result Reading Fault → Fault → Type 0
+WritesAtFault old new read (BadScript n) = Keeps old new
+WritesAtFault old new read TooLong = Keeps old new
+WritesAtFault old new read OutOfMemory = Keeps old new ⊎ BeginsScript old new read
+WritesAtFault old new read ReadFailed = Keeps old new
+WritesAtFault old new read WriteFailed = BeginsScript old new read
+
+-- each call line was answered by the machine whose trace it is, or as many as the fault let through
+abbrev pub WritesAnswers : Option (List ℕ) → Option (List ℕ) → Result Reading Fault → Result (List TraceEntry) Fault → Type 0
+WritesAnswers old new read result = MatchResult result (AnswersScript old new read) (WritesAtFault old new read)

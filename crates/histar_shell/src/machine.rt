@@ -1,7 +1,7 @@
 //! The machine: a labelled kernel with its start state, and what each call line has it do.
 ghost use Rattle.std.specs.Prelude.{◌≡◌, ◌≤◌, length, IfOk};
 ghost use Rattle.histar_script.specs.Script.{IsUserList};
-ghost use Rattle.histar_shell.specs.Machine.{Answers, IsStart, Makes};
+ghost use Rattle.histar_shell.specs.Machine.{AnswersLine, IsStart, Makes};
 
 use histar_calls::{Places, Stopped, create, read, write};
 use histar_flat::{ProcName, Reply, UnixCall, User};
@@ -91,7 +91,7 @@ impl<S: LabelStore + Drop> Machine<S> {
         process: &ProcName,
         call: UnixCall,
     ) -> Result<Reply, Stopped>
-        ensures { Answers self.old self.new line process.now call result }
+        ensures { AnswersLine self.old self.new line process.now call result }
     {
         if self.is_stopped {
             return Err(Stopped);

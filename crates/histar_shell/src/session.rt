@@ -1,9 +1,9 @@
 //! A run, from bytes to bytes.
 ghost use Rattle.std.specs.Prelude.{◌≡◌, IfErr, IfSome, OnOk, OnErr};
 ghost use Rattle.histar_script.specs.Reading.{script_of};
-ghost use Rattle.histar_shell.specs.Answers.{AnswersCall, AnswersCalls, BeginsAnswer, BeginsAnswers};
+ghost use Rattle.histar_shell.specs.Session.{AnswersCall, AnswersCalls, BeginsAnswer, BeginsAnswers};
 ghost use Rattle.histar_shell.specs.Device.{CountsFailure};
-ghost use Rattle.histar_shell.specs.Outcome.{AgreesWith, IsOutputFault, TakesInput, WritesAnswers, WritesNothing, calls_or_none, is_read_failed, is_write_failed};
+ghost use Rattle.histar_shell.specs.Outcome.{AgreesWith, IsOutputFault, TakesInput, WritesAnswers, WritesNothing, is_read_failed, is_write_failed};
 
 use crate::device::{Sink, Source};
 use crate::input::read_input;
@@ -37,10 +37,11 @@ pub fn run<R: Source, W: Sink>(
     // The input is taken to its end, but never more than 1,048,577 bytes of it.
     ensures taken { TakesInput (R.left reader.old) (R.left reader.new) result }
 
-    // Where the input is known: the fault in it is answered, and its call lines are, in their order.
+    // Where the input is known: the fault in it is answered. A machine that starts with its users answers its call lines, in
+    // their order; what is written tells the machine's replies, and the trace is the machine's.
     ensures faults_of_input { IfSome (R.left reader.old) (λ input. AgreesWith (script_of input) result) }
     ensures answers { IfSome (R.left reader.old) (λ input. WritesAnswers (W.written writer.old) (W.written writer.new)
-        (calls_or_none (script_of input)) result) }
+        (script_of input) result) }
 {
     let Options {} = options;
     let input = read_input(alloc, reader)?;
@@ -59,8 +60,8 @@ fn answer_calls<S: LabelStore + Drop, W: Sink>(
     calls: Vec<CallLine>,
     writer: &mut W,
 ) -> Result<(), Fault>
-    ensures ok { OnOk result (AnswersCalls (W.written writer.old) (W.written writer.new) calls.items) }
-    ensures err { OnErr result (BeginsAnswers (W.written writer.old) (W.written writer.new) calls.items) }
+    ensures ok { OnOk result (AnswersCalls machine.old machine.new (W.written writer.old) (W.written writer.new) calls.items) }
+    ensures err { OnErr result (BeginsAnswers machine.old (W.written writer.old) (W.written writer.new) calls.items) }
     ensures faults { IfErr result IsOutputFault }
     ensures count { CountsFailure (W.failures writer.old) (W.failures writer.new) (is_write_failed result) }
 {
@@ -77,8 +78,8 @@ fn answer_call<S: LabelStore + Drop, W: Sink>(
     call: CallLine,
     writer: &mut W,
 ) -> Result<(), Fault>
-    ensures ok { OnOk result (AnswersCall (W.written writer.old) (W.written writer.new) call) }
-    ensures err { OnErr result (BeginsAnswer (W.written writer.old) (W.written writer.new) call) }
+    ensures ok { OnOk result (AnswersCall machine.old machine.new (W.written writer.old) (W.written writer.new) call) }
+    ensures err { OnErr result (BeginsAnswer machine.old machine.new (W.written writer.old) (W.written writer.new) call) }
     ensures faults { IfErr result IsOutputFault }
     ensures count { CountsFailure (W.failures writer.old) (W.failures writer.new) (is_write_failed result) }
 {

@@ -8,7 +8,7 @@ use Rattle.histar_shell.proofs.session.answer_calls.Goals as goal
 
 pub calls-preserved : goal.calls-preserved
 calls-preserved g c = record {
-  answered = answers_more _ _ _ c.calls.yielded c.in-Some.call c.calls.invariant.answered c.in_ok-answer_call.ensures.ok;
+  answered = answers_more _ _ _ _ _ _ c.calls.yielded c.in-Some.call c.calls.invariant.answered c.in_ok-answer_call.ensures.ok;
   count = search rules;
 }
 
@@ -20,4 +20,4 @@ returns-in_err-answer_call-clause-err g c =
     let so_far = YieldsList-so_far all c.calls.yielded c.calls.call-iterator c.calls.yielded_by in
     let turn = YieldsList-turn all c.calls.yielded c.calls.call-iterator c.calls.yielded_by c.next.result c.next.new.self c.in-Some.call c.in-Some.is c.next.ensures.steps in
     let parts = parts_at c.args.calls.items c.calls.yielded c.in-Some.call (sym (map-id c.calls.yielded) ∙ so_far) turn in
-    rw p.1 (begins_more _ _ _ c.args.calls.items c.calls.yielded _ c.in-Some.call parts c.calls.invariant.answered c.in_err-answer_call.ensures.err)
+    rw p.1 (begins_more _ _ _ _ _ _ c.args.calls.items c.calls.yielded _ c.in-Some.call parts c.calls.invariant.answered c.in_err-answer_call.ensures.err)

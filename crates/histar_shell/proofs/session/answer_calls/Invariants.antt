@@ -1,9 +1,9 @@
 use Rattle.std.proofs.Common.{◌≡◌}
-use Rattle.histar_shell.specs.Answers.{AnswersCalls}
+use Rattle.histar_shell.specs.Session.{AnswersCalls}
 use Rattle.histar_shell.proofs.session.answer_calls.Given as goal
 
 abbrev pub invariant-calls : goal.invariant-calls
 invariant-calls g l = record {
-  answered : AnswersCalls (g.W.Sink.written l.fn.writer) (g.W.Sink.written l.writer) l.yielded;
+  answered : AnswersCalls l.fn.machine l.machine (g.W.Sink.written l.fn.writer) (g.W.Sink.written l.writer) l.yielded;
   count : g.W.Sink.failures l.writer ≡ g.W.Sink.failures l.fn.writer;
 }

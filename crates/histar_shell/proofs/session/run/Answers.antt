@@ -1,10 +1,10 @@
-use Rattle.std.proofs.Common.{List}
+use Rattle.std.proofs.Common.{Result}
 use Rattle.std.proofs.lemmas.Result.{err_from_is_err_and}
 use Rattle.histar_script.specs.declared.fault.Fault.TheVariants.{OutOfMemory}
-use Rattle.histar_script.specs.declared.items.CallLine.{CallLine}
-use Rattle.histar_shell.specs.Answers.{AnswersCalls}
-use Rattle.histar_shell.specs.Outcome.{WritesAtFault}
-use Rattle.histar_shell.proofs.RunLemmas.{answer_fault_agrees, answer_fault_writes, at_calls, input_fault_agrees, input_fault_takes, input_fault_writes, is_right, same_script, script_fault_agrees, script_fault_writes, takes_at_fault}
+use Rattle.histar_script.specs.declared.fault.Fault.{Fault}
+use Rattle.histar_script.specs.Script.{Reading}
+use Rattle.histar_shell.specs.Outcome.{AnswersScript, WritesAtFault}
+use Rattle.histar_shell.proofs.RunLemmas.{answer_fault_agrees, answer_fault_writes, answers_script, at_script, begins_script, input_fault_agrees, input_fault_takes, input_fault_writes, is_right, same_script, script_fault_agrees, script_fault_writes, starts_with, takes_at_fault}
 use Rattle.histar_shell.proofs.session.run.Goals as goal
 
 pub returns-in_err-input-clause-taken : goal.returns-in_err-input-clause-taken
@@ -69,11 +69,12 @@ pub returns-in_err-answer_calls-clause-answers : goal.returns-in_err-answer_call
 returns-in_err-answer_calls-clause-answers g c =
     let p = err_from_is_err_and c.from_residual-in_err-answer_calls.result c.from_residual-in_err-answer_calls.ensures.1 in
     let same = same_script _ _ c.in_ok-input.input.items c.in_ok-input.ensures.ok in
-    let begun = rw c.into_parts-users.ensures.calls at c.in_err-answer_calls.ensures.err in
-    let writes = answer_fault_writes c.in_err-answer_calls.field-0.0 _ _ _ c.in_err-answer_calls.ensures.faults begun in
-    rw (p.1, p.2) (at_calls
-    (λ (calls : List CallLine). WritesAtFault (g.W.Sink.written c.args.writer.now) (g.W.Sink.written c.answer_calls.new.writer) calls c.in_err-answer_calls.field-0.0)
-    _ c.in_ok-input.input.items c.in_ok-script.script same (rw c.as_slice.ensures.value at c.in_ok-script.ensures.exact) writes)
+    let starts = starts_with c.in_ok-machine.machine c.in_ok-script.script _ _ c.as_slice-2.ensures.value c.into_parts-users.ensures.users c.in_ok-machine.ensures in
+    let begun = begins_script _ _ c.in_ok-script.script c.in_ok-machine.machine _ starts c.into_parts-users.ensures.calls c.in_err-answer_calls.ensures.err in
+    rw (p.1, p.2) (at_script
+    (λ (read : Result Reading Fault). WritesAtFault (g.W.Sink.written c.args.writer.now) (g.W.Sink.written c.answer_calls.new.writer) read c.in_err-answer_calls.field-0.0)
+    _ c.in_ok-input.input.items c.in_ok-script.script same (rw c.as_slice.ensures.value at c.in_ok-script.ensures.exact)
+    (λ read is_read. answer_fault_writes c.in_err-answer_calls.field-0.0 _ _ read c.in_err-answer_calls.ensures.faults (begun read is_read)))
 
 pub returns-clause-taken : goal.returns-clause-taken
 returns-clause-taken g c = (_, c.in_ok-input.ensures.ok)
@@ -86,7 +87,8 @@ returns-clause-faults_of_input g c =
 pub returns-clause-answers : goal.returns-clause-answers
 returns-clause-answers g c =
     let same = same_script _ _ c.in_ok-input.input.items c.in_ok-input.ensures.ok in
-    at_calls
-    (λ (calls : List CallLine). AnswersCalls (g.W.Sink.written c.args.writer.now) (g.W.Sink.written c.answer_calls.new.writer) calls)
+    let starts = starts_with c.in_ok-machine.machine c.in_ok-script.script _ _ c.as_slice-2.ensures.value c.into_parts-users.ensures.users c.in_ok-machine.ensures in
+    at_script
+    (λ (read : Result Reading Fault). AnswersScript (g.W.Sink.written c.args.writer.now) (g.W.Sink.written c.answer_calls.new.writer) read c.into_trace.result)
     _ c.in_ok-input.input.items c.in_ok-script.script same (rw c.as_slice.ensures.value at c.in_ok-script.ensures.exact)
-    (rw c.into_parts-users.ensures.calls at c.in_ok-answer_calls.ensures.ok)
+    (answers_script _ _ c.in_ok-script.script c.in_ok-machine.machine c.answer_calls.new.machine _ _ starts c.into_parts-users.ensures.calls c.in_ok-answer_calls.ensures.ok c.into_trace.ensures)

@@ -1,6 +1,6 @@
 use Rattle.std.proofs.Common.{◌≡◌, true, List, rules, refl, subst}
 use Rattle.histar_flat.specs.declared.calls.User.{User}
-use Rattle.histar_shell.specs.Machine.{Running, Makes, Answers}
+use Rattle.histar_shell.specs.Machine.{Running, Makes, AnswersLine}
 use Rattle.histar_syscall.specs.Traced.{Traced}
 use Rattle.histar_shell.proofs.Lines.{had_made}
 use Rattle.histar_shell.proofs.machine.Machine.step.Goals as goal
@@ -12,6 +12,6 @@ returns g c =
     let is_zero : c.is_zero.result ≡ true = search rules in
     let made = subst (λ (users : List User). Makes users c.self.inside.places c.begin.new.self c.make-result.new.kernel c.self.inside.thread c.args.call c.make-result.result) c.as_slice-users.ensures.value c.make-result.ensures in
     let makes = subst (λ (k : Traced). Makes c.self.inside.users.items c.self.inside.places k c.make-result.new.kernel c.self.inside.thread c.args.call c.make-result.result) c.begin.ensures made in
-    subst (λ (m : Running). Answers m left c.args.line c.args.process.now c.args.call c.make-result.result) c.self.view_is
+    subst (λ (m : Running). AnswersLine m left c.args.line c.args.process.now c.args.call c.make-result.result) c.self.view_is
     (had_made before left c.args.line c.args.process.now c.args.call c.make-result.result c.if-self.false (c.is_zero.ensures.0 is_zero)
     (record { made = makes; places = refl; thread = refl; users = refl; stops = c.is_err-self-inside.ensures.value }))
