@@ -1,11 +1,9 @@
 -- Objects that are laid out by addresses of any steps are a tree: take each object's own number for the last step to it.
-use Rattle.std.proofs.Common.{◌≡◌, ℕ, nat_eq, Bool, true, false, List, [], ◌∷◌, Option, None, Some, inl, inr, refl, sym, ap, ◌∙◌, if◌then◌else◌}
+use Rattle.std.proofs.Common.{◌≡◌, ℕ, nat_eq, Bool, true, false, [], ◌∷◌, Option, None, Some, inl, inr, refl, sym, ap, ◌∙◌, if◌then◌else◌}
 use Rattle.std.specs.Prelude.{is_some, option_map, option_and_then}
-use Rattle.std.specs.FinSet as set
-use mathlib.Core.Bool.{true≢false, false≢true}
 use Rattle.std.proofs.lemmas.Bool.Decides.{eqb_tells}
 use Rattle.histar_object.specs.declared.objects.Object.{Object}
-use Rattle.histar_object.specs.Objects.{Objects, links_in, is_there}
+use Rattle.histar_object.specs.Objects.{Objects, is_there}
 use Rattle.histar_container.specs.Tree.{Address, Naming, wanted, same, is_child, objects_at, IsLaid, AreTree}
 use Rattle.histar_container.proofs.Addresses.{Tells, inner, same_tells, same_itself, same_is}
 
