@@ -11,3 +11,4 @@ pub mod Gathering
 pub mod Removals
 pub mod Roots
 pub mod KeepingTrees
+pub mod OwnSteps
