@@ -92,6 +92,21 @@ fn is_there(table: &Table<u8>, number: u64) -> bool {
     table.get(ObjId::new(number)).is_some()
 }
 
+// Tried with each of its allocations failing in turn: a link that finds no memory leaves no object and no
+// link behind.
+#[test]
+fn a_link_without_memory(rt: HostRuntime) -> Result<(), Fail> {
+    let mut table = tree_of(&rt, rt.alloc(), Shape::Wide, 3)?;
+    let (holder, number) = (ObjId::new(1), ObjId::new(3));
+    assert!(rt; is_container(&table, holder));
+    let made = link_new(&mut table, holder, number, empty_container(rt.alloc())).is_ok();
+    assert_eq!(rt; is_there(&table, 3), made);
+    assert_eq!(rt; linked(&table, holder, number), made);
+    assert!(rt; is_there(&table, 2));
+    assert!(rt; linked(&table, holder, ObjId::new(2)));
+    Ok(())
+}
+
 #[test]
 fn a_chain_goes_from_the_cut_on(rt: HostRuntime) -> Result<(), Fail> {
     let mut table = tree_of(&rt, rt.alloc(), Shape::Chain, 202)?;
@@ -102,6 +117,30 @@ fn a_chain_goes_from_the_cut_on(rt: HostRuntime) -> Result<(), Fail> {
     cut(&rt, rt.alloc(), &mut table, 1, 2)?;
     for number in 1..202 {
         assert_eq!(rt; is_there(&table, number), number <= 1);
+    }
+    Ok(())
+}
+
+#[test]
+fn a_chain_is_cut_at_each_link(rt: HostRuntime) -> Result<(), Fail> {
+    for at in 1..201 {
+        let mut table = tree_of(&rt, rt.alloc(), Shape::Chain, 202)?;
+        cut(&rt, rt.alloc(), &mut table, at, at + 1)?;
+        assert!(rt; is_there(&table, at));
+        assert!(rt; !is_there(&table, at + 1));
+        assert!(rt; !is_there(&table, 201));
+    }
+    Ok(())
+}
+
+#[test]
+fn of_many_links_each_goes(rt: HostRuntime) -> Result<(), Fail> {
+    let mut table = tree_of(&rt, rt.alloc(), Shape::Wide, 2002)?;
+    'numbers: for number in 2..2002 {
+        assert!(rt; is_there(&table, number));
+        cut(&rt, rt.alloc(), &mut table, 1, number)?;
+        assert!(rt; !is_there(&table, number));
+        assert!(rt; is_there(&table, 1));
     }
     Ok(())
 }

@@ -1,0 +1,7 @@
+use Rattle.histar_object.specs.Objects.{objects_of}
+use Rattle.histar_container.specs.Tree.{AreTree}
+use Rattle.histar_container.proofs.tests.of_many_links_each_goes.Given as goal
+
+-- what is left is a tree
+abbrev pub invariant-numbers : goal.invariant-numbers
+invariant-numbers g l = AreTree (objects_of l.table)
