@@ -5,12 +5,12 @@ use Rattle.std.specs.Prelude.{option_map, IsErr}
 use Rattle.histar_flat.specs.declared.replies.Errno.{Errno}
 use Rattle.histar_flat.specs.declared.replies.Reply.{Reply}
 use Rattle.histar_flat.specs.declared.replies.Reply.TheVariants.{Refused}
-use Rattle.histar_syscall.specs.declared.raw.Denied.{Denied}
-use Rattle.histar_syscall.specs.declared.raw.Denied.TheVariants.{Observe, Modify, Range, Gate, NoEntry, NoThread, BadKind, TooBig}
-use Rattle.histar_syscall.specs.declared.raw.RawCall.{RawCall}
-use Rattle.histar_syscall.specs.declared.raw.RawCall.TheVariants.{MakeCategory, OwnLabel, SetLabel, SetClearance, MakeSegment, MakeContainer, MakeThread, MakeGate, Enter, Read, Write, Unlink, LabelOf}
-use Rattle.histar_syscall.specs.declared.raw.Refusal.{Refusal}
-use Rattle.histar_syscall.specs.declared.raw.Refusal.TheVariants as refusals
+use Rattle.histar_rules.specs.declared.raw.Denied.{Denied}
+use Rattle.histar_rules.specs.declared.raw.Denied.TheVariants.{Observe, Modify, Range, Gate, NoEntry, NoThread, BadKind, TooBig}
+use Rattle.histar_rules.specs.declared.raw.RawCall.{RawCall}
+use Rattle.histar_rules.specs.declared.raw.RawCall.TheVariants.{MakeCategory, OwnLabel, SetLabel, SetClearance, MakeSegment, MakeContainer, MakeThread, MakeGate, Enter, Read, Write, Unlink, LabelOf}
+use Rattle.histar_rules.specs.declared.raw.Refusal.{Refusal}
+use Rattle.histar_rules.specs.declared.raw.Refusal.TheVariants as refusals
 use Rattle.histar_syscall.specs.Traced.{Traced, Called, Answered}
 use Rattle.histar_syscall.specs.Runs.{is_label_refusal, is_range_refusal, Made, Granted}
 use Rattle.histar_syscall.proofs.Runs.{granted_none, granted_more, denied_of, made_run, made_unchanged, made_longer, made_more}

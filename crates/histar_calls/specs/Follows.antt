@@ -9,10 +9,10 @@ use Rattle.histar_flat.specs.declared.replies.Reply.TheVariants.{Refused}
 use Rattle.histar_label.specs.declared.levels.Level.TheVariants.{L1}
 use Rattle.histar_label.specs.Levels.{Levels, constant}
 use Rattle.histar_object.specs.Objects.{bytes_in, label_there}
-use Rattle.histar_syscall.specs.declared.raw.Denied.{Denied}
-use Rattle.histar_syscall.specs.declared.raw.Denied.TheVariants.{Observe, Modify, Range, Gate, NoEntry, NoThread, BadKind, TooBig}
-use Rattle.histar_syscall.specs.declared.raw.RawCall.{RawCall}
-use Rattle.histar_syscall.specs.declared.raw.RawCall.TheVariants.{MakeCategory, OwnLabel, SetLabel, SetClearance, MakeSegment, MakeContainer, MakeThread, MakeGate, Enter, Read, Write, Unlink, LabelOf}
+use Rattle.histar_rules.specs.declared.raw.Denied.{Denied}
+use Rattle.histar_rules.specs.declared.raw.Denied.TheVariants.{Observe, Modify, Range, Gate, NoEntry, NoThread, BadKind, TooBig}
+use Rattle.histar_rules.specs.declared.raw.RawCall.{RawCall}
+use Rattle.histar_rules.specs.declared.raw.RawCall.TheVariants.{MakeCategory, OwnLabel, SetLabel, SetClearance, MakeSegment, MakeContainer, MakeThread, MakeGate, Enter, Read, Write, Unlink, LabelOf}
 use Rattle.histar_syscall.specs.Traced.{Traced, state}
 use Rattle.histar_syscall.specs.Runs.{Made}
 use Rattle.histar_layout.specs.Directory.{Entries}

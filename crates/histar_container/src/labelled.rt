@@ -4,8 +4,8 @@ ghost use Rattle.std.specs.Option.{option_copied};
 ghost use Rattle.std.specs.FinSet as set;
 ghost use Rattle.histar_label.specs.Levels.{Levels};
 ghost use Rattle.histar_label.specs.Store.{label_at, Keeps};
-ghost use Rattle.histar_object.specs.Objects.{objects_of, put, changed_at, with_new, holding, no_objects, thread_of, is_there, is_segment, is_container, is_thread, is_gate, links_in, bytes_there, label_there, clearance_there};
-ghost use Rattle.histar_object.specs.State.{observes, modifies, in_range, added, with_next, skipping, with_own, with_bytes};
+ghost use Rattle.histar_object.specs.Objects.{objects_of, put, changed_at, with_new, holding, no_objects, thread_of, is_there, is_segment, is_container, is_thread, is_gate, links_in, bytes_there, label_there, clearance_there, entry_there};
+ghost use Rattle.histar_object.specs.State.{observes, modifies, in_range, added, with_next, skipping, counting, with_own, with_bytes};
 ghost use Rattle.histar_container.specs.Shown.{shown, kind_by, AllStand, KindStands, IsKept};
 ghost use Rattle.histar_container.specs.Kept.{state_of, CutsOff};
 ghost use Rattle.histar_container.specs.Tree.{AreTree};
@@ -14,7 +14,7 @@ use crate::linking::{link_new, linked};
 use crate::removing::remove_tree;
 use histar_base::Bytes;
 use histar_label::{Label, LabelStore};
-use histar_object::{Kind, ObjId, Object, Table};
+use histar_object::{Entry, Kind, ObjId, Object, Table};
 use std::alloc::{AllocError, Global};
 use std::marker::Model;
 
@@ -98,6 +98,14 @@ impl<S: LabelStore + Drop> LabelledObjects<S> {
         self.next_category
     }
 
+    /// Counts the next category as made.
+    pub fn count_category(&mut self)
+        requires { self.old.next_category < 18446744073709551615 }
+        ensures { state_of self.new ≡ counting (state_of self.old) }
+    {
+        self.next_category += 1;
+    }
+
     /// Whether an object has this number.
     pub fn is_there(&self, object: ObjId) -> bool
         ensures { result ≡ is_there (objects_of self.now.objects object) }
@@ -135,6 +143,16 @@ impl<S: LabelStore + Drop> LabelledObjects<S> {
         }
     }
 
+    /// Whether a gate has this number.
+    pub fn is_gate(&self, object: ObjId) -> bool
+        ensures { result ≡ is_gate (objects_of self.now.objects object) }
+    {
+        match self.table.get(object) {
+            Some(object) => matches!(object.kind, Kind::Gate(_, _)),
+            None => false,
+        }
+    }
+
     /// Whether the container links the object.
     pub fn is_linked(&self, container: ObjId, object: ObjId) -> bool
         ensures { result ≡ set.contains (links_in (objects_of self.now.objects container)) object }
@@ -167,6 +185,19 @@ impl<S: LabelStore + Drop> LabelledObjects<S> {
             Some(object) => match &object.kind {
                 Kind::Thread(clearance) => Some(self.store.get(*clearance).unwrap()),
                 Kind::Gate(clearance, _) => Some(self.store.get(*clearance).unwrap()),
+                _ => None,
+            },
+            None => None,
+        }
+    }
+
+    /// What a gate gives to those who enter it.
+    pub fn entry(&self, object: ObjId) -> Option<Entry>
+        ensures { result ≡ entry_there (objects_of self.now.objects object) }
+    {
+        match self.table.get(object) {
+            Some(object) => match &object.kind {
+                Kind::Gate(_, entry) => Some(*entry),
                 _ => None,
             },
             None => None,

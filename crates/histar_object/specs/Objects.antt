@@ -6,6 +6,7 @@ use Rattle.std.specs.Set.{is_member}
 use Rattle.std.specs.FinSet as set
 use Rattle.std.specs.Map.{lookup}
 use Rattle.std.specs.BTreeMap.{is_at}
+use Rattle.histar_object.specs.declared.objects.Entry.{Entry}
 use Rattle.histar_object.specs.declared.objects.Kind.{Kind}
 use Rattle.histar_object.specs.declared.objects.Kind.TheVariants.{Segment, Container, Thread, Gate}
 use Rattle.histar_object.specs.declared.objects.Object.{Object}
@@ -186,3 +187,14 @@ module _ {L : Type 0} where
   abbrev pub clearance_there : Option (Object L) → Option L
   clearance_there None = None
   clearance_there (Some o) = kind_clearance o.kind
+
+  abbrev pub kind_entry : Kind L → Option Entry
+  kind_entry (Segment bytes) = None
+  kind_entry (Container links) = None
+  kind_entry (Thread clearance) = None
+  kind_entry (Gate clearance entry) = Some entry
+
+  -- what a gate that is there gives to those who enter it
+  abbrev pub entry_there : Option (Object L) → Option Entry
+  entry_there None = None
+  entry_there (Some o) = kind_entry o.kind

@@ -6,45 +6,40 @@ use Rattle.histar_label.specs.Floors.{floor_of}
 use Rattle.histar_object.specs.declared.objects.Kind.{Kind}
 use Rattle.histar_object.specs.declared.objects.Kind.TheVariants.{Segment, Container, Thread, Gate}
 use Rattle.histar_object.specs.declared.objects.Object.{Object}
-use Rattle.histar_object.specs.Objects.{changed_at, kind_clearance}
+use Rattle.histar_object.specs.Objects.{changed_at, label_there, clearance_there}
 use Rattle.histar_object.specs.State.{State, Found}
 
--- the label of an object, and its clearance
-abbrev pub paired : Levels → Option Levels → Option (Levels × Levels)
-paired label None = None
-paired label (Some clearance) = Some (label, clearance)
-
--- the label and the clearance of a thread or a gate that is there
-abbrev pub rights : Found → Option (Levels × Levels)
-rights None = None
-rights (Some o) = paired o.label (kind_clearance o.kind)
-
 -- a test of a label and a clearance, which nothing passes that has not both
-abbrev pub holds_of : Option (Levels × Levels) → (Levels → Levels → Bool) → Bool
-holds_of None test = false
-holds_of (Some r) test = test r.0 r.1
+abbrev pub both : Option Levels → Option Levels → (Levels → Levels → Bool) → Bool
+both None clearance test = false
+both (Some label) None test = false
+both (Some label) (Some clearance) test = test label clearance
+
+-- a test of the label and the clearance of a thread or a gate that is there
+abbrev pub holds_of : Found → (Levels → Levels → Bool) → Bool
+holds_of found test = both (label_there found) (clearance_there found) test
 
 -- a label and a clearance above it lie between t's own label and t's clearance
 abbrev pub in_span : Found → Levels → Levels → Bool
-in_span t label clearance = holds_of (rights t) (λ own most. is_below own label && is_below label clearance && is_below clearance most)
+in_span t label clearance = holds_of t (λ own most. is_below own label && is_below label clearance && is_below clearance most)
 
 -- a clearance is above t's own label, and above t's clearance only where t owns
 abbrev pub may_clear : Found → Levels → Bool
-may_clear t clearance = holds_of (rights t) (λ own most. is_below own clearance && is_below_join_raised clearance most own)
+may_clear t clearance = holds_of t (λ own most. is_below own clearance && is_below_join_raised clearance most own)
 
 -- t's own label is below a label
 abbrev pub is_under : Found → Levels → Bool
-is_under t label = holds_of (rights t) (λ own most. is_below own label)
+is_under t label = holds_of t (λ own most. is_below own label)
 
 -- t's own label is below the clearance of a gate
 abbrev pub is_let_in : Found → Found → Bool
-is_let_in t gate = holds_of (rights gate) (λ given limit. is_under t limit)
+is_let_in t gate = holds_of gate (λ given limit. is_under t limit)
 
 -- a label and a clearance above it that t may have behind a gate: what t or the gate owns is owned, elsewhere the label is at
 -- least both, and the clearance at most the greater of both
 abbrev pub in_gate : Found → Found → Levels → Levels → Bool
 in_gate t gate label clearance =
-    holds_of (rights t) (λ own most. holds_of (rights gate) (λ given limit.
+    holds_of t (λ own most. holds_of gate (λ given limit.
     is_below (floor_of own given) label && is_below label clearance && is_below_join clearance most limit))
 
 -- a clearance with level 3 at a category

@@ -63,6 +63,10 @@ with_own s t label clearance = record {
   next_category = s.next_category;
 }
 
+-- the state in which one category more was made
+abbrev pub counting : State → State
+counting s = record { objects = s.objects; next_object = s.next_object; next_category = s.next_category + 1 }
+
 -- the state with these bytes in a segment
 abbrev pub with_bytes : State → ℕ → List ℕ → State
 with_bytes s o bytes = record {

@@ -13,7 +13,7 @@ use Rattle.histar_shell.specs.Input.{TakesAll, TakesSome}
 use Rattle.histar_shell.specs.Outcome.{IsInputFault, IsOutputFault, IsFaultAt, TakesAtFault, AnswersScript, BeginsScript, WritesAtFault}
 use Rattle.histar_shell.specs.Machine.{Running, IsStart}
 use Rattle.histar_shell.specs.Session.{AnswersCalls, BeginsAnswers}
-use Rattle.histar_syscall.specs.declared.raw.TraceEntry.{TraceEntry}
+use Rattle.histar_syscall.specs.declared.trace.TraceEntry.{TraceEntry}
 use Rattle.histar_flat.specs.declared.calls.User.{User}
 use Rattle.histar_script.specs.declared.items.CallLine.{CallLine}
 

@@ -7,7 +7,7 @@ use Rattle.histar_script.specs.Script.{Reading}
 use Rattle.histar_shell.specs.Input.{TakesAll, TakesSome}
 use Rattle.histar_shell.specs.Machine.{Running, IsStart}
 use Rattle.histar_shell.specs.Session.{AnswersCalls, BeginsAnswers}
-use Rattle.histar_syscall.specs.declared.raw.TraceEntry.{TraceEntry}
+use Rattle.histar_syscall.specs.declared.trace.TraceEntry.{TraceEntry}
 
 -- the answer is that a read failed
 abbrev pub is_read_failed : {A : Type 0} → Result A Fault → Bool

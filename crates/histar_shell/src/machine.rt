@@ -21,8 +21,8 @@ pub struct Trace {
 impl Model for Trace {
     ghost use Rattle.std.specs.Prelude.{List};
     ghost use Rattle.std.specs.Coded.{coded_list};
-    ghost use Rattle.histar_syscall.specs.declared.raw.TraceEntry.{TraceEntry};
-    ghost use Rattle.histar_syscall.specs.contracts.raw.TraceEntry as entry;
+    ghost use Rattle.histar_syscall.specs.declared.trace.TraceEntry.{TraceEntry};
+    ghost use Rattle.histar_syscall.specs.contracts.trace.TraceEntry as entry;
 
     ghost Value = { List TraceEntry };
 

@@ -8,14 +8,14 @@ use Rattle.histar_label.specs.Levels.{Levels, is_made, has_star}
 use Rattle.histar_object.specs.Objects.{is_container}
 use Rattle.histar_object.specs.State.{State, in_range}
 use Rattle.histar_container.specs.Kept.{Kept, state_of}
-use Rattle.histar_syscall.specs.declared.raw.Denied.{Denied}
-use Rattle.histar_syscall.specs.declared.raw.Denied.TheVariants.{Range, TooBig}
-use Rattle.histar_syscall.specs.declared.raw.RawCall.{RawCall}
-use Rattle.histar_syscall.specs.declared.raw.RawCall.TheVariants.{MakeSegment}
-use Rattle.histar_syscall.specs.declared.raw.Refusal.{Refusal}
-use Rattle.histar_syscall.specs.declared.raw.Refusal.TheVariants.{OutOfMemory}
-use Rattle.histar_syscall.specs.declared.raw.TraceEntry.{TraceEntry}
-use Rattle.histar_syscall.specs.Calls.{greatest, no_container, fits_segment, check, no_making, Changes}
+use Rattle.histar_rules.specs.declared.raw.Denied.{Denied}
+use Rattle.histar_rules.specs.declared.raw.Denied.TheVariants.{Range, TooBig}
+use Rattle.histar_rules.specs.declared.raw.RawCall.{RawCall}
+use Rattle.histar_rules.specs.declared.raw.RawCall.TheVariants.{MakeSegment}
+use Rattle.histar_rules.specs.declared.raw.Refusal.{Refusal}
+use Rattle.histar_rules.specs.declared.raw.Refusal.TheVariants.{OutOfMemory}
+use Rattle.histar_syscall.specs.declared.trace.TraceEntry.{TraceEntry}
+use Rattle.histar_rules.specs.Rules.{greatest, no_container, fits_segment, check, no_making, Changes}
 use Rattle.histar_syscall.specs.Traced.{Traced, state, Called, IsUnchanged, Answered}
 
 -- a test that doesn't refuse passes

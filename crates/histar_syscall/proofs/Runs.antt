@@ -4,10 +4,10 @@ use Rattle.std.proofs.Common.{◌≡◌, ℕ, List, [], ◌∷◌, ◌++◌, Opt
 use Rattle.std.proofs.lemmas.List.{append-nil}
 use Rattle.std.specs.List.{AllByRecursion, list_any}
 use Rattle.histar_object.specs.State.{State}
-use Rattle.histar_syscall.specs.declared.raw.Denied.{Denied}
-use Rattle.histar_syscall.specs.declared.raw.RawCall.{RawCall}
-use Rattle.histar_syscall.specs.declared.raw.TraceEntry.{TraceEntry}
-use Rattle.histar_syscall.specs.Calls.{check, Leaves}
+use Rattle.histar_rules.specs.declared.raw.Denied.{Denied}
+use Rattle.histar_rules.specs.declared.raw.RawCall.{RawCall}
+use Rattle.histar_syscall.specs.declared.trace.TraceEntry.{TraceEntry}
+use Rattle.histar_rules.specs.Rules.{check, Leaves}
 use Rattle.histar_syscall.specs.Traced.{Traced, state, Called, IsUnchanged}
 use Rattle.histar_syscall.specs.Runs.{IsBy, Ran, GoesOn, Made, Granted}
 

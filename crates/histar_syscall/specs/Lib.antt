@@ -1,7 +1,10 @@
-pub mod Calls
+pub mod Answers
 pub mod Runs
 pub mod Traced
 pub use Rattle.histar_object.specs.Objects
 pub use Rattle.histar_object.specs.Rights
 pub use Rattle.histar_object.specs.State
 pub use Rattle.histar_container.specs.Kept
+pub use Rattle.histar_container.specs.Tree
+pub use Rattle.histar_rules.specs.Rules
+pub use Rattle.histar_rules.specs.Sound

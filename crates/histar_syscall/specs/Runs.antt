@@ -1,12 +1,19 @@
--- Several raw calls of one thread on one line.
+-- Several raw calls, one after another.
 use Rattle.std.specs.Prelude.{◌≡◌, ℕ, Bool, true, false, List, [], ◌∷◌, ◌++◌, Option, None, Some}
 use Rattle.std.specs.List.{AllByRecursion, list_any}
-use Rattle.histar_syscall.specs.declared.raw.Denied.{Denied}
-use Rattle.histar_syscall.specs.declared.raw.Denied.TheVariants.{Observe, Modify, Range, Gate, NoEntry, NoThread, BadKind, TooBig}
-use Rattle.histar_syscall.specs.declared.raw.RawCall.{RawCall}
-use Rattle.histar_syscall.specs.declared.raw.TraceEntry.{TraceEntry}
-use Rattle.histar_syscall.specs.Calls.{IsRun}
+use Rattle.histar_rules.specs.declared.raw.Denied.{Denied}
+use Rattle.histar_rules.specs.declared.raw.Denied.TheVariants.{Observe, Modify, Range, Gate, NoEntry, NoThread, BadKind, TooBig}
+use Rattle.histar_rules.specs.declared.raw.RawCall.{RawCall}
+use Rattle.histar_syscall.specs.declared.trace.TraceEntry.{TraceEntry}
+use Rattle.histar_object.specs.State.{State}
+use Rattle.histar_rules.specs.Rules.{check, Leaves}
 use Rattle.histar_syscall.specs.Traced.{Traced, state, Called, IsUnchanged}
+
+-- The entries are a run of the kernel from a state to another: each outcome is the first failing check at the state before
+-- it, and each state is what the call before it left.
+abbrev pub IsRun : State → List TraceEntry → State → Type 0
+IsRun s [] end = end ≡ s
+IsRun s (e ∷ es) end = (mid : State) × (check s e.thread e.call ≡ e.denied) × Leaves e.denied s e.thread e.call mid × IsRun mid es end
 
 -- an entry is of this thread on this line
 abbrev pub IsBy : ℕ → ℕ → TraceEntry → Type 0
@@ -66,3 +73,8 @@ Made old new thread (call ∷ calls) refusal =
 -- the thread made these raw calls, and each of them was granted
 abbrev pub Granted : Traced → Traced → ℕ → List RawCall → Type 0
 Granted old new thread calls = Made old new thread calls None
+
+-- These threads made these raw calls one after another, the refused ones among them, and nothing else was done.
+abbrev pub MadeAll : Traced → List (ℕ × RawCall) → Traced → Type 0
+MadeAll old [] new = IsUnchanged old new
+MadeAll old (asked ∷ more) new = (mid : Traced) × (denied : Option Denied) × Called old mid asked.0 asked.1 denied × MadeAll mid more new

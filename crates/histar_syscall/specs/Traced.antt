@@ -3,14 +3,16 @@ use Rattle.std.specs.Prelude.{◌≡◌, ℕ, List, [], ◌∷◌, ◌++◌, Opt
 use Rattle.std.specs.Coded.{Coded, code_by, coded×, coded_ℕ, coded_list}
 use Rattle.histar_container.specs.Kept.{Kept, coded_kept, state_of}
 use Rattle.histar_object.specs.State.{State}
-use Rattle.histar_syscall.specs.declared.raw.Denied.{Denied}
-use Rattle.histar_syscall.specs.declared.raw.RawCall.{RawCall}
-use Rattle.histar_syscall.specs.declared.raw.RawCall.TheVariants.{OwnLabel}
-use Rattle.histar_syscall.specs.declared.raw.Refusal.{Refusal}
-use Rattle.histar_syscall.specs.declared.raw.Refusal.TheVariants as refusals
-use Rattle.histar_syscall.specs.declared.raw.TraceEntry.{TraceEntry}
-use Rattle.histar_syscall.specs.contracts.raw.TraceEntry as entry
-use Rattle.histar_syscall.specs.Calls.{check, Leaves}
+use Rattle.histar_rules.specs.declared.raw.Denied.{Denied}
+use Rattle.histar_rules.specs.declared.raw.RawCall.{RawCall}
+use Rattle.histar_rules.specs.declared.raw.Refusal.{Refusal}
+use Rattle.histar_rules.specs.declared.raw.Refusal.TheVariants as refusals
+use Rattle.histar_syscall.specs.declared.trace.TraceEntry.{TraceEntry}
+use Rattle.histar_syscall.specs.contracts.trace.TraceEntry as entry
+use Rattle.histar_base.specs.Refusals.{unless, ◌orelse◌}
+use Rattle.histar_label.specs.Levels.{Levels}
+use Rattle.histar_rules.specs.declared.raw.Denied.TheVariants.{Range}
+use Rattle.histar_rules.specs.Rules.{check, no_thread, known, Leaves}
 
 -- what a kernel keeps: its objects, the line that was begun last, and the trace of its calls
 pub record Traced : Type 0 where
@@ -45,7 +47,17 @@ Answered old new t call (Ok answer) IsRight = Called old new t call None × IsRi
 Answered old new t call (Err (refusals.Denied denied)) IsRight = Called old new t call (Some denied)
 Answered old new t call (Err refusals.OutOfMemory) IsRight = IsUnchanged old new
 
--- a refusal that the number is no thread's, or want of memory
-abbrev pub TellsNoThread : State → ℕ → Refusal → Type 0
-TellsNoThread s t (refusals.Denied denied) = check s t OwnLabel ≡ Some denied
-TellsNoThread s t refusals.OutOfMemory = Unit {0}
+-- the trace after a call with this answer: one entry more, unless memory ran out
+abbrev pub logged : {A : Type 0} → List TraceEntry → ℕ → ℕ → RawCall → Result A Refusal → List TraceEntry
+logged trace line t call (Ok answer) = trace ++ record { line = line; thread = t; call = call; denied = None } ∷ []
+logged trace line t call (Err (refusals.Denied denied)) = trace ++ record { line = line; thread = t; call = call; denied = Some denied } ∷ []
+logged trace line t call (Err refusals.OutOfMemory) = trace
+
+-- the checks of giving a thread other labels with no raw call
+abbrev pub no_own : State → ℕ → Levels → Levels → Option Denied
+no_own s t label clearance = no_thread s t orelse unless (known s label) Range orelse unless (known s clearance) Range
+
+-- a refusal by these checks, or want of memory
+abbrev pub TellsNoOwn : State → ℕ → Levels → Levels → Refusal → Type 0
+TellsNoOwn s t label clearance (refusals.Denied denied) = no_own s t label clearance ≡ Some denied
+TellsNoOwn s t label clearance refusals.OutOfMemory = Unit {0}

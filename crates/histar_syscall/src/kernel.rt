@@ -1,24 +1,32 @@
 //! The kernel and its raw calls.
-ghost use Rattle.std.specs.Prelude.{◌≡◌, ◌<◌, [], ◌∷◌, ◌++◌, IfOk, IfErr, OnOk, OnErr, Some, None, take};
-ghost use Rattle.std.specs.Vec.{vec_len, vec_capacity};
-ghost use Rattle.histar_object.specs.Objects.{objects_of, bytes_in, or_no_bytes, label_there, clearance_there};
-ghost use Rattle.std.specs.Option.{option_copied};
-ghost use Rattle.histar_object.specs.State.{with_own};
-ghost use Rattle.histar_container.specs.Kept.{state_of};
-ghost use Rattle.histar_syscall.specs.Traced.{Answered, TellsNoThread, state};
+ghost use Rattle.std.specs.Prelude.{◌≡◌, [], IfOk, IfErr, OnOk, OnErr, Unit, Some};
+ghost use Rattle.histar_object.specs.Objects.{objects_of, bytes_in, entry_there, label_there, clearance_there};
+ghost use Rattle.histar_object.specs.State.{empty_state, with_own};
+ghost use Rattle.histar_rules.specs.Rules.{IsNextNumber};
+ghost use Rattle.histar_rules.specs.Sound.{IsSound};
+ghost use Rattle.histar_rules.specs.declared.raw.RawCall.TheVariants as calls;
+ghost use Rattle.histar_syscall.specs.Traced.{Answered, TellsNoOwn, state};
 
-use crate::checks::{refuses_make_segment, refuses_own_label, refuses_read, refuses_write};
-use crate::raw::{Denied, RawCall, Refusal, TraceEntry};
+use crate::containers;
+use crate::segments;
+use crate::starting::{empty_objects, refuses_own};
+use crate::trace::{TraceEntry, log};
 use histar_base::Bytes;
 use histar_container::LabelledObjects;
-use histar_label::{Label, LabelStore};
-use histar_object::{Kind, ObjId};
-use std::alloc::{AllocError, Global};
+use histar_gate as gates;
+use histar_label::{Category, Label, LabelStore, OutOfMemory};
+use histar_object::{Entry, ObjId};
+use histar_rules::{RawCall, Refusal};
+use histar_thread as threads;
+use std::alloc::Global;
 use std::marker::Model;
 
 /// A labelled kernel over any store of labels: its objects, the line that was begun last, and the
 /// trace of all its calls. Each raw call makes all its growths first and changes something after, so
 /// that a call that finds no memory leaves everything as it was.
+///
+/// Its objects are always a tree that hangs on the root container, so that nothing outlives the
+/// container that held it.
 #[derive(Drop)]
 pub struct Kernel<S: LabelStore + Drop> {
     objects: LabelledObjects<S>,
@@ -27,6 +35,8 @@ pub struct Kernel<S: LabelStore + Drop> {
 }
 
 impl<S: LabelStore + Drop> Model for Kernel<S> {
+    ghost use Rattle.histar_container.specs.Kept.{state_of};
+    ghost use Rattle.histar_rules.specs.Sound.{IsSound};
     ghost use Rattle.histar_syscall.specs.Traced.{Traced, coded_traced};
 
     ghost Value = { Traced };
@@ -34,21 +44,25 @@ impl<S: LabelStore + Drop> Model for Kernel<S> {
     ghost coded = { coded_traced };
 
     ghost view = { λ k. record { kept = k.objects; line = k.line; trace = k.trace.items } };
+
+    ghost invariant = { λ k. IsSound (state_of k.objects) };
 }
 
-#[tactic(auto, using(crate::proofs::Rooms::exits, crate::proofs::Rooms::segment_in, crate::proofs::Rooms::segment_room))]
+#[tactic(auto, using(crate::proofs::Rooms::answered))]
 impl<S: LabelStore + Drop> Kernel<S> {
-    /// A kernel that starts with these objects, on line 0 and with no trace.
-    pub fn starting(alloc: Global, objects: LabelledObjects<S>) -> Self
-        ensures state { state result ≡ state_of objects }
-        ensures line { result.line ≡ 0 }
-        ensures trace { result.trace ≡ [] }
+    /// The empty kernel: the root container, and the boot thread in it, which owns category 1. No line
+    /// was begun, and no call was made.
+    pub fn new(alloc: Global, store: S) -> Result<Self, OutOfMemory>
+        ensures state { IfOk result (λ kernel. state kernel ≡ empty_state) }
+        ensures line { IfOk result (λ kernel. kernel.line ≡ 0) }
+        ensures trace { IfOk result (λ kernel. kernel.trace ≡ []) }
     {
-        Kernel {
+        let objects = empty_objects(alloc, store)?;
+        Ok(Kernel {
             objects,
             line: 0,
             trace: Vec::new(alloc),
-        }
+        })
     }
 
     /// Says on which line of a script the next calls stand.
@@ -67,7 +81,8 @@ impl<S: LabelStore + Drop> Kernel<S> {
 
     /// The objects as they are, read with no call: for texts that no thread asks for.
     pub fn objects(&self) -> &LabelledObjects<S>
-        ensures { result.now ≡ self.now.kept }
+        ensures objects { result.now ≡ self.now.kept }
+        ensures sound { IsSound (state self.now) }
     {
         &self.objects
     }
@@ -80,46 +95,160 @@ impl<S: LabelStore + Drop> Kernel<S> {
     }
 
     /// Gives a thread another label and another clearance with no raw call: for a login that is not
-    /// made of raw calls yet. `NoThread` where the number is no thread's.
+    /// made of raw calls yet. `NoThread` where the number is no thread's, and `Range` where a label names
+    /// a category that was never made.
     pub fn set_own(&mut self, thread: ObjId, label: Label, clearance: Label) -> Result<(), Refusal>
         ensures ok { OnOk result (state self.new ≡ with_own (state self.old) thread label clearance) }
         ensures err { OnErr result (state self.new ≡ state self.old) }
-        ensures refused { IfErr result (TellsNoThread (state self.old) thread) }
+        ensures refused { IfErr result (TellsNoOwn (state self.old) thread label clearance) }
         ensures trace { self.new.trace ≡ self.old.trace }
         ensures line { self.new.line ≡ self.old.line }
     {
-        if !self.objects.is_thread(thread) {
-            return Err(Refusal::Denied(Denied::NoThread));
+        if let Some(denied) = refuses_own(&self.objects, thread, &label, &clearance) {
+            return Err(Refusal::Denied(denied));
         }
         self.objects.set_own(thread, label, clearance)?;
         Ok(())
     }
 
-    /// The thread's own label and clearance.
-    pub fn own_label(&mut self, thread: ObjId) -> Result<(Label, Label), Refusal>
-        ensures { Answered self.old self.new thread RawCall.OwnLabel result (λ own. (Some own.0 ≡ label_there (objects_of self.old.kept.objects thread)) × (Some own.1 ≡ clearance_there (objects_of self.old.kept.objects thread))) }
+    /// Makes a category. The thread owns it from then on, and may give anyone level 3 there.
+    pub fn make_category(&mut self, thread: ObjId) -> Result<Category, Refusal>
+        ensures { Answered self.old self.new thread calls.MakeCategory result (λ category. category ≡ self.old.kept.next_category) }
     {
         self.trace.reserve(1)?;
-        if let Some(denied) = refuses_own_label(&self.objects, thread) {
-            log(
-                &mut self.trace,
-                self.line,
-                thread,
-                RawCall::OwnLabel,
-                Some(denied),
-            );
-            return Err(Refusal::Denied(denied));
-        }
-        let Some(label) = self.objects.label(thread) else {
-            unreachable!()
-        };
-        let Some(clearance) = self.objects.clearance(thread) else {
-            unreachable!()
-        };
-        let label = label.copy()?;
-        let clearance = clearance.copy()?;
-        log(&mut self.trace, self.line, thread, RawCall::OwnLabel, None);
-        Ok((label, clearance))
+        let answer = threads::make_category(&mut self.objects, thread);
+        log(&mut self.trace, self.line, thread, RawCall::MakeCategory, &answer);
+        answer
+    }
+
+    /// The thread's own label and clearance.
+    pub fn own_label(&mut self, thread: ObjId) -> Result<(Label, Label), Refusal>
+        ensures { Answered self.old self.new thread calls.OwnLabel result (λ own. (Some own.0 ≡ label_there (objects_of self.old.kept.objects thread)) × (Some own.1 ≡ clearance_there (objects_of self.old.kept.objects thread))) }
+    {
+        self.trace.reserve(1)?;
+        let answer = containers::own_label(&self.objects, thread);
+        log(&mut self.trace, self.line, thread, RawCall::OwnLabel, &answer);
+        answer
+    }
+
+    /// Gives the thread another label, which lies between its own label and its clearance.
+    pub fn set_label(&mut self, thread: ObjId, label: Label) -> Result<(), Refusal>
+        ensures { Answered self.old self.new thread (calls.SetLabel label) result (λ _. Unit {0}) }
+    {
+        self.trace.reserve(1)?;
+        let answer = threads::set_label(&mut self.objects, thread, &label);
+        let call = RawCall::SetLabel(label);
+        log(&mut self.trace, self.line, thread, call, &answer);
+        answer
+    }
+
+    /// Gives the thread another clearance, which is above its own label, and above its old clearance
+    /// only where it owns.
+    pub fn set_clearance(&mut self, thread: ObjId, clearance: Label) -> Result<(), Refusal>
+        ensures { Answered self.old self.new thread (calls.SetClearance clearance) result (λ _. Unit {0}) }
+    {
+        self.trace.reserve(1)?;
+        let answer = threads::set_clearance(&mut self.objects, thread, &clearance);
+        let call = RawCall::SetClearance(clearance);
+        log(&mut self.trace, self.line, thread, call, &answer);
+        answer
+    }
+
+    /// Makes a segment in a container, and answers its number.
+    pub fn make_segment(
+        &mut self,
+        alloc: Global,
+        thread: ObjId,
+        container: ObjId,
+        label: Label,
+        bytes: Bytes,
+    ) -> Result<ObjId, Refusal>
+        ensures { Answered self.old self.new thread (calls.MakeSegment container label bytes) result (IsNextNumber self.old.kept) }
+    {
+        self.trace.reserve(1)?;
+        let objects = &mut self.objects;
+        let answer = segments::make_segment(objects, alloc, thread, container, &label, &bytes);
+        let call = RawCall::MakeSegment(container, label, bytes);
+        log(&mut self.trace, self.line, thread, call, &answer);
+        answer
+    }
+
+    /// Makes a container in a container, and answers its number.
+    pub fn make_container(
+        &mut self,
+        alloc: Global,
+        thread: ObjId,
+        container: ObjId,
+        label: Label,
+    ) -> Result<ObjId, Refusal>
+        ensures { Answered self.old self.new thread (calls.MakeContainer container label) result (IsNextNumber self.old.kept) }
+    {
+        self.trace.reserve(1)?;
+        let objects = &mut self.objects;
+        let answer = containers::make_container(objects, alloc, thread, container, &label);
+        let call = RawCall::MakeContainer(container, label);
+        log(&mut self.trace, self.line, thread, call, &answer);
+        answer
+    }
+
+    /// Makes a thread in a container, and answers its number. The new thread owns no more than its
+    /// maker, and is cleared for no more.
+    pub fn make_thread(
+        &mut self,
+        thread: ObjId,
+        container: ObjId,
+        label: Label,
+        clearance: Label,
+    ) -> Result<ObjId, Refusal>
+        ensures { Answered self.old self.new thread (calls.MakeThread container label clearance) result (IsNextNumber self.old.kept) }
+    {
+        self.trace.reserve(1)?;
+        let objects = &mut self.objects;
+        let answer = threads::make_thread(objects, thread, container, &label, &clearance);
+        let call = RawCall::MakeThread(container, label, clearance);
+        log(&mut self.trace, self.line, thread, call, &answer);
+        answer
+    }
+
+    /// Makes a gate in a container, and answers its number. The gate gives its label to who enters it,
+    /// so its maker must own what the gate is to own.
+    pub fn make_gate(
+        &mut self,
+        thread: ObjId,
+        container: ObjId,
+        label: Label,
+        clearance: Label,
+        entry: Entry,
+    ) -> Result<ObjId, Refusal>
+        ensures { Answered self.old self.new thread (calls.MakeGate container label clearance entry) result (IsNextNumber self.old.kept) }
+    {
+        self.trace.reserve(1)?;
+        let objects = &mut self.objects;
+        let answer = gates::make_gate(objects, thread, container, &label, &clearance, entry);
+        let call = RawCall::MakeGate(container, label, clearance, entry);
+        log(&mut self.trace, self.line, thread, call, &answer);
+        answer
+    }
+
+    /// Enters a gate that a container links: the thread gets the label and the clearance that it wants,
+    /// within what the gate and its own labels allow, and is answered the gate's entry.
+    pub fn enter(
+        &mut self,
+        thread: ObjId,
+        container: ObjId,
+        gate: ObjId,
+        wanted: Label,
+        clearance: Label,
+        shown: Label,
+    ) -> Result<Entry, Refusal>
+        ensures { Answered self.old self.new thread (calls.Enter container gate wanted clearance shown) result (λ entry. Some entry ≡ entry_there (objects_of self.old.kept.objects gate)) }
+    {
+        self.trace.reserve(1)?;
+        let objects = &mut self.objects;
+        let answer = gates::enter(objects, thread, container, gate, &wanted, &clearance, &shown);
+        let call = RawCall::Enter(container, gate, wanted, clearance, shown);
+        log(&mut self.trace, self.line, thread, call, &answer);
+        answer
     }
 
     /// The bytes of a segment that the container links.
@@ -130,17 +259,13 @@ impl<S: LabelStore + Drop> Kernel<S> {
         container: ObjId,
         segment: ObjId,
     ) -> Result<Bytes, Refusal>
-        ensures { Answered self.old self.new thread (RawCall.Read container segment) result (λ bytes. bytes ≡ bytes_in (objects_of self.old.kept.objects segment)) }
+        ensures { Answered self.old self.new thread (calls.Read container segment) result (λ bytes. bytes ≡ bytes_in (objects_of self.old.kept.objects segment)) }
     {
         self.trace.reserve(1)?;
+        let answer = segments::read(&mut self.objects, alloc, thread, container, segment);
         let call = RawCall::Read(container, segment);
-        if let Some(denied) = refuses_read(&mut self.objects, thread, container, segment) {
-            log(&mut self.trace, self.line, thread, call, Some(denied));
-            return Err(Refusal::Denied(denied));
-        }
-        let bytes = copied(alloc, self.objects.bytes(segment))?;
-        log(&mut self.trace, self.line, thread, call, None);
-        Ok(bytes)
+        log(&mut self.trace, self.line, thread, call, &answer);
+        answer
     }
 
     /// Keeps at most so many bytes of a segment that the container links, and puts these behind them.
@@ -153,93 +278,46 @@ impl<S: LabelStore + Drop> Kernel<S> {
         keep: u32,
         bytes: Bytes,
     ) -> Result<(), Refusal>
-        ensures { Answered self.old self.new thread (RawCall.Write container segment keep bytes) result (λ _. Unit {0}) }
+        ensures { Answered self.old self.new thread (calls.Write container segment keep bytes) result (λ _. Unit {0}) }
     {
         self.trace.reserve(1)?;
-        if let Some(denied) = refuses_write(
-            &mut self.objects,
-            thread,
-            container,
-            segment,
-            keep,
-            &bytes,
-        ) {
-            let call = RawCall::Write(container, segment, keep, bytes);
-            log(&mut self.trace, self.line, thread, call, Some(denied));
-            return Err(Refusal::Denied(denied));
-        }
-        let content = spliced(alloc, self.objects.bytes(segment), keep, &bytes)?;
-        self.objects.set_bytes(segment, content);
+        let objects = &mut self.objects;
+        let answer = segments::write(objects, alloc, thread, container, segment, keep, &bytes);
         let call = RawCall::Write(container, segment, keep, bytes);
-        log(&mut self.trace, self.line, thread, call, None);
-        Ok(())
+        log(&mut self.trace, self.line, thread, call, &answer);
+        answer
     }
 
-    /// Makes a segment in a container, and answers its number.
-    pub fn make_segment(
+    /// Takes an object that the container links away, with all that hangs below it, its threads too.
+    pub fn unlink(
         &mut self,
         alloc: Global,
         thread: ObjId,
         container: ObjId,
-        label: Label,
-        bytes: Bytes,
-    ) -> Result<ObjId, Refusal>
-        ensures { Answered self.old self.new thread (RawCall.MakeSegment container label bytes) result (λ number. (number ≡ self.old.kept.next_object) × (0 < number)) }
+        object: ObjId,
+    ) -> Result<(), Refusal>
+        ensures { Answered self.old self.new thread (calls.Unlink container object) result (λ _. Unit {0}) }
     {
         self.trace.reserve(1)?;
-        if let Some(denied) = refuses_make_segment(
-            &mut self.objects,
-            thread,
-            container,
-            &label,
-            &bytes,
-        ) {
-            let call = RawCall::MakeSegment(container, label, bytes);
-            log(&mut self.trace, self.line, thread, call, Some(denied));
-            return Err(Refusal::Denied(denied));
-        }
-        let told = label.copy()?;
-        let content = bytes.copy(alloc)?;
-        let number = self.objects.next_object();
-        self.objects.add(container, label, Kind::Segment(bytes))?;
-        let call = RawCall::MakeSegment(container, told, content);
-        log(&mut self.trace, self.line, thread, call, None);
-        Ok(number)
+        let answer = containers::unlink(&mut self.objects, alloc, thread, container, object);
+        let call = RawCall::Unlink(container, object);
+        log(&mut self.trace, self.line, thread, call, &answer);
+        answer
     }
-}
 
-// Adds one entry to the trace, which has room.
-fn log(trace: &mut Vec<TraceEntry>, line: u32, thread: ObjId, call: RawCall, denied: Option<Denied>)
-    requires { vec_len trace.old < vec_capacity trace.old }
-    ensures { trace.new.items ≡ trace.old.items ++ record { line = line; thread = thread; call = call; denied = denied } ∷ [] }
-{
-    trace.push_reserved(TraceEntry {
-        line,
-        thread,
-        call,
-        denied,
-    });
-}
-
-// The bytes once more, and none where there are none.
-fn copied(alloc: Global, bytes: Option<&[u8]>) -> Result<Bytes, AllocError>
-    ensures { IfOk result (λ b. b ≡ or_no_bytes (option_copied bytes.entry)) }
-{
-    match bytes {
-        Some(bytes) => Bytes::copy_of(alloc, bytes),
-        None => Ok(Bytes::new(alloc)),
+    /// The label of an object that the container links and that is no thread.
+    pub fn label_of(
+        &mut self,
+        thread: ObjId,
+        container: ObjId,
+        object: ObjId,
+    ) -> Result<Label, Refusal>
+        ensures { Answered self.old self.new thread (calls.LabelOf container object) result (λ label. Some label ≡ label_there (objects_of self.old.kept.objects object)) }
+    {
+        self.trace.reserve(1)?;
+        let answer = containers::label_of(&mut self.objects, thread, container, object);
+        let call = RawCall::LabelOf(container, object);
+        log(&mut self.trace, self.line, thread, call, &answer);
+        answer
     }
-}
-
-// At most so many old bytes, and the new ones behind them.
-fn spliced(alloc: Global, old: Option<&[u8]>, keep: u32, new: &Bytes) -> Result<Bytes, AllocError>
-    ensures { IfOk result (λ b. b ≡ take keep (or_no_bytes (option_copied old.entry)) ++ new.now) }
-{
-    let mut content = Vec::new(alloc);
-    if let Some(old) = old {
-        let kept = (keep as usize).min(old.len());
-        content.extend_from_slice(&old[..kept])?;
-    }
-    content.extend_from_slice(new.as_slice())?;
-    Ok(Bytes::from_vec(content))
 }

@@ -1,12 +1,15 @@
 //! The kernel: raw calls, each granted or refused by comparing labels alone, and the trace of them.
 #![tactic(auto)]
 
-mod checks;
+mod containers;
 mod kernel;
-mod raw;
+mod segments;
+mod starting;
+mod trace;
 
+pub use histar_rules::{Denied, RawCall, Refusal};
 pub use kernel::Kernel;
-pub use raw::{Denied, RawCall, Refusal, TraceEntry};
+pub use trace::TraceEntry;
 
 #[cfg(test)]
 mod session_tests;

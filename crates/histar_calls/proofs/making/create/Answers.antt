@@ -3,7 +3,7 @@ use Rattle.std.specs.Prelude.{◌==◌}
 use Rattle.std.specs.FinMap as map
 use Rattle.std.specs.Option.{option_copied}
 use Rattle.histar_flat.specs.declared.replies.Errno.{Errno}
-use Rattle.histar_syscall.specs.declared.raw.RawCall.TheVariants.{OwnLabel, MakeSegment, Write}
+use Rattle.histar_rules.specs.declared.raw.RawCall.TheVariants.{OwnLabel, MakeSegment, Write}
 use Rattle.histar_syscall.specs.Traced.{state}
 use Rattle.histar_syscall.proofs.Runs.{granted_more}
 use Rattle.histar_layout.specs.Directory.{Entries, IsDirectory, most_entries}

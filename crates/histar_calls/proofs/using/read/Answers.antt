@@ -2,7 +2,7 @@ use Rattle.std.proofs.Common.{◌++◌, [], ◌∷◌, refl, Ok, sym, ap, ◌∙
 use Rattle.histar_flat.specs.declared.replies.Reply.TheVariants.{Data}
 use Rattle.histar_object.specs.Objects.{bytes_in}
 use Rattle.histar_object.specs.State.{State}
-use Rattle.histar_syscall.specs.declared.raw.RawCall.TheVariants.{Read}
+use Rattle.histar_rules.specs.declared.raw.RawCall.TheVariants.{Read}
 use Rattle.histar_syscall.specs.Traced.{state}
 use Rattle.histar_calls.specs.Plans.{last_name, read_segment}
 use Rattle.histar_calls.specs.Walks.{walk, FindsFile}

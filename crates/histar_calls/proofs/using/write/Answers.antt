@@ -1,6 +1,6 @@
 use Rattle.std.proofs.Common.{◌++◌, [], ◌∷◌, refl, Ok, subst}
 use Rattle.histar_flat.specs.declared.replies.Reply.TheVariants.{Done}
-use Rattle.histar_syscall.specs.declared.raw.RawCall.TheVariants.{Write}
+use Rattle.histar_rules.specs.declared.raw.RawCall.TheVariants.{Write}
 use Rattle.histar_calls.specs.Plans.{last_name, write_segment}
 use Rattle.histar_calls.specs.Walks.{walk, FindsFile}
 use Rattle.histar_calls.specs.declared.using.Found.{Found}

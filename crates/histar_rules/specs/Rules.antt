@@ -1,5 +1,5 @@
--- One raw call of each kind: its first failing check, what it leaves, and a run of calls.
-use Rattle.std.specs.Prelude.{◌≡◌, ℕ, ◌+◌, Bool, not, List, [], ◌∷◌, ◌++◌, Option, None, Some, length, take, min, nat_lt, nat_le}
+-- The rules of the kernel: of each raw call the first failing check, and what it leaves where none fails.
+use Rattle.std.specs.Prelude.{◌≡◌, ℕ, ◌+◌, ◌<◌, Bool, not, List, [], ◌∷◌, ◌++◌, Option, None, Some, length, take, min, nat_lt, nat_le, Result, Ok, Err}
 use Rattle.std.specs.FinSet as set
 use Rattle.histar_base.specs.Refusals.{unless, ◌orelse◌}
 use Rattle.histar_label.specs.Levels.{Levels, is_made, has_star}
@@ -8,12 +8,13 @@ use Rattle.histar_object.specs.declared.objects.Kind.TheVariants.{Segment, Conta
 use Rattle.histar_object.specs.declared.objects.Kind.TheVariants as gates
 use Rattle.histar_object.specs.Rights.{in_span, may_clear, is_under, is_let_in, in_gate, relabelled, clearing, with_changed, with_category}
 use Rattle.histar_object.specs.State.{State, observes, modifies, in_range, added, with_own, with_bytes}
-use Rattle.histar_container.specs.Kept.{CutsOff}
-use Rattle.histar_syscall.specs.declared.raw.Denied.{Denied}
-use Rattle.histar_syscall.specs.declared.raw.Denied.TheVariants.{Observe, Modify, Range, Gate, NoEntry, NoThread, BadKind, TooBig}
-use Rattle.histar_syscall.specs.declared.raw.RawCall.{RawCall}
-use Rattle.histar_syscall.specs.declared.raw.RawCall.TheVariants.{MakeCategory, OwnLabel, SetLabel, SetClearance, MakeSegment, MakeContainer, MakeThread, MakeGate, Enter, Read, Write, Unlink, LabelOf}
-use Rattle.histar_syscall.specs.declared.raw.TraceEntry.{TraceEntry}
+use Rattle.histar_container.specs.Kept.{Kept, CutsOff}
+use Rattle.histar_rules.specs.declared.raw.Denied.{Denied}
+use Rattle.histar_rules.specs.declared.raw.Denied.TheVariants.{Observe, Modify, Range, Gate, NoEntry, NoThread, BadKind, TooBig}
+use Rattle.histar_rules.specs.declared.raw.Refusal.{Refusal}
+use Rattle.histar_rules.specs.declared.raw.Refusal.TheVariants as refusals
+use Rattle.histar_rules.specs.declared.raw.RawCall.{RawCall}
+use Rattle.histar_rules.specs.declared.raw.RawCall.TheVariants.{MakeCategory, OwnLabel, SetLabel, SetClearance, MakeSegment, MakeContainer, MakeThread, MakeGate, Enter, Read, Write, Unlink, LabelOf}
 
 -- the greatest number of 64 bits: a counter that has it can't rise
 abbrev pub greatest : ℕ
@@ -145,8 +146,13 @@ abbrev pub Leaves : Option Denied → State → ℕ → RawCall → State → Ty
 Leaves None s t call new = Changes s t call new
 Leaves (Some denied) s t call new = new ≡ s
 
--- The entries are a run of the kernel from a state to another: each outcome is the first failing check at the state before
--- it, and each state is what the call before it left.
-abbrev pub IsRun : State → List TraceEntry → State → Type 0
-IsRun s [] end = end ≡ s
-IsRun s (e ∷ es) end = (mid : State) × (check s e.thread e.call ≡ e.denied) × Leaves e.denied s e.thread e.call mid × IsRun mid es end
+-- A call that was made on the state: it passed its checks, left what the rules say, and its answer is right; or its first
+-- failing check is told, and the state is the old one; or memory ran out, and the state is the old one.
+abbrev pub Decides : {A : Type 0} → State → State → ℕ → RawCall → Result A Refusal → (A → Type 0) → Type 0
+Decides old new t call (Ok answer) IsRight = (check old t call ≡ None) × Changes old t call new × IsRight answer
+Decides old new t call (Err (refusals.Denied denied)) IsRight = (check old t call ≡ Some denied) × (new ≡ old)
+Decides old new t call (Err refusals.OutOfMemory) IsRight = new ≡ old
+
+-- a new object's number: the next one before the call, which is not 0
+abbrev pub IsNextNumber : Kept → ℕ → Type 0
+IsNextNumber old number = (number ≡ old.next_object) × (0 < number)

@@ -27,8 +27,8 @@ pub enum Denied {
     TooBig,
 }
 
-/// A raw call, as the trace keeps it: the calls of HiStar's kernel, in this kernel's profile. Four of them are made so far: `OwnLabel`, `MakeSegment`, `Read`
-/// and `Write`; the rules of all stand in `specs/Calls.antt`.
+/// A raw call: the calls of HiStar's kernel (OSDI 2006), in this kernel's profile. The rules of all
+/// of them stand in `specs/Rules.antt`.
 #[derive(Drop)]
 pub enum RawCall {
     /// Makes a category, which the thread owns.
@@ -60,15 +60,6 @@ pub enum RawCall {
     LabelOf(ObjId, ObjId),
 }
 
-/// One raw call in the trace: on which line, by which thread, and why it was refused, if it was.
-#[derive(Drop)]
-pub struct TraceEntry {
-    pub line: u32,
-    pub thread: ObjId,
-    pub call: RawCall,
-    pub denied: Option<Denied>,
-}
-
 /// Why a raw call answers nothing.
 #[derive(Clone, Copy, Debug, PartialEq, Eq)]
 pub enum Refusal {
@@ -80,7 +71,7 @@ pub enum Refusal {
 
 impl From<AllocError> for Refusal {
     ghost use Rattle.std.specs.Prelude.{◌≡◌};
-    ghost use Rattle.histar_syscall.specs.declared.raw.Refusal.TheVariants.{OutOfMemory};
+    ghost use Rattle.histar_rules.specs.declared.raw.Refusal.TheVariants.{OutOfMemory};
 
     ghost from_gives = { λ _ e. e ≡ OutOfMemory };
 
@@ -91,7 +82,7 @@ impl From<AllocError> for Refusal {
 
 impl<T: Drop> From<AllocFailed<T>> for Refusal {
     ghost use Rattle.std.specs.Prelude.{◌≡◌};
-    ghost use Rattle.histar_syscall.specs.declared.raw.Refusal.TheVariants.{OutOfMemory};
+    ghost use Rattle.histar_rules.specs.declared.raw.Refusal.TheVariants.{OutOfMemory};
 
     ghost from_gives = { λ _ e. e ≡ OutOfMemory };
 

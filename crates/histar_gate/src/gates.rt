@@ -1,0 +1,129 @@
+//! The making of gates, and entering them.
+ghost use Rattle.std.specs.Prelude.{◌≡◌, Some, IfOk};
+ghost use Rattle.histar_container.specs.Kept.{state_of};
+ghost use Rattle.histar_object.specs.Objects.{objects_of, entry_there};
+ghost use Rattle.histar_rules.specs.Rules.{check, Decides, IsNextNumber};
+ghost use Rattle.histar_rules.specs.declared.raw.RawCall.TheVariants as calls;
+
+use crate::openings::{in_gate, is_let_in, is_under};
+use histar_container::LabelledObjects;
+use histar_label::{Label, LabelStore, OutOfMemory};
+use histar_object::{Entry, Kind, ObjId};
+use histar_rules::{Denied, Refusal, refuses_gate, refuses_making};
+use histar_thread::in_span;
+
+/// The checks of the making of a gate.
+fn refuses_make_gate<S: LabelStore + Drop>(
+    objects: &mut LabelledObjects<S>,
+    thread: ObjId,
+    container: ObjId,
+    label: &Label,
+    clearance: &Label,
+    entry: Entry,
+) -> Option<Denied>
+    ensures answer { result ≡ check (state_of objects.old) thread (calls.MakeGate container label.now clearance.now entry) }
+    ensures unchanged { objects.new ≡ objects.old }
+{
+    if let Some(denied) = refuses_making(objects, thread, container) {
+        return Some(denied);
+    }
+    if !in_span(objects, thread, label, clearance) {
+        return Some(Denied::Range);
+    }
+    if !label.names_only_made(objects.next_category()) {
+        return Some(Denied::Range);
+    }
+    if !clearance.names_only_made(objects.next_category()) {
+        return Some(Denied::Range);
+    }
+    if objects.next_object().number() >= u64::MAX {
+        return Some(Denied::TooBig);
+    }
+    None
+}
+
+/// Makes a gate in a container, and answers its number. The gate gives its label to who enters it, so
+/// its maker must own what the gate is to own.
+pub fn make_gate<S: LabelStore + Drop>(
+    objects: &mut LabelledObjects<S>,
+    thread: ObjId,
+    container: ObjId,
+    label: &Label,
+    clearance: &Label,
+    entry: Entry,
+) -> Result<ObjId, Refusal>
+    ensures { Decides (state_of objects.old) (state_of objects.new) thread (calls.MakeGate container label.now clearance.now entry) result (IsNextNumber objects.old) }
+{
+    if let Some(denied) =
+        refuses_make_gate(objects, thread, container, label, clearance, entry)
+    {
+        return Err(Refusal::Denied(denied));
+    }
+    let number = objects.next_object();
+    let most = clearance.copy()?;
+    objects.add(container, label.copy()?, Kind::Gate(most, entry))?;
+    Ok(number)
+}
+
+/// The checks of entering a gate, the labels that were handed in last. They want memory.
+fn refuses_enter<S: LabelStore + Drop>(
+    objects: &mut LabelledObjects<S>,
+    thread: ObjId,
+    container: ObjId,
+    gate: ObjId,
+    wanted: &Label,
+    clearance: &Label,
+    shown: &Label,
+) -> Result<Option<Denied>, OutOfMemory>
+    ensures answer { IfOk result (λ denied. denied ≡ check (state_of objects.old) thread (calls.Enter container gate wanted.now clearance.now shown.now)) }
+    ensures unchanged { objects.new ≡ objects.old }
+{
+    if let Some(denied) = refuses_gate(objects, thread, container, gate) {
+        return Ok(Some(denied));
+    }
+    if !is_let_in(objects, thread, gate) {
+        return Ok(Some(Denied::Gate));
+    }
+    if !is_under(objects, thread, shown) {
+        return Ok(Some(Denied::Gate));
+    }
+    if !in_gate(objects, thread, gate, wanted, clearance)? {
+        return Ok(Some(Denied::Range));
+    }
+    if !wanted.names_only_made(objects.next_category()) {
+        return Ok(Some(Denied::Range));
+    }
+    if !clearance.names_only_made(objects.next_category()) {
+        return Ok(Some(Denied::Range));
+    }
+    if !shown.names_only_made(objects.next_category()) {
+        return Ok(Some(Denied::Range));
+    }
+    Ok(None)
+}
+
+/// Enters a gate: the thread gets the label and the clearance that it wants, within what the gate and
+/// its own labels allow, and is answered the gate's entry. It shows a label that its own is below, as
+/// a proof of what it owns. `Gate` where the gate's clearance or the shown label doesn't let it in.
+pub fn enter<S: LabelStore + Drop>(
+    objects: &mut LabelledObjects<S>,
+    thread: ObjId,
+    container: ObjId,
+    gate: ObjId,
+    wanted: &Label,
+    clearance: &Label,
+    shown: &Label,
+) -> Result<Entry, Refusal>
+    ensures { Decides (state_of objects.old) (state_of objects.new) thread (calls.Enter container gate wanted.now clearance.now shown.now) result (λ entry. Some entry ≡ entry_there (objects_of objects.old.objects gate)) }
+{
+    if let Some(denied) =
+        refuses_enter(objects, thread, container, gate, wanted, clearance, shown)?
+    {
+        return Err(Refusal::Denied(denied));
+    }
+    let Some(entry) = objects.entry(gate) else {
+        unreachable!()
+    };
+    objects.set_own(thread, wanted.copy()?, clearance.copy()?)?;
+    Ok(entry)
+}

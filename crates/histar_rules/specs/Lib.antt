@@ -1,0 +1,7 @@
+pub mod Rules
+pub mod Sound
+pub use Rattle.histar_object.specs.Objects
+pub use Rattle.histar_object.specs.Rights
+pub use Rattle.histar_object.specs.State
+pub use Rattle.histar_container.specs.Kept
+pub use Rattle.histar_container.specs.Tree

@@ -1,0 +1,187 @@
+//! The raw calls on segments.
+ghost use Rattle.std.specs.Prelude.{◌≡◌, ◌+◌, ◌++◌, Unit, IfOk, length, min, take};
+ghost use Rattle.std.specs.Option.{option_copied};
+ghost use Rattle.histar_object.specs.Objects.{objects_of, bytes_in, or_no_bytes};
+ghost use Rattle.histar_container.specs.Kept.{state_of};
+ghost use Rattle.histar_rules.specs.Rules.{check, fits_segment, Decides, IsNextNumber};
+ghost use Rattle.histar_rules.specs.declared.raw.RawCall.TheVariants as calls;
+
+use histar_base::Bytes;
+use histar_container::LabelledObjects;
+use histar_label::{Label, LabelStore};
+use histar_object::{Kind, ObjId};
+use histar_rules::{Denied, Refusal, refuses_making, refuses_segment};
+use std::alloc::{AllocError, Global};
+
+/// The most bytes that a segment holds.
+const MOST_BYTES: usize = 4096;
+
+/// The checks of the making of a segment.
+fn refuses_make_segment<S: LabelStore + Drop>(
+    objects: &mut LabelledObjects<S>,
+    thread: ObjId,
+    container: ObjId,
+    label: &Label,
+    bytes: &Bytes,
+) -> Option<Denied>
+    ensures answer { result ≡ check (state_of objects.old) thread (calls.MakeSegment container label.now bytes.now) }
+    ensures unchanged { objects.new ≡ objects.old }
+{
+    if let Some(denied) = refuses_making(objects, thread, container) {
+        return Some(denied);
+    }
+    if !objects.in_range(thread, label) {
+        return Some(Denied::Range);
+    }
+    if !label.names_only_made(objects.next_category()) {
+        return Some(Denied::Range);
+    }
+    if label.has_star() {
+        return Some(Denied::Range);
+    }
+    if bytes.len() > MOST_BYTES {
+        return Some(Denied::TooBig);
+    }
+    if objects.next_object().number() >= u64::MAX {
+        return Some(Denied::TooBig);
+    }
+    None
+}
+
+/// Makes a segment in a container, and answers its number.
+pub fn make_segment<S: LabelStore + Drop>(
+    objects: &mut LabelledObjects<S>,
+    alloc: Global,
+    thread: ObjId,
+    container: ObjId,
+    label: &Label,
+    bytes: &Bytes,
+) -> Result<ObjId, Refusal>
+    ensures { Decides (state_of objects.old) (state_of objects.new) thread (calls.MakeSegment container label.now bytes.now) result (IsNextNumber objects.old) }
+{
+    if let Some(denied) = refuses_make_segment(objects, thread, container, label, bytes) {
+        return Err(Refusal::Denied(denied));
+    }
+    let number = objects.next_object();
+    let content = bytes.copy(alloc)?;
+    objects.add(container, label.copy()?, Kind::Segment(content))?;
+    Ok(number)
+}
+
+/// The checks of a read.
+pub fn refuses_read<S: LabelStore + Drop>(
+    objects: &mut LabelledObjects<S>,
+    thread: ObjId,
+    container: ObjId,
+    segment: ObjId,
+) -> Option<Denied>
+    ensures answer { result ≡ check (state_of objects.old) thread (calls.Read container segment) }
+    ensures unchanged { objects.new ≡ objects.old }
+{
+    if let Some(denied) = refuses_segment(objects, thread, container, segment) {
+        return Some(denied);
+    }
+    if !objects.observes(thread, segment) {
+        return Some(Denied::Observe);
+    }
+    None
+}
+
+/// Copies the bytes of a segment that the container links.
+pub fn read<S: LabelStore + Drop>(
+    objects: &mut LabelledObjects<S>,
+    alloc: Global,
+    thread: ObjId,
+    container: ObjId,
+    segment: ObjId,
+) -> Result<Bytes, Refusal>
+    ensures { Decides (state_of objects.old) (state_of objects.new) thread (calls.Read container segment) result (λ bytes. bytes ≡ bytes_in (objects_of objects.old.objects segment)) }
+{
+    if let Some(denied) = refuses_read(objects, thread, container, segment) {
+        return Err(Refusal::Denied(denied));
+    }
+    Ok(copied(alloc, objects.bytes(segment))?)
+}
+
+// The bytes once more, and none where there are none.
+fn copied(alloc: Global, bytes: Option<&[u8]>) -> Result<Bytes, AllocError>
+    ensures { IfOk result (λ b. b ≡ or_no_bytes (option_copied bytes.entry)) }
+{
+    match bytes {
+        Some(bytes) => Bytes::copy_of(alloc, bytes),
+        None => Ok(Bytes::new(alloc)),
+    }
+}
+
+/// Whether so many bytes, kept of a segment, and these behind them fit a segment.
+fn fits<S: LabelStore + Drop>(
+    objects: &LabelledObjects<S>,
+    segment: ObjId,
+    keep: u32,
+    bytes: &Bytes,
+) -> bool
+    ensures { result ≡ fits_segment (min keep (length (bytes_in (objects_of objects.now.objects segment))) + length bytes.now) }
+{
+    let held = match objects.bytes(segment) {
+        Some(held) => held.len(),
+        None => 0,
+    };
+    (keep as usize).min(held).saturating_add(bytes.len()) <= MOST_BYTES
+}
+
+/// The checks of a write.
+fn refuses_write<S: LabelStore + Drop>(
+    objects: &mut LabelledObjects<S>,
+    thread: ObjId,
+    container: ObjId,
+    segment: ObjId,
+    keep: u32,
+    bytes: &Bytes,
+) -> Option<Denied>
+    ensures answer { result ≡ check (state_of objects.old) thread (calls.Write container segment keep bytes.now) }
+    ensures unchanged { objects.new ≡ objects.old }
+{
+    if let Some(denied) = refuses_segment(objects, thread, container, segment) {
+        return Some(denied);
+    }
+    if !objects.modifies(thread, segment) {
+        return Some(Denied::Modify);
+    }
+    if !fits(objects, segment, keep, bytes) {
+        return Some(Denied::TooBig);
+    }
+    None
+}
+
+/// Keeps at most so many bytes of a segment that the container links, and puts these behind them.
+pub fn write<S: LabelStore + Drop>(
+    objects: &mut LabelledObjects<S>,
+    alloc: Global,
+    thread: ObjId,
+    container: ObjId,
+    segment: ObjId,
+    keep: u32,
+    bytes: &Bytes,
+) -> Result<(), Refusal>
+    ensures { Decides (state_of objects.old) (state_of objects.new) thread (calls.Write container segment keep bytes.now) result (λ _. Unit {0}) }
+{
+    if let Some(denied) = refuses_write(objects, thread, container, segment, keep, bytes) {
+        return Err(Refusal::Denied(denied));
+    }
+    let content = spliced(alloc, objects.bytes(segment), keep, bytes)?;
+    objects.set_bytes(segment, content);
+    Ok(())
+}
+
+// At most so many old bytes, and the new ones behind them.
+fn spliced(alloc: Global, old: Option<&[u8]>, keep: u32, new: &Bytes) -> Result<Bytes, AllocError>
+    ensures { IfOk result (λ b. b ≡ take keep (or_no_bytes (option_copied old.entry)) ++ new.now) }
+{
+    let mut content = Vec::new(alloc);
+    if let Some(old) = old {
+        let kept = (keep as usize).min(old.len());
+        content.extend_from_slice(&old[..kept])?;
+    }
+    content.extend_from_slice(new.as_slice())?;
+    Ok(Bytes::from_vec(content))
+}

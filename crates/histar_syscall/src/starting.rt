@@ -1,0 +1,50 @@
+//! The empty kernel's objects, and labels given with no raw call.
+ghost use Rattle.std.specs.Prelude.{◌≡◌, IfOk};
+ghost use Rattle.histar_object.specs.State.{empty_state};
+ghost use Rattle.histar_container.specs.Kept.{state_of};
+ghost use Rattle.histar_syscall.specs.Traced.{no_own};
+
+use histar_container::LabelledObjects;
+use histar_label::{Category, Label, LabelStore, Level, OutOfMemory};
+use histar_object::{Kind, Links, ObjId};
+use histar_rules::Denied;
+use std::alloc::Global;
+
+/// The root container, which the owner of category 1 alone may modify, and the boot thread in it,
+/// which owns that category.
+pub fn empty_objects<S: LabelStore + Drop>(
+    alloc: Global,
+    store: S,
+) -> Result<LabelledObjects<S>, OutOfMemory>
+    ensures { IfOk result (λ objects. state_of objects ≡ empty_state) }
+{
+    let first = Category::new(1);
+    let guarded = Label::new(alloc, Level::L1).with(first, Level::L0)?;
+    let owning = Label::new(alloc, Level::L1).with(first, Level::Star)?;
+    let cleared = Label::new(alloc, Level::L2).with(first, Level::L3)?;
+    let mut objects = LabelledObjects::new(alloc, store, 1, 2);
+    objects.push(guarded, Kind::Container(Links::new(alloc)))?;
+    objects.add(ObjId::new(1), owning, Kind::Thread(cleared))?;
+    Ok(objects)
+}
+
+/// The checks of giving a thread other labels with no raw call.
+pub fn refuses_own<S: LabelStore + Drop>(
+    objects: &LabelledObjects<S>,
+    thread: ObjId,
+    label: &Label,
+    clearance: &Label,
+) -> Option<Denied>
+    ensures { result ≡ no_own (state_of objects.now) thread label.now clearance.now }
+{
+    if !objects.is_thread(thread) {
+        return Some(Denied::NoThread);
+    }
+    if !label.names_only_made(objects.next_category()) {
+        return Some(Denied::Range);
+    }
+    if !clearance.names_only_made(objects.next_category()) {
+        return Some(Denied::Range);
+    }
+    None
+}

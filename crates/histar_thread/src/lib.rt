@@ -1,0 +1,8 @@
+//! The raw calls by which threads get categories, change their own labels, and make threads.
+#![tactic(auto)]
+
+mod ranges;
+mod threads;
+
+pub use ranges::in_span;
+pub use threads::{make_category, make_thread, set_clearance, set_label};

@@ -1,0 +1,180 @@
+//! The calls of a thread on itself, and the making of threads.
+ghost use Rattle.std.specs.Prelude.{◌≡◌, ◌<◌, Unit};
+ghost use Rattle.histar_container.specs.Kept.{state_of};
+ghost use Rattle.histar_rules.specs.Rules.{check, Decides, IsNextNumber};
+ghost use Rattle.histar_rules.specs.declared.raw.RawCall.TheVariants as calls;
+
+use crate::ranges::{in_span, may_clear};
+use histar_container::LabelledObjects;
+use histar_label::{Category, Label, LabelStore, Level};
+use histar_object::{Kind, ObjId};
+use histar_rules::{Denied, Refusal, refuses_making};
+
+/// The checks of the making of a category.
+fn refuses_make_category<S: LabelStore + Drop>(
+    objects: &LabelledObjects<S>,
+    thread: ObjId,
+) -> Option<Denied>
+    ensures { result ≡ check (state_of objects.now) thread calls.MakeCategory }
+{
+    if !objects.is_thread(thread) {
+        return Some(Denied::NoThread);
+    }
+    if objects.next_category() >= u64::MAX {
+        return Some(Denied::TooBig);
+    }
+    None
+}
+
+/// Makes a category. The thread owns it from then on, and may give anyone level 3 there.
+pub fn make_category<S: LabelStore + Drop>(
+    objects: &mut LabelledObjects<S>,
+    thread: ObjId,
+) -> Result<Category, Refusal>
+    ensures { Decides (state_of objects.old) (state_of objects.new) thread calls.MakeCategory result (λ category. category ≡ objects.old.next_category) }
+{
+    if let Some(denied) = refuses_make_category(objects, thread) {
+        return Err(Refusal::Denied(denied));
+    }
+    let category = Category::new(objects.next_category());
+    let Some(label) = objects.label(thread) else {
+        unreachable!()
+    };
+    let Some(clearance) = objects.clearance(thread) else {
+        unreachable!()
+    };
+    let label = label.with(category, Level::Star)?;
+    let clearance = clearance.with(category, Level::L3)?;
+    objects.set_own(thread, label, clearance)?;
+    objects.count_category();
+    Ok(category)
+}
+
+/// The checks of a new label for the thread itself.
+fn refuses_set_label<S: LabelStore + Drop>(
+    objects: &LabelledObjects<S>,
+    thread: ObjId,
+    label: &Label,
+) -> Option<Denied>
+    ensures { result ≡ check (state_of objects.now) thread (calls.SetLabel label.now) }
+{
+    if !objects.is_thread(thread) {
+        return Some(Denied::NoThread);
+    }
+    if !objects.in_range(thread, label) {
+        return Some(Denied::Range);
+    }
+    if !label.names_only_made(objects.next_category()) {
+        return Some(Denied::Range);
+    }
+    None
+}
+
+/// Gives the thread another label, which lies between its own label and its clearance: it may give
+/// up what it owns, and taint itself, but not the other way.
+pub fn set_label<S: LabelStore + Drop>(
+    objects: &mut LabelledObjects<S>,
+    thread: ObjId,
+    label: &Label,
+) -> Result<(), Refusal>
+    ensures { Decides (state_of objects.old) (state_of objects.new) thread (calls.SetLabel label.now) result (λ _. Unit {0}) }
+{
+    if let Some(denied) = refuses_set_label(objects, thread, label) {
+        return Err(Refusal::Denied(denied));
+    }
+    let Some(clearance) = objects.clearance(thread) else {
+        unreachable!()
+    };
+    let clearance = clearance.copy()?;
+    objects.set_own(thread, label.copy()?, clearance)?;
+    Ok(())
+}
+
+/// The checks of a new clearance for the thread itself.
+fn refuses_set_clearance<S: LabelStore + Drop>(
+    objects: &LabelledObjects<S>,
+    thread: ObjId,
+    clearance: &Label,
+) -> Option<Denied>
+    ensures { result ≡ check (state_of objects.now) thread (calls.SetClearance clearance.now) }
+{
+    if !objects.is_thread(thread) {
+        return Some(Denied::NoThread);
+    }
+    if !may_clear(objects, thread, clearance) {
+        return Some(Denied::Range);
+    }
+    if !clearance.names_only_made(objects.next_category()) {
+        return Some(Denied::Range);
+    }
+    None
+}
+
+/// Gives the thread another clearance, which is above its own label, and above its old clearance only
+/// where it owns.
+pub fn set_clearance<S: LabelStore + Drop>(
+    objects: &mut LabelledObjects<S>,
+    thread: ObjId,
+    clearance: &Label,
+) -> Result<(), Refusal>
+    ensures { Decides (state_of objects.old) (state_of objects.new) thread (calls.SetClearance clearance.now) result (λ _. Unit {0}) }
+{
+    if let Some(denied) = refuses_set_clearance(objects, thread, clearance) {
+        return Err(Refusal::Denied(denied));
+    }
+    let Some(label) = objects.label(thread) else {
+        unreachable!()
+    };
+    let label = label.copy()?;
+    objects.set_own(thread, label, clearance.copy()?)?;
+    Ok(())
+}
+
+/// The checks of the making of a thread.
+fn refuses_make_thread<S: LabelStore + Drop>(
+    objects: &mut LabelledObjects<S>,
+    thread: ObjId,
+    container: ObjId,
+    label: &Label,
+    clearance: &Label,
+) -> Option<Denied>
+    ensures answer { result ≡ check (state_of objects.old) thread (calls.MakeThread container label.now clearance.now) }
+    ensures unchanged { objects.new ≡ objects.old }
+{
+    if let Some(denied) = refuses_making(objects, thread, container) {
+        return Some(denied);
+    }
+    if !in_span(objects, thread, label, clearance) {
+        return Some(Denied::Range);
+    }
+    if !label.names_only_made(objects.next_category()) {
+        return Some(Denied::Range);
+    }
+    if !clearance.names_only_made(objects.next_category()) {
+        return Some(Denied::Range);
+    }
+    if objects.next_object().number() >= u64::MAX {
+        return Some(Denied::TooBig);
+    }
+    None
+}
+
+/// Makes a thread in a container, and answers its number. The new thread owns no more than its maker,
+/// and is cleared for no more.
+pub fn make_thread<S: LabelStore + Drop>(
+    objects: &mut LabelledObjects<S>,
+    thread: ObjId,
+    container: ObjId,
+    label: &Label,
+    clearance: &Label,
+) -> Result<ObjId, Refusal>
+    ensures { Decides (state_of objects.old) (state_of objects.new) thread (calls.MakeThread container label.now clearance.now) result (IsNextNumber objects.old) }
+{
+    if let Some(denied) = refuses_make_thread(objects, thread, container, label, clearance) {
+        return Err(Refusal::Denied(denied));
+    }
+    let number = objects.next_object();
+    let most = clearance.copy()?;
+    objects.add(container, label.copy()?, Kind::Thread(most))?;
+    Ok(number)
+}
