@@ -1,5 +1,5 @@
 //! The raw calls on labels and on containers.
-ghost use Rattle.std.specs.Prelude.{◌≡◌, Unit, Some};
+ghost use Rattle.std.specs.Prelude.{◌≡◌, Some};
 ghost use Rattle.std.specs.FinSet as set;
 ghost use Rattle.histar_object.specs.Objects.{objects_of, label_there, clearance_there};
 ghost use Rattle.histar_container.specs.Kept.{state_of};

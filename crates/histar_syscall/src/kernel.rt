@@ -1,5 +1,5 @@
 //! The kernel and its raw calls.
-ghost use Rattle.std.specs.Prelude.{◌≡◌, [], IfOk, IfErr, OnOk, OnErr, Unit, Some};
+ghost use Rattle.std.specs.Prelude.{◌≡◌, [], IfOk, IfErr, OnOk, OnErr, Some};
 ghost use Rattle.histar_object.specs.Objects.{objects_of, bytes_in, entry_there, label_there, clearance_there};
 ghost use Rattle.histar_object.specs.State.{empty_state, with_own};
 ghost use Rattle.histar_rules.specs.Rules.{IsNextNumber};

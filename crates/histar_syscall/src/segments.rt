@@ -1,5 +1,5 @@
 //! The raw calls on segments.
-ghost use Rattle.std.specs.Prelude.{◌≡◌, ◌+◌, ◌++◌, Unit, IfOk, length, min, take};
+ghost use Rattle.std.specs.Prelude.{◌≡◌, ◌+◌, ◌++◌, IfOk, length, min, take};
 ghost use Rattle.std.specs.Option.{option_copied};
 ghost use Rattle.histar_object.specs.Objects.{objects_of, bytes_in, or_no_bytes};
 ghost use Rattle.histar_container.specs.Kept.{state_of};

@@ -1,5 +1,5 @@
 //! The calls of a thread on itself, and the making of threads.
-ghost use Rattle.std.specs.Prelude.{◌≡◌, ◌<◌, Unit};
+ghost use Rattle.std.specs.Prelude.{◌≡◌, ◌<◌};
 ghost use Rattle.histar_container.specs.Kept.{state_of};
 ghost use Rattle.histar_rules.specs.Rules.{check, Decides, IsNextNumber};
 ghost use Rattle.histar_rules.specs.declared.raw.RawCall.TheVariants as calls;
