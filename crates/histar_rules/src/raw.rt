@@ -1,8 +1,10 @@
 //! Raw calls, and what becomes of them.
+ghost use Rattle.std.specs.Prelude.{◌≡◌, IfOk};
+
 use histar_base::Bytes;
 use histar_label::Label;
 use histar_object::{Entry, ObjId};
-use std::alloc::{AllocError, AllocFailed};
+use std::alloc::{AllocError, AllocFailed, Global};
 
 /// Why the kernel refuses a raw call: the first failing check, in the order of the variants' use by
 /// the call. A refused call changes nothing but the trace.
@@ -58,6 +60,55 @@ pub enum RawCall {
     Unlink(ObjId, ObjId),
     /// Asks for the label of an object that a container links, which is no thread.
     LabelOf(ObjId, ObjId),
+}
+
+impl RawCall {
+    /// The same call once more.
+    pub fn copy(&self, alloc: Global) -> Result<RawCall, AllocError>
+        ensures { IfOk result (λ call. call ≡ self.now) }
+    {
+        match self {
+            RawCall::MakeCategory => Ok(RawCall::MakeCategory),
+            RawCall::OwnLabel => Ok(RawCall::OwnLabel),
+            RawCall::SetLabel(label) => Ok(RawCall::SetLabel(label.copy()?)),
+            RawCall::SetClearance(clearance) => Ok(RawCall::SetClearance(clearance.copy()?)),
+            RawCall::MakeSegment(container, label, bytes) => Ok(RawCall::MakeSegment(
+                *container,
+                label.copy()?,
+                bytes.copy(alloc)?,
+            )),
+            RawCall::MakeContainer(container, label) => {
+                Ok(RawCall::MakeContainer(*container, label.copy()?))
+            }
+            RawCall::MakeThread(container, label, clearance) => Ok(RawCall::MakeThread(
+                *container,
+                label.copy()?,
+                clearance.copy()?,
+            )),
+            RawCall::MakeGate(container, label, clearance, entry) => Ok(RawCall::MakeGate(
+                *container,
+                label.copy()?,
+                clearance.copy()?,
+                *entry,
+            )),
+            RawCall::Enter(container, gate, wanted, clearance, shown) => Ok(RawCall::Enter(
+                *container,
+                *gate,
+                wanted.copy()?,
+                clearance.copy()?,
+                shown.copy()?,
+            )),
+            RawCall::Read(container, segment) => Ok(RawCall::Read(*container, *segment)),
+            RawCall::Write(container, segment, keep, bytes) => Ok(RawCall::Write(
+                *container,
+                *segment,
+                *keep,
+                bytes.copy(alloc)?,
+            )),
+            RawCall::Unlink(container, object) => Ok(RawCall::Unlink(*container, *object)),
+            RawCall::LabelOf(container, object) => Ok(RawCall::LabelOf(*container, *object)),
+        }
+    }
 }
 
 /// Why a raw call answers nothing.

@@ -74,7 +74,11 @@ Made old new thread (call ∷ calls) refusal =
 abbrev pub Granted : Traced → Traced → ℕ → List RawCall → Type 0
 Granted old new thread calls = Made old new thread calls None
 
--- These threads made these raw calls one after another, the refused ones among them, and nothing else was done.
-abbrev pub MadeAll : Traced → List (ℕ × RawCall) → Traced → Type 0
+-- the kernel made this raw call, granted or refused
+abbrev pub IsMade : Traced → ℕ → RawCall → Traced → Type 0
+IsMade old thread call new = (denied : Option Denied) × Called old new thread call denied
+
+-- these threads made these raw calls one after another, the refused ones among them, and nothing else was done
+unfoldable pub MadeAll : Traced → List (ℕ × RawCall) → Traced → Type 0
 MadeAll old [] new = IsUnchanged old new
-MadeAll old (asked ∷ more) new = (mid : Traced) × (denied : Option Denied) × Called old mid asked.0 asked.1 denied × MadeAll mid more new
+MadeAll old (asked ∷ more) new = (mid : Traced) × IsMade old asked.0 asked.1 mid × MadeAll mid more new

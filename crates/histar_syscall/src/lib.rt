@@ -1,12 +1,14 @@
 //! The kernel: raw calls, each granted or refused by comparing labels alone, and the trace of them.
 #![tactic(auto)]
 
+mod calling;
 mod containers;
 mod kernel;
 mod segments;
 mod starting;
 mod trace;
 
+pub use calling::{Answer, run_raw};
 pub use histar_rules::{Denied, RawCall, Refusal};
 pub use kernel::Kernel;
 pub use trace::TraceEntry;

@@ -1,0 +1,32 @@
+-- What raw calls answer.
+use Rattle.std.specs.Prelude.{ℕ, Option, None, Some, option_map}
+use Rattle.histar_label.specs.Levels.{Levels}
+use Rattle.histar_object.specs.Objects.{label_there, clearance_there, bytes_in, entry_there}
+use Rattle.histar_object.specs.State.{State}
+use Rattle.histar_rules.specs.declared.raw.RawCall.{RawCall}
+use Rattle.histar_rules.specs.declared.raw.RawCall.TheVariants.{MakeCategory, OwnLabel, SetLabel, SetClearance, MakeSegment, MakeContainer, MakeThread, MakeGate, Enter, Read, Write, Unlink, LabelOf}
+use Rattle.histar_syscall.specs.declared.calling.Answer.{Answer}
+use Rattle.histar_syscall.specs.declared.calling.Answer.TheVariants as answers
+
+-- a label and a clearance, where both are there
+abbrev pub own_labels : Option Levels → Option Levels → Option Answer
+own_labels None clearance = None
+own_labels (Some label) None = None
+own_labels (Some label) (Some clearance) = Some (answers.OwnLabel label clearance)
+
+-- What a raw call that passes its checks answers, read off the state before it: a made category or object has the next
+-- number, and a call that asks for something is answered what was there.
+abbrev pub answer : State → ℕ → RawCall → Option Answer
+answer s t MakeCategory = Some (answers.Category s.next_category)
+answer s t OwnLabel = own_labels (label_there (s.objects t)) (clearance_there (s.objects t))
+answer s t (SetLabel label) = Some answers.Done
+answer s t (SetClearance clearance) = Some answers.Done
+answer s t (MakeSegment d label bytes) = Some (answers.Object s.next_object)
+answer s t (MakeContainer d label) = Some (answers.Object s.next_object)
+answer s t (MakeThread d label clearance) = Some (answers.Object s.next_object)
+answer s t (MakeGate d label clearance entry) = Some (answers.Object s.next_object)
+answer s t (Enter d o wanted clearance shown) = option_map answers.Entry (entry_there (s.objects o))
+answer s t (Read d o) = Some (answers.Bytes (bytes_in (s.objects o)))
+answer s t (Write d o keep bytes) = Some answers.Done
+answer s t (Unlink d o) = Some answers.Done
+answer s t (LabelOf d o) = option_map answers.Label (label_there (s.objects o))
