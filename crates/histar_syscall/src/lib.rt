@@ -13,5 +13,3 @@ pub use histar_rules::{Denied, RawCall, Refusal};
 pub use kernel::Kernel;
 pub use trace::TraceEntry;
 
-#[cfg(test)]
-mod session_tests;
