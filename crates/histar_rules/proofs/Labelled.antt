@@ -1,5 +1,5 @@
 -- The labels of objects stay well: an object is put or changed, a new one is linked, a tree is cut off, a category is made.
-use Rattle.std.proofs.Common.{◌≡◌, ℕ, ◌+◌, ◌<◌, ◌≤◌, ◌||◌, true, false, List, Option, None, Some, ◌⊎◌, inl, inr, arith, refl, sym, ap, ◌∙◌, subst}
+use Rattle.std.proofs.Common.{◌≡◌, ℕ, ◌<◌, ◌≤◌, ◌||◌, true, false, List, Option, None, Some, ◌⊎◌, inl, inr, refl, sym, ap, ◌∙◌, subst}
 use Rattle.std.specs.Prelude.{option_map}
 use mathlib.Core.Bool.{false≢true}
 use Rattle.std.proofs.lemmas.Bool.Decides.{eqb_tells}
@@ -25,6 +25,7 @@ record HasLabelsOf (new old : Kind Levels) : Type 0 where
   pub clearance : kind_clearance new ≡ kind_clearance old
   pub holds : (kind_is_segment new || kind_is_container new) ≡ (kind_is_segment old || kind_is_container old)
 
+-- a link more or less changes no labels
 linking_labels : (n : ℕ) (k : Kind Levels) → HasLabelsOf (kind_linking n k) k
 linking_labels n (Segment bytes) = record { clearance = refl; holds = refl }
 linking_labels n (Container links) = record { clearance = refl; holds = refl }
@@ -37,6 +38,7 @@ unlinking_labels n (Container links) = record { clearance = refl; holds = refl }
 unlinking_labels n (Thread clearance) = record { clearance = refl; holds = refl }
 unlinking_labels n (Gate clearance entry) = record { clearance = refl; holds = refl }
 
+-- nor do other bytes
 holding_labels : (new : List ℕ) (k : Kind Levels) → HasLabelsOf (kind_holding new k) k
 holding_labels new (Segment bytes) = record { clearance = refl; holds = refl }
 holding_labels new (Container links) = record { clearance = refl; holds = refl }
@@ -74,15 +76,17 @@ module _ (next : ℕ) where
   none_made clearance e = cc
 
   -- a clearance that was made
-  pub some_made : (made old : Levels) → is_made next made ≡ true → Some made ≡ Some old → is_made next old ≡ true
+  some_made : (made old : Levels) → is_made next made ≡ true → Some made ≡ Some old → is_made next old ≡ true
   some_made made old is e = sym (ap (is_made next) (inner made old e)) ∙ is
 
+  -- another clearance was made
   clearing_made : (new : Levels) → is_made next new ≡ true → (k : Kind Levels) → ClearanceMade (kind_clearing new k)
   clearing_made new made (Segment bytes) = none_made
   clearing_made new made (Container links) = none_made
   clearing_made new made (Thread clearance) = λ c e. some_made new c made e
   clearing_made new made (Gate clearance entry) = λ c e. some_made new c made e
 
+  -- so was a clearance with level 3 at a category that was made
   cleared_made : (c : ℕ) → 0 < c → c < next → (k : Kind Levels) → ClearanceMade k → ClearanceMade (kind_cleared c k)
   cleared_made c low high (Segment bytes) old = none_made
   cleared_made c low high (Container links) old = none_made
@@ -97,6 +101,7 @@ module _ (next : ℕ) where
     owns_nothing = λ h. well.owns_nothing (sym same.holds ∙ h);
   }
 
+  -- an object with a link more or less
   well_linking : (n : ℕ) (o : Object Levels) → IsWellLabelled next o → IsWellLabelled next (linking n o)
   well_linking n o = well_as o (kind_linking n o.kind) (linking_labels n o.kind)
 
@@ -107,13 +112,25 @@ module _ (next : ℕ) where
   pub well_holding : (new : List ℕ) (o : Object Levels) → IsWellLabelled next o → IsWellLabelled next (holding new o)
   well_holding new o = well_as o (kind_holding new o.kind) (holding_labels new o.kind)
 
+  -- an object without a clearance whose label owns nothing
+  pub well_plain : (o : Object Levels) → is_made next o.label ≡ true → has_star o.label ≡ false → kind_clearance o.kind ≡ None → IsWellLabelled next o
+  well_plain o made plain none = record {
+    label_made = made;
+    clearance_made = λ clearance e. none_made clearance (sym none ∙ e);
+    owns_nothing = λ h. plain;
+  }
+
+  -- an object with a clearance that is no segment and no container
+  pub well_cleared : (o : Object Levels) (clearance : Levels) → is_made next o.label ≡ true → kind_clearance o.kind ≡ Some clearance → is_made next clearance ≡ true → (kind_is_segment o.kind || kind_is_container o.kind) ≡ false → IsWellLabelled next o
+  well_cleared o clearance l has c alone = record {
+    label_made = l;
+    clearance_made = λ other e. some_made clearance other c (sym has ∙ e);
+    owns_nothing = λ h. absurd (false≢true (sym alone ∙ h));
+  }
+
   -- a thread of labels that name only categories that were made
   pub well_thread : (label clearance : Levels) → is_made next label ≡ true → is_made next clearance ≡ true → IsWellLabelled next (thread_of label clearance)
-  well_thread label clearance l c = record {
-    label_made = l;
-    clearance_made = λ old e. some_made clearance old c e;
-    owns_nothing = λ h. absurd (false≢true h);
-  }
+  well_thread label clearance l c = well_cleared (thread_of label clearance) clearance l refl c refl
 
   -- a thread with another label
   pub well_relabelled : (label : Levels) (o : Object Levels) → kind_is_thread o.kind ≡ true → is_made next label ≡ true → IsWellLabelled next o → IsWellLabelled next (relabelled label o)

@@ -6,7 +6,7 @@ use Rattle.histar_object.specs.Objects.{is_there, is_container, is_thread}
 use Rattle.histar_object.specs.State.{State}
 use Rattle.histar_rules.specs.declared.raw.Denied.{Denied}
 use Rattle.histar_rules.specs.declared.raw.Denied.TheVariants.{NoThread, NoEntry, BadKind}
-use Rattle.histar_rules.specs.Rules.{no_thread, no_container, no_link}
+use Rattle.histar_rules.specs.Rules.{no_thread, no_container}
 
 -- a test that doesn't refuse passes
 pub unless_none : (b : Bool) (d : Denied) → unless b d ≡ None → b ≡ true

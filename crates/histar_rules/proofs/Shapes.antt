@@ -13,13 +13,14 @@ pub thread_there : (o : Option (Object Levels)) → is_thread o ≡ true → is_
 thread_there None thread = thread
 thread_there (Some o) thread = refl
 
+-- what is a thread links nothing
 kind_thread_links : (k : Kind Levels) → kind_is_thread k ≡ true → set.empty ≡ kind_links k
 kind_thread_links (Segment bytes) thread = refl
 kind_thread_links (Container links) thread = cc
 kind_thread_links (Thread clearance) thread = refl
 kind_thread_links (Gate clearance entry) thread = refl
 
--- a thread links nothing
+-- nor does a thread that is there
 pub thread_links : (o : Option (Object Levels)) → is_thread o ≡ true → set.empty ≡ links_in o
 thread_links None thread = refl
 thread_links (Some o) thread = kind_thread_links o.kind thread

@@ -1,9 +1,10 @@
 -- Each raw call leaves a sound state sound, and the empty kernel is sound.
-use Rattle.std.proofs.Common.{◌≡◌, ◌≢◌, ℕ, ◌+◌, ◌<◌, ◌≤◌, ◌==◌, ◌||◌, Bool, true, false, List, ◌++◌, Option, None, Some, Result, Ok, Err, length, take, inl, inr, arith, refl, sym, ap, ◌∙◌, subst, lit<, if◌then◌else◌}
+use Rattle.std.proofs.Common.{◌≡◌, ◌≢◌, ℕ, ◌+◌, ◌<◌, ◌||◌, ◌==◌, Bool, true, false, List, ◌++◌, Option, None, Some, Result, Ok, Err, take, arith, refl, sym, ap, ◌∙◌, subst, lit<, if◌then◌else◌}
 use Rattle.std.specs.Prelude.{not}
 use Rattle.std.specs.FinSet as set
 use mathlib.Core.Bool.{false≢true}
 use Rattle.std.specs.Ordering.{nat_cmp}
+use Rattle.histar_base.specs.Refusals.{unless, ◌orelse◌}
 use Rattle.histar_label.specs.declared.levels.Level.TheVariants.{Star, L0, L1, L2, L3}
 use Rattle.histar_label.specs.Levels.{Levels, constant, with_level, level_of, level_of-constant, level_of-with_level, is_made, has_star}
 use Rattle.histar_label.proofs.Made.{is_made-constant, is_made-with_level}
@@ -12,7 +13,7 @@ use Rattle.histar_object.specs.declared.objects.Entry.{Entry}
 use Rattle.histar_object.specs.declared.objects.Kind.TheVariants.{Segment, Container}
 use Rattle.histar_object.specs.declared.objects.Kind.TheVariants as gates
 use Rattle.histar_object.specs.declared.objects.Object.{Object}
-use Rattle.histar_object.specs.Objects.{holding, thread_of, links_in, bytes_in, kind_links, is_container, is_gate, is_thread, kind_is_thread, kind_clearance, no_objects, put}
+use Rattle.histar_object.specs.Objects.{holding, thread_of, links_in, bytes_in, kind_links, is_container, is_thread, kind_is_segment, kind_is_container, kind_is_thread, kind_clearance, no_objects, put}
 use Rattle.histar_object.specs.Rights.{owning, relabelled, clearing, with_changed, with_category, in_span, may_clear, is_let_in, is_under, in_gate}
 use Rattle.histar_object.specs.State.{State, in_range, added, with_own, with_bytes, root_object, boot_thread, empty_state}
 use Rattle.histar_container.specs.Kept.{CutsOff}
@@ -28,7 +29,7 @@ use Rattle.histar_rules.specs.declared.raw.RawCall.TheVariants.{MakeCategory, Ow
 use Rattle.histar_rules.specs.Rules.{no_thread, no_container, no_link, no_gate, no_making, known, check, Changes, Decides}
 use Rattle.histar_rules.specs.Sound.{root_number, IsWellLabelled, IsSound}
 use Rattle.histar_rules.proofs.Passing.{unless_none, first, rest, passes, not_passes, caller_is, container_is}
-use Rattle.histar_rules.proofs.Labelled.{some_made, well_holding, well_thread, well_relabelled, well_clearing, well_owning, well_later, labelled_put, labelled_changed, labelled_cut, labelled_new}
+use Rattle.histar_rules.proofs.Labelled.{well_holding, well_plain, well_cleared, well_thread, well_relabelled, well_clearing, well_owning, well_later, labelled_put, labelled_changed, labelled_cut, labelled_new}
 use Rattle.histar_rules.proofs.Shapes.{thread_there, thread_links, clearing_links, cleared_links}
 
 module _ (s : State) (sound : IsSound s) where
@@ -36,7 +37,7 @@ module _ (s : State) (sound : IsSound s) where
   thread_at : (t : ℕ) → is_thread (s.objects t) ≡ true → (o : Object Levels) → s.objects t ≡ Some o → kind_is_thread o.kind ≡ true
   thread_at t thread o i = sym (ap is_thread i) ∙ thread
 
-  -- where nothing but thread t's label and clearance changes, to labels that name only made categories
+  -- a thread is given another label and another clearance
   sound_with_own : (t : ℕ) (label clearance : Levels) → is_thread (s.objects t) ≡ true → known s label ≡ true → known s clearance ≡ true → IsSound (with_own s t label clearance)
   sound_with_own t label clearance thread l c = record {
     tree = tree_put s.objects root_number s.next_object sound.tree t (thread_of label clearance) (thread_there (s.objects t) thread) (λ q. ap (λ links. set.contains links q) (thread_links (s.objects t) thread));
@@ -95,7 +96,7 @@ module _ (s : State) (sound : IsSound s) where
     some_made = subst (λ (n : ℕ). 0 < n) (sym cut.next_category) sound.some_made;
   }
 
--- the same for a record equation: where nothing but thread t's label and clearance changes, to labels that name only made categories
+-- a sound state stays sound where nothing but thread t's label and clearance changes, to labels that name only made categories
 pub sound_own : (s : State) (t : ℕ) (label clearance : Levels) → IsSound s → is_thread (s.objects t) ≡ true → known s label ≡ true → known s clearance ≡ true → IsSound (with_own s t label clearance)
 sound_own s t label clearance sound = sound_with_own s sound t label clearance
 
@@ -107,68 +108,46 @@ container_caller s t d e = caller_is s t (first (no_thread s t) _ e)
 making_container : (s : State) (t d : ℕ) → no_making s t d ≡ None → is_container (s.objects d) ≡ true
 making_container s t d e = container_is s t d (first (no_container s t d) _ e)
 
--- nothing is linked by a new container
+-- the empty set has no number
 no_links : (c : ℕ) → set.contains (set.empty {R = nat_cmp}) c ≡ false
 no_links c = set.contains-empty nat_cmp c
 
--- a new segment or container that owns nothing has labels that are well
-well_plain : (next : ℕ) (o : Object Levels) → is_made next o.label ≡ true → not (has_star o.label) ≡ true → kind_clearance o.kind ≡ None → IsWellLabelled next o
-well_plain next o made plain none = record {
-  label_made = made;
-  clearance_made = λ c e. let k : None ≡ Some c = sym none ∙ e in cc;
-  owns_nothing = λ h. not_passes (has_star o.label) plain;
-}
-
--- a new gate has labels that are well
-well_gate : (next : ℕ) (label clearance : Levels) (entry : Entry) → is_made next label ≡ true → is_made next clearance ≡ true → IsWellLabelled next (record { label = label; kind = gates.Gate clearance entry })
-well_gate next label clearance entry l c = record {
-  label_made = l;
-  clearance_made = λ old e. some_made next clearance old c e;
-  owns_nothing = λ h. absurd (false≢true h);
-}
-
 module _ (s : State) (t : ℕ) (sound : IsSound s) where
+  -- a category is made
   made_category : check s t MakeCategory ≡ None → IsSound (with_category s t)
   made_category e = sound_category s sound t (caller_is s t (first (no_thread s t) _ e))
 
+  -- the caller sets its label
   set_label : (label : Levels) → check s t (SetLabel label) ≡ None → IsSound (with_changed s t (relabelled label))
   set_label label e =
       let after = passes (in_range (s.objects t) label) Range _ (rest (no_thread s t) _ e) in
       sound_relabelled s sound t label (caller_is s t (first (no_thread s t) _ e)) (unless_none (known s label) Range after.1)
 
+  -- the caller sets its clearance
   set_clearance : (clearance : Levels) → check s t (SetClearance clearance) ≡ None → IsSound (with_changed s t (clearing clearance))
   set_clearance clearance e =
       let after = passes (may_clear (s.objects t) clearance) Range _ (rest (no_thread s t) _ e) in
       sound_clearing s sound t clearance (caller_is s t (first (no_thread s t) _ e)) (unless_none (known s clearance) Range after.1)
 
-  made_segment : (d : ℕ) (label : Levels) (bytes : List ℕ) → check s t (MakeSegment d label bytes) ≡ None → IsSound (added s d (record { label = label; kind = Segment bytes }))
-  made_segment d label bytes e =
-      let ranged = passes (in_range (s.objects t) label) Range _ (rest (no_making s t d) _ e) in
-      let made = passes (known s label) Range _ ranged.1 in
-      let plain = passes (not (has_star label)) Range _ made.1 in
-      sound_added s sound d (record { label = label; kind = Segment bytes }) (making_container s t d (first (no_making s t d) _ e)) no_links (well_plain s.next_category (record { label = label; kind = Segment bytes }) made.0 plain.0 refl)
+  -- an object without a clearance is made, of a label that owns nothing
+  made_plain : (d : ℕ) (o : Object Levels) (later : Option Denied) → kind_clearance o.kind ≡ None → ((c : ℕ) → set.contains (kind_links o.kind) c ≡ false)
+      → (no_making s t d orelse unless (in_range (s.objects t) o.label) Range orelse unless (known s o.label) Range orelse unless (not (has_star o.label)) Range orelse later) ≡ None → IsSound (added s d o)
+  made_plain d o later none leaf e =
+      let ranged = passes (in_range (s.objects t) o.label) Range _ (rest (no_making s t d) _ e) in
+      let made = passes (known s o.label) Range _ ranged.1 in
+      let plain = passes (not (has_star o.label)) Range _ made.1 in
+      sound_added s sound d o (making_container s t d (first (no_making s t d) _ e)) leaf (well_plain s.next_category o made.0 (not_passes (has_star o.label) plain.0) none)
 
-  made_container : (d : ℕ) (label : Levels) → check s t (MakeContainer d label) ≡ None → IsSound (added s d (record { label = label; kind = Container set.empty }))
-  made_container d label e =
-      let ranged = passes (in_range (s.objects t) label) Range _ (rest (no_making s t d) _ e) in
-      let made = passes (known s label) Range _ ranged.1 in
-      let plain = passes (not (has_star label)) Range _ made.1 in
-      sound_added s sound d (record { label = label; kind = Container set.empty }) (making_container s t d (first (no_making s t d) _ e)) no_links (well_plain s.next_category (record { label = label; kind = Container set.empty }) made.0 plain.0 refl)
-
-  made_thread : (d : ℕ) (label clearance : Levels) → check s t (MakeThread d label clearance) ≡ None → IsSound (added s d (thread_of label clearance))
-  made_thread d label clearance e =
-      let ranged = passes (in_span (s.objects t) label clearance) Range _ (rest (no_making s t d) _ e) in
-      let made = passes (known s label) Range _ ranged.1 in
+  -- an object with a clearance is made
+  made_cleared : (d : ℕ) (o : Object Levels) (clearance : Levels) (later : Option Denied) → kind_clearance o.kind ≡ Some clearance → (kind_is_segment o.kind || kind_is_container o.kind) ≡ false → ((c : ℕ) → set.contains (kind_links o.kind) c ≡ false)
+      → (no_making s t d orelse unless (in_span (s.objects t) o.label clearance) Range orelse unless (known s o.label) Range orelse unless (known s clearance) Range orelse later) ≡ None → IsSound (added s d o)
+  made_cleared d o clearance later has alone leaf e =
+      let ranged = passes (in_span (s.objects t) o.label clearance) Range _ (rest (no_making s t d) _ e) in
+      let made = passes (known s o.label) Range _ ranged.1 in
       let cleared = passes (known s clearance) Range _ made.1 in
-      sound_added s sound d (thread_of label clearance) (making_container s t d (first (no_making s t d) _ e)) no_links (well_thread s.next_category label clearance made.0 cleared.0)
+      sound_added s sound d o (making_container s t d (first (no_making s t d) _ e)) leaf (well_cleared s.next_category o clearance made.0 has cleared.0 alone)
 
-  made_gate : (d : ℕ) (label clearance : Levels) (entry : Entry) → check s t (MakeGate d label clearance entry) ≡ None → IsSound (added s d (record { label = label; kind = gates.Gate clearance entry }))
-  made_gate d label clearance entry e =
-      let ranged = passes (in_span (s.objects t) label clearance) Range _ (rest (no_making s t d) _ e) in
-      let made = passes (known s label) Range _ ranged.1 in
-      let cleared = passes (known s clearance) Range _ made.1 in
-      sound_added s sound d (record { label = label; kind = gates.Gate clearance entry }) (making_container s t d (first (no_making s t d) _ e)) no_links (well_gate s.next_category label clearance entry made.0 cleared.0)
-
+  -- the caller enters a gate
   entered : (d o : ℕ) (wanted clearance shown : Levels) → check s t (Enter d o wanted clearance shown) ≡ None → IsSound (with_own s t wanted clearance)
   entered d o wanted clearance shown e =
       let let_in = passes (is_let_in (s.objects t) (s.objects o)) Gate _ (rest (no_gate s t d o) _ e) in
@@ -178,6 +157,7 @@ module _ (s : State) (t : ℕ) (sound : IsSound s) where
       let cleared = passes (known s clearance) Range _ made.1 in
       sound_with_own s sound t wanted clearance (container_caller s t d (first (no_container s t d) _ (first (no_link s t d o) _ (first (no_gate s t d o) _ e)))) made.0 cleared.0
 
+  -- the caller unlinks an object
   unlinked : (d o : ℕ) (new : State) → check s t (Unlink d o) ≡ None → CutsOff s d o new → IsSound new
   unlinked d o new e = sound_cut s sound d o new (unless_none (set.contains (links_in (s.objects d)) o) NoEntry (rest (no_container s t d) _ (first (no_link s t d o) _ e)))
 
@@ -187,10 +167,10 @@ sound_changes s new t MakeCategory sound e is = subst IsSound (sym is) (made_cat
 sound_changes s new t OwnLabel sound e is = subst IsSound (sym is) sound
 sound_changes s new t (SetLabel label) sound e is = subst IsSound (sym is) (set_label s t sound label e)
 sound_changes s new t (SetClearance clearance) sound e is = subst IsSound (sym is) (set_clearance s t sound clearance e)
-sound_changes s new t (MakeSegment d label bytes) sound e is = subst IsSound (sym is) (made_segment s t sound d label bytes e)
-sound_changes s new t (MakeContainer d label) sound e is = subst IsSound (sym is) (made_container s t sound d label e)
-sound_changes s new t (MakeThread d label clearance) sound e is = subst IsSound (sym is) (made_thread s t sound d label clearance e)
-sound_changes s new t (MakeGate d label clearance entry) sound e is = subst IsSound (sym is) (made_gate s t sound d label clearance entry e)
+sound_changes s new t (MakeSegment d label bytes) sound e is = subst IsSound (sym is) (made_plain s t sound d (record { label = label; kind = Segment bytes }) _ refl no_links e)
+sound_changes s new t (MakeContainer d label) sound e is = subst IsSound (sym is) (made_plain s t sound d (record { label = label; kind = Container set.empty }) _ refl no_links e)
+sound_changes s new t (MakeThread d label clearance) sound e is = subst IsSound (sym is) (made_cleared s t sound d (thread_of label clearance) clearance _ refl refl no_links e)
+sound_changes s new t (MakeGate d label clearance entry) sound e is = subst IsSound (sym is) (made_cleared s t sound d (record { label = label; kind = gates.Gate clearance entry }) clearance _ refl refl no_links e)
 sound_changes s new t (Enter d o wanted clearance shown) sound e is = subst IsSound (sym is) (entered s t sound d o wanted clearance shown e)
 sound_changes s new t (Read d o) sound e is = subst IsSound (sym is) sound
 sound_changes s new t (Write d o keep bytes) sound e is = subst IsSound (sym is) (sound_bytes s sound o (take keep (bytes_in (s.objects o)) ++ bytes))
@@ -211,7 +191,7 @@ root_plain c star = by (c == 1) (sym (level_of-with_level (constant L1) 1 L0 c) 
     by true e = cc
     by false e = let k : L1 ≡ Star = sym (level_of-constant L1 c) ∙ e in cc
 
--- the labels of the root container and of the boot thread are well
+-- the labels of the root container are well
 root_well : IsWellLabelled 2 root_object
 root_well = record {
   label_made = is_made-with_level 2 (constant L1) 1 L0 (lit< tt) (lit< tt) (is_made-constant 2 L1);
@@ -219,6 +199,7 @@ root_well = record {
   owns_nothing = λ h. has_star-none root_object.label root_plain;
 }
 
+-- and so are those of the boot thread
 boot_well : IsWellLabelled 2 boot_thread
 boot_well = well_thread 2 (with_level (constant L1) 1 Star) (with_level (constant L2) 1 L3)
     (is_made-with_level 2 (constant L1) 1 Star (lit< tt) (lit< tt) (is_made-constant 2 L1)) (is_made-with_level 2 (constant L2) 1 L3 (lit< tt) (lit< tt) (is_made-constant 2 L2))
