@@ -1,0 +1,4 @@
+pub mod Passing
+pub mod Labelled
+pub mod Shapes
+pub mod Sound

@@ -1,0 +1,45 @@
+-- What a call that passes its checks knows.
+use Rattle.std.proofs.Common.{◌≡◌, ℕ, Bool, true, false, Option, None, Some, refl}
+use Rattle.std.specs.Prelude.{not}
+use Rattle.histar_base.specs.Refusals.{unless, ◌orelse◌}
+use Rattle.histar_object.specs.Objects.{is_there, is_container, is_thread}
+use Rattle.histar_object.specs.State.{State}
+use Rattle.histar_rules.specs.declared.raw.Denied.{Denied}
+use Rattle.histar_rules.specs.declared.raw.Denied.TheVariants.{NoThread, NoEntry, BadKind}
+use Rattle.histar_rules.specs.Rules.{no_thread, no_container}
+
+-- a test that doesn't refuse passes
+pub unless_none : (b : Bool) (d : Denied) → unless b d ≡ None → b ≡ true
+unless_none true d e = refl
+unless_none false d e = cc
+
+-- of two checks of which none refuses, the first doesn't
+pub first : (a b : Option Denied) → (a orelse b) ≡ None → a ≡ None
+first None b e = refl
+first (Some d) b e = cc
+
+-- nor the second
+pub rest : (a b : Option Denied) → (a orelse b) ≡ None → b ≡ None
+rest None b e = e
+rest (Some d) b e = cc
+
+-- where a test and what comes after it don't refuse, the test passes, and what comes after it doesn't refuse
+pub passes : (b : Bool) (d : Denied) (later : Option Denied) → (unless b d orelse later) ≡ None → (b ≡ true) × (later ≡ None)
+passes true d later e = (refl, e)
+passes false d later e = cc
+
+-- what is not true is false
+pub not_passes : (b : Bool) → not b ≡ true → b ≡ false
+not_passes true e = cc
+not_passes false e = refl
+
+-- the caller of a call that isn't refused is a thread
+pub caller_is : (s : State) (t : ℕ) → no_thread s t ≡ None → is_thread (s.objects t) ≡ true
+caller_is s t e = unless_none (is_thread (s.objects t)) NoThread e
+
+-- a container that isn't refused is one
+pub container_is : (s : State) (t d : ℕ) → no_container s t d ≡ None → is_container (s.objects d) ≡ true
+container_is s t d e =
+    let there = rest (no_thread s t) _ e in
+    let container = (passes (is_there (s.objects d)) NoEntry _ there).1 in
+    (passes (is_container (s.objects d)) BadKind _ container).0
