@@ -8,6 +8,8 @@ use Rattle.histar_rules.specs.declared.raw.RawCall.{RawCall}
 use Rattle.histar_rules.specs.declared.raw.Refusal.{Refusal}
 use Rattle.histar_rules.specs.declared.raw.Refusal.TheVariants as refusals
 use Rattle.histar_rules.specs.Rules.{Decides}
+use Rattle.histar_rules.specs.Sound.{IsSound}
+use Rattle.histar_rules.proofs.Sound.{sound_decided}
 use Rattle.histar_syscall.specs.declared.trace.TraceEntry.{TraceEntry}
 use Rattle.histar_syscall.specs.Traced.{Traced, state, IsUnchanged, Answered, logged}
 
@@ -19,6 +21,10 @@ exits {A} old new t call (Err e) P h u = subst (λ (x : Refusal). Answered {A = 
 -- a call that was decided on the objects, and whose entry the trace has
 pub answered : {A : Type 0} (old : Traced) (kept : Kept) (trace : List TraceEntry) (t : ℕ) (call : RawCall) (r : Result A Refusal) (P : A → Type 0) → Decides (state old) (state_of kept) t call r P
     → trace ≡ logged old.trace old.line t call r → Answered old (record { kept = kept; line = old.line; trace = trace }) t call r P
-answered old kept trace t call (Ok answer) P decided entry = (record { outcome = decided.0; state = decided.1.0; trace = entry; line = refl }, decided.1.1)
+answered old kept trace t call (Ok answer) P decided entry = (record { outcome = decided.0; state = decided.1; trace = entry; line = refl }, decided.2)
 answered old kept trace t call (Err (refusals.Denied denied)) P decided entry = record { outcome = decided.0; state = decided.1; trace = entry; line = refl }
 answered old kept trace t call (Err refusals.OutOfMemory) P decided entry = record { state = decided; trace = entry; line = refl }
+
+-- what a call with this answer leaves is sound
+pub stays_sound : {A : Type 0} (old : Kept) (new : State) (t : ℕ) (call : RawCall) (r : Result A Refusal) (P : A → Type 0) → IsSound (state_of old) → Decides (state_of old) new t call r P → IsSound new
+stays_sound old new t call r P sound decided = sound_decided (state_of old) new t call r P sound decided

@@ -48,7 +48,7 @@ impl<S: LabelStore + Drop> Model for Kernel<S> {
     ghost invariant = { λ k. IsSound (state_of k.objects) };
 }
 
-#[tactic(auto, using(crate::proofs::Rooms::answered))]
+#[tactic(auto, using(crate::proofs::Rooms::answered, crate::proofs::Rooms::exits, crate::proofs::Rooms::stays_sound))]
 impl<S: LabelStore + Drop> Kernel<S> {
     /// The empty kernel: the root container, and the boot thread in it, which owns category 1. No line
     /// was begun, and no call was made.
