@@ -18,8 +18,8 @@ use Rattle.histar_container.proofs.Trees.{not_back, linked_there, reached_there}
 use Rattle.histar_container.proofs.Gathering.{Gathers, gathers_first, gathers_all, gathers_more, unread, unread_fewer, distinct_before, member_first, member_second, member_either, member_one, member_itself}
 
 -- the first i numbers of a list that has no more are all
-pub take_all : (list : List ℕ) (i : ℕ) → length list ≤ i → take i list ≡ list
-take_all list i le = sym (append-nil (take i list)) ∙ ap (λ (l : List ℕ). take i list ++ l) (sym (drop_of_length-le list le)) ∙ take-append-drop i list
+pub take_all : {A : Type 0} (list : List A) (i : ℕ) → length list ≤ i → take i list ≡ list
+take_all {A} list i le = sym (append-nil (take i list)) ∙ ap (λ (l : List A). take i list ++ l) (sym (drop_of_length-le list le)) ∙ take-append-drop i list
 
 -- the first i + 1 numbers are the first i and the one at i
 pub take_more : (list : List ℕ) (i x : ℕ) → i < length list → x ≡ get_or list i x → take (i + 1) list ≡ take i list ++ x ∷ []

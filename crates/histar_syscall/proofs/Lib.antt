@@ -1,2 +1,4 @@
 pub mod Rooms
 pub mod Runs
+pub mod Sessions
+pub mod Beginnings

@@ -1,13 +1,23 @@
 -- What a raw call leaves in the kernel.
-use Rattle.std.proofs.Common.{◌≡◌, ℕ, Option, None, Some, refl, ◌∙◌, sym, subst, Result, Ok, Err, List}
+use Rattle.std.proofs.Common.{◌≡◌, ℕ, true, Option, None, Some, refl, ◌∙◌, sym, subst, Result, Ok, Err, List}
+use Rattle.std.specs.Prelude.{not}
+use Rattle.std.specs.FinSet as set
+use mathlib.Core.Bool.{false≢true}
 use Rattle.std.specs.Result.{IsErrAnd}
-use Rattle.histar_object.specs.State.{State}
+use Rattle.histar_base.specs.Refusals.{unless}
+use Rattle.histar_object.specs.Objects.{is_there, is_thread, links_in, label_there}
+use Rattle.histar_object.specs.State.{State, Found}
+use Rattle.histar_container.specs.Tree.{AreTree}
+use Rattle.histar_container.proofs.Trees.{linked_there}
 use Rattle.histar_container.specs.Kept.{Kept, state_of}
 use Rattle.histar_rules.specs.declared.raw.Denied.{Denied}
 use Rattle.histar_rules.specs.declared.raw.RawCall.{RawCall}
 use Rattle.histar_rules.specs.declared.raw.Refusal.{Refusal}
 use Rattle.histar_rules.specs.declared.raw.Refusal.TheVariants as refusals
-use Rattle.histar_rules.specs.Rules.{Decides}
+use Rattle.histar_rules.specs.declared.raw.Denied.TheVariants.{NoEntry, BadKind}
+use Rattle.histar_rules.specs.declared.raw.RawCall.TheVariants.{LabelOf}
+use Rattle.histar_rules.specs.Rules.{Decides, check, no_container, no_link}
+use Rattle.histar_rules.proofs.Passing.{unless_none, first, rest}
 use Rattle.histar_rules.specs.Sound.{IsSound}
 use Rattle.histar_rules.proofs.Sound.{sound_decided}
 use Rattle.histar_syscall.specs.declared.trace.TraceEntry.{TraceEntry}
@@ -28,3 +38,15 @@ answered old kept trace t call (Err refusals.OutOfMemory) P decided entry = reco
 -- what a call with this answer leaves is sound
 pub stays_sound : {A : Type 0} (old : Kept) (new : State) (t : ℕ) (call : RawCall) (r : Result A Refusal) (P : A → Type 0) → IsSound (state_of old) → Decides (state_of old) new t call r P → IsSound new
 stays_sound old new t call r P sound decided = sound_decided (state_of old) new t call r P sound decided
+
+-- what is there has a label
+no_label : (o : Found) → is_there o ≡ true → label_there o ≡ None → ⊥
+no_label None there none = absurd (false≢true there)
+no_label (Some o) there none = absurd cc
+
+-- what a container links has a label, since it is there
+pub label_told : (s : State) (t d o : ℕ) → AreTree s.objects → check s t (LabelOf d o) ≡ None → label_there (s.objects o) ≡ None → ⊥
+label_told s t d o tree passed none =
+    let links = first (no_link s t d o) (unless (not (is_thread (s.objects o))) BadKind) passed in
+    let linked = unless_none (set.contains (links_in (s.objects d)) o) NoEntry (rest (no_container s t d) (unless (set.contains (links_in (s.objects d)) o) NoEntry) links) in
+    no_label (s.objects o) (linked_there s.objects tree.root tree.next tree.tree d o linked) none

@@ -25,14 +25,14 @@ abbrev pub denied_of : Option (RawCall × Denied) → Option Denied
 denied_of None = None
 denied_of (Some r) = Some r.1
 
-same_kernel : (k : Traced) → IsUnchanged k k
+pub same_kernel : (k : Traced) → IsUnchanged k k
 same_kernel k = record { state = refl; trace = refl; line = refl }
 
-still_same : (a b c : Traced) → IsUnchanged a b → IsUnchanged b c → IsUnchanged a c
+pub still_same : (a b c : Traced) → IsUnchanged a b → IsUnchanged b c → IsUnchanged a c
 still_same a b c first second = record { state = second.state ∙ first.state; trace = second.trace ∙ first.trace; line = second.line ∙ first.line }
 
 -- a raw call after nothing
-call_after : (a b c : Traced) (t : ℕ) (call : RawCall) (d : Option Denied) → IsUnchanged a b → Called b c t call d → Called a c t call d
+pub call_after : (a b c : Traced) (t : ℕ) (call : RawCall) (d : Option Denied) → IsUnchanged a b → Called b c t call d → Called a c t call d
 call_after a b c t call d same called = record {
   outcome = subst (λ (s : State). check s t call ≡ d) same.state called.outcome;
   state = subst (λ (s : State). Leaves d s t call (state c)) same.state called.state;
@@ -41,7 +41,7 @@ call_after a b c t call d same called = record {
 }
 
 -- nothing after a raw call
-call_before : (a b c : Traced) (t : ℕ) (call : RawCall) (d : Option Denied) → Called a b t call d → IsUnchanged b c → Called a c t call d
+pub call_before : (a b c : Traced) (t : ℕ) (call : RawCall) (d : Option Denied) → Called a b t call d → IsUnchanged b c → Called a c t call d
 call_before a b c t call d called same = record {
   outcome = called.outcome;
   state = subst (λ (s : State). Leaves d (state a) t call s) (sym same.state) called.state;

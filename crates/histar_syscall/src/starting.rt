@@ -1,5 +1,6 @@
 //! The empty kernel's objects, and labels given with no raw call.
 ghost use Rattle.std.specs.Prelude.{◌≡◌, IfOk};
+ghost use Rattle.histar_label.specs.Levels.{constant, with_level};
 ghost use Rattle.histar_object.specs.State.{empty_state};
 ghost use Rattle.histar_container.specs.Kept.{state_of};
 ghost use Rattle.histar_syscall.specs.Traced.{no_own};
@@ -18,14 +19,20 @@ pub fn empty_objects<S: LabelStore + Drop>(
 ) -> Result<LabelledObjects<S>, OutOfMemory>
     ensures { IfOk result (λ objects. state_of objects ≡ empty_state) }
 {
-    let first = Category::new(1);
-    let guarded = Label::new(alloc, Level::L1).with(first, Level::L0)?;
-    let owning = Label::new(alloc, Level::L1).with(first, Level::Star)?;
-    let cleared = Label::new(alloc, Level::L2).with(first, Level::L3)?;
+    let guarded = first_label(alloc, Level::L1, Level::L0)?;
+    let owning = first_label(alloc, Level::L1, Level::Star)?;
+    let cleared = first_label(alloc, Level::L2, Level::L3)?;
     let mut objects = LabelledObjects::new(alloc, store, 1, 2);
     objects.push(guarded, Kind::Container(Links::new(alloc)))?;
     objects.add(ObjId::new(1), owning, Kind::Thread(cleared))?;
     Ok(objects)
+}
+
+/// A label with one level at category 1, and another one at all others.
+fn first_label(alloc: Global, default: Level, level: Level) -> Result<Label, OutOfMemory>
+    ensures { IfOk result (λ label. label ≡ with_level (constant default) 1 level) }
+{
+    Label::new(alloc, default).with(Category::new(1), level)
 }
 
 /// The checks of giving a thread other labels with no raw call.
