@@ -73,7 +73,7 @@ pub fn read<S: LabelStore + Drop>(
         Found::File(file) => file,
         Found::Refused(errno) => return Ok(Reply::Refused(errno)),
     };
-    match kernel.read(alloc, thread, places.root, file) {
+    match kernel.read_copy(alloc, thread, places.root, file) {
         Ok(bytes) => Ok(Reply::Data(bytes)),
         Err(refusal) => Ok(Reply::Refused(told(refusal)?)),
     }

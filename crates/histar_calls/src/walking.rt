@@ -20,7 +20,7 @@ pub fn walk<S: LabelStore + Drop>(
 ) -> Result<Result<Dir, Errno>, Stopped>
     ensures { Walks places.now kernel.old kernel.new thread result }
 {
-    match kernel.read(alloc, thread, places.root, places.listing) {
+    match kernel.read_copy(alloc, thread, places.root, places.listing) {
         Ok(bytes) => {
             let Some(dir) = read_dir(alloc, bytes.as_slice())? else {
                 return Err(Stopped);

@@ -70,7 +70,7 @@ impl<S: LabelStore + Drop> Kernel<S> {
                 self.enter(thread, container, gate, wanted, clearance, shown)?,
             )),
             RawCall::Read(container, segment) => Ok(Answer::Bytes(
-                self.read(alloc, thread, container, segment)?,
+                self.read_copy(alloc, thread, container, segment)?,
             )),
             RawCall::Write(container, segment, keep, bytes) => {
                 self.write(alloc, thread, container, segment, keep, bytes)?;

@@ -50,6 +50,12 @@ impl<S: LabelStore + Drop> Model for Kernel<S> {
 
 #[tactic(auto, using(crate::proofs::Rooms::answered, crate::proofs::Rooms::exits, crate::proofs::Rooms::stays_sound))]
 impl<S: LabelStore + Drop> Kernel<S> {
+    ghost use Rattle.std.specs.Prelude.{⊤};
+    ghost use mathlib.Core.Option.{none};
+    ghost use types.Logic.{sem};
+    ghost use denote.Follow.{follows_so};
+    ghost use Rattle.histar_syscall.specs.contracts.kernel.Kernel.{the_row};
+
     /// The empty kernel: the root container, and the boot thread in it, which owns category 1. No line
     /// was begun, and no call was made.
     pub fn new(alloc: Global, store: S) -> Result<Self, OutOfMemory>
@@ -251,8 +257,43 @@ impl<S: LabelStore + Drop> Kernel<S> {
         answer
     }
 
-    /// The bytes of a segment that the container links.
+    /// The bytes of a segment that the container links, lent by the kernel, which is free again when they
+    /// are no longer used.
     pub fn read(
+        &mut self,
+        thread: ObjId,
+        container: ObjId,
+        segment: ObjId,
+    ) -> Result<&[u8], Refusal>
+        ensures* { sem 𝓛 (follows_so (the_row S.row S.Id.row S.LabelStore S.Id.PartialEq) (the_row S.row S.Id.row S.LabelStore S.Id.PartialEq) self.entry.ghost_name none (λ _ _. ⊤) (λ new. Answered self.old new thread (calls.Read container segment) result (λ bytes. bytes.now ≡ bytes_in (objects_of self.old.kept.objects segment)))) }
+    {
+        self.look(thread, container, segment)?;
+        Ok(self.bytes(segment))
+    }
+
+    // The call of a read, which leaves the objects as they are.
+    fn look(&mut self, thread: ObjId, container: ObjId, segment: ObjId) -> Result<(), Refusal>
+        ensures { Answered self.old self.new thread (calls.Read container segment) result (λ _. Unit {0}) }
+    {
+        self.trace.reserve(1)?;
+        let answer = segments::may_read(&mut self.objects, thread, container, segment);
+        let call = RawCall::Read(container, segment);
+        log(&mut self.trace, self.line, thread, call, &answer);
+        answer
+    }
+
+    // The bytes of a segment, and none of anything else.
+    fn bytes(&self, segment: ObjId) -> &[u8]
+        ensures { result.now ≡ bytes_in (objects_of self.now.kept.objects segment) }
+    {
+        match self.objects.bytes(segment) {
+            Some(bytes) => bytes,
+            None => &[],
+        }
+    }
+
+    /// The same call, answered with a copy of the bytes, which stays while the kernel goes on.
+    pub fn read_copy(
         &mut self,
         alloc: Global,
         thread: ObjId,

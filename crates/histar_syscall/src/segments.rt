@@ -69,7 +69,7 @@ pub fn make_segment<S: LabelStore + Drop>(
 }
 
 /// The checks of a read.
-pub fn refuses_read<S: LabelStore + Drop>(
+fn refuses_read<S: LabelStore + Drop>(
     objects: &mut LabelledObjects<S>,
     thread: ObjId,
     container: ObjId,
@@ -85,6 +85,21 @@ pub fn refuses_read<S: LabelStore + Drop>(
         return Some(Denied::Observe);
     }
     None
+}
+
+/// The call of a read, whose bytes are looked up after it.
+pub fn may_read<S: LabelStore + Drop>(
+    objects: &mut LabelledObjects<S>,
+    thread: ObjId,
+    container: ObjId,
+    segment: ObjId,
+) -> Result<(), Refusal>
+    ensures { Decides (state_of objects.old) (state_of objects.new) thread (calls.Read container segment) result (λ _. Unit {0}) }
+{
+    if let Some(denied) = refuses_read(objects, thread, container, segment) {
+        return Err(Refusal::Denied(denied));
+    }
+    Ok(())
 }
 
 /// Copies the bytes of a segment that the container links.

@@ -14,31 +14,31 @@ use Rattle.histar_calls.proofs.using.read.Goals as goal
 pub returns-in_err-told-in-Err-clause-follows : goal.returns-in_err-told-in-Err-clause-follows
 returns-in_err-told-in-Err-clause-follows g c =
     let has = subst (λ (found : Found). FindsFile c.args.places.now c.args.kernel.now c.find.new.kernel c.args.thread (last_name c.args.path.now) (Ok found)) c.in-File.is c.in_ok-file.ensures in
-    file_stopped c.args.places.now c.args.kernel.now c.find.new.kernel c.read.new.self c.args.thread (last_name c.args.path.now) c.in-File.file has (read_segment c.args.places.now (state c.args.kernel.now)) (Read c.args.places.now.root c.in-File.file) refl
+    file_stopped c.args.places.now c.args.kernel.now c.find.new.kernel c.read_copy.new.self c.args.thread (last_name c.args.path.now) c.in-File.file has (read_segment c.args.places.now (state c.args.kernel.now)) (Read c.args.places.now.root c.in-File.file) refl
     c.from_residual-in_err-told-in-Err.result c.from_residual-in_err-told-in-Err.ensures.0
-    (stops_more c.args.kernel.now c.find.new.kernel c.read.new.self c.args.thread (walk c.args.places.now) (Read c.args.places.now.root c.in-File.file) has.walked _ c.in-Err.refusal _ c.in-Err.ensures c.in_err-told-in-Err.ensures)
+    (stops_more c.args.kernel.now c.find.new.kernel c.read_copy.new.self c.args.thread (walk c.args.places.now) (Read c.args.places.now.root c.in-File.file) has.walked _ c.in-Err.refusal _ c.in-Err.ensures c.in_err-told-in-Err.ensures)
 
 pub returns-in-Ok-clause-follows : goal.returns-in-Ok-clause-follows
 returns-in-Ok-clause-follows g c =
     let has = subst (λ (found : Found). FindsFile c.args.places.now c.args.kernel.now c.find.new.kernel c.args.thread (last_name c.args.path.now) (Ok found)) c.in-File.is c.in_ok-file.ensures in
-    file_done c.args.places.now c.args.kernel.now c.find.new.kernel c.read.new.self c.args.thread (last_name c.args.path.now) c.in-File.file has (read_segment c.args.places.now (state c.args.kernel.now)) (Read c.args.places.now.root c.in-File.file) refl
+    file_done c.args.places.now c.args.kernel.now c.find.new.kernel c.read_copy.new.self c.args.thread (last_name c.args.path.now) c.in-File.file has (read_segment c.args.places.now (state c.args.kernel.now)) (Read c.args.places.now.root c.in-File.file) refl
     (Data c.in-Ok.bytes) c.in-Ok.ensures.0
     (ap (λ (bytes : List ℕ). Some (Data bytes)) (sym (c.in-Ok.ensures.1 ∙ ap (λ (s : State). bytes_in (s.objects c.in-File.file)) (walk_stays c.args.places.now c.args.kernel.now c.find.new.kernel c.args.thread has.walked))))
 
 pub returns-in-Ok-clause-told : goal.returns-in-Ok-clause-told
 returns-in-Ok-clause-told g c =
     let has = subst (λ (found : Found). FindsFile c.args.places.now c.args.kernel.now c.find.new.kernel c.args.thread (last_name c.args.path.now) (Ok found)) c.in-File.is c.in_ok-file.ensures in
-    replies_granted c.args.kernel.now c.read.new.self c.args.thread (walk c.args.places.now ++ Read c.args.places.now.root c.in-File.file ∷ []) _
-    (file_granted c.args.places.now c.args.kernel.now c.find.new.kernel c.read.new.self c.args.thread (last_name c.args.path.now) c.in-File.file has (read_segment c.args.places.now (state c.args.kernel.now)) (Read c.args.places.now.root c.in-File.file) refl c.in-Ok.ensures.0) refl refl
+    replies_granted c.args.kernel.now c.read_copy.new.self c.args.thread (walk c.args.places.now ++ Read c.args.places.now.root c.in-File.file ∷ []) _
+    (file_granted c.args.places.now c.args.kernel.now c.find.new.kernel c.read_copy.new.self c.args.thread (last_name c.args.path.now) c.in-File.file has (read_segment c.args.places.now (state c.args.kernel.now)) (Read c.args.places.now.root c.in-File.file) refl c.in-Ok.ensures.0) refl refl
 
 pub returns-in_ok-told-in-Err-clause-follows : goal.returns-in_ok-told-in-Err-clause-follows
 returns-in_ok-told-in-Err-clause-follows g c =
     let has = subst (λ (found : Found). FindsFile c.args.places.now c.args.kernel.now c.find.new.kernel c.args.thread (last_name c.args.path.now) (Ok found)) c.in-File.is c.in_ok-file.ensures in
-    file_refused c.args.places.now c.args.kernel.now c.find.new.kernel c.read.new.self c.args.thread (last_name c.args.path.now) c.in-File.file has (read_segment c.args.places.now (state c.args.kernel.now)) (Read c.args.places.now.root c.in-File.file) refl
-    _ (refused_more c.args.kernel.now c.find.new.kernel c.read.new.self c.args.thread (walk c.args.places.now) (Read c.args.places.now.root c.in-File.file) has.walked _ c.in-Err.refusal _ c.in-Err.ensures c.in_ok-told-in-Err.ensures)
+    file_refused c.args.places.now c.args.kernel.now c.find.new.kernel c.read_copy.new.self c.args.thread (last_name c.args.path.now) c.in-File.file has (read_segment c.args.places.now (state c.args.kernel.now)) (Read c.args.places.now.root c.in-File.file) refl
+    _ (refused_more c.args.kernel.now c.find.new.kernel c.read_copy.new.self c.args.thread (walk c.args.places.now) (Read c.args.places.now.root c.in-File.file) has.walked _ c.in-Err.refusal _ c.in-Err.ensures c.in_ok-told-in-Err.ensures)
 
 pub returns-in_ok-told-in-Err-clause-told : goal.returns-in_ok-told-in-Err-clause-told
 returns-in_ok-told-in-Err-clause-told g c =
     let has = subst (λ (found : Found). FindsFile c.args.places.now c.args.kernel.now c.find.new.kernel c.args.thread (last_name c.args.path.now) (Ok found)) c.in-File.is c.in_ok-file.ensures in
-    replies_refused c.args.kernel.now c.read.new.self c.args.thread (walk c.args.places.now ++ Read c.args.places.now.root c.in-File.file ∷ []) _
-    (refused_more c.args.kernel.now c.find.new.kernel c.read.new.self c.args.thread (walk c.args.places.now) (Read c.args.places.now.root c.in-File.file) has.walked _ c.in-Err.refusal _ c.in-Err.ensures c.in_ok-told-in-Err.ensures)
+    replies_refused c.args.kernel.now c.read_copy.new.self c.args.thread (walk c.args.places.now ++ Read c.args.places.now.root c.in-File.file ∷ []) _
+    (refused_more c.args.kernel.now c.find.new.kernel c.read_copy.new.self c.args.thread (walk c.args.places.now) (Read c.args.places.now.root c.in-File.file) has.walked _ c.in-Err.refusal _ c.in-Err.ensures c.in_ok-told-in-Err.ensures)

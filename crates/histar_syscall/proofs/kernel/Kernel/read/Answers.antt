@@ -1,0 +1,9 @@
+use Rattle.std.proofs.Common.{refl, ap, ◌∙◌}
+use Rattle.histar_object.specs.Objects.{bytes_in}
+use Rattle.histar_object.specs.State.{State}
+use Rattle.histar_syscall.proofs.kernel.Kernel.read.Goals as goal
+
+pub returns : goal.returns
+returns g c =
+    let called = c.in_ok-look.ensures.0 in
+    ((refl, (λ _. tt), (called, c.bytes.ensures ∙ ap (λ (s : State). bytes_in (s.objects c.args.segment)) called.state)), tt)
