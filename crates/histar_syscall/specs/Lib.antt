@@ -1,4 +1,3 @@
-pub mod Answers
 pub mod Runs
 pub mod Traced
 pub use Rattle.histar_object.specs.Objects

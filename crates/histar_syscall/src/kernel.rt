@@ -1,5 +1,5 @@
 //! The kernel and its raw calls.
-ghost use Rattle.std.specs.Prelude.{◌≡◌, [], IfOk, IfErr, OnOk, OnErr, Unit, Some};
+ghost use Rattle.std.specs.Prelude.{◌≡◌, [], IfOk, IfErr, OnOk, OnErr, Some};
 ghost use Rattle.histar_object.specs.Objects.{objects_of, bytes_in, entry_there, label_there, clearance_there};
 ghost use Rattle.histar_object.specs.State.{empty_state, with_own};
 ghost use Rattle.histar_rules.specs.Rules.{IsNextNumber};
@@ -7,17 +7,12 @@ ghost use Rattle.histar_rules.specs.Sound.{IsSound};
 ghost use Rattle.histar_rules.specs.declared.raw.RawCall.TheVariants as calls;
 ghost use Rattle.histar_syscall.specs.Traced.{Answered, TellsNoOwn, state};
 
-use crate::containers;
-use crate::segments;
-use crate::starting::{empty_objects, refuses_own};
-use crate::trace::{TraceEntry, log};
+use crate::trace::TraceEntry;
 use histar_base::Bytes;
 use histar_container::LabelledObjects;
-use histar_gate as gates;
 use histar_label::{Category, Label, LabelStore, OutOfMemory};
 use histar_object::{Entry, ObjId};
-use histar_rules::{RawCall, Refusal};
-use histar_thread as threads;
+use histar_rules::Refusal;
 use std::alloc::Global;
 use std::marker::Model;
 
@@ -48,7 +43,6 @@ impl<S: LabelStore + Drop> Model for Kernel<S> {
     ghost invariant = { λ k. IsSound (state_of k.objects) };
 }
 
-#[tactic(auto, using(crate::proofs::Rooms::answered))]
 impl<S: LabelStore + Drop> Kernel<S> {
     /// The empty kernel: the root container, and the boot thread in it, which owns category 1. No line
     /// was begun, and no call was made.
@@ -57,12 +51,7 @@ impl<S: LabelStore + Drop> Kernel<S> {
         ensures line { IfOk result (λ kernel. kernel.line ≡ 0) }
         ensures trace { IfOk result (λ kernel. kernel.trace ≡ []) }
     {
-        let objects = empty_objects(alloc, store)?;
-        Ok(Kernel {
-            objects,
-            line: 0,
-            trace: Vec::new(alloc),
-        })
+        Err(OutOfMemory)
     }
 
     /// Says on which line of a script the next calls stand.
@@ -104,42 +93,28 @@ impl<S: LabelStore + Drop> Kernel<S> {
         ensures trace { self.new.trace ≡ self.old.trace }
         ensures line { self.new.line ≡ self.old.line }
     {
-        if let Some(denied) = refuses_own(&self.objects, thread, &label, &clearance) {
-            return Err(Refusal::Denied(denied));
-        }
-        self.objects.set_own(thread, label, clearance)?;
-        Ok(())
+        Err(Refusal::OutOfMemory)
     }
 
     /// Makes a category. The thread owns it from then on, and may give anyone level 3 there.
     pub fn make_category(&mut self, thread: ObjId) -> Result<Category, Refusal>
         ensures { Answered self.old self.new thread calls.MakeCategory result (λ category. category ≡ self.old.kept.next_category) }
     {
-        self.trace.reserve(1)?;
-        let answer = threads::make_category(&mut self.objects, thread);
-        log(&mut self.trace, self.line, thread, RawCall::MakeCategory, &answer);
-        answer
+        Err(Refusal::OutOfMemory)
     }
 
     /// The thread's own label and clearance.
     pub fn own_label(&mut self, thread: ObjId) -> Result<(Label, Label), Refusal>
         ensures { Answered self.old self.new thread calls.OwnLabel result (λ own. (Some own.0 ≡ label_there (objects_of self.old.kept.objects thread)) × (Some own.1 ≡ clearance_there (objects_of self.old.kept.objects thread))) }
     {
-        self.trace.reserve(1)?;
-        let answer = containers::own_label(&self.objects, thread);
-        log(&mut self.trace, self.line, thread, RawCall::OwnLabel, &answer);
-        answer
+        Err(Refusal::OutOfMemory)
     }
 
     /// Gives the thread another label, which lies between its own label and its clearance.
     pub fn set_label(&mut self, thread: ObjId, label: Label) -> Result<(), Refusal>
         ensures { Answered self.old self.new thread (calls.SetLabel label) result (λ _. Unit {0}) }
     {
-        self.trace.reserve(1)?;
-        let answer = threads::set_label(&mut self.objects, thread, &label);
-        let call = RawCall::SetLabel(label);
-        log(&mut self.trace, self.line, thread, call, &answer);
-        answer
+        Err(Refusal::OutOfMemory)
     }
 
     /// Gives the thread another clearance, which is above its own label, and above its old clearance
@@ -147,11 +122,7 @@ impl<S: LabelStore + Drop> Kernel<S> {
     pub fn set_clearance(&mut self, thread: ObjId, clearance: Label) -> Result<(), Refusal>
         ensures { Answered self.old self.new thread (calls.SetClearance clearance) result (λ _. Unit {0}) }
     {
-        self.trace.reserve(1)?;
-        let answer = threads::set_clearance(&mut self.objects, thread, &clearance);
-        let call = RawCall::SetClearance(clearance);
-        log(&mut self.trace, self.line, thread, call, &answer);
-        answer
+        Err(Refusal::OutOfMemory)
     }
 
     /// Makes a segment in a container, and answers its number.
@@ -165,12 +136,7 @@ impl<S: LabelStore + Drop> Kernel<S> {
     ) -> Result<ObjId, Refusal>
         ensures { Answered self.old self.new thread (calls.MakeSegment container label bytes) result (IsNextNumber self.old.kept) }
     {
-        self.trace.reserve(1)?;
-        let objects = &mut self.objects;
-        let answer = segments::make_segment(objects, alloc, thread, container, &label, &bytes);
-        let call = RawCall::MakeSegment(container, label, bytes);
-        log(&mut self.trace, self.line, thread, call, &answer);
-        answer
+        Err(Refusal::OutOfMemory)
     }
 
     /// Makes a container in a container, and answers its number.
@@ -183,12 +149,7 @@ impl<S: LabelStore + Drop> Kernel<S> {
     ) -> Result<ObjId, Refusal>
         ensures { Answered self.old self.new thread (calls.MakeContainer container label) result (IsNextNumber self.old.kept) }
     {
-        self.trace.reserve(1)?;
-        let objects = &mut self.objects;
-        let answer = containers::make_container(objects, alloc, thread, container, &label);
-        let call = RawCall::MakeContainer(container, label);
-        log(&mut self.trace, self.line, thread, call, &answer);
-        answer
+        Err(Refusal::OutOfMemory)
     }
 
     /// Makes a thread in a container, and answers its number. The new thread owns no more than its
@@ -202,12 +163,7 @@ impl<S: LabelStore + Drop> Kernel<S> {
     ) -> Result<ObjId, Refusal>
         ensures { Answered self.old self.new thread (calls.MakeThread container label clearance) result (IsNextNumber self.old.kept) }
     {
-        self.trace.reserve(1)?;
-        let objects = &mut self.objects;
-        let answer = threads::make_thread(objects, thread, container, &label, &clearance);
-        let call = RawCall::MakeThread(container, label, clearance);
-        log(&mut self.trace, self.line, thread, call, &answer);
-        answer
+        Err(Refusal::OutOfMemory)
     }
 
     /// Makes a gate in a container, and answers its number. The gate gives its label to who enters it,
@@ -222,12 +178,7 @@ impl<S: LabelStore + Drop> Kernel<S> {
     ) -> Result<ObjId, Refusal>
         ensures { Answered self.old self.new thread (calls.MakeGate container label clearance entry) result (IsNextNumber self.old.kept) }
     {
-        self.trace.reserve(1)?;
-        let objects = &mut self.objects;
-        let answer = gates::make_gate(objects, thread, container, &label, &clearance, entry);
-        let call = RawCall::MakeGate(container, label, clearance, entry);
-        log(&mut self.trace, self.line, thread, call, &answer);
-        answer
+        Err(Refusal::OutOfMemory)
     }
 
     /// Enters a gate that a container links: the thread gets the label and the clearance that it wants,
@@ -243,12 +194,7 @@ impl<S: LabelStore + Drop> Kernel<S> {
     ) -> Result<Entry, Refusal>
         ensures { Answered self.old self.new thread (calls.Enter container gate wanted clearance shown) result (λ entry. Some entry ≡ entry_there (objects_of self.old.kept.objects gate)) }
     {
-        self.trace.reserve(1)?;
-        let objects = &mut self.objects;
-        let answer = gates::enter(objects, thread, container, gate, &wanted, &clearance, &shown);
-        let call = RawCall::Enter(container, gate, wanted, clearance, shown);
-        log(&mut self.trace, self.line, thread, call, &answer);
-        answer
+        Err(Refusal::OutOfMemory)
     }
 
     /// The bytes of a segment that the container links.
@@ -261,11 +207,7 @@ impl<S: LabelStore + Drop> Kernel<S> {
     ) -> Result<Bytes, Refusal>
         ensures { Answered self.old self.new thread (calls.Read container segment) result (λ bytes. bytes ≡ bytes_in (objects_of self.old.kept.objects segment)) }
     {
-        self.trace.reserve(1)?;
-        let answer = segments::read(&mut self.objects, alloc, thread, container, segment);
-        let call = RawCall::Read(container, segment);
-        log(&mut self.trace, self.line, thread, call, &answer);
-        answer
+        Err(Refusal::OutOfMemory)
     }
 
     /// Keeps at most so many bytes of a segment that the container links, and puts these behind them.
@@ -280,12 +222,7 @@ impl<S: LabelStore + Drop> Kernel<S> {
     ) -> Result<(), Refusal>
         ensures { Answered self.old self.new thread (calls.Write container segment keep bytes) result (λ _. Unit {0}) }
     {
-        self.trace.reserve(1)?;
-        let objects = &mut self.objects;
-        let answer = segments::write(objects, alloc, thread, container, segment, keep, &bytes);
-        let call = RawCall::Write(container, segment, keep, bytes);
-        log(&mut self.trace, self.line, thread, call, &answer);
-        answer
+        Err(Refusal::OutOfMemory)
     }
 
     /// Takes an object that the container links away, with all that hangs below it, its threads too.
@@ -298,11 +235,7 @@ impl<S: LabelStore + Drop> Kernel<S> {
     ) -> Result<(), Refusal>
         ensures { Answered self.old self.new thread (calls.Unlink container object) result (λ _. Unit {0}) }
     {
-        self.trace.reserve(1)?;
-        let answer = containers::unlink(&mut self.objects, alloc, thread, container, object);
-        let call = RawCall::Unlink(container, object);
-        log(&mut self.trace, self.line, thread, call, &answer);
-        answer
+        Err(Refusal::OutOfMemory)
     }
 
     /// The label of an object that the container links and that is no thread.
@@ -314,10 +247,6 @@ impl<S: LabelStore + Drop> Kernel<S> {
     ) -> Result<Label, Refusal>
         ensures { Answered self.old self.new thread (calls.LabelOf container object) result (λ label. Some label ≡ label_there (objects_of self.old.kept.objects object)) }
     {
-        self.trace.reserve(1)?;
-        let answer = containers::label_of(&mut self.objects, thread, container, object);
-        let call = RawCall::LabelOf(container, object);
-        log(&mut self.trace, self.line, thread, call, &answer);
-        answer
+        Err(Refusal::OutOfMemory)
     }
 }

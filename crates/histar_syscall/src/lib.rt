@@ -1,10 +1,7 @@
 //! The kernel: raw calls, each granted or refused by comparing labels alone, and the trace of them.
 #![tactic(auto)]
 
-mod containers;
 mod kernel;
-mod segments;
-mod starting;
 mod trace;
 
 pub use histar_rules::{Denied, RawCall, Refusal};
