@@ -1,2 +1,3 @@
 pub mod StartLemmas
 pub mod TableLemmas
+pub mod Tables
