@@ -1,3 +1,4 @@
+pub mod FirstAndLast
 pub mod StartLemmas
 pub mod TableLemmas
 pub mod Tables
