@@ -1,5 +1,5 @@
 pub mod FirstAndLast
 pub mod Parts
+pub mod Stages
 pub mod StartLemmas
-pub mod TableLemmas
 pub mod Tables

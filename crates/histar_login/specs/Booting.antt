@@ -7,6 +7,7 @@ use Rattle.histar_object.specs.Objects.{kind_is_thread}
 use Rattle.histar_object.specs.State.{Found}
 use Rattle.histar_label.specs.Levels.{Levels}
 use Rattle.histar_rules.specs.declared.raw.RawCall.{RawCall}
+use Rattle.histar_rules.specs.declared.raw.RawCall.TheVariants.{MakeCategory}
 use Rattle.histar_syscall.specs.Traced.{Traced, state}
 use Rattle.histar_syscall.specs.Runs.{Granted}
 use Rattle.histar_login.specs.Start.{numbered, written_by, boot_category, container, state_with, of_user, of_users, of_directory, of_process}
@@ -51,6 +52,10 @@ pub record Boots (first now : Traced) (p : Part) : Type 0 where
 abbrev pub BootsOn : Traced → Traced → (Part → Type 0) → Part → Type 0
 BootsOn old new IsSo more = (first : Traced) (p : Part) → IsSo p → Boots first old p → Boots first new (and_then p more)
 
+-- where boot had come so far that this holds, this holds too
+abbrev pub Tells : Traced → (Part → Type 0) → Type 0 → Type 0
+Tells old IsSo Told = (first : Traced) (p : Part) → IsSo p → Boots first old p → Told
+
 -- the next object gets this number
 abbrev pub IsBefore : ℕ → Part → Type 0
 IsBefore number p = next_number p ≡ number
@@ -63,9 +68,9 @@ IsBeforeBoth number category p = (next_number p ≡ number) × (next_made p ≡ 
 abbrev pub IsAnywhere : Part → Type 0
 IsAnywhere p = Unit {0}
 
--- the categories of nobody, and of one user
-abbrev pub two_categories : ℕ → User → Part
-two_categories i user = record { calls = category_calls i user; linked = []; objects = []; categories = 2 }
+-- the two categories of a user, or of nobody
+abbrev pub two_categories : Part
+two_categories = record { calls = MakeCategory ∷ MakeCategory ∷ []; linked = []; objects = []; categories = 2 }
 
 -- the categories of these users
 abbrev pub categories_part : List User → Part
