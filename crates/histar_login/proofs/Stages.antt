@@ -76,7 +76,7 @@ user_boots first k0 k1 k2 p i user at b0 c1 c2 =
     (omega arith)
 
 -- each user has two objects
-length-numbered : (i : ℕ) (users : List User) → length (numbered of_user i users) ≡ 2 * length users
+pub length-numbered : (i : ℕ) (users : List User) → length (numbered of_user i users) ≡ 2 * length users
 length-numbered i [] = refl
 length-numbered i (user ∷ users) = omega (arith, length-append (of_user i user) (numbered of_user (i + 1) users), length-numbered (i + 1) users)
 

@@ -88,7 +88,7 @@ fn make_categories<S: LabelStore + Drop>(
 ) -> Result<(), Stopped>
     ensures { OnOk result (BootsOn kernel.old kernel.new IsAnywhere (categories_part users.now)) }
 {
-    for user in users {
+    for _ in users {
         make_two_categories(kernel)?;
     }
     Ok(())
