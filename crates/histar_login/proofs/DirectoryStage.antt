@@ -90,14 +90,14 @@ module _ (first k0 k1 k2 k3 : Traced) (p : Part) (n : ℕ) (users : List User) (
   next2 = omega (arith, at, length-append p.objects (Some table_object ∷ []), length-append (p.objects ++ Some table_object ∷ []) (Some root_object ∷ []))
 
   -- the container of `/` has its number
-  pub directory_root : root ≡ 4 + 2 * n
+  directory_root : root ≡ 4 + 2 * n
   directory_root = is_root ∙ next_number_is first k1 k1 p1 b1 ∙ next1
 
   -- and so has its directory segment
-  pub directory_listing : listing ≡ 5 + 2 * n
+  directory_listing : listing ≡ 5 + 2 * n
   directory_listing = is_listing ∙ next_number_is first k2 k2 p2 b2 ∙ next2
 
-  pub directory_boots : Boots first k3 (and_then p (directory_part n users))
+  directory_boots : Boots first k3 (and_then p (directory_part n users))
   unfolding call1 call2 call3 table_object root_object listing_object p1 p2 p3
   directory_boots =
       boots_same first k3 p3 (and_then p (directory_part n users)) b3
@@ -106,3 +106,7 @@ module _ (first k0 k1 k2 k3 : Traced) (p : Part) (n : ℕ) (users : List User) (
       (append_assoc p.objects (Some table_object ∷ []) (container (written_by (write_category 1)) (next_number p2 ∷ []) ∷ Some listing_object ∷ [])
       ∙ ap (λ (k : ℕ). p.objects ++ Some table_object ∷ container (written_by (write_category 1)) (k ∷ []) ∷ Some listing_object ∷ []) next2)
       (omega arith)
+
+  -- what stands then, and the two numbers
+  pub directory_stage : Boots first k3 (and_then p (directory_part n users)) × (root ≡ 4 + 2 * n) × (listing ≡ 5 + 2 * n)
+  directory_stage = (directory_boots, directory_root, directory_listing)

@@ -146,10 +146,10 @@ module _ (first k0 k1 k2 k3 k4 k5 k6 : Traced) (p : Part) (n read write outer in
   outer_is = outer_at ∙ at
 
   -- the thread of process 0 has its number
-  pub process_thread : thread ≡ 8 + 2 * n
+  process_thread : thread ≡ 8 + 2 * n
   process_thread = is_thread ∙ next_number_is first k4 k4 p4 b4 ∙ next4
 
-  pub process_boots : Boots first k6 (and_then p (process_part n))
+  process_boots : Boots first k6 (and_then p (process_part n))
   unfolding call3 call4 call5 call6 outer_object inner_object thread_object process_object p1 p2 p3 p4 p5 p6 front5
   process_boots =
       boots_same first k6 p6 (and_then p (process_part n)) b6
@@ -160,3 +160,7 @@ module _ (first k0 k1 k2 k3 k4 k5 k6 : Traced) (p : Part) (n read write outer in
       (λ j. p.objects ++ container (written_by (write_is j)) (next3 j ∷ next5 j ∷ []) ∷ container (secret_of (read_is j) (write_is j)) (next4 j ∷ [])
       ∷ Some (record { label = owner_of (read_is j) (write_is j); kind = Thread (cleared_of (read_is j) (write_is j)) }) ∷ segment (written_by (write_is j)) (process_bytes (inner_is j) (process_thread j)) ∷ [])
       (omega arith)
+
+  -- what stands then, and the number of the thread
+  pub process_stage : Boots first k6 (and_then p (process_part n)) × (thread ≡ 8 + 2 * n)
+  process_stage = (process_boots, process_thread)
