@@ -1,6 +1,5 @@
 -- The table of the empty kernel, and what is left once the boot thread took itself away.
-use Rattle.std.proofs.Common.{◌≡◌, ◌≢◌, ℕ, zero, suc, ◌+◌, ◌*◌, ◌<◌, ◌==◌, Bool, true, false, not, ◌&&◌, ◌||◌, List, [], ◌∷◌, ◌++◌, None, Some, if◌then◌else◌, refl, sym, ap, ◌∙◌, arith}
-use Rattle.std.specs.Prelude.{option_map}
+use Rattle.std.proofs.Common.{◌≡◌, ℕ, zero, suc, ◌+◌, ◌<◌, ◌==◌, Bool, true, false, not, ◌&&◌, ◌||◌, List, [], ◌∷◌, ◌++◌, None, Some, if◌then◌else◌, refl, sym, ap, ◌∙◌, arith}
 use Rattle.std.proofs.lemmas.Bool.{eqb-true}
 use Rattle.std.proofs.lemmas.Bool.Decides.{nat_tests}
 use Rattle.std.specs.FinSet as set
@@ -15,7 +14,7 @@ use Rattle.histar_object.specs.Objects.{Numbers, unlinking, links_in, kind_links
 use Rattle.histar_object.specs.State.{State, Found, empty_state, boot_thread}
 use Rattle.histar_container.specs.Tree.{Reached, here, there}
 use Rattle.histar_container.specs.Kept.{CutsOff}
-use Rattle.histar_login.specs.Start.{object_at, state_with, container, written_by, boot_category}
+use Rattle.histar_login.specs.Start.{object_at, state_with}
 use Rattle.histar_login.specs.Booting.{table_of, nothing_yet}
 
 above_two : (k : ℕ) → (suc (suc (suc k)) == 2) ≡ false
@@ -87,7 +86,7 @@ module _ (root boot : Object Levels) (objects : List Found) (c : ℕ) (is_thread
   reached_itself q here = refl
   reached_itself q (there p r reached linked) =
       let empty : set.contains (links_in (object_at rooted p)) q ≡ false =
-          ap (λ (n : ℕ). set.contains (links_in (object_at rooted n)) q) (reached_itself p reached) ∙ ap (λ (links : Numbers). set.contains links q) (thread_links boot.kind is_thread) ∙ set.contains-empty nat_cmp q in
+      ap (λ (n : ℕ). set.contains (links_in (object_at rooted n)) q) (reached_itself p reached) ∙ ap (λ (links : Numbers). set.contains links q) (thread_links boot.kind is_thread) ∙ set.contains-empty nat_cmp q in
       absurd (false_true _ empty linked)
 
   -- the thread was taken away, and with it the link to it

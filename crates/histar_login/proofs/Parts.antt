@@ -1,9 +1,8 @@
 -- What one raw call of boot adds to what stands.
-use Rattle.std.proofs.Common.{◌≡◌, ℕ, zero, suc, ◌+◌, ◌*◌, true, false, List, [], ◌∷◌, ◌++◌, length, None, Some, Result, Ok, Err, refl, sym, ap, ◌∙◌, subst, arith, append_assoc}
+use Rattle.std.proofs.Common.{◌≡◌, ℕ, suc, ◌+◌, true, false, List, [], ◌∷◌, ◌++◌, length, None, Some, Result, Ok, refl, sym, ap, ◌∙◌, subst, arith, append_assoc}
 use Rattle.std.specs.FinSet as set
 use Rattle.std.specs.Ordering.{nat_cmp}
 use Rattle.std.specs.Cmp.{nat_cmp_total}
-use Rattle.std.proofs.lemmas.List.{length-append}
 use Rattle.histar_label.specs.Levels.{Levels}
 use Rattle.histar_object.specs.declared.objects.Kind.{Kind}
 use Rattle.histar_object.specs.declared.objects.Kind.TheVariants.{Segment, Container, Thread, Gate}
@@ -16,7 +15,6 @@ use Rattle.histar_rules.specs.declared.raw.RawCall.TheVariants.{MakeCategory, Un
 use Rattle.histar_rules.specs.declared.raw.Refusal.{Refusal}
 use Rattle.histar_rules.specs.Sound.{root_number}
 use Rattle.histar_syscall.specs.Traced.{Traced, state, Called, Answered}
-use Rattle.histar_syscall.specs.Runs.{Granted}
 use Rattle.histar_syscall.proofs.Runs.{granted_none, granted_more}
 use Rattle.histar_container.specs.Kept.{CutsOff}
 use Rattle.histar_login.specs.Start.{state_with, container, written_by, boot_category}
@@ -76,10 +74,10 @@ module _ (first old new : Traced) (p : Part) (boots : Boots first old p) where
       → Boots first new (record { calls = p.calls ++ call ∷ []; linked = p.linked ++ next_number p ∷ []; objects = p.objects ++ Some o ∷ []; categories = p.categories })
   boots_shared call o called makes =
       let linked : changed (linking (1 + length (table_of boots.boot p))) 0 (table_of boots.boot p ++ Some o ∷ [])
-          ≡ table_of boots.boot (record { calls = p.calls; linked = p.linked ++ next_number p ∷ []; objects = p.objects ++ Some o ∷ []; categories = p.categories }) =
-          ap (λ (x : Found). x ∷ Some boots.boot ∷ (p.objects ++ Some o ∷ []))
-          (links_more (written_by boot_category) (boot_thread_number ∷ p.linked) (1 + length (table_of boots.boot p))
-          ∙ ap (λ (n : ℕ). container (written_by boot_category) (boot_thread_number ∷ (p.linked ++ n ∷ []))) (omega arith)) in
+      ≡ table_of boots.boot (record { calls = p.calls; linked = p.linked ++ next_number p ∷ []; objects = p.objects ++ Some o ∷ []; categories = p.categories }) =
+      ap (λ (x : Found). x ∷ Some boots.boot ∷ (p.objects ++ Some o ∷ []))
+      (links_more (written_by boot_category) (boot_thread_number ∷ p.linked) (1 + length (table_of boots.boot p))
+      ∙ ap (λ (n : ℕ). container (written_by boot_category) (boot_thread_number ∷ (p.linked ++ n ∷ []))) (omega arith)) in
       record {
         granted = granted_more boot_thread_number first old new p.calls call boots.granted called;
         boot = boots.boot;
@@ -96,10 +94,10 @@ module _ (first old new : Traced) (p : Part) (boots : Boots first old p) where
       let root = container (written_by boot_category) (boot_thread_number ∷ p.linked) in
       let place : d ≡ suc (suc (suc (length front))) = at ∙ omega arith in
       let same : p.objects ++ Some o ∷ [] ≡ front ++ container label numbers ∷ (back ++ Some o ∷ []) =
-          ap (λ (l : List Found). l ++ Some o ∷ []) parts ∙ append_assoc front (container label numbers ∷ back) (Some o ∷ []) in
+      ap (λ (l : List Found). l ++ Some o ∷ []) parts ∙ append_assoc front (container label numbers ∷ back) (Some o ∷ []) in
       let linked : changed (linking n) (length front) (p.objects ++ Some o ∷ []) ≡ front ++ container label (numbers ++ next_number p ∷ []) ∷ (back ++ Some o ∷ []) =
-          ap (changed (linking n) (length front)) same ∙ changed_behind (linking n) front (container label numbers) (back ++ Some o ∷ [])
-          ∙ ap (λ (x : Found). front ++ x ∷ (back ++ Some o ∷ [])) (links_more label numbers n ∙ ap (λ (k : ℕ). container label (numbers ++ k ∷ [])) (omega arith)) in
+      ap (changed (linking n) (length front)) same ∙ changed_behind (linking n) front (container label numbers) (back ++ Some o ∷ [])
+      ∙ ap (λ (x : Found). front ++ x ∷ (back ++ Some o ∷ [])) (links_more label numbers n ∙ ap (λ (k : ℕ). container label (numbers ++ k ∷ [])) (omega arith)) in
       record {
         granted = granted_more boot_thread_number first old new p.calls call boots.granted called;
         boot = boots.boot;
@@ -111,7 +109,7 @@ module _ (first old new : Traced) (p : Part) (boots : Boots first old p) where
   -- the boot thread is gone
   pub boots_last : Called old new boot_thread_number (Unlink root_number boot_thread_number) None → set.contains (set.from_list {R = nat_cmp} p.linked) boot_thread_number ≡ false
       → state new ≡ state_with (container (written_by boot_category) p.linked ∷ None ∷ p.objects) (next_made p)
-  boots_last called none = 
+  boots_last called none =
       let root : Object Levels = record { label = written_by boot_category; kind = Container (set.from_list {R = nat_cmp} (boot_thread_number ∷ p.linked)) } in
       let cut = subst (λ (s : State). CutsOff s 1 2 (state new)) boots.stands called.state in
       thread_gone root boots.boot p.objects (next_made p) boots.is_thread (state new) cut

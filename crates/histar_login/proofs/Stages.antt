@@ -1,28 +1,23 @@
 -- What the parts of boot add to what stands.
-use Rattle.std.proofs.Common.{◌≡◌, ℕ, zero, suc, ◌+◌, ◌*◌, ◌<◌, ◌≤◌, true, false, List, [], ◌∷◌, ◌++◌, length, get_or, take, None, Some, refl, sym, ap, ◌∙◌, subst, arith, append_assoc, append-nil, add-one}
+use Rattle.std.proofs.Common.{◌≡◌, ℕ, suc, ◌+◌, ◌*◌, ◌<◌, List, [], ◌∷◌, ◌++◌, length, get_or, take, None, Some, refl, sym, ap, ◌∙◌, subst, arith, append_assoc, append-nil}
 use Rattle.std.proofs.lemmas.List.{length-append, length-take-le}
-use Rattle.std.proofs.Math.Seq.{take-suc}
-use Rattle.std.specs.FinSet as set
-use Rattle.std.specs.Ordering.{nat_cmp}
 use Rattle.std.specs.List.{range_with_len}
 use Rattle.histar_flat.specs.declared.calls.User.{User}
 use Rattle.histar_label.specs.Levels.{Levels}
 use Rattle.histar_object.specs.declared.objects.Entry.TheVariants.{Login}
-use Rattle.histar_object.specs.declared.objects.Kind.TheVariants.{Segment, Container, Thread, Gate}
+use Rattle.histar_object.specs.declared.objects.Kind.TheVariants.{Segment, Gate}
 use Rattle.histar_object.specs.declared.objects.Object.{Object}
-use Rattle.histar_object.specs.State.{State, Found, empty_state}
+use Rattle.histar_object.specs.State.{Found}
 use Rattle.histar_rules.specs.declared.raw.RawCall.{RawCall}
 use Rattle.histar_rules.specs.declared.raw.RawCall.TheVariants as calls
 use Rattle.histar_rules.specs.Sound.{root_number}
-use Rattle.histar_syscall.specs.Traced.{Traced, state, Called}
-use Rattle.histar_syscall.proofs.Runs.{granted_more}
+use Rattle.histar_syscall.specs.Traced.{Traced, Called}
 use Rattle.histar_calls.specs.Categories.{read_category, write_category}
-use Rattle.histar_login.specs.Start.{numbered, written_by, secret_of, owner_of, cleared_of, boot_category, own_read_category, own_write_category, container, segment, user_table, process_bytes, state_with, of_user, of_users, of_directory, of_process, start_state}
-use Rattle.histar_login.specs.Boot.{boot_thread_number, category_calls, user_calls, directory_calls, process_calls, boot_calls, IsBooted}
-use Rattle.histar_login.specs.Booting.{Part, and_then, nothing_yet, next_number, next_made, Boots, BootsOn, IsAnywhere, IsBefore, IsBeforeBoth, two_categories, categories_part, user_part, users_part, directory_part, process_part}
+use Rattle.histar_login.specs.Start.{numbered, secret_of, owner_of, cleared_of, of_user, of_users}
+use Rattle.histar_login.specs.Boot.{boot_thread_number, category_calls, user_calls}
+use Rattle.histar_login.specs.Booting.{Part, and_then, next_number, Boots, BootsOn, IsAnywhere, IsBefore, two_categories, categories_part, user_part, users_part}
 use Rattle.histar_login.proofs.StartLemmas.{numbered_next, range-suc}
-use Rattle.histar_login.proofs.FirstAndLast.{two_not_in_row}
-use Rattle.histar_login.proofs.Parts.{next_number_is, next_made_is, boots_category, boots_shared, boots_within, boots_last, boots_first}
+use Rattle.histar_login.proofs.Parts.{boots_category, boots_shared}
 
 -- parts that are equal in all are equal
 pub boots_same : (first now : Traced) (p q : Part) → Boots first now p → p.calls ≡ q.calls → p.linked ≡ q.linked → p.objects ≡ q.objects → p.categories ≡ q.categories → Boots first now q

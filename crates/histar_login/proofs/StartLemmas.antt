@@ -1,22 +1,15 @@
 -- One turn of each loop of boot.
-use Rattle.std.proofs.Common.{◌≡◌, ℕ, zero, suc, ◌+◌, ◌-◌, ◌*◌, ◌<◌, ◌≤◌, List, [], ◌∷◌, ◌++◌, length, get_or, take, refl, sym, ap, ◌∙◌, arith, add-one, add-zero, append-nil, append_assoc, codes}
+use Rattle.std.proofs.Common.{◌≡◌, ℕ, zero, suc, ◌+◌, ◌*◌, ◌<◌, List, [], ◌∷◌, ◌++◌, length, get_or, take, refl, sym, ap, ◌∙◌, arith, add-one, add-zero, append-nil, append_assoc, codes}
 use Rattle.std.proofs.Math.Seq.{take-suc}
-use Rattle.std.specs.FinSet as set
-use Rattle.std.specs.Ordering.{nat_cmp}
-use Rattle.std.specs.Cmp.{nat_cmp_total}
 use Rattle.std.specs.List.{range_with_len}
 use Rattle.std.proofs.lemmas.List.{length-take-le}
-use Rattle.std.proofs.lemmas.Grind.{common_steps}
 use Rattle.histar_flat.specs.declared.calls.User.{User}
 use Rattle.histar_label.specs.declared.levels.Level.{Level}
 use Rattle.histar_label.specs.Levels.{Levels, with_level}
-use Rattle.histar_object.specs.Objects.{Numbers}
-use Rattle.histar_object.specs.declared.objects.Kind.TheVariants.{Container}
-use Rattle.histar_object.specs.State.{State, with_next, skipping}
 use Rattle.histar_flat.specs.Words.{Name}
 use Rattle.std.specs.Int.{w64, to_be_bytes}
 use Rattle.histar_calls.specs.Categories.{read_category, write_category}
-use Rattle.histar_login.specs.Start.{with_levels, labelled, numbered, with_all, of_root, written_by, boot_category, user_entry, user_table, entry_of}
+use Rattle.histar_login.specs.Start.{with_levels, labelled, numbered, user_entry, user_table, entry_of}
 
 -- the front of a list with the next item
 take_next : {A : Type 0} (xs : List A) (i : ℕ) (x : A) → i < length xs → x ≡ get_or xs i x → take (i + 1) xs ≡ take i xs ++ x ∷ []

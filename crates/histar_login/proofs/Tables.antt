@@ -1,22 +1,14 @@
 -- What the raw calls of boot make of the state of a table: entries are changed, and objects are put behind.
-use Rattle.std.proofs.Common.{◌≡◌, ◌≢◌, ℕ, zero, suc, ◌+◌, ◌==◌, nat_eq, Bool, true, false, not, ◌&&◌, ◌||◌, List, [], ◌∷◌, ◌++◌, length, get_or, ◌<◌, None, Some, if◌then◌else◌, refl, sym, ap, ◌∙◌, subst, inl, inr, arith}
+use Rattle.std.proofs.Common.{◌≡◌, ℕ, zero, suc, ◌+◌, ◌==◌, Bool, true, false, List, [], ◌∷◌, ◌++◌, length, get_or, None, Some, if◌then◌else◌, refl, sym, ap, ◌∙◌, arith}
 use Rattle.std.specs.Prelude.{option_map}
-use Rattle.std.proofs.lemmas.Bool.Decides.{nat_tests, eqb_tells}
+use Rattle.std.proofs.lemmas.Bool.Decides.{nat_tests}
 use Rattle.std.proofs.lemmas.List.{length-append}
-use Rattle.std.specs.FinSet as set
-use Rattle.std.specs.List.{list_any}
-use Rattle.std.specs.Ordering.{nat_cmp}
-use Rattle.std.specs.Cmp.{nat_cmp_total}
 use Rattle.histar_label.specs.Levels.{Levels}
-use Rattle.histar_object.specs.declared.objects.Kind.{Kind}
-use Rattle.histar_object.specs.declared.objects.Kind.TheVariants.{Segment, Container, Thread, Gate}
 use Rattle.histar_object.specs.declared.objects.Object.{Object}
-use Rattle.histar_object.specs.Objects.{Objects, put, changed_at, linking, unlinking, links_in, kind_links, kind_is_thread}
-use Rattle.histar_object.specs.Rights.{with_category, owning, kind_cleared}
-use Rattle.histar_object.specs.State.{State, Found, added, empty_state, boot_thread}
-use Rattle.histar_container.specs.Tree.{Reached, IsCut, here, there}
-use Rattle.histar_container.specs.Kept.{CutsOff}
-use Rattle.histar_login.specs.Start.{object_at, state_with, container, written_by, boot_category}
+use Rattle.histar_object.specs.Objects.{put, changed_at, linking}
+use Rattle.histar_object.specs.Rights.{with_category, owning}
+use Rattle.histar_object.specs.State.{Found, added}
+use Rattle.histar_login.specs.Start.{object_at, state_with}
 
 -- a table with one of its entries changed, if something stands there
 abbrev pub changed : (Object Levels → Object Levels) → ℕ → List Found → List Found
@@ -88,6 +80,6 @@ added_is table c k o =
     let n = 1 + length table in
     let f = linking {L = Levels} n in
     let at : (q : ℕ) → changed_at (put (object_at table) n o) (suc k) f q ≡ object_at (changed f k (table ++ Some o ∷ [])) q =
-        λ q. ap (λ (x : Found). if q == suc k then option_map f x else x) (put_is table o q) ∙ changed_is f (table ++ Some o ∷ []) k q in
+    λ q. ap (λ (x : Found). if q == suc k then option_map f x else x) (put_is table o q) ∙ changed_is f (table ++ Some o ∷ []) k q in
     let longer : 1 + length table + 1 ≡ 1 + length (changed f k (table ++ Some o ∷ [])) = omega (arith, length-changed f (table ++ Some o ∷ []) k, length-append table (Some o ∷ [])) in
     λ i. record { objects = λ q. at q i; next_object = longer i; next_category = c }

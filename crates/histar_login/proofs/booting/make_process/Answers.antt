@@ -1,8 +1,8 @@
-use Rattle.std.proofs.Common.{◌≡◌, ℕ, ◌+◌, ◌*◌, ap, ◌∙◌}
+use Rattle.std.proofs.Common.{◌≡◌, ℕ, ◌+◌, ◌*◌, ◌∙◌}
 use Rattle.histar_rules.specs.declared.raw.RawCall.TheVariants.{MakeSegment, MakeContainer, MakeThread}
 use Rattle.std.proofs.Common.{refl}
 use Rattle.histar_syscall.specs.Traced.{Traced}
-use Rattle.histar_login.specs.Start.{written_by, own_read_category}
+use Rattle.histar_login.specs.Start.{own_read_category}
 use Rattle.histar_login.specs.Booting.{Part, Boots, IsBeforeBoth, and_then, process_part}
 use Rattle.histar_login.proofs.Parts.{granted_as, answer_as}
 use Rattle.histar_login.proofs.ProcessStage.{process_stage}
