@@ -1,2 +1,8 @@
+pub mod DirectoryStage
+pub mod FirstAndLast
+pub mod LastStage
+pub mod Parts
+pub mod ProcessStage
+pub mod Stages
 pub mod StartLemmas
-pub mod TableLemmas
+pub mod Tables

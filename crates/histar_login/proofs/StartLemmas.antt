@@ -1,22 +1,15 @@
 -- One turn of each loop of boot.
-use Rattle.std.proofs.Common.{◌≡◌, ℕ, zero, suc, ◌+◌, ◌-◌, ◌*◌, ◌<◌, ◌≤◌, List, [], ◌∷◌, ◌++◌, length, get_or, take, refl, sym, ap, ◌∙◌, arith, add-one, add-zero, append-nil, append_assoc, codes}
+use Rattle.std.proofs.Common.{◌≡◌, ℕ, zero, suc, ◌+◌, ◌*◌, ◌<◌, List, [], ◌∷◌, ◌++◌, length, get_or, take, refl, sym, ap, ◌∙◌, arith, add-one, add-zero, append-nil, append_assoc, codes}
 use Rattle.std.proofs.Math.Seq.{take-suc}
-use Rattle.std.specs.FinSet as set
-use Rattle.std.specs.Ordering.{nat_cmp}
-use Rattle.std.specs.Cmp.{nat_cmp_total}
 use Rattle.std.specs.List.{range_with_len}
 use Rattle.std.proofs.lemmas.List.{length-take-le}
-use Rattle.std.proofs.lemmas.Grind.{common_steps}
 use Rattle.histar_flat.specs.declared.calls.User.{User}
 use Rattle.histar_label.specs.declared.levels.Level.{Level}
 use Rattle.histar_label.specs.Levels.{Levels, with_level}
-use Rattle.histar_object.specs.Objects.{Numbers}
-use Rattle.histar_object.specs.declared.objects.Kind.TheVariants.{Container}
-use Rattle.histar_object.specs.State.{State, with_next, skipping}
 use Rattle.histar_flat.specs.Words.{Name}
 use Rattle.std.specs.Int.{w64, to_be_bytes}
 use Rattle.histar_calls.specs.Categories.{read_category, write_category}
-use Rattle.histar_login.specs.Start.{with_levels, labelled, numbered, with_all, of_root, written_by, boot_category, user_entry, user_table, entry_of}
+use Rattle.histar_login.specs.Start.{with_levels, labelled, numbered, user_entry, user_table, entry_of}
 
 -- the front of a list with the next item
 take_next : {A : Type 0} (xs : List A) (i : ℕ) (x : A) → i < length xs → x ≡ get_or xs i x → take (i + 1) xs ≡ take i xs ++ x ∷ []
@@ -30,29 +23,10 @@ with_levels-more L (x ∷ es) e = with_levels-more (with_level L x.0 x.1) es e
 pub labelled_next : (es : List (ℕ × Level)) (d : Level) (i : ℕ) (e : ℕ × Level) → i < length es → e ≡ get_or es i e → labelled (take (i + 1) es) d ≡ with_level (labelled (take i es) d) e.0 e.1
 labelled_next es d i e lt is = ap (λ (l : List (ℕ × Level)). labelled l d) (take_next es i e lt is) ∙ with_levels-more _ (take i es) e
 
--- a set with one number more
-pub from_list_next : (xs : List ℕ) (i x : ℕ) → i < length xs → x ≡ get_or xs i 0 → set.from_list {R = nat_cmp} (take (i + 1) xs) ≡ set.insert (set.from_list {R = nat_cmp} (take i xs)) x
-from_list_next xs i x lt is = ap (set.from_list {R = nat_cmp}) (take_next xs i x lt (is ∙ grind (arith, common_steps))) ∙ set.from_list_push nat_cmp_total set.nat_cmp-IsAntisymmetric (take i xs) x
-
-range-suc : (a n : ℕ) → range_with_len a (suc n) ≡ range_with_len a n ++ (a + n) ∷ []
+-- numbers in a row with the next one
+pub range-suc : (a n : ℕ) → range_with_len a (suc n) ≡ range_with_len a n ++ (a + n) ∷ []
 range-suc a zero = ap (λ x. x ∷ []) (sym (add-zero a))
 range-suc a (suc n) = ap (λ l. a ∷ l) (range-suc (a + 1) n ∙ ap (λ y. range_with_len (a + 1) n ++ y ∷ []) (omega arith))
-
--- a set of numbers in a row with the next one
-pub range_next : (a m : ℕ) → a ≤ m → set.from_list {R = nat_cmp} (range_with_len a (m + 1 - a)) ≡ set.insert (set.from_list {R = nat_cmp} (range_with_len a (m - a))) m
-range_next a m le =
-    let next : m + 1 - a ≡ suc (m - a) = omega arith in
-    let last : a + (m - a) ≡ m = omega arith in
-    ap (λ k. set.from_list {R = nat_cmp} (range_with_len a k)) next ∙ ap (set.from_list {R = nat_cmp}) (range-suc a (m - a))
-    ∙ set.from_list_push nat_cmp_total set.nat_cmp-IsAntisymmetric (range_with_len a (m - a)) (a + (m - a)) ∙ ap (λ k. set.insert (set.from_list {R = nat_cmp} (range_with_len a (m - a))) k) last
-
--- the links of the root container
-pub root_links : (n m k : ℕ) → m ≡ 2 * n + 5 → k ≡ 2 * n + 6 → set.insert (set.from_list {R = nat_cmp} (range_with_len 3 (m - 3))) k ≡ set.from_list {R = nat_cmp} (range_with_len 3 (2 + 2 * n) ++ (6 + 2 * n) ∷ [])
-root_links n m k e f =
-    let len : m - 3 ≡ 2 + 2 * n = omega arith in
-    let last : k ≡ 6 + 2 * n = omega arith in
-    ap (λ j. set.insert (set.from_list {R = nat_cmp} (range_with_len 3 j)) k) len ∙ ap (λ j. set.insert (set.from_list {R = nat_cmp} (range_with_len 3 (2 + 2 * n))) j) last
-    ∙ sym (set.from_list_push nat_cmp_total set.nat_cmp-IsAntisymmetric (range_with_len 3 (2 + 2 * n)) (6 + 2 * n))
 
 numbered-more : {A : Type 0} (f : ℕ → User → List A) (k : ℕ) (xs : List User) (x : User) → numbered f k (xs ++ x ∷ []) ≡ numbered f k xs ++ f (k + length xs) x
 numbered-more f k [] x = append-nil (f k x) ∙ ap (λ n. f n x) (sym (add-zero k))
@@ -86,8 +60,3 @@ pub entry_grows : (t0 t1 t2 t3 t4 t5 t6 : List ℕ) (name : Name) (i gate passwo
     → t6 ≡ t0 ++ user_entry name i gate password
 unfolding user_entry
 entry_grows t0 t1 t2 t3 t4 t5 t6 name i gate password e1 e2 e3 e4 e5 e6 = parts t0 t1 t2 t3 t4 t5 t6 (length name) name _ _ _ _ e1 e2 e3 e4 e5 e6
-
--- boot's root container, and the number of its thread
-pub rooted : (old pushed new : State) (label : Levels) (links : Numbers) (n : ℕ) → pushed ≡ with_next old (record { label = label; kind = Container links }) → new ≡ skipping pushed
-    → label ≡ written_by boot_category → links ≡ set.from_list (range_with_len 3 (2 + 2 * n) ++ (6 + 2 * n) ∷ []) → new ≡ with_all old (of_root n)
-rooted old pushed new label links n push skip white linked = skip ∙ ap skipping push ∙ (λ i. skipping (with_next old (record { label = white i; kind = Container (linked i) })))

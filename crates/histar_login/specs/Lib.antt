@@ -1,2 +1,4 @@
+pub mod Boot
+pub mod Booting
 pub mod Login
 pub mod Start

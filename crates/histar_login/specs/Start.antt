@@ -12,7 +12,7 @@ use Rattle.histar_label.specs.Levels.{Levels, constant, with_level}
 use Rattle.histar_object.specs.declared.objects.Entry.TheVariants.{Login}
 use Rattle.histar_object.specs.declared.objects.Kind.TheVariants.{Segment, Container, Thread, Gate}
 use Rattle.histar_object.specs.Objects.{Objects}
-use Rattle.histar_object.specs.State.{State, Found, with_next, skipping}
+use Rattle.histar_object.specs.State.{State, Found}
 use Rattle.histar_calls.specs.declared.places.Places.{Places}
 use Rattle.histar_calls.specs.Categories.{read_category, write_category}
 
@@ -46,7 +46,7 @@ owner_of r w = labelled ((r, Star) ∷ (w, Star) ∷ []) L1
 abbrev pub cleared_of : ℕ → ℕ → Levels
 cleared_of r w = labelled ((r, L3) ∷ (w, L3) ∷ []) L2
 
--- the category that boot's thread owned alone, so that nobody owns it now
+-- the category that the boot thread owned alone, so that nobody owns it now
 abbrev pub boot_category : ℕ
 boot_category = 1
 
@@ -66,7 +66,7 @@ segment label bytes = Some (record { label = label; kind = Segment bytes })
 abbrev pub container : Levels → List ℕ → Found
 container label numbers = Some (record { label = label; kind = Container (set.from_list numbers) })
 
--- 1 is the root container, which links all that boot made in it: 3 to 4 + 2n, and 6 + 2n; 2 is nothing, since boot's thread is gone
+-- 1 is the root container, which links all that boot made in it: 3 to 4 + 2n, and 6 + 2n; 2 is nothing, since the boot thread is gone
 abbrev pub of_root : ℕ → List Found
 of_root n = container (written_by boot_category) (range_with_len 3 (2 + 2 * n) ++ (6 + 2 * n) ∷ []) ∷ None ∷ []
 
@@ -141,9 +141,3 @@ places_of users = record { root = 4 + 2 * users; listing = 5 + 2 * users; users 
 -- the thread of process 0
 abbrev pub thread_number : ℕ → ℕ
 thread_number users = 8 + 2 * users
-
--- the state with each of these under the next number, where None is a number that no object gets
-abbrev pub with_all : State → List Found → State
-with_all s [] = s
-with_all s (None ∷ objects) = with_all (skipping s) objects
-with_all s (Some o ∷ objects) = with_all (with_next s o) objects

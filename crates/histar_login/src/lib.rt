@@ -1,8 +1,8 @@
 //! Where a machine starts, and logging in.
 #![tactic(auto)]
 
-mod boot;
+mod booting;
 mod logging_in;
 
-pub use boot::start_objects;
+pub use booting::boot;
 pub use logging_in::login;

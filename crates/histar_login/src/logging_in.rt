@@ -3,7 +3,7 @@ ghost use Rattle.std.specs.Prelude.{◌≡◌, ◌+◌, ◌<◌, ◌≤◌, leng
 ghost use Rattle.std.specs.Option.{option_copied};
 ghost use Rattle.histar_login.specs.Login.{place_of, has_password, user_label, user_clearance, LogsIn};
 
-use crate::boot::{label_of, own_read_category, own_write_category};
+use crate::booting::{label_of, own_read_category, own_write_category};
 use histar_calls::{Stopped, read_category, write_category};
 use histar_flat::{Errno, Name, Password, Reply, User};
 use histar_label::{Label, LabelStore, Level};
