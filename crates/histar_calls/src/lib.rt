@@ -11,5 +11,6 @@ mod walking;
 
 pub use making::create;
 pub use places::{Places, read_category, write_category};
+pub use refusals::told;
 pub use stopping::Stopped;
 pub use using::{read, write};

@@ -1,10 +1,16 @@
-//! Logging in, while it is not made of raw calls yet.
-ghost use Rattle.std.specs.Prelude.{◌≡◌, ◌+◌, ◌<◌, ◌≤◌, length, IfOk};
-ghost use Rattle.std.specs.Option.{option_copied};
-ghost use Rattle.histar_login.specs.Login.{place_of, has_password, user_label, user_clearance, LogsIn};
+//! Logging in, by raw calls of the thread that logs in.
+ghost use Rattle.std.specs.Prelude.{◌≡◌, ◌+◌, ◌<◌, ◌≤◌, [], ◌∷◌, length, IfOk, OnOk, OnErr, Some};
+ghost use Rattle.std.specs.Str.{bytes_eq};
+ghost use Rattle.histar_rules.specs.declared.raw.RawCall.TheVariants as calls;
+ghost use Rattle.histar_rules.specs.Sound.{root_number};
+ghost use Rattle.histar_syscall.specs.Traced.{state};
+ghost use Rattle.histar_syscall.specs.Runs.{Granted};
+ghost use Rattle.histar_calls.specs.Replies.{Replies};
+ghost use Rattle.histar_login.specs.Login.{place_of, user_label, user_clearance, gate_of, password_of, entering, LogsIn, BecomesUser, EntersGate, TakesLabels};
+ghost use Rattle.histar_login.specs.Start.{owner_of, cleared_of};
 
 use crate::booting::{label_of, own_read_category, own_write_category};
-use histar_calls::{Stopped, read_category, write_category};
+use histar_calls::{Stopped, read_category, told, write_category};
 use histar_flat::{Errno, Name, Password, Reply, User};
 use histar_label::{Label, LabelStore, Level};
 use histar_object::ObjId;
@@ -35,6 +41,20 @@ fn user_labels(alloc: Global, users: u64, number: u8) -> Result<(Label, Label), 
     Ok((label, clearance))
 }
 
+/// The label that a user's gate gives, and its clearance: it owns the user's categories.
+fn gate_labels(alloc: Global, number: u8) -> Result<(Label, Label), AllocError>
+    ensures { IfOk result (λ given. (given.0 ≡ owner_of (read_category number) (write_category number)) × (given.1 ≡ cleared_of (read_category number) (write_category number))) }
+{
+    let (read, write) = (read_category(number), write_category(number));
+    let given = label_of(
+        alloc,
+        Level::L1,
+        &[(read, Level::Star), (write, Level::Star)],
+    )?;
+    let most = label_of(alloc, Level::L2, &[(read, Level::L3), (write, Level::L3)])?;
+    Ok((given, most))
+}
+
 /// The place of the user with this name.
 fn place_of(users: &[User], name: Name) -> Option<usize>
     ensures { result ≡ place_of users.now name }
@@ -42,18 +62,58 @@ fn place_of(users: &[User], name: Name) -> Option<usize>
     users.iter().position(|user| user.name == name)
 }
 
-/// Whether a user has this password.
-fn has_password(user: Option<&User>, password: Password) -> bool
-    ensures { result ≡ has_password (option_copied user.entry) password }
+/// The number of the user at a place: users are numbered from 1 on.
+fn number_of(place: usize) -> u8
+    requires { place < 16 }
+    ensures { result ≡ place + 1 }
 {
-    match user {
-        Some(user) => user.password == password,
-        None => false,
+    place as u8 + 1
+}
+
+/// Enters the gate of a user with all that the thread owns and all that the gate gives. EACCES where
+/// the gate doesn't let it in.
+fn enter_gate<S: LabelStore + Drop>(
+    kernel: &mut Kernel<S>,
+    alloc: Global,
+    thread: ObjId,
+    number: u8,
+    own: &Label,
+    most: &Label,
+) -> Result<Option<Errno>, Stopped>
+    ensures { EntersGate kernel.old kernel.new thread (entering number own.now most.now) result }
+{
+    let (given, limit) = gate_labels(alloc, number)?;
+    let wanted = own.floor(&given)?;
+    let clearance = most.join(&limit)?;
+    let root = ObjId::new(1);
+    let gate = ObjId::new(2 + 2 * u64::from(number));
+    match kernel.enter(thread, root, gate, wanted, clearance, own.copy()?) {
+        Ok(_) => Ok(None),
+        Err(refusal) => Ok(Some(told(refusal)?)),
     }
 }
 
-/// Gives process 0 the label and the clearance of a user, by the user's password: ENOENT where no
-/// user has the name, EAUTH where the password is another.
+/// Gives the thread this label and this clearance, one after the other.
+fn take_labels<S: LabelStore + Drop>(
+    kernel: &mut Kernel<S>,
+    thread: ObjId,
+    label: Label,
+    clearance: Label,
+) -> Result<(), Stopped>
+    ensures { TakesLabels kernel.old kernel.new thread (calls.SetLabel label ∷ calls.SetClearance clearance ∷ []) result }
+{
+    let Ok(()) = kernel.set_label(thread, label) else {
+        return Err(Stopped);
+    };
+    let Ok(()) = kernel.set_clearance(thread, clearance) else {
+        return Err(Stopped);
+    };
+    Ok(())
+}
+
+/// Gives process 0 the label and the clearance of a user, by the user's password: ENOENT where no user
+/// has the name, EACCES where the user's gate doesn't let the thread in, EAUTH where the password is
+/// another; the thread has then its own label and clearance again.
 pub fn login<S: LabelStore + Drop>(
     kernel: &mut Kernel<S>,
     alloc: Global,
@@ -63,25 +123,29 @@ pub fn login<S: LabelStore + Drop>(
     password: Password,
 ) -> Result<Reply, Stopped>
     requires { length users.now ≤ 16 }
-    ensures { LogsIn users.now kernel.old kernel.new thread name password result }
+    ensures follows { LogsIn users.now kernel.old kernel.new thread name password result }
+    ensures becomes { IfOk result (BecomesUser (place_of users.now name) (length users.now) thread (state kernel.old) (state kernel.new)) }
+    ensures told { IfOk result (Replies kernel.old kernel.new thread) }
 {
     let Some(at) = place_of(users, name) else {
         return Ok(Reply::Refused(Errno::ENOENT));
     };
-    if !has_password(users.get(at), password) {
-        return Ok(Reply::Refused(Errno::EAUTH));
+    let number = number_of(at);
+    let Ok((own, most)) = kernel.own_label(thread) else {
+        return Err(Stopped);
+    };
+    if let Some(errno) = enter_gate(kernel, alloc, thread, number, &own, &most)? {
+        return Ok(Reply::Refused(errno));
     }
-    let (label, clearance) = user_labels(alloc, users.len() as u64, number_of(at))?;
-    match kernel.set_own(thread, label, clearance) {
-        Ok(()) => Ok(Reply::Done),
-        Err(_) => Err(Stopped),
+    let segment = ObjId::new(1 + 2 * u64::from(number));
+    let Ok(kept) = kernel.read_copy(alloc, thread, ObjId::new(1), segment) else {
+        return Err(Stopped);
+    };
+    if kept.as_slice() == password.as_bytes() {
+        let (label, clearance) = user_labels(alloc, users.len() as u64, number)?;
+        take_labels(kernel, thread, label, clearance)?;
+        return Ok(Reply::Done);
     }
-}
-
-/// The number of the user at a place: users are numbered from 1 on.
-fn number_of(place: usize) -> u8
-    requires { place < 16 }
-    ensures { result ≡ place + 1 }
-{
-    place as u8 + 1
+    take_labels(kernel, thread, own, most)?;
+    Ok(Reply::Refused(Errno::EAUTH))
 }
