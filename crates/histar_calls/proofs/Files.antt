@@ -24,7 +24,7 @@ use Rattle.histar_calls.specs.Plans.{Plan, Lists, answering, after_walk, walking
 use Rattle.histar_calls.specs.Follows.{listing_of, StopsWithin, Follows}
 use Rattle.histar_calls.specs.Replies.{is_access, is_permission, Replies}
 use Rattle.histar_calls.specs.Walks.{IsRefused, walk, found_at, HasFile, FindsFile}
-use Rattle.histar_calls.proofs.Told.{replies_granted, follows_granted, follows_refused, follows_stopped, replies_refused, stops_longer, walk_first}
+use Rattle.histar_calls.proofs.Telling.{replies_granted, follows_granted, follows_refused, follows_stopped, replies_refused, stops_longer, walk_first}
 
 -- a call that is answered at once makes no raw call
 pub replies_at_once : (k : Traced) (t : ℕ) (errno : Errno) → is_access errno ≡ false → is_permission errno ≡ false → Replies k k t (replies.Refused errno)

@@ -1,4 +1,4 @@
 pub mod Files
 pub mod NewFiles
 pub mod Owners
-pub mod Told
+pub mod Telling

@@ -27,7 +27,7 @@ use Rattle.histar_calls.specs.Categories.{IsUserOf, file_label}
 use Rattle.histar_calls.specs.Plans.{Plan, Lists, last_name, answering, after_walk, walking, make_at, make_file, create_plan}
 use Rattle.histar_calls.specs.Follows.{listing_of, label_of_thread, or_no_label, StopsWithin, Follows, MakesFile}
 use Rattle.histar_calls.specs.Walks.{IsRefused, walk}
-use Rattle.histar_calls.proofs.Told.{follows_granted, follows_refused, follows_stopped, stops_longer, walk_first}
+use Rattle.histar_calls.proofs.Telling.{follows_granted, follows_refused, follows_stopped, stops_longer, walk_first}
 use Rattle.histar_calls.proofs.Files.{walk_stays, follows_at_once}
 use Rattle.histar_calls.proofs.Owners.{one_user}
 

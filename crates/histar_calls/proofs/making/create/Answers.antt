@@ -10,7 +10,7 @@ use Rattle.histar_layout.specs.Directory.{Entries, IsDirectory, most_entries}
 use Rattle.histar_layout.specs.declared.entry.Target.TheVariants.{File}
 use Rattle.histar_calls.specs.Follows.{label_of_thread}
 use Rattle.histar_calls.specs.Walks.{walk, Walks}
-use Rattle.histar_calls.proofs.Told.{replies_granted, replies_refused, refused_more, stops_more, stops_granted}
+use Rattle.histar_calls.proofs.Telling.{replies_granted, replies_refused, refused_more, stops_more, stops_granted}
 use Rattle.histar_calls.proofs.NewFiles.{create_root, create_unwalked, create_lost, create_standing, create_full, create_stopped, create_refused, create_done, front_own, front_make, front_all, all_made, own_label_is, next_is, none_there, some_there, not_most}
 use Rattle.histar_calls.proofs.making.create.Goals as goal
 

@@ -4,7 +4,7 @@ use Rattle.histar_rules.specs.declared.raw.RawCall.TheVariants.{Write}
 use Rattle.histar_calls.specs.Plans.{last_name, write_segment}
 use Rattle.histar_calls.specs.Walks.{walk, FindsFile}
 use Rattle.histar_calls.specs.declared.using.Found.{Found}
-use Rattle.histar_calls.proofs.Told.{replies_granted, replies_refused, refused_more, stops_more}
+use Rattle.histar_calls.proofs.Telling.{replies_granted, replies_refused, refused_more, stops_more}
 use Rattle.histar_calls.proofs.Files.{file_granted, file_done, file_refused, file_stopped}
 use Rattle.histar_calls.proofs.using.write.Goals as goal
 

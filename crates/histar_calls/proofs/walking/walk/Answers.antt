@@ -4,7 +4,7 @@ use Rattle.histar_syscall.proofs.Runs.{granted_none}
 use Rattle.histar_layout.specs.Directory.{IsDirectory}
 use Rattle.histar_calls.specs.Walks.{walk}
 use Rattle.histar_calls.specs.Follows.{listing_of}
-use Rattle.histar_calls.proofs.Told.{stops_granted, stops_more, refused_more, walk_stopped, walked}
+use Rattle.histar_calls.proofs.Telling.{stops_granted, stops_more, refused_more, walk_stopped, walked}
 use Rattle.histar_calls.proofs.walking.walk.Goals as goal
 
 pub returns-in_err-dir-in-Ok : goal.returns-in_err-dir-in-Ok
