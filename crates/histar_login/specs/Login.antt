@@ -53,20 +53,28 @@ abbrev pub entering : ℕ → Levels → Levels → RawCall
 entering i own most =
     Enter root_number (gate_of i) (floor_of own (owner_of (read_category i) (write_category i))) (join_of most (cleared_of (read_category i) (write_category i))) own
 
--- then it reads the password of the user, which the gate lets it read, and takes this label and this clearance
-abbrev pub behind_gate : ℕ → Levels → Levels → List RawCall
-behind_gate i label clearance = Read root_number (password_of i) ∷ SetLabel label ∷ SetClearance clearance ∷ []
+-- the label that the thread takes behind the gate: that of the user where the password is right, and else its own again
+abbrev pub label_if : Bool → ℕ → ℕ → Levels → Levels
+label_if true users i own = user_label users i
+label_if false users i own = own
 
--- the raw calls of a login
-abbrev pub login_calls : ℕ → Levels → Levels → Levels → Levels → List RawCall
-login_calls i own most label clearance = OwnLabel ∷ entering i own most ∷ behind_gate i label clearance
+-- and the clearance
+abbrev pub clearance_if : Bool → ℕ → ℕ → Levels → Levels
+clearance_if true users i most = user_clearance users i
+clearance_if false users i most = most
 
--- where the password is right the thread takes the labels of the user, and else its own again
-abbrev pub calls_if : Bool → ℕ → ℕ → Levels → Levels → List RawCall
-calls_if true users i own most = login_calls i own most (user_label users i) (user_clearance users i)
-calls_if false users i own most = login_calls i own most own most
+-- The raw calls of a login as user i by a thread with this label and this clearance: it asks for its own labels, enters the
+-- gate of the user, reads the user's password, which the gate lets it read, and takes the labels that are its due.
+abbrev pub login_calls : Bool → ℕ → ℕ → Levels → Levels → List RawCall
+login_calls right users i own most =
+    OwnLabel
+    ∷ entering i own most
+    ∷ Read root_number (password_of i)
+    ∷ SetLabel (label_if right users i own)
+    ∷ SetClearance (clearance_if right users i most)
+    ∷ []
 
--- and it answers so
+-- what it answers behind the gate
 abbrev pub reply_if : Bool → Reply
 reply_if true = Done
 reply_if false = Refused EAUTH
@@ -129,10 +137,10 @@ LogsInAt None users old new thread password (Ok reply) = (reply ≡ Refused ENOE
 LogsInAt None users old new thread password (Err stopped) = ⊥
 LogsInAt (Some place) users old new thread password (Ok reply) =
     let right = is_password (state old) (place + 1) password in
-    LoginCompletes old new thread (calls_if right users (place + 1) (own_of (state old) thread) (most_of (state old) thread)) (reply_if right) reply
+    LoginCompletes old new thread (login_calls right users (place + 1) (own_of (state old) thread) (most_of (state old) thread)) (reply_if right) reply
 LogsInAt (Some place) users old new thread password (Err stopped) =
     let right = is_password (state old) (place + 1) password in
-    LoginStops old new thread (calls_if right users (place + 1) (own_of (state old) thread) (most_of (state old) thread))
+    LoginStops old new thread (login_calls right users (place + 1) (own_of (state old) thread) (most_of (state old) thread))
 
 -- a login as the user with this name
 abbrev pub LogsIn : List User → Traced → Traced → ℕ → Name → List ℕ → Result Reply Stopped → Type 0

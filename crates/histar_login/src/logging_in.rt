@@ -5,6 +5,7 @@ ghost use Rattle.histar_rules.specs.declared.raw.RawCall.TheVariants as calls;
 ghost use Rattle.histar_rules.specs.Sound.{root_number};
 ghost use Rattle.histar_syscall.specs.Traced.{state};
 ghost use Rattle.histar_syscall.specs.Runs.{Granted};
+ghost use Rattle.histar_calls.specs.Categories.{read_category, write_category};
 ghost use Rattle.histar_calls.specs.Replies.{Replies};
 ghost use Rattle.histar_login.specs.Login.{place_of, user_label, user_clearance, gate_of, password_of, entering, LogsIn, BecomesUser, EntersGate, TakesLabels};
 ghost use Rattle.histar_login.specs.Start.{owner_of, cleared_of};

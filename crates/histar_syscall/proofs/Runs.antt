@@ -152,3 +152,21 @@ module _ (t : ℕ) where
     | None ↦ λ called rest. call_before old granted.0 new t call None called rest.0
     | Some denied ↦ λ called rest. absurd cc
   ]) granted.2 granted.3
+
+  -- raw calls of a kernel that is as it was
+  pub made_from : (old mid new : Traced) (calls : List RawCall) (refusal : Option (RawCall × Denied)) → IsUnchanged old mid → Made mid new t calls refusal → Made old new t calls refusal
+  made_from old mid new [] refusal same made = (still_same old mid new same made.0, made.1)
+  made_from old mid new (c ∷ calls) refusal same made = (made.0, made.1, call_after old mid made.0 t c made.1 same made.2, made.3)
+
+  -- raw calls behind others that were all granted
+  pub made_after : (old mid new : Traced) (before calls : List RawCall) (refusal : Option (RawCall × Denied)) → Granted old mid t before → Made mid new t calls refusal → Made old new t (before ++ calls) refusal
+  made_after old mid new [] calls refusal granted made = made_from old mid new calls refusal granted.0 made
+  made_after old mid new (c ∷ before) calls refusal granted made = (
+    granted.0,
+    granted.1,
+    granted.2,
+    (elim granted.1 as (λ (x : Option Denied). GoesOn x c (Made granted.0 mid t before None) granted.0 mid None → GoesOn x c (Made granted.0 new t (before ++ calls) refusal) granted.0 new refusal) [
+      | None ↦ λ rest. made_after granted.0 mid new before calls refusal rest made
+      | Some denied ↦ λ rest. absurd cc
+    ]) granted.3,
+  )
