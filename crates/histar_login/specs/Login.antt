@@ -5,7 +5,7 @@ use Rattle.histar_flat.specs.declared.calls.User.{User}
 use Rattle.histar_flat.specs.declared.replies.Errno.{Errno}
 use Rattle.histar_flat.specs.declared.replies.Errno.TheVariants.{ENOENT, EAUTH}
 use Rattle.histar_flat.specs.declared.replies.Reply.{Reply}
-use Rattle.histar_flat.specs.declared.replies.Reply.TheVariants.{Done, Refused}
+use Rattle.histar_flat.specs.declared.replies.Reply.TheVariants.{Done, Data, Refused, Gone}
 use Rattle.histar_flat.specs.Words.{Name}
 use Rattle.histar_label.specs.declared.levels.Level.{Level}
 use Rattle.histar_label.specs.declared.levels.Level.TheVariants.{Star, L1, L2, L3}
@@ -131,28 +131,36 @@ pub record LoginStops (old new : Traced) (thread : ℕ) (calls : List RawCall) :
   pub made : Made old new thread front refusal
   pub untold : refusal_told refusal ≡ None
 
+-- A login as user i: it makes its raw calls up to the first that is refused. What it answers behind the gate is by the password
+-- that the user's segment holds.
+abbrev pub LogsInAs : ℕ → ℕ → Traced → Traced → ℕ → List ℕ → Result Reply Stopped → Type 0
+LogsInAs users i old new thread password (Ok reply) =
+    let right = is_password (state old) i password in
+    LoginCompletes old new thread (login_calls right users i (own_of (state old) thread) (most_of (state old) thread)) (reply_if right) reply
+LogsInAs users i old new thread password (Err stopped) =
+    let right = is_password (state old) i password in
+    LoginStops old new thread (login_calls right users i (own_of (state old) thread) (most_of (state old) thread))
+
 -- a login as the user at a place: ENOENT with no raw call where no user has the name
 abbrev pub LogsInAt : Option ℕ → ℕ → Traced → Traced → ℕ → List ℕ → Result Reply Stopped → Type 0
-LogsInAt None users old new thread password (Ok reply) = (reply ≡ Refused ENOENT) × IsUnchanged old new
-LogsInAt None users old new thread password (Err stopped) = ⊥
-LogsInAt (Some place) users old new thread password (Ok reply) =
-    let right = is_password (state old) (place + 1) password in
-    LoginCompletes old new thread (login_calls right users (place + 1) (own_of (state old) thread) (most_of (state old) thread)) (reply_if right) reply
-LogsInAt (Some place) users old new thread password (Err stopped) =
-    let right = is_password (state old) (place + 1) password in
-    LoginStops old new thread (login_calls right users (place + 1) (own_of (state old) thread) (most_of (state old) thread))
+LogsInAt None users old new thread password result = (result ≡ Ok (Refused ENOENT)) × IsUnchanged old new
+LogsInAt (Some place) users old new thread password result = LogsInAs users (place + 1) old new thread password result
 
 -- a login as the user with this name
 abbrev pub LogsIn : List User → Traced → Traced → ℕ → Name → List ℕ → Result Reply Stopped → Type 0
 LogsIn users old new thread name password result = LogsInAt (place_of users name) (length users) old new thread password result
 
--- Whose the thread is then: after `ok` it has the label and the clearance of the user and nothing else has changed; after every
--- refusal its own, to the last level, and nothing has changed.
-abbrev pub BecomesUser : Option ℕ → ℕ → ℕ → State → State → Reply → Type 0
-BecomesUser None users thread old new reply = new ≡ old
-BecomesUser (Some place) users thread old new Done = new ≡ with_own old thread (user_label users (place + 1)) (user_clearance users (place + 1))
-BecomesUser (Some place) users thread old new (Refused errno) = new ≡ old
-BecomesUser (Some place) users thread old new _ = ⊥
+-- Whose the thread is then: after `ok` it has the label and the clearance of user i and nothing else has changed; after every
+-- refusal it has its own, to the last level, and nothing has changed.
+abbrev pub BecomesUser : ℕ → ℕ → ℕ → State → State → Reply → Type 0
+BecomesUser users i thread old new Done = new ≡ with_own old thread (user_label users i) (user_clearance users i)
+BecomesUser users i thread old new (Refused errno) = new ≡ old
+BecomesUser users i thread old new (Data bytes) = ⊥
+BecomesUser users i thread old new Gone = ⊥
+
+abbrev pub BecomesUserAt : Option ℕ → ℕ → ℕ → State → State → Reply → Type 0
+BecomesUserAt None users thread old new reply = new ≡ old
+BecomesUserAt (Some place) users thread old new reply = BecomesUser users (place + 1) thread old new reply
 
 -- a thread enters a gate: it was granted, or it was refused and the refusal is told, or memory ran out or the refusal is none
 -- that is told

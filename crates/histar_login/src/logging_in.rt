@@ -7,10 +7,11 @@ ghost use Rattle.histar_syscall.specs.Traced.{state};
 ghost use Rattle.histar_syscall.specs.Runs.{Granted};
 ghost use Rattle.histar_calls.specs.Categories.{read_category, write_category};
 ghost use Rattle.histar_calls.specs.Replies.{Replies};
-ghost use Rattle.histar_login.specs.Login.{place_of, user_label, user_clearance, gate_of, password_of, entering, LogsIn, BecomesUser, EntersGate, TakesLabels};
+ghost use Rattle.histar_login.specs.Login.{place_of, user_label, user_clearance, gate_of, password_of, entering, label_if, clearance_if, reply_if, LogsIn, LogsInAs, BecomesUser, BecomesUserAt, EntersGate, TakesLabels};
 ghost use Rattle.histar_login.specs.Start.{owner_of, cleared_of};
 
 use crate::booting::{label_of, own_read_category, own_write_category};
+use histar_base::Bytes;
 use histar_calls::{Stopped, read_category, told, write_category};
 use histar_flat::{Errno, Name, Password, Reply, User};
 use histar_label::{Label, LabelStore, Level};
@@ -112,6 +113,72 @@ fn take_labels<S: LabelStore + Drop>(
     Ok(())
 }
 
+/// The labels that a thread takes behind the gate: the user's where the password is right, and else its
+/// own again.
+fn due_labels(
+    alloc: Global,
+    right: bool,
+    users: u64,
+    number: u8,
+    own: Label,
+    most: Label,
+) -> Result<(Label, Label), AllocError>
+    requires { users ≤ 16 }
+    ensures { IfOk result (λ due. (due.0 ≡ label_if right users number own) × (due.1 ≡ clearance_if right users number most)) }
+{
+    if right {
+        return user_labels(alloc, users, number);
+    }
+    Ok((own, most))
+}
+
+/// What is answered behind the gate.
+fn reply_if(right: bool) -> Reply
+    ensures { result ≡ reply_if right }
+{
+    if right {
+        return Reply::Done;
+    }
+    Reply::Refused(Errno::EAUTH)
+}
+
+/// Whether these bytes are the password.
+fn is_password(kept: &Bytes, password: Password) -> bool
+    ensures { result ≡ bytes_eq kept.now password }
+{
+    kept.as_slice() == password.as_bytes()
+}
+
+/// Logs in as a user of this number.
+fn login_as<S: LabelStore + Drop>(
+    kernel: &mut Kernel<S>,
+    alloc: Global,
+    users: u64,
+    number: u8,
+    thread: ObjId,
+    password: Password,
+) -> Result<Reply, Stopped>
+    requires few { users ≤ 16 }
+    ensures follows { LogsInAs users number kernel.old kernel.new thread password result }
+    ensures becomes { IfOk result (BecomesUser users number thread (state kernel.old) (state kernel.new)) }
+    ensures told { IfOk result (Replies kernel.old kernel.new thread) }
+{
+    let Ok((own, most)) = kernel.own_label(thread) else {
+        return Err(Stopped);
+    };
+    if let Some(errno) = enter_gate(kernel, alloc, thread, number, &own, &most)? {
+        return Ok(Reply::Refused(errno));
+    }
+    let segment = ObjId::new(1 + 2 * u64::from(number));
+    let Ok(kept) = kernel.read_copy(alloc, thread, ObjId::new(1), segment) else {
+        return Err(Stopped);
+    };
+    let right = is_password(&kept, password);
+    let (label, clearance) = due_labels(alloc, right, users, number, own, most)?;
+    take_labels(kernel, thread, label, clearance)?;
+    Ok(reply_if(right))
+}
+
 /// Gives process 0 the label and the clearance of a user, by the user's password: ENOENT where no user
 /// has the name, EACCES where the user's gate doesn't let the thread in, EAUTH where the password is
 /// another; the thread has then its own label and clearance again.
@@ -125,28 +192,14 @@ pub fn login<S: LabelStore + Drop>(
 ) -> Result<Reply, Stopped>
     requires { length users.now ≤ 16 }
     ensures follows { LogsIn users.now kernel.old kernel.new thread name password result }
-    ensures becomes { IfOk result (BecomesUser (place_of users.now name) (length users.now) thread (state kernel.old) (state kernel.new)) }
+    ensures becomes { IfOk result (BecomesUserAt (place_of users.now name) (length users.now) thread (state kernel.old) (state kernel.new)) }
     ensures told { IfOk result (Replies kernel.old kernel.new thread) }
 {
-    let Some(at) = place_of(users, name) else {
-        return Ok(Reply::Refused(Errno::ENOENT));
-    };
-    let number = number_of(at);
-    let Ok((own, most)) = kernel.own_label(thread) else {
-        return Err(Stopped);
-    };
-    if let Some(errno) = enter_gate(kernel, alloc, thread, number, &own, &most)? {
-        return Ok(Reply::Refused(errno));
+    match place_of(users, name) {
+        Some(at) => {
+            let count = users.len() as u64;
+            login_as(kernel, alloc, count, number_of(at), thread, password)
+        }
+        None => Ok(Reply::Refused(Errno::ENOENT)),
     }
-    let segment = ObjId::new(1 + 2 * u64::from(number));
-    let Ok(kept) = kernel.read_copy(alloc, thread, ObjId::new(1), segment) else {
-        return Err(Stopped);
-    };
-    if kept.as_slice() == password.as_bytes() {
-        let (label, clearance) = user_labels(alloc, users.len() as u64, number)?;
-        take_labels(kernel, thread, label, clearance)?;
-        return Ok(Reply::Done);
-    }
-    take_labels(kernel, thread, own, most)?;
-    Ok(Reply::Refused(Errno::EAUTH))
 }
