@@ -33,11 +33,12 @@ use Rattle.histar_syscall.specs.Runs.{GoesOn}
 use Rattle.histar_syscall.proofs.Runs.{granted_none, granted_more, made_longer}
 use Rattle.histar_calls.specs.declared.stopping.Stopped.{Stopped}
 use Rattle.histar_calls.specs.Categories.{read_category, write_category}
-use Rattle.histar_calls.specs.Follows.{or_no_label}
+use Rattle.histar_calls.specs.Follows.{errno_of, or_no_label}
+use Rattle.histar_calls.specs.Walks.{IsTold}
 use Rattle.histar_calls.specs.Replies.{is_no_access, is_no_permission, Replies}
 use Rattle.histar_calls.proofs.Telling.{replies_granted, replies_refused}
 use Rattle.histar_login.specs.Start.{owner_of, cleared_of}
-use Rattle.histar_login.specs.Login.{gate_errno, password_of, entering, label_if, clearance_if, login_calls, reply_if, own_of, most_of, is_password, LoginStops, LoginCompletes, LogsInAs, BecomesUser, EntersGate}
+use Rattle.histar_login.specs.Login.{gate_errno, password_of, gate_of, entering, label_if, clearance_if, login_calls, reply_if, own_of, most_of, is_password, LoginStops, LoginCompletes, LogsInAs, BecomesUser, EntersGate}
 
 module _ (t : ℕ) where
   -- a login that ends among raw calls that come behind others, all of which were granted
@@ -133,9 +134,9 @@ abbrev taking : Bool → ℕ → ℕ → Levels → Levels → List RawCall
 taking right users i own most = SetLabel (label_if right users i own) ∷ SetClearance (clearance_if right users i most) ∷ []
 
 -- the thread is the user's, or as it was
-becomes_if : {users i t : ℕ} {own most : Levels} {old : State} (right : Bool) (new : State) → new ≡ with_own old t (label_if right users i own) (clearance_if right users i most) → with_own old t own most ≡ old → BecomesUser users i t old new (reply_if right)
-becomes_if true new is back = is
-becomes_if false new is back = is ∙ back
+becomes_if : (users i t : ℕ) (own most : Levels) (old : State) (right : Bool) (new : State) → new ≡ with_own old t (label_if right users i own) (clearance_if right users i most) → with_own old t own most ≡ old → BecomesUser users i t old new (reply_if right)
+becomes_if users i t own most old true new is back = is
+becomes_if users i t own most old false new is back = is ∙ back
 
 -- A login as user i with this password. The thread asks for its labels, which leads to `asked`, enters the gate, which leads to
 -- `entered`, and reads the password, which leads to `told`.
@@ -147,7 +148,7 @@ module _ (users i t : ℕ) (password : List ℕ) (old : Traced) where
 
   module _ (own most : Levels) (own_is : Some own ≡ label_there ((state old).objects t)) (most_is : Some most ≡ clearance_there ((state old).objects t)) (asked : Traced) (asks : Called old asked t OwnLabel None) where
     -- the raw calls behind the gate
-    behind : List RawCall
+    abbrev behind : List RawCall
     behind = Read root_number (password_of i) ∷ taking (is_password (state old) i password) users i own most
 
     -- the raw calls, by the labels that the thread was told
@@ -159,7 +160,7 @@ module _ (users i t : ℕ) (password : List ℕ) (old : Traced) where
 
     -- a login that ended among its raw calls
     ended : (new : Traced) (result : Result Reply Stopped) → IsErr result → LoginStops old new t (login_calls (is_password (state old) i password) users i own most) → LogsInAs users i old new t password result
-    ended new (Ok reply) err stops = absurd err
+    ended new (Ok reply) err stops = absurd cc
     ended new (Err stopped) err stops = subst (λ (c : List RawCall). LoginStops old new t c) same_calls stops
 
     -- and one that was answered
@@ -199,7 +200,7 @@ module _ (users i t : ℕ) (password : List ℕ) (old : Traced) where
       pub reading_stops : {A : Type 0} (new : Traced) (r : Result A Refusal) (P : A → Type 0) (stopped : Stopped) (d o : ℕ) → d ≡ root_number → o ≡ password_of i → ((a : A) → r ≡ Ok a → ⊥) → Answered entered new t (Read d o) r P → LogsInAs users i old new t password (Err stopped)
       reading_stops {A} new r P stopped d o root segment not_ok answered =
           let reads = subst (λ (o' : ℕ). Answered {A = A} entered new t (Read root_number o') r P) segment (subst (λ (d' : ℕ). Answered {A = A} entered new t (Read d' o) r P) root answered) in
-          ended new (Err stopped) tt (stops_after t old entered new (OwnLabel ∷ entering i own most ∷ []) (Read root_number (password_of i) ∷ []) (taking (is_password (state old) i password) users i own most) granted_entered
+          ended new (Err stopped) refl (stops_after t old entered new (OwnLabel ∷ entering i own most ∷ []) (Read root_number (password_of i) ∷ []) (taking (is_password (state old) i password) users i own most) granted_entered
           (stops_at t entered new (Read root_number (password_of i)) r P not_ok reads (λ d. refl)))
 
       state_entered : state entered ≡ with_own (state old) t (floor_of own (owner_of (read_category i) (write_category i))) (join_of most (cleared_of (read_category i) (write_category i)))
@@ -253,4 +254,42 @@ module _ (users i t : ℕ) (password : List ℕ) (old : Traced) where
                 ∙ labels_taken (state old) t _ _ label clearance
 
             pub becomes : BecomesUser users i t (state old) (state new) (reply_if right)
-            becomes = becomes_if right (state new) (state_new ∙ (λ j. with_own (state old) t (label_is j) (clearance_is j))) (labels_back (state old) t own most own_is most_is asks.outcome)
+            becomes = becomes_if users i t own most (state old) right (state new) (state_new ∙ (λ j. with_own (state old) t (label_is j) (clearance_is j))) (labels_back (state old) t own most own_is most_is asks.outcome)
+
+-- The gate's answer, from the raw call that enters it.
+module _ (t : ℕ) (old new : Traced) (call : RawCall) where
+  -- by the refusal
+  stops_by : {A : Type 0} (P : A → Type 0) (refusal : Refusal) (told : Result Errno Stopped) (stopped : Stopped) (result : Result (Option Errno) Stopped) → IsErr result → ((d : Denied) → gate_errno call d ≡ errno_of d)
+      → Answered {A = A} old new t call (Err refusal) P → IsTold errno_of refusal told → told ≡ Err stopped → EntersGate old new t call result
+  stops_by P refusal told stopped (Ok answer) err tells answered is same = absurd cc
+  stops_by P (refusals.Denied d) told stopped (Err e) err tells answered is same = record {
+    front = call ∷ [];
+    rest = [];
+    parts = refl;
+    refusal = Some (call, d);
+    made = (new, Some d, answered, (same_kernel new, refl));
+    untold = tells d ∙ subst (λ (x : Result Errno Stopped). IsTold errno_of (refusals.Denied d) x) same is;
+  }
+  stops_by P refusals.OutOfMemory told stopped (Err e) err tells answered is same = record { front = []; rest = call ∷ []; parts = refl; refusal = None; made = (answered, refl); untold = refl }
+
+  tells_by : {A : Type 0} (P : A → Type 0) (refusal : Refusal) (told : Result Errno Stopped) (errno : Errno) → Answered {A = A} old new t call (Err refusal) P → IsTold errno_of refusal told → told ≡ Ok errno → EntersGate old new t call (Ok (Some errno))
+  tells_by P (refusals.Denied d) told errno answered is same = (d, (new, Some d, answered, (same_kernel new, refl)), subst (λ (x : Result Errno Stopped). IsTold errno_of (refusals.Denied d) x) same is)
+  tells_by P refusals.OutOfMemory told errno answered is same = absurd (subst (λ (x : Result Errno Stopped). IsTold errno_of refusals.OutOfMemory x) same is)
+
+  module _ {A : Type 0} (r : Result A Refusal) (P : A → Type 0) (answered : Answered old new t call r P) (refusal : Refusal) (refuses : r ≡ Err refusal) (told : Result Errno Stopped) (is : IsTold errno_of refusal told) where
+    answered_so : Answered {A = A} old new t call (Err refusal) P
+    answered_so = subst (λ (x : Result A Refusal). Answered old new t call x P) refuses answered
+
+    -- memory ran out, or the refusal is none that is told
+    pub gate_stops : (stopped : Stopped) (result : Result (Option Errno) Stopped) → IsErr result → ((d : Denied) → gate_errno call d ≡ errno_of d) → told ≡ Err stopped → EntersGate old new t call result
+    gate_stops stopped result err tells same = stops_by {A = A} P refusal told stopped result err tells answered_so is same
+
+    -- the refusal is told
+    pub gate_tells : (errno : Errno) → told ≡ Ok errno → EntersGate old new t call (Ok (Some errno))
+    gate_tells errno same = tells_by {A = A} P refusal told errno answered_so is same
+
+-- a raw call by which a gate is entered is this one
+pub same_entering : (d o : ℕ) (wanted clearance shown : Levels) (i : ℕ) (own most given limit : Levels) → d ≡ root_number → o ≡ gate_of i → given ≡ owner_of (read_category i) (write_category i) → limit ≡ cleared_of (read_category i) (write_category i)
+    → wanted ≡ floor_of own given → clearance ≡ join_of most limit → shown ≡ own → Enter d o wanted clearance shown ≡ entering i own most
+same_entering d o wanted clearance shown i own most given limit root gate g l w c s =
+    (λ j. Enter (root j) (gate j) ((w ∙ ap (floor_of own) g) j) ((c ∙ ap (join_of most) l) j) (s j))
