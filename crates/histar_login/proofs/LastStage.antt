@@ -7,9 +7,9 @@ use Rattle.histar_object.specs.State.{empty_state}
 use Rattle.histar_rules.specs.declared.raw.RawCall.TheVariants as calls
 use Rattle.histar_rules.specs.Sound.{root_number}
 use Rattle.histar_syscall.specs.Traced.{Traced, state, Called}
-use Rattle.histar_syscall.proofs.Runs.{granted_more}
+use Rattle.histar_syscall.proofs.Runs.{granted_more, made_run}
 use Rattle.histar_login.specs.Start.{written_by, boot_category, own_read_category, container, state_with, of_users, of_directory, start_state}
-use Rattle.histar_login.specs.Boot.{boot_thread_number, IsBooted}
+use Rattle.histar_login.specs.Boot.{boot_calls, boot_thread_number, IsBooted}
 use Rattle.histar_login.specs.Booting.{Part, and_then, nothing_yet, next_number, Boots, BootsOn, IsAnywhere, IsBefore, IsBeforeBoth, two_categories, categories_part, users_part, directory_part, process_part}
 use Rattle.histar_login.proofs.Stages.{boots_same, length-numbered}
 use Rattle.histar_login.proofs.StartLemmas.{range-suc}
@@ -103,3 +103,7 @@ module _ (users : List User) (first before after : Traced) (boots : Boots first 
   started =
       boots_last first before after last_part last_boots called (two_not_in_row 3 (2 + 2 * length users) (6 + 2 * length users) (omega arith) (omega arith))
       ∙ ap (state_with (container (written_by boot_category) (range_with_len 3 (2 + 2 * length users) ++ (6 + 2 * length users) ∷ []) ∷ None ∷ (all_parts users).objects)) (omega arith)
+
+-- no line was begun
+pub booted_line : (users : List User) (kernel : Traced) → IsBooted users kernel → kernel.line ≡ 0
+booted_line users kernel booted = (made_run boot_thread_number booted.first kernel (boot_calls users) None booted.made).ran.line ∙ booted.line
