@@ -28,9 +28,11 @@ more_parts users = and_then (first_parts users) (directory_part (length users) u
 abbrev pub all_parts : List User → Part
 all_parts users = and_then (more_parts users) (process_part (length users))
 
+-- where the user table and `/` begin
 directory_is_next : (users : List User) → next_number (first_parts users) ≡ 3 + 2 * length users
 directory_is_next users = ap (λ (k : ℕ). 3 + k) (length-numbered 1 users)
 
+-- where process 0 begins
 process_is_next : (users : List User) → IsBeforeBoth (6 + 2 * length users) (own_read_category (length users)) (more_parts users)
 process_is_next users = (omega (arith, length-numbered 1 users, length-append (of_users users) (of_directory (length users) users)), omega arith)
 
@@ -75,6 +77,7 @@ root_numbers n =
 
 module _ (users : List User) (first before after : Traced) (boots : Boots first before (all_parts users))
     (called : Called before after boot_thread_number (calls.Unlink root_number boot_thread_number) None) where
+  -- all parts of boot, with the numbers of the root container in a row
   last_part : Part
   last_part = record {
     calls = (all_parts users).calls;
@@ -83,6 +86,7 @@ module _ (users : List User) (first before after : Traced) (boots : Boots first 
     categories = (all_parts users).categories;
   }
 
+  -- they stand
   last_boots : Boots first before last_part
   unfolding last_part
   last_boots = boots_same first before (all_parts users) last_part boots refl (root_numbers (length users)) refl refl
