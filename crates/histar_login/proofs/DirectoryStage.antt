@@ -17,6 +17,7 @@ use Rattle.histar_login.specs.Booting.{Part, and_then, next_number, Boots, direc
 use Rattle.histar_login.proofs.Stages.{boots_same}
 use Rattle.histar_login.proofs.Parts.{next_number_is, boots_shared, boots_within}
 
+-- three put behind one by one are put behind together
 three_more : {A : Type 0} (xs : List A) (a b c : A) → (((xs ++ a ∷ []) ++ b ∷ []) ++ c ∷ []) ≡ xs ++ a ∷ b ∷ c ∷ []
 three_more xs a b c = simp append_assoc
 
@@ -25,15 +26,19 @@ module _ (first k0 k1 k2 k3 : Traced) (p : Part) (n : ℕ) (users : List User) (
     (c1 : Called k0 k1 boot_thread_number (calls.MakeSegment root_number (written_by boot_category) (user_table users)) None)
     (c2 : Called k1 k2 boot_thread_number (calls.MakeContainer root_number (written_by (write_category 1))) None) (is_root : root ≡ k1.kept.next_object)
     (c3 : Called k2 k3 boot_thread_number (calls.MakeSegment root (written_by (write_category 1)) []) None) (is_listing : listing ≡ k2.kept.next_object) where
+  -- the user table
   table_object : Object Levels
   table_object = record { label = written_by boot_category; kind = Segment (user_table users) }
 
+  -- `/`
   root_object : Object Levels
   root_object = record { label = written_by (write_category 1); kind = Container set.empty }
 
+  -- its directory segment
   listing_object : Object Levels
   listing_object = record { label = written_by (write_category 1); kind = Segment [] }
 
+  -- the three raw calls
   call1 : RawCall
   call1 = calls.MakeSegment root_number (written_by boot_category) (user_table users)
 
@@ -43,6 +48,7 @@ module _ (first k0 k1 k2 k3 : Traced) (p : Part) (n : ℕ) (users : List User) (
   call3 : RawCall
   call3 = calls.MakeSegment root (written_by (write_category 1)) []
 
+  -- what stands after each
   p1 : Part
   p1 = record { calls = p.calls ++ call1 ∷ []; linked = p.linked ++ next_number p ∷ []; objects = p.objects ++ Some table_object ∷ []; categories = p.categories }
 
@@ -57,6 +63,7 @@ module _ (first k0 k1 k2 k3 : Traced) (p : Part) (n : ℕ) (users : List User) (
     categories = p.categories;
   }
 
+  -- and that it stands
   b1 : Boots first k1 p1
   unfolding call1 table_object p1
   b1 = boots_shared first k0 k1 p b0 call1 table_object c1 c1.state
@@ -65,6 +72,7 @@ module _ (first k0 k1 k2 k3 : Traced) (p : Part) (n : ℕ) (users : List User) (
   unfolding call2 root_object p1 p2
   b2 = boots_shared first k1 k2 p1 b1 call2 root_object c2 c2.state
 
+  -- where `/` stands
   root_at : root ≡ 3 + length (p.objects ++ Some table_object ∷ [])
   unfolding p1
   root_at = is_root ∙ next_number_is first k1 k1 p1 b1
@@ -73,6 +81,7 @@ module _ (first k0 k1 k2 k3 : Traced) (p : Part) (n : ℕ) (users : List User) (
   unfolding call3 listing_object root_object p1 p2 p3
   b3 = boots_within first k2 k3 p2 b2 call3 listing_object root (p.objects ++ Some table_object ∷ []) [] (written_by (write_category 1)) [] refl root_at c3 c3.state
 
+  -- the numbers of the objects
   next1 : next_number p1 ≡ 4 + 2 * n
   unfolding p1
   next1 = omega (arith, at, length-append p.objects (Some table_object ∷ []))
@@ -89,6 +98,7 @@ module _ (first k0 k1 k2 k3 : Traced) (p : Part) (n : ℕ) (users : List User) (
   directory_listing : listing ≡ 5 + 2 * n
   directory_listing = is_listing ∙ next_number_is first k2 k2 p2 b2 ∙ next2
 
+  -- all three together
   directory_boots : Boots first k3 (and_then p (directory_part n users))
   unfolding call1 call2 call3 table_object root_object listing_object p1 p2 p3
   directory_boots =

@@ -17,17 +17,21 @@ use Rattle.histar_container.specs.Kept.{CutsOff}
 use Rattle.histar_login.specs.Start.{object_at, state_with}
 use Rattle.histar_login.specs.Booting.{table_of, nothing_yet}
 
+-- 3 and more is not 2
 above_two : (k : ℕ) → (suc (suc (suc k)) == 2) ≡ false
 above_two k = grind (arith, nat_tests)
 
+-- 3 and more is not 1
 above_one : (k : ℕ) → (suc (suc (suc k)) == 1) ≡ false
 above_one k = grind (arith, nat_tests)
 
+-- where two tests fail there is nothing
 neither : (a b : Bool) (x y : Found) → a ≡ false → b ≡ false → (if a then x else if b then y else None) ≡ None
 neither true b x y e f = cc
 neither false true x y e f = cc
 neither false false x y e f = refl
 
+-- what the empty kernel has at each number
 empty_at : (q : ℕ) → empty_state.objects q ≡ object_at (table_of boot_thread nothing_yet) q
 empty_at zero = refl
 empty_at (suc zero) = refl
@@ -38,6 +42,7 @@ empty_at (suc (suc (suc k))) = neither (suc (suc (suc k)) == 2) (suc (suc (suc k
 pub empty_is : empty_state ≡ state_with (table_of boot_thread nothing_yet) 2
 empty_is = λ i. record { objects = λ q. empty_at q i; next_object = 3; next_category = 2 }
 
+-- what is taken out again was there before or is not there
 put_and_taken : (b x : Bool) → (b ≡ true → x ≡ false) → (not b && (b || x)) ≡ x
 put_and_taken true x h = sym (h refl)
 put_and_taken false x h = refl
@@ -50,13 +55,16 @@ removed_again numbers n none =
     ∙ ap (λ (b : Bool). not (eq_by_cmp nat_cmp q n) && b) (set.contains-insert nat_cmp_total numbers n q)
     ∙ put_and_taken (eq_by_cmp nat_cmp q n) (set.contains numbers q) (λ e. ap (set.contains numbers) (eqb-true q n (sym (unsigned_tied q n) ∙ e)) ∙ none))
 
+-- 2 is no number above it
 differs : (a : ℕ) → 2 < a → eq_by_cmp nat_cmp 2 a ≡ false
 differs a lt = unsigned_tied 2 a ∙ grind (arith, nat_tests)
 
+-- neither of two
 none_in : (a b : Bool) → a ≡ false → b ≡ false → (a || b) ≡ false
 none_in true b e f = cc
 none_in false b e f = f
 
+-- 2 is none of the numbers in a row of greater ones
 not_in_row : (a n k : ℕ) → 2 < a → 2 < k → list_any (eq_by_cmp nat_cmp 2) (range_with_len a n ++ k ∷ []) ≡ false
 not_in_row a zero k lt last = none_in (eq_by_cmp nat_cmp 2 k) false (differs k last) refl
 not_in_row a (suc n) k lt last = none_in (eq_by_cmp nat_cmp 2 a) _ (differs a lt) (not_in_row (a + 1) n k (omega arith) last)
@@ -65,12 +73,14 @@ not_in_row a (suc n) k lt last = none_in (eq_by_cmp nat_cmp 2 a) _ (differs a lt
 pub two_not_in_row : (a n k : ℕ) → 2 < a → 2 < k → set.contains (set.from_list {R = nat_cmp} (range_with_len a n ++ k ∷ [])) 2 ≡ false
 two_not_in_row a n k lt last = set.contains-from_list nat_cmp_total (range_with_len a n ++ k ∷ []) 2 ∙ not_in_row a n k lt last
 
+-- a thread links nothing
 thread_links : (k : Kind Levels) → kind_is_thread k ≡ true → kind_links k ≡ set.empty
 thread_links (Segment bytes) e = cc
 thread_links (Container links) e = cc
 thread_links (Thread clearance) e = refl
 thread_links (Gate clearance entry) e = cc
 
+-- nothing is both
 false_true : (b : Bool) → b ≡ false → b ≡ true → ⊥
 false_true true e f = cc
 false_true false e f = cc

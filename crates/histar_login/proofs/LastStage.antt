@@ -7,9 +7,9 @@ use Rattle.histar_object.specs.State.{empty_state}
 use Rattle.histar_rules.specs.declared.raw.RawCall.TheVariants as calls
 use Rattle.histar_rules.specs.Sound.{root_number}
 use Rattle.histar_syscall.specs.Traced.{Traced, state, Called}
-use Rattle.histar_syscall.proofs.Runs.{granted_more}
+use Rattle.histar_syscall.proofs.Runs.{granted_more, made_run}
 use Rattle.histar_login.specs.Start.{written_by, boot_category, own_read_category, container, state_with, of_users, of_directory, start_state}
-use Rattle.histar_login.specs.Boot.{boot_thread_number, IsBooted}
+use Rattle.histar_login.specs.Boot.{boot_calls, boot_thread_number, IsBooted}
 use Rattle.histar_login.specs.Booting.{Part, and_then, nothing_yet, next_number, Boots, BootsOn, IsAnywhere, IsBefore, IsBeforeBoth, two_categories, categories_part, users_part, directory_part, process_part}
 use Rattle.histar_login.proofs.Stages.{boots_same, length-numbered}
 use Rattle.histar_login.proofs.StartLemmas.{range-suc}
@@ -28,9 +28,11 @@ more_parts users = and_then (first_parts users) (directory_part (length users) u
 abbrev pub all_parts : List User → Part
 all_parts users = and_then (more_parts users) (process_part (length users))
 
+-- where the user table and `/` begin
 directory_is_next : (users : List User) → next_number (first_parts users) ≡ 3 + 2 * length users
 directory_is_next users = ap (λ (k : ℕ). 3 + k) (length-numbered 1 users)
 
+-- where process 0 begins
 process_is_next : (users : List User) → IsBeforeBoth (6 + 2 * length users) (own_read_category (length users)) (more_parts users)
 process_is_next users = (omega (arith, length-numbered 1 users, length-append (of_users users) (of_directory (length users) users)), omega arith)
 
@@ -75,6 +77,7 @@ root_numbers n =
 
 module _ (users : List User) (first before after : Traced) (boots : Boots first before (all_parts users))
     (called : Called before after boot_thread_number (calls.Unlink root_number boot_thread_number) None) where
+  -- all parts of boot, with the numbers of the root container in a row
   last_part : Part
   last_part = record {
     calls = (all_parts users).calls;
@@ -83,6 +86,7 @@ module _ (users : List User) (first before after : Traced) (boots : Boots first 
     categories = (all_parts users).categories;
   }
 
+  -- they stand
   last_boots : Boots first before last_part
   unfolding last_part
   last_boots = boots_same first before (all_parts users) last_part boots refl (root_numbers (length users)) refl refl
@@ -103,3 +107,7 @@ module _ (users : List User) (first before after : Traced) (boots : Boots first 
   started =
       boots_last first before after last_part last_boots called (two_not_in_row 3 (2 + 2 * length users) (6 + 2 * length users) (omega arith) (omega arith))
       ∙ ap (state_with (container (written_by boot_category) (range_with_len 3 (2 + 2 * length users) ++ (6 + 2 * length users) ∷ []) ∷ None ∷ (all_parts users).objects)) (omega arith)
+
+-- no line was begun
+pub booted_line : (users : List User) (kernel : Traced) → IsBooted users kernel → kernel.line ≡ 0
+booted_line users kernel booted = (made_run boot_thread_number booted.first kernel (boot_calls users) None booted.made).ran.line ∙ booted.line

@@ -16,6 +16,7 @@ use Rattle.histar_login.specs.Booting.{Part, and_then, next_number, next_made, B
 use Rattle.histar_login.proofs.Stages.{boots_same}
 use Rattle.histar_login.proofs.Parts.{next_number_is, next_made_is, boots_category, boots_shared, boots_within}
 
+-- six put behind one by one are put behind together
 six_more : {A : Type 0} (xs : List A) (a b c d e f : A) → ((((((xs ++ a ∷ []) ++ b ∷ []) ++ c ∷ []) ++ d ∷ []) ++ e ∷ []) ++ f ∷ []) ≡ xs ++ a ∷ b ∷ c ∷ d ∷ e ∷ f ∷ []
 six_more xs a b c d e f = simp append_assoc
 
@@ -27,18 +28,23 @@ module _ (first k0 k1 k2 k3 k4 k5 k6 : Traced) (p : Part) (n read write outer in
     (c4 : Called k3 k4 boot_thread_number (calls.MakeContainer outer (secret_of read write)) None) (is_inner : inner ≡ k3.kept.next_object)
     (c5 : Called k4 k5 boot_thread_number (calls.MakeThread inner (owner_of read write) (cleared_of read write)) None) (is_thread : thread ≡ k4.kept.next_object)
     (c6 : Called k5 k6 boot_thread_number (calls.MakeSegment outer (written_by write) (process_bytes inner thread)) None) where
+  -- the container of process 0
   outer_object : Object Levels
   outer_object = record { label = written_by write; kind = Container set.empty }
 
+  -- its internal container
   inner_object : Object Levels
   inner_object = record { label = secret_of read write; kind = Container set.empty }
 
+  -- its thread
   thread_object : Object Levels
   thread_object = record { label = owner_of read write; kind = Thread (cleared_of read write) }
 
+  -- its process segment
   process_object : Object Levels
   process_object = record { label = written_by write; kind = Segment (process_bytes inner thread) }
 
+  -- the raw calls that make them
   call3 : RawCall
   call3 = calls.MakeContainer root_number (written_by write)
 
@@ -51,6 +57,7 @@ module _ (first k0 k1 k2 k3 k4 k5 k6 : Traced) (p : Part) (n read write outer in
   call6 : RawCall
   call6 = calls.MakeSegment outer (written_by write) (process_bytes inner thread)
 
+  -- what stands after each raw call
   p1 : Part
   p1 = record { calls = p.calls ++ calls.MakeCategory ∷ []; linked = p.linked; objects = p.objects; categories = p.categories + 1 }
 
@@ -63,6 +70,7 @@ module _ (first k0 k1 k2 k3 k4 k5 k6 : Traced) (p : Part) (n read write outer in
   p4 : Part
   p4 = record { calls = p3.calls ++ call4 ∷ []; linked = p3.linked; objects = p.objects ++ container (written_by write) (next_number p3 ∷ []) ∷ Some inner_object ∷ []; categories = p2.categories }
 
+  -- what stands before the internal container
   front5 : List Found
   front5 = p.objects ++ container (written_by write) (next_number p3 ∷ []) ∷ []
 
@@ -77,6 +85,7 @@ module _ (first k0 k1 k2 k3 k4 k5 k6 : Traced) (p : Part) (n read write outer in
     categories = p2.categories;
   }
 
+  -- and that it stands
   b1 : Boots first k1 p1
   unfolding p1
   b1 = boots_category first k0 k1 p b0 c1
@@ -89,6 +98,7 @@ module _ (first k0 k1 k2 k3 k4 k5 k6 : Traced) (p : Part) (n read write outer in
   unfolding call3 outer_object p1 p2 p3
   b3 = boots_shared first k2 k3 p2 b2 call3 outer_object c3 c3.state
 
+  -- where the container stands
   outer_at : outer ≡ 3 + length p.objects
   unfolding p2
   outer_at = is_outer ∙ next_number_is first k2 k2 p2 b2
@@ -97,6 +107,7 @@ module _ (first k0 k1 k2 k3 k4 k5 k6 : Traced) (p : Part) (n read write outer in
   unfolding call4 outer_object inner_object p1 p2 p3 p4
   b4 = boots_within first k3 k4 p3 b3 call4 inner_object outer p.objects [] (written_by write) [] refl outer_at c4 c4.state
 
+  -- the numbers of the objects
   next3 : next_number p3 ≡ 7 + 2 * n
   unfolding p3
   next3 = omega (arith, at, length-append p.objects (Some outer_object ∷ []))
@@ -112,6 +123,7 @@ module _ (first k0 k1 k2 k3 k4 k5 k6 : Traced) (p : Part) (n read write outer in
   inner_is : inner ≡ 7 + 2 * n
   inner_is = is_inner ∙ next_number_is first k3 k3 p3 b3 ∙ next3
 
+  -- where the internal container stands
   inner_at : inner ≡ 3 + length front5
   unfolding front5
   inner_at = omega (arith, at, inner_is, length-append p.objects (container (written_by write) (next_number p3 ∷ []) ∷ []))
@@ -126,6 +138,7 @@ module _ (first k0 k1 k2 k3 k4 k5 k6 : Traced) (p : Part) (n read write outer in
   b6 = boots_within first k5 k6 p5 b5 call6 process_object outer p.objects (container (secret_of read write) (next_number p4 ∷ []) ∷ Some thread_object ∷ []) (written_by write) (next_number p3 ∷ [])
       (append_assoc p.objects (container (written_by write) (next_number p3 ∷ []) ∷ []) (container (secret_of read write) (next_number p4 ∷ []) ∷ Some thread_object ∷ [])) outer_at c6 c6.state
 
+  -- the categories and the numbers that the kernel answered
   read_is : read ≡ own_read_category n
   read_is = is_read ∙ next_made_is first k0 k0 p b0 ∙ made
 
@@ -140,6 +153,7 @@ module _ (first k0 k1 k2 k3 k4 k5 k6 : Traced) (p : Part) (n read write outer in
   process_thread : thread ≡ 8 + 2 * n
   process_thread = is_thread ∙ next_number_is first k4 k4 p4 b4 ∙ next4
 
+  -- all six together
   process_boots : Boots first k6 (and_then p (process_part n))
   unfolding call3 call4 call5 call6 outer_object inner_object thread_object process_object p1 p2 p3 p4 p5 p6 front5
   process_boots =

@@ -32,6 +32,7 @@ two_boot first k0 k1 k2 p b0 c1 c2 =
     let b2 : Boots first k2 p2 = boots_category first k1 k2 p1 b1 c2 in
     boots_same first k2 p2 (and_then p two_categories) b2 (append_assoc p.calls (calls.MakeCategory ∷ []) (calls.MakeCategory ∷ [])) (sym (append-nil p.linked)) (sym (append-nil p.objects)) (omega arith)
 
+-- one user more
 length-take_next : (users : List User) (i : ℕ) → i < length users → length (take (i + 1) users) ≡ length (take i users) + 1
 length-take_next users i lt = omega (arith, length-take-le i users (omega arith), length-take-le (i + 1) users (omega arith))
 

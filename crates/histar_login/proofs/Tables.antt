@@ -16,24 +16,30 @@ changed f k [] = []
 changed f zero (x ∷ table) = option_map f x ∷ table
 changed f (suc k) (x ∷ table) = x ∷ changed f k table
 
+-- a number above 0 is not 0
 first_is_last : (k : ℕ) → (suc k == 0) ≡ false
 first_is_last k = grind (arith, nat_tests)
 
+-- 0 is no number above it
 last_is_first : (n : ℕ) → (0 == suc n) ≡ false
 last_is_first n = grind (arith, nat_tests)
 
+-- two numbers are the same where those before them are
 both_later : (k n : ℕ) → (suc k == suc n) ≡ (k == n)
 both_later k n = grind (arith, nat_tests)
 
+-- a test that fails picks the second
 other : (b : Bool) (x y : Found) → b ≡ false → (if b then x else y) ≡ y
 other b x y h = ap (λ t. if t then x else y) h
 
+-- an object that is put at the end of a table stands behind it
 put_behind : (objects : List Found) (o : Object Levels) (k : ℕ) → (if k == length objects then Some o else get_or objects k None) ≡ get_or (objects ++ Some o ∷ []) k None
 put_behind [] o zero = refl
 put_behind [] o (suc k) = other (suc k == 0) (Some o) None (first_is_last k)
 put_behind (x ∷ objects) o zero = other (0 == suc (length objects)) (Some o) x (last_is_first (length objects))
 put_behind (x ∷ objects) o (suc k) = ap (λ t. if t then Some o else get_or objects k None) (both_later k (length objects)) ∙ put_behind objects o k
 
+-- the number behind a table
 one_more : (n : ℕ) → 1 + n ≡ suc n
 one_more n = omega arith
 
@@ -42,10 +48,12 @@ put_is : (objects : List Found) (o : Object Levels) (q : ℕ) → put (object_at
 put_is objects o zero = ap (λ n. put (object_at objects) n o zero) (one_more (length objects)) ∙ other (0 == suc (length objects)) (Some o) None (last_is_first (length objects))
 put_is objects o (suc k) = ap (λ n. put (object_at objects) n o (suc k)) (one_more (length objects)) ∙ ap (λ t. if t then Some o else get_or objects k None) (both_later k (length objects)) ∙ put_behind objects o k
 
+-- nothing is changed where nothing is
 changed_empty : (f : Object Levels → Object Levels) (b : Bool) → (if b then option_map f None else None) ≡ None
 changed_empty f true = refl
 changed_empty f false = refl
 
+-- what is changed at a place is changed in the table
 changed_within : (f : Object Levels → Object Levels) (table : List Found) (k j : ℕ) → (if j == k then option_map f (get_or table j None) else get_or table j None) ≡ get_or (changed f k table) j None
 changed_within f [] k zero = changed_empty f (0 == k)
 changed_within f [] k (suc j) = changed_empty f (suc j == k)

@@ -13,6 +13,7 @@ use Rattle.histar_calls.specs.declared.places.Places.{Places}
 use Rattle.histar_calls.specs.contracts.places.Places as where_is
 use Rattle.histar_calls.specs.Follows.{ReadsFile, WritesFile, MakesFile}
 use Rattle.histar_calls.specs.Replies.{Replies}
+use Rattle.histar_login.specs.Boot.{IsBooted}
 use Rattle.histar_login.specs.Login.{LogsIn}
 use Rattle.histar_login.specs.Start.{places_of, thread_number, start_state}
 use Rattle.histar_calls.specs.declared.stopping.Stopped.{Stopped}
@@ -29,13 +30,13 @@ pub record Running : Type 0 where
 abbrev pub coded_running : Coded Running
 coded_running = code_by (Traced × (Places × (ℕ × (List User × Bool)))) (coded× coded_traced (coded× where_is.the_row.coded (coded× coded_ℕ (coded× (coded_list user.the_row.coded) coded_bool)))) (λ m. (m.kernel, (m.places, (m.thread, (m.users, m.is_stopped))))) (λ p. record { kernel = p.0; places = p.1.0; thread = p.1.1.0; users = p.1.1.1.0; is_stopped = p.1.1.1.1 }) (λ _. refl)
 
--- a machine that was booted with these users: it runs, and no raw call was made yet
+-- a machine that was booted with these users: it runs, and no raw call but those of boot was made
 pub record IsStart (declared : List User) (m : Running) : Type 0 where
   pub users : m.users ≡ declared
   pub places : m.places ≡ places_of (length declared)
   pub thread : m.thread ≡ thread_number (length declared)
   pub state : state m.kernel ≡ start_state declared
-  pub trace : m.kernel.trace ≡ []
+  pub booted : IsBooted declared m.kernel
   pub line : m.kernel.line ≡ 0
   pub runs : m.is_stopped ≡ false
 

@@ -12,4 +12,6 @@ pub use machine::{Machine, Trace};
 pub use session::{Options, run};
 
 #[cfg(test)]
+mod boot_tests;
+#[cfg(test)]
 mod tests;

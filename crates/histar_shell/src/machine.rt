@@ -6,10 +6,10 @@ ghost use Rattle.histar_shell.specs.Machine.{AnswersLine, IsStart, Makes};
 use histar_calls::{Places, Stopped, create, read, write};
 use histar_flat::{ProcName, Reply, UnixCall, User};
 use histar_label::LabelStore;
-use histar_login::{login, start_objects};
+use histar_login::{boot, login};
 use histar_object::ObjId;
 use histar_syscall::{Kernel, TraceEntry};
-use std::alloc::{AllocError, Global};
+use std::alloc::Global;
 use std::marker::Model;
 
 /// The raw calls of a run, in their order.
@@ -65,16 +65,16 @@ impl<S: LabelStore + Drop> Model for Machine<S> {
 }
 
 impl<S: LabelStore + Drop> Machine<S> {
-    /// A machine with these users, before the first call: `/` is the first user's, readable and empty,
-    /// and process 0 is nobody's.
-    pub fn boot(alloc: Global, store: S, users: &[User]) -> Result<Self, AllocError>
+    /// A machine with these users that was booted by its raw calls, before the first call of a script:
+    /// `/` is the first user's, readable and empty, and process 0 is nobody's.
+    pub fn boot(alloc: Global, store: S, users: &[User]) -> Result<Self, Stopped>
         requires { IsUserList users.now }
         ensures { IfOk result (IsStart users.now) }
     {
         let users = Vec::from_slice(alloc, users)?;
-        let (objects, places, thread) = start_objects(alloc, store, users.as_slice())?;
+        let (kernel, places, thread) = boot(alloc, store, users.as_slice())?;
         Ok(Machine {
-            kernel: Kernel::starting(alloc, objects),
+            kernel,
             places,
             thread,
             users,

@@ -48,7 +48,9 @@ pub fn run<R: Source, W: Sink>(
     let script = read_script(alloc, input.as_slice())?;
     let (users, calls) = script.into_parts();
     let store = PlainStore::new(alloc);
-    let mut machine = Machine::boot(alloc, store, users.as_slice())?;
+    let Ok(mut machine) = Machine::boot(alloc, store, users.as_slice()) else {
+        return Err(Fault::OutOfMemory);
+    };
     answer_calls(alloc, &mut machine, calls, writer)?;
     Ok(machine.into_trace())
 }

@@ -38,20 +38,14 @@ returns-in_err-script-clause-answers g c =
     let p = err_from_is_err_and c.from_residual-in_err-script.result c.from_residual-in_err-script.ensures.1 in
     rw (p.1, p.2) (script_fault_writes c.in_err-script.field-0.0 _ _ c.in_ok-input.input.items (rw c.as_slice.ensures.value at c.in_err-script.ensures.exact))
 
-pub returns-in_err-machine-clause-taken : goal.returns-in_err-machine-clause-taken
-returns-in_err-machine-clause-taken g c =
-    let p = err_from_is_err_and c.from_residual-in_err-machine.result c.from_residual-in_err-machine.ensures.1 in
-    rw (p.1, p.2) (takes_at_fault OutOfMemory _ _ _ c.in_ok-input.ensures.ok)
+pub returns-in_default-clause-taken : goal.returns-in_default-clause-taken
+returns-in_default-clause-taken g c = takes_at_fault OutOfMemory _ _ _ c.in_ok-input.ensures.ok
 
-pub returns-in_err-machine-clause-faults_of_input : goal.returns-in_err-machine-clause-faults_of_input
-returns-in_err-machine-clause-faults_of_input g c =
-    let p = err_from_is_err_and c.from_residual-in_err-machine.result c.from_residual-in_err-machine.ensures.1 in
-    rw (p.1, p.2) (input_fault_agrees OutOfMemory _ tt)
+pub returns-in_default-clause-faults_of_input : goal.returns-in_default-clause-faults_of_input
+returns-in_default-clause-faults_of_input g c = input_fault_agrees OutOfMemory _ tt
 
-pub returns-in_err-machine-clause-answers : goal.returns-in_err-machine-clause-answers
-returns-in_err-machine-clause-answers g c =
-    let p = err_from_is_err_and c.from_residual-in_err-machine.result c.from_residual-in_err-machine.ensures.1 in
-    rw (p.1, p.2) (input_fault_writes OutOfMemory _ _ tt)
+pub returns-in_default-clause-answers : goal.returns-in_default-clause-answers
+returns-in_default-clause-answers g c = input_fault_writes OutOfMemory _ _ tt
 
 pub returns-in_err-answer_calls-clause-taken : goal.returns-in_err-answer_calls-clause-taken
 returns-in_err-answer_calls-clause-taken g c =
@@ -69,8 +63,8 @@ pub returns-in_err-answer_calls-clause-answers : goal.returns-in_err-answer_call
 returns-in_err-answer_calls-clause-answers g c =
     let p = err_from_is_err_and c.from_residual-in_err-answer_calls.result c.from_residual-in_err-answer_calls.ensures.1 in
     let same = same_script _ _ c.in_ok-input.input.items c.in_ok-input.ensures.ok in
-    let starts = starts_with c.in_ok-machine.machine c.in_ok-script.script _ _ c.as_slice-2.ensures.value c.into_parts-users.ensures.users c.in_ok-machine.ensures in
-    let begun = begins_script _ _ c.in_ok-script.script c.in_ok-machine.machine _ starts c.into_parts-users.ensures.calls c.in_err-answer_calls.ensures.err in
+    let starts = starts_with c.in-Ok.machine c.in_ok-script.script _ _ c.as_slice-2.ensures.value c.into_parts-users.ensures.users c.in-Ok.ensures in
+    let begun = begins_script _ _ c.in_ok-script.script c.in-Ok.machine _ starts c.into_parts-users.ensures.calls c.in_err-answer_calls.ensures.err in
     rw (p.1, p.2) (at_script
     (λ (read : Result Reading Fault). WritesAtFault (g.W.Sink.written c.args.writer.now) (g.W.Sink.written c.answer_calls.new.writer) read c.in_err-answer_calls.field-0.0)
     _ c.in_ok-input.input.items c.in_ok-script.script same (rw c.as_slice.ensures.value at c.in_ok-script.ensures.exact)
@@ -87,8 +81,8 @@ returns-clause-faults_of_input g c =
 pub returns-clause-answers : goal.returns-clause-answers
 returns-clause-answers g c =
     let same = same_script _ _ c.in_ok-input.input.items c.in_ok-input.ensures.ok in
-    let starts = starts_with c.in_ok-machine.machine c.in_ok-script.script _ _ c.as_slice-2.ensures.value c.into_parts-users.ensures.users c.in_ok-machine.ensures in
+    let starts = starts_with c.in-Ok.machine c.in_ok-script.script _ _ c.as_slice-2.ensures.value c.into_parts-users.ensures.users c.in-Ok.ensures in
     at_script
     (λ (read : Result Reading Fault). AnswersScript (g.W.Sink.written c.args.writer.now) (g.W.Sink.written c.answer_calls.new.writer) read c.into_trace.result)
     _ c.in_ok-input.input.items c.in_ok-script.script same (rw c.as_slice.ensures.value at c.in_ok-script.ensures.exact)
-    (answers_script _ _ c.in_ok-script.script c.in_ok-machine.machine c.answer_calls.new.machine _ _ starts c.into_parts-users.ensures.calls c.in_ok-answer_calls.ensures.ok c.into_trace.ensures)
+    (answers_script _ _ c.in_ok-script.script c.in-Ok.machine c.answer_calls.new.machine _ _ starts c.into_parts-users.ensures.calls c.in_ok-answer_calls.ensures.ok c.into_trace.ensures)

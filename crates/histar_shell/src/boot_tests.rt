@@ -1,0 +1,126 @@
+//! The raw calls that boot a machine with one user, against a list that was written by hand.
+use crate::{Counted, Options, run};
+use histar_base::Bytes;
+use histar_label::{Label, Level};
+use histar_object::Entry;
+use histar_syscall::RawCall;
+use std::alloc::{AllocError, Global};
+use std::test::Fail;
+
+/// A machine with one user, whom nobody calls.
+const SCRIPT: &[u8] = b"user root rr\n";
+
+/// Its raw calls, all of boot. Bytes are told as hexadecimal digits. The user table has nobody, with
+/// the categories 2 and 3 and with no gate and no password, and root, with the categories 4 and 5, the
+/// gate 4 and the password 3. The process segment says that process 0 runs, that no child was born,
+/// and that its internal container is 9 and its thread 10.
+const CALLS: [&str; 16] = [
+    "make category",
+    "make category",
+    "make category",
+    "make category",
+    "make segment 1 {4:3,5:0,1} 7272",
+    "make gate 1 {4:*,5:*,1} {4:3,5:3,2} login 1",
+    "make segment 1 {1:0,1} 066e6f626f64790000000000000002000000000000000300000000000000000000000000000000\
+    04726f6f740000000000000004000000000000000500000000000000040000000000000003",
+    "make container 1 {5:0,1}",
+    "make segment 6 {5:0,1} ",
+    "make category",
+    "make category",
+    "make container 1 {7:0,1}",
+    "make container 8 {6:3,7:0,1}",
+    "make thread 9 {6:*,7:*,1} {6:3,7:3,2}",
+    "make segment 8 {7:0,1} 7200000000000000000009000000000000000a",
+    "unlink 1 2",
+];
+
+/// A level as a label is written with it.
+fn level_text(level: Level) -> &'static str {
+    match level {
+        Level::Star => "*",
+        Level::L0 => "0",
+        Level::L1 => "1",
+        Level::L2 => "2",
+        Level::L3 => "3",
+    }
+}
+
+/// A label: its exceptions, and then the level of all other categories.
+fn label_text(alloc: Global, label: &Label) -> Result<String, AllocError> {
+    let mut text = String::from_str(alloc, "{")?;
+    for &(category, level) in label.exceptions() {
+        let exception = format!(in alloc; "{}:{},", category.number(), level_text(level))?;
+        text.push_str(exception.as_str())?;
+    }
+    text.push_str(level_text(label.default_level()))?;
+    text.push_str("}")?;
+    Ok(text)
+}
+
+/// Two hexadecimal digits for each byte.
+fn bytes_text(alloc: Global, bytes: &Bytes) -> Result<String, AllocError> {
+    let mut text = String::new(alloc);
+    for byte in bytes.as_slice() {
+        let digits = format!(in alloc; "{:02x}", *byte)?;
+        text.push_str(digits.as_str())?;
+    }
+    Ok(text)
+}
+
+/// What a gate gives to those who enter it.
+fn entry_text(alloc: Global, entry: Entry) -> Result<String, AllocError> {
+    match entry {
+        Entry::Login(user) => format!(in alloc; "login {user}"),
+        Entry::Mark(mark) => format!(in alloc; "mark {mark}"),
+    }
+}
+
+/// A raw call of boot; of any other only that it is one.
+fn call_text(alloc: Global, call: &RawCall) -> Result<String, AllocError> {
+    match call {
+        RawCall::MakeCategory => String::from_str(alloc, "make category"),
+        RawCall::MakeSegment(container, label, bytes) => {
+            let label = label_text(alloc, label)?;
+            let bytes = bytes_text(alloc, bytes)?;
+            format!(in alloc; "make segment {} {label} {bytes}", container.number())
+        }
+        RawCall::MakeContainer(container, label) => {
+            let label = label_text(alloc, label)?;
+            format!(in alloc; "make container {} {label}", container.number())
+        }
+        RawCall::MakeThread(container, label, clearance) => {
+            let label = label_text(alloc, label)?;
+            let clearance = label_text(alloc, clearance)?;
+            format!(in alloc; "make thread {} {label} {clearance}", container.number())
+        }
+        RawCall::MakeGate(container, label, clearance, entry) => {
+            let label = label_text(alloc, label)?;
+            let clearance = label_text(alloc, clearance)?;
+            let entry = entry_text(alloc, *entry)?;
+            format!(in alloc;
+                "make gate {} {label} {clearance} {entry}",
+                container.number()
+            )
+        }
+        RawCall::Unlink(container, object) => {
+            format!(in alloc; "unlink {} {}", container.number(), object.number())
+        }
+        _ => String::from_str(alloc, "another call"),
+    }
+}
+
+#[test]
+fn boots_by_sixteen_raw_calls(rt: HostRuntime) -> Result<(), Fail> {
+    let mut reader = Counted::new(SCRIPT);
+    let mut writer = Counted::new(Vec::new(rt.alloc()));
+    let trace = run(rt.alloc(), &mut reader, &mut writer, Options {})?;
+    let entries = trace.entries();
+    assert_eq!(rt; entries.len(), CALLS.len());
+    for (entry, call) in entries.iter().zip(CALLS.iter()) {
+        assert_eq!(rt; call_text(rt.alloc(), &entry.call)?.as_str(), *call);
+        assert_eq!(rt; entry.line, 0);
+        assert_eq!(rt; entry.thread.number(), 2);
+        assert!(rt; entry.denied.is_none());
+    }
+    Ok(())
+}
