@@ -1,2 +1,3 @@
 pub mod PaddingLemmas
 pub mod WordLemmas
+pub mod Worked
