@@ -1,3 +1,6 @@
 pub mod PaddingLemmas
 pub mod WordLemmas
+pub mod Refusals
+pub mod FileLemmas
+pub mod Laws
 pub mod Worked
