@@ -4,4 +4,6 @@ pub mod Refusals
 pub mod FileLemmas
 pub mod Laws
 pub mod PrivateFiles
+pub mod Entries
+pub mod Secrecy
 pub mod Worked
