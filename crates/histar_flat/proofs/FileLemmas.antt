@@ -1,5 +1,5 @@
 -- What a map of paths answers after a change.
-use Rattle.std.specs.Prelude.{◌≡◌, ◌≢◌, Bool, true, false, cond, ℕ, List, Some, None, refl}
+use Rattle.std.specs.Prelude.{◌≡◌, ◌≢◌, Bool, true, false, cond, ℕ, List, Some, refl}
 use Rattle.std.proofs.Common.{◌⊎◌, ap, inl, inr, sym, ◌∙◌}
 use Rattle.std.specs.declared.cmp.Ordering.{Ordering}
 use Rattle.std.specs.declared.cmp.Ordering.TheVariants.{Less, Equal, Greater}

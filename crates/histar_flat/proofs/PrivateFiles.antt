@@ -1,6 +1,6 @@
 -- A private file and the processes of others: one call.
-use Rattle.std.specs.Prelude.{◌≡◌, ◌≢◌, ℕ, Bool, true, false, not, ◌&&◌, List, [], ◌∷◌, length, nat_lt, nat_le, Option, Some, None, is_some, refl}
-use Rattle.std.proofs.Common.{ap, sym, ◌∙◌, subst}
+use Rattle.std.specs.Prelude.{◌≡◌, ◌≢◌, ℕ, Bool, true, false, not, ◌&&◌, List, length, nat_lt, nat_le, Option, Some, None, is_some, refl}
+use Rattle.std.proofs.Common.{ap, sym, ◌∙◌}
 use Rattle.std.proofs.lemmas.Bool.{true≢false}
 use Rattle.histar_base.specs.Refusals.{◌orelse◌, unless}
 use Rattle.histar_flat.specs.declared.calls.User.{User}
@@ -8,17 +8,16 @@ use Rattle.histar_flat.specs.declared.calls.Mode.{Mode}
 use Rattle.histar_flat.specs.declared.calls.UnixCall.{UnixCall}
 use Rattle.histar_flat.specs.declared.calls.UnixCall.TheVariants.{Create, Read, Write, Login}
 use Rattle.histar_flat.specs.declared.replies.Errno.{Errno}
-use Rattle.histar_flat.specs.declared.replies.Errno.TheVariants.{ENOENT, EISDIR, EEXIST, EACCES, EPERM, ENOSPC, EFBIG}
-use Rattle.histar_flat.specs.declared.replies.Reply.{Reply}
-use Rattle.histar_flat.specs.declared.replies.Reply.TheVariants.{Data, Refused, Gone}
+use Rattle.histar_flat.specs.declared.replies.Errno.TheVariants.{EEXIST, EACCES, EPERM, ENOSPC, EFBIG}
+use Rattle.histar_flat.specs.declared.replies.Reply.TheVariants.{Data}
 use Rattle.histar_flat.specs.Words.{Name, Path, ProcName}
 use Rattle.histar_flat.specs.PathOrder.{same, parent}
 use Rattle.histar_flat.specs.Files.{get}
 use Rattle.histar_flat.specs.Classes.{Process, is_free, may_read, may_write, class_made}
 use Rattle.histar_flat.specs.Classes.Class.{Private}
-use Rattle.histar_flat.specs.FlatState.{Flat, Node, is_some_and, is_there, is_file_at, reads, writes, entries_in, walk}
+use Rattle.histar_flat.specs.FlatState.{Flat, Node, is_some_and, is_there, reads, writes, entries_in, walk}
 use Rattle.histar_flat.specs.FlatState.Content.{File}
-use Rattle.histar_flat.specs.FlatCalls.{is_below_root, no_room, no_file, refused, changed, answer, reply_or, flat_or, running, reply_by, flat_by, reply_to, flat_after, class_or_open}
+use Rattle.histar_flat.specs.FlatCalls.{is_below_root, no_room, no_file, refused, changed, answer, reply_or, flat_or, running, reply_by, flat_by, reply_to, flat_after}
 use Rattle.histar_flat.proofs.Refusals.{passes_first, passes_later, passed}
 use Rattle.histar_flat.proofs.FileLemmas.{get_other}
 

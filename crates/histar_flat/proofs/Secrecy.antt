@@ -5,21 +5,19 @@ use Rattle.std.proofs.Common.{ap, sym, ◌∙◌, subst, inl, inr}
 use Rattle.std.proofs.lemmas.Bool.{true≢false}
 use Rattle.histar_base.specs.Refusals.{◌orelse◌, unless}
 use Rattle.histar_flat.specs.declared.calls.User.{User}
-use Rattle.histar_flat.specs.declared.calls.Mode.{Mode}
 use Rattle.histar_flat.specs.declared.calls.UnixCall.{UnixCall}
 use Rattle.histar_flat.specs.declared.calls.UnixCall.TheVariants.{Create, Read, Write, Login}
 use Rattle.histar_flat.specs.declared.replies.Errno.{Errno}
 use Rattle.histar_flat.specs.declared.replies.Errno.TheVariants.{ENOENT, ENOTDIR, EISDIR, EEXIST, EACCES, EPERM, ENOSPC, EFBIG}
 use Rattle.histar_flat.specs.declared.replies.Reply.{Reply}
-use Rattle.histar_flat.specs.declared.replies.Reply.TheVariants.{Data, Refused, Gone}
+use Rattle.histar_flat.specs.declared.replies.Reply.TheVariants.{Data, Refused}
 use Rattle.histar_flat.specs.Words.{Name, Path, ProcName}
 use Rattle.histar_flat.specs.PathOrder.{same, parent}
-use Rattle.histar_flat.specs.Files.{Files, get, insert}
+use Rattle.histar_flat.specs.Files.{get, insert}
 use Rattle.histar_flat.specs.Classes.{Class, Process, may_read, may_write, class_made}
-use Rattle.histar_flat.specs.Classes.Class.{Private}
-use Rattle.histar_flat.specs.FlatState.{Flat, Node, Content, is_some_and, is_dir, is_there, is_dir_at, is_file_at, reads, writes, bytes_of, class_of, entries_in, into, walk, with_bytes, with_process}
+use Rattle.histar_flat.specs.FlatState.{Flat, Node, is_some_and, is_there, is_dir_at, is_file_at, reads, writes, bytes_of, class_of, into, walk, with_bytes, with_process}
 use Rattle.histar_flat.specs.FlatState.Content.{File}
-use Rattle.histar_flat.specs.FlatCalls.{is_below_root, no_room, no_file, refused, changed, answer, reply_or, flat_or, if_running, running, reply_by, flat_by, reply_to, flat_after, class_or_open}
+use Rattle.histar_flat.specs.FlatCalls.{is_below_root, no_room, no_file, refused, changed, answer, reply_or, flat_or, if_running, running, reply_by, flat_by, reply_to, flat_after}
 use Rattle.histar_flat.specs.Meaning.{Asked, replies_from, flat_end}
 use Rattle.histar_flat.proofs.FileLemmas.{same_path_found, get_other, get_new}
 use Rattle.histar_flat.proofs.Entries.{shown, same_entries_shown}

@@ -1,5 +1,5 @@
 -- Worked sessions: the replies of the meaning, computed.
-use Rattle.std.specs.Prelude.{◌≡◌, ℕ, ◌+◌, zero, suc, List, [], ◌∷◌, ◌++◌, codes, replicate, refl, map, None, Some}
+use Rattle.std.specs.Prelude.{◌≡◌, ℕ, zero, suc, List, [], ◌∷◌, ◌++◌, codes, replicate, refl, map, Some}
 use Rattle.std.specs.Fmt.{decimal, digits}
 use Rattle.histar_flat.specs.declared.calls.User.{User}
 use Rattle.histar_flat.specs.declared.calls.Mode.TheVariants.{Private, Readable}
@@ -9,13 +9,12 @@ use Rattle.histar_flat.specs.declared.replies.Errno.TheVariants.{ENOENT, ENOTDIR
 use Rattle.histar_flat.specs.declared.replies.Reply.{Reply}
 use Rattle.histar_flat.specs.declared.replies.Reply.TheVariants.{Done, Data, Refused, Gone}
 use Rattle.histar_flat.specs.Texts.{reply_text}
-use Rattle.histar_flat.specs.Words.{Name, Path, ProcName}
-use Rattle.histar_flat.specs.Files.{empty, insert, get}
-use Rattle.histar_flat.specs.Classes.{Process}
+use Rattle.histar_flat.specs.Words.{Path}
+use Rattle.histar_flat.specs.Files.{get}
 use Rattle.histar_flat.specs.Classes.Class.{Open, Scratch, Private as PrivateClass, Readable as ReadableClass}
 use Rattle.histar_flat.specs.FlatState.{Flat, with_node, with_process}
 use Rattle.histar_flat.specs.FlatState.Content.{Dir, File}
-use Rattle.histar_flat.specs.FlatCalls.{reply_to, flat_after}
+use Rattle.histar_flat.specs.FlatCalls.{reply_to}
 use Rattle.histar_flat.specs.Meaning.{Asked, boot, flat_end, meaning, replies_from, first_process}
 
 -- the users of the sessions: root, who is the first, and bob

@@ -1,5 +1,5 @@
 -- One call of one process: its first refusal, and else the change and the answer.
-use Rattle.std.specs.Prelude.{Bool, true, false, not, cond, ℕ, nat_lt, nat_le, List, [], ◌∷◌, length, Option, None, Some, is_some}
+use Rattle.std.specs.Prelude.{Bool, true, false, not, cond, nat_lt, nat_le, List, [], ◌∷◌, length, Option, None, Some, is_some}
 use Rattle.histar_base.specs.Refusals.{◌orelse◌, unless}
 use Rattle.histar_flat.specs.declared.calls.User.{User}
 use Rattle.histar_flat.specs.declared.calls.UnixCall.{UnixCall}
