@@ -3,7 +3,10 @@ pub mod WordLemmas
 pub mod Refusals
 pub mod FileLemmas
 pub mod Laws
+pub mod FirstProcess
 pub mod PrivateFiles
 pub mod Entries
+pub mod Alike
 pub mod Secrecy
+pub mod Writing
 pub mod Worked

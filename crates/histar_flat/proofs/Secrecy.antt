@@ -1,26 +1,25 @@
 -- No reply to others tells what a private file holds: a whole run.
-use Rattle.std.specs.Prelude.{◌≡◌, ◌≢◌, ℕ, Bool, true, false, not, ◌&&◌, cond, List, [], ◌∷◌, length, nat_lt, nat_le, Option, Some, None, is_some, option_map, refl}
+use Rattle.std.specs.Prelude.{◌≡◌, ◌≢◌, ℕ, Bool, true, false, not, ◌&&◌, cond, List, [], ◌∷◌, Option, Some, None, option_map, refl}
 use Rattle.std.specs.List.{list_all}
 use Rattle.std.proofs.Common.{ap, sym, ◌∙◌, subst, inl, inr}
 use Rattle.std.proofs.lemmas.Bool.{true≢false}
-use Rattle.histar_base.specs.Refusals.{◌orelse◌, unless}
 use Rattle.histar_flat.specs.declared.calls.User.{User}
 use Rattle.histar_flat.specs.declared.calls.UnixCall.{UnixCall}
 use Rattle.histar_flat.specs.declared.calls.UnixCall.TheVariants.{Create, Read, Write, Login}
 use Rattle.histar_flat.specs.declared.replies.Errno.{Errno}
-use Rattle.histar_flat.specs.declared.replies.Errno.TheVariants.{ENOENT, ENOTDIR, EISDIR, EEXIST, EACCES, EPERM, ENOSPC, EFBIG}
 use Rattle.histar_flat.specs.declared.replies.Reply.{Reply}
 use Rattle.histar_flat.specs.declared.replies.Reply.TheVariants.{Data, Refused}
 use Rattle.histar_flat.specs.Words.{Name, Path, ProcName}
-use Rattle.histar_flat.specs.PathOrder.{same, parent}
+use Rattle.histar_flat.specs.PathOrder.{same}
 use Rattle.histar_flat.specs.Files.{get, insert}
-use Rattle.histar_flat.specs.Classes.{Class, Process, may_read, may_write, class_made}
-use Rattle.histar_flat.specs.FlatState.{Flat, Node, is_some_and, is_there, is_dir_at, is_file_at, reads, writes, bytes_of, class_of, into, walk, with_bytes, with_process}
+use Rattle.histar_flat.specs.Classes.{Process}
+use Rattle.histar_flat.specs.FlatState.{Flat, Node, is_some_and, bytes_of, class_of, with_bytes, with_process}
 use Rattle.histar_flat.specs.FlatState.Content.{File}
-use Rattle.histar_flat.specs.FlatCalls.{is_below_root, no_room, no_file, refused, changed, answer, reply_or, flat_or, if_running, running, reply_by, flat_by, reply_to, flat_after}
+use Rattle.histar_flat.specs.FlatCalls.{refused, changed, answer, reply_or, flat_or, if_running, running, reply_by, flat_by, reply_to, flat_after}
 use Rattle.histar_flat.specs.Meaning.{Asked, replies_from, flat_end}
 use Rattle.histar_flat.proofs.FileLemmas.{same_path_found, get_other, get_new}
-use Rattle.histar_flat.proofs.Entries.{shown, same_entries_shown}
+use Rattle.histar_flat.proofs.Alike.{ShowAlike, refused_alike}
+use Rattle.histar_flat.proofs.Entries.{shown}
 use Rattle.histar_flat.proofs.PrivateFiles.{private_file, is_of, private_file_stays, made_elsewhere, read_elsewhere, written_elsewhere}
 
 -- two states that differ in the bytes of one private file alone
@@ -32,13 +31,6 @@ pub record IsAlikeBut (owner : Name) (q : Path) (f g : Flat) : Type 0 where
   pub there : get g.files q ≡ Some (private_file owner second)
   pub processes : f.processes ≡ g.processes
 
--- a test of what is shown
-test_alike : (test : Class × Bool → Bool) (a b : Option Node) → option_map shown a ≡ option_map shown b → is_some_and a (λ n. test (shown n)) ≡ is_some_and b (λ n. test (shown n))
-test_alike test None None h = refl
-test_alike test None (Some n) h = absurd (cc)
-test_alike test (Some m) None h = absurd (cc)
-test_alike test (Some m) (Some n) h = let e : shown m ≡ shown n = cc in ap test e
-
 reply_alike : (d e : Option Errno) (a b : Reply) → d ≡ e → (d ≡ None → a ≡ b) → reply_or d a ≡ reply_or e b
 reply_alike None None a b h k = k refl
 reply_alike None (Some x) a b h k = absurd (cc)
@@ -46,49 +38,11 @@ reply_alike (Some x) None a b h k = absurd (cc)
 reply_alike (Some x) (Some y) a b h k = let t : x ≡ y = cc in ap Refused t
 
 module _ (owner : Name) (q : Path) (f g : Flat) (alike : IsAlikeBut owner q f g) where
-  shown_alike : (r : Path) → option_map shown (get f.files r) ≡ option_map shown (get g.files r)
+  shown_alike : ShowAlike f g
   shown_alike r = elim (same_path_found q r) [
     | inl e ↦ subst (λ s. option_map shown (get f.files s) ≡ option_map shown (get g.files s)) e.1 (ap (option_map shown) alike.here ∙ sym (ap (option_map shown) alike.there))
     | inr n ↦ ap (option_map shown) (alike.elsewhere r n.1)
   ]
-
-  there_alike : (r : Path) → is_there f r ≡ is_there g r
-  there_alike r = test_alike (λ s. true) (get f.files r) (get g.files r) (shown_alike r)
-
-  dir_alike : (r : Path) → is_dir_at f r ≡ is_dir_at g r
-  dir_alike r = test_alike (λ s. s.1) (get f.files r) (get g.files r) (shown_alike r)
-
-  file_alike : (r : Path) → is_file_at f r ≡ is_file_at g r
-  file_alike r = test_alike (λ s. not s.1) (get f.files r) (get g.files r) (shown_alike r)
-
-  reads_alike : (p : Process) (r : Path) → reads f p r ≡ reads g p r
-  reads_alike p r = test_alike (λ s. may_read p s.0) (get f.files r) (get g.files r) (shown_alike r)
-
-  writes_alike : (p : Process) (r : Path) → writes f p r ≡ writes g p r
-  writes_alike p r = test_alike (λ s. may_write p s.0) (get f.files r) (get g.files r) (shown_alike r)
-
-  into_alike : (p : Process) (d : Path) → into f p d ≡ into g p d
-  into_alike p [] = λ i. unless (reads_alike p [] i) EACCES
-  into_alike p (n ∷ d) = λ i. into_alike p d i orelse unless (there_alike (n ∷ d) i) ENOENT orelse unless (dir_alike (n ∷ d) i) ENOTDIR orelse unless (reads_alike p (n ∷ d) i) EACCES
-
-  walk_alike : (p : Process) (r : Path) → walk f p r ≡ walk g p r
-  walk_alike p [] = refl
-  walk_alike p (n ∷ d) = into_alike p d
-
-  room_alike : (p : Process) (r : Path) → no_room f p r ≡ no_room g p r
-  room_alike p r =
-      let entries = same_entries_shown f g (parent r) shown_alike in
-      λ i. unless (is_below_root r) EEXIST orelse walk_alike p r i orelse unless (not (there_alike r i)) EEXIST orelse unless (nat_lt (length (entries i)) 64) ENOSPC orelse unless (writes_alike p (parent r) i) EACCES
-
-  file_reached_alike : (p : Process) (r : Path) → no_file f p r ≡ no_file g p r
-  file_reached_alike p r = λ i. unless (is_below_root r) EISDIR orelse walk_alike p r i orelse unless (there_alike r i) ENOENT orelse unless (file_alike r i) EISDIR
-
-  -- each call has the same refusal
-  refused_alike : (users : List User) (me : ProcName) (p : Process) (call : UnixCall) → refused users f me p call ≡ refused users g me p call
-  refused_alike users me p (Create r mode) = λ i. room_alike p r i orelse unless (is_some (class_made p mode)) EPERM
-  refused_alike users me p (Read r) = λ i. file_reached_alike p r i orelse unless (reads_alike p r i) EACCES
-  refused_alike users me p (Write r bytes) = λ i. file_reached_alike p r i orelse unless (writes_alike p r i) EACCES orelse unless (nat_le (length bytes) 4096) EFBIG
-  refused_alike users me p (Login name password) = refl
 
   -- a call that is not refused has the same answer to another user's process
   answer_alike : (users : List User) (me : ProcName) (p : Process) (call : UnixCall) → same p.user owner ≡ false → refused users f me p call ≡ None → answer f me p call ≡ answer g me p call
@@ -141,7 +95,7 @@ module _ (owner : Name) (q : Path) (f g : Flat) (alike : IsAlikeBut owner q f g)
     where
       by : (r : Option Process) → is_some_and r (λ p. same p.user owner) ≡ false → reply_by users f me r call ≡ reply_by users g me r call
       by None i = refl
-      by (Some p) i = reply_alike (refused users f me p call) (refused users g me p call) (answer f me p call) (answer g me p call) (refused_alike users me p call) (answer_alike users me p call i)
+      by (Some p) i = reply_alike (refused users f me p call) (refused users g me p call) (answer f me p call) (answer g me p call) (refused_alike f g shown_alike users me p call) (answer_alike users me p call i)
 
   -- It leaves states that differ in these bytes alone.
   pub flat_after_alike : (users : List User) (me : ProcName) (call : UnixCall) → is_of f me owner ≡ false → IsAlikeBut owner q (flat_after users f me call) (flat_after users g me call)
@@ -149,7 +103,7 @@ module _ (owner : Name) (q : Path) (f g : Flat) (alike : IsAlikeBut owner q f g)
     where
       by : (r : Option Process) → is_some_and r (λ p. same p.user owner) ≡ false → IsAlikeBut owner q (flat_by users f me r call) (flat_by users g me r call)
       by None i = alike
-      by (Some p) i = flat_or_alike users me p call i (refused users f me p call) (refused users g me p call) refl (refused_alike users me p call)
+      by (Some p) i = flat_or_alike users me p call i (refused users f me p call) (refused users g me p call) refl (refused_alike f g shown_alike users me p call)
 
 -- a login as this user
 abbrev pub is_login_as : Name → UnixCall → Bool
