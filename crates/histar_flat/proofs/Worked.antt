@@ -1,5 +1,6 @@
 -- Worked sessions: the replies of the meaning, computed.
-use Rattle.std.specs.Prelude.{◌≡◌, ℕ, zero, suc, List, [], ◌∷◌, ◌++◌, codes, replicate, refl, map, Some}
+use Rattle.std.specs.Prelude.{◌≡◌, ℕ, zero, suc, List, [], ◌∷◌, ◌++◌, codes, replicate, refl, Some}
+use Rattle.std.specs.List.{flat_map}
 use Rattle.std.specs.Fmt.{decimal, digits}
 use Rattle.histar_flat.specs.declared.calls.User.{User}
 use Rattle.histar_flat.specs.declared.calls.Mode.TheVariants.{Private, Readable}
@@ -44,9 +45,9 @@ path_a = codes "a" ∷ []
 abbrev path_b : Path
 path_b = codes "b" ∷ []
 
--- the replies as they are printed
-abbrev told : List (ℕ × Reply) → List (List ℕ)
-told = map (λ reply. reply_text reply.1)
+-- the replies as they are printed: a line each, with its number, a space and the text of the reply
+abbrev printed : List (ℕ × Reply) → List ℕ
+printed = flat_map (λ reply. decimal reply.0 ++ codes " " ++ reply_text reply.1 ++ codes "\n")
 
 -- no call, no reply
 pub nothing_asked : meaning users [] ≡ []
@@ -90,21 +91,23 @@ pub two_users : meaning users (
     (13, Refused EACCES) ∷ []
 two_users = refl
 
--- the same session as it is told
-pub two_users_told : told (meaning users (
+-- the same session as it is printed
+pub two_users_printed : printed (meaning users (
     by_zero 3 (Create path_a Readable) ∷
     by_zero 4 root_logs_in ∷
     by_zero 5 (Create path_a Private) ∷
     by_zero 6 (Write path_a (codes "hello world")) ∷
     by_zero 7 (Login (codes "root") (codes "no")) ∷
-    by_zero 8 (Read path_a) ∷ [])) ≡
-    codes "EACCES" ∷
-    codes "ok" ∷
-    codes "ok" ∷
-    codes "ok" ∷
-    codes "EAUTH" ∷
-    codes "= hello world" ∷ []
-two_users_told = refl
+    by_zero 8 (Read path_a) ∷
+    by_zero 9 bob_logs_in ∷
+    by_zero 10 (Read path_a) ∷
+    by_zero 11 (Read path_b) ∷
+    by_zero 12 (Create path_a Readable) ∷
+    by_zero 13 (Create path_b Readable) ∷
+    by_child 14 (Read path_a) ∷ [])) ≡
+    codes "3 EACCES\n4 ok\n5 ok\n6 ok\n7 EAUTH\n8 = hello world\n9 ok\n10 EACCES\n11 ENOENT\n12 EEXIST\n13 EACCES\n14 gone\n"
+unfolding digits
+two_users_printed = refl
 
 -- what another user tries on a private file leaves it as it is
 pub private_file : meaning users (
@@ -144,12 +147,13 @@ pub readable_file : meaning users (
     (9, Data (codes "news")) ∷ []
 readable_file = refl
 
--- a new file is empty, and so is what is told of it after `= `
-pub empty_file : told (meaning users (
+-- a new file is empty, and its line ends with the space
+pub empty_file : printed (meaning users (
     by_zero 3 root_logs_in ∷
     by_zero 4 (Create path_a Private) ∷
     by_zero 5 (Read path_a) ∷ [])) ≡
-    codes "ok" ∷ codes "ok" ∷ codes "= " ∷ []
+    codes "3 ok\n4 ok\n5 = \n"
+unfolding digits
 empty_file = refl
 
 -- bytes that are written stand in the place of all that was there
