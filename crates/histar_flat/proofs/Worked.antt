@@ -331,15 +331,43 @@ pub job : replies_from users in_a_job (
     by_zero 6 (Create (codes "out" ∷ codes "j" ∷ []) Readable) ∷
     by_zero 7 (Write (codes "out" ∷ codes "j" ∷ []) (codes "result")) ∷
     by_zero 8 (Read (codes "out" ∷ codes "j" ∷ [])) ∷
-    by_zero 9 bob_logs_in ∷ []) ≡
+    by_zero 9 bob_logs_in ∷
+    by_zero 10 (Login (codes "bob") (codes "no")) ∷
+    by_zero 11 (Login (codes "alice") (codes "no")) ∷ []) ≡
     (3, Data (codes "deep")) ∷
     (4, Refused EACCES) ∷
     (5, Refused EACCES) ∷
     (6, Done) ∷
     (7, Done) ∷
     (8, Data (codes "result")) ∷
-    (9, Refused EACCES) ∷ []
+    (9, Refused EACCES) ∷
+    (10, Refused EACCES) ∷
+    (11, Refused ENOENT) ∷ []
 job = refl
+
+-- process 0 is bob's and holds the job 0.1, which has the directory /j
+abbrev holding_a_job : Flat
+holding_a_job = with_process in_a_job [] (record first_process { user = codes "bob"; held = (1 ∷ []) ∷ [] })
+
+-- who holds a job works in its directory; what it makes there is its own, and a login lets go of the job
+pub held_job : replies_from users holding_a_job (
+    by_zero 3 (Create (codes "in" ∷ codes "j" ∷ []) Private) ∷
+    by_zero 4 (Write (codes "in" ∷ codes "j" ∷ []) (codes "data")) ∷
+    by_zero 5 (Write path_a (codes "new")) ∷
+    by_zero 6 (Login (codes "bob") (codes "no")) ∷
+    by_zero 7 (Read (codes "in" ∷ codes "j" ∷ [])) ∷
+    by_zero 8 bob_logs_in ∷
+    by_zero 9 (Read (codes "in" ∷ codes "j" ∷ [])) ∷
+    by_zero 10 (Read path_a) ∷ []) ≡
+    (3, Done) ∷
+    (4, Done) ∷
+    (5, Done) ∷
+    (6, Refused EAUTH) ∷
+    (7, Data (codes "data")) ∷
+    (8, Done) ∷
+    (9, Refused EACCES) ∷
+    (10, Data (codes "new")) ∷ []
+held_job = refl
 
 -- a process that has exited is gone
 pub exited : reply_to users (with_process (boot users) [] (record first_process { exited = Some 7 })) [] root_logs_in ≡ Gone
