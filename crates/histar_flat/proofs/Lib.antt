@@ -10,3 +10,4 @@ pub mod Alike
 pub mod Secrecy
 pub mod Writing
 pub mod Worked
+pub mod WorkedRights
