@@ -1,7 +1,7 @@
 -- A private file and the processes of others: one call.
 use Rattle.std.specs.Prelude.{◌≡◌, ◌≢◌, ℕ, Bool, true, false, not, ◌&&◌, List, length, nat_lt, nat_le, Option, Some, None, is_some, refl}
 use Rattle.std.proofs.Common.{ap, sym, ◌∙◌}
-use Rattle.std.proofs.lemmas.Bool.{true≢false}
+use Rattle.std.proofs.lemmas.Bool.{true≢false, not-true}
 use Rattle.histar_base.specs.Refusals.{◌orelse◌, unless}
 use Rattle.histar_flat.specs.declared.calls.User.{User}
 use Rattle.histar_flat.specs.declared.calls.Mode.{Mode}
@@ -25,14 +25,9 @@ use Rattle.histar_flat.proofs.FileLemmas.{get_other}
 abbrev pub private_file : Name → List ℕ → Node
 private_file owner bytes = record { class = Private owner; content = File bytes }
 
--- a process of this name runs, and it is the owner's
-abbrev pub is_of : Flat → ProcName → Name → Bool
-is_of f me owner = is_some_and (running f me) (λ p. same p.user owner)
-
--- no is the answer to a test that is not passed
-fails : (b : Bool) → not b ≡ true → b ≡ false
-fails true h = absurd (true≢false (sym h))
-fails false h = refl
+-- the process of this name runs, and it is the owner's
+abbrev pub runs_for : Flat → ProcName → Name → Bool
+runs_for f me owner = is_some_and (running f me) (λ p. same p.user owner)
 
 -- a file is made only where nothing stands
 pub made_where_nothing_is : (users : List User) (f : Flat) (me : ProcName) (p : Process) (r : Path) (mode : Mode) → refused users f me p (Create r mode) ≡ None → is_there f r ≡ false
@@ -42,7 +37,7 @@ made_where_nothing_is users f me p r mode h =
     let few = unless (nat_lt (length (entries_in f (parent r))) 64) ENOSPC orelse writable in
     let free = unless (not (is_there f r)) EEXIST in
     let walked = passes_later (unless (is_below_root r) EEXIST) (walk f p r orelse free orelse few) room in
-    fails (is_there f r) (passed (not (is_there f r)) EEXIST (passes_first free few (passes_later (walk f p r) (free orelse few) walked)))
+    not-true (is_there f r) (passed (not (is_there f r)) EEXIST (passes_first free few (passes_later (walk f p r) (free orelse few) walked)))
 
 -- what is read may be read
 pub read_is_readable : (users : List User) (f : Flat) (me : ProcName) (p : Process) (r : Path) → refused users f me p (Read r) ≡ None → reads f p r ≡ true
@@ -67,12 +62,12 @@ module _ (f : Flat) (q : Path) (owner : Name) (bytes : List ℕ) (h : get f.file
   pub private_is_unwritten : (p : Process) → same p.user owner ≡ false → writes f p q ≡ false
   private_is_unwritten p i = ap (λ o. is_some_and o (λ n. may_write p n.class)) h ∙ ap (λ b. b && is_free p) i
 
-  -- so another user's process makes no file there
+  -- so no process makes a file there
   pub made_elsewhere : (users : List User) (me : ProcName) (p : Process) (r : Path) (mode : Mode) → refused users f me p (Create r mode) ≡ None → q ≢ r
   made_elsewhere users me p r mode e same_place =
       true≢false (sym private_is_there ∙ ap (is_there f) same_place ∙ made_where_nothing_is users f me p r mode e)
 
-  -- reads elsewhere
+  -- another user's process reads elsewhere
   pub read_elsewhere : (users : List User) (me : ProcName) (p : Process) (r : Path) → same p.user owner ≡ false → refused users f me p (Read r) ≡ None → q ≢ r
   read_elsewhere users me p r i e same_place =
       true≢false (sym (read_is_readable users f me p r e) ∙ ap (reads f p) (sym same_place) ∙ private_is_unread p i)
@@ -88,8 +83,8 @@ module _ (f : Flat) (q : Path) (owner : Name) (bytes : List ℕ) (h : get f.file
   changes_elsewhere users me p (Write r new) i e = get_other f.files r _ q (written_elsewhere users me p r new i e) ∙ h
   changes_elsewhere users me p (Login name password) i e = h
 
-  -- A call of a process that is not the owner's, and so of another user's or of nobody's, leaves a private file as it is.
-  pub private_file_stays : (users : List User) (me : ProcName) (call : UnixCall) → is_of f me owner ≡ false → get (flat_after users f me call).files q ≡ Some (private_file owner bytes)
+  -- A call of a process that is not the owner's, so of another user's or of nobody's, leaves a private file as it is.
+  pub private_file_stays : (users : List User) (me : ProcName) (call : UnixCall) → runs_for f me owner ≡ false → get (flat_after users f me call).files q ≡ Some (private_file owner bytes)
   private_file_stays users me call other = by (running f me) other
     where
       first : (p : Process) → same p.user owner ≡ false → (refusal : Option Errno) → refused users f me p call ≡ refusal → get (flat_or refusal f (changed users f me p call)).files q ≡ Some (private_file owner bytes)
@@ -101,7 +96,7 @@ module _ (f : Flat) (q : Path) (owner : Name) (bytes : List ℕ) (h : get f.file
       by (Some p) i = first p i (refused users f me p call) refl
 
   -- A process that is not the owner's is never answered the bytes of a private file.
-  pub private_file_is_untold : (users : List User) (me : ProcName) (told : List ℕ) → is_of f me owner ≡ false → reply_to users f me (Read q) ≢ Data told
+  pub private_file_is_untold : (users : List User) (me : ProcName) (told : List ℕ) → runs_for f me owner ≡ false → reply_to users f me (Read q) ≢ Data told
   private_file_is_untold users me told other = by (running f me) other
     where
       first : (p : Process) → same p.user owner ≡ false → (refusal : Option Errno) → refused users f me p (Read q) ≡ refusal → reply_or refusal (answer f me p (Read q)) ≢ Data told

@@ -1,8 +1,8 @@
 -- No reply to others tells what a private file holds: a whole run.
-use Rattle.std.specs.Prelude.{◌≡◌, ◌≢◌, ℕ, Bool, true, false, not, ◌&&◌, cond, List, [], ◌∷◌, Option, Some, None, option_map, refl}
+use Rattle.std.specs.Prelude.{◌≡◌, ◌≢◌, ℕ, Bool, true, false, not, cond, List, [], ◌∷◌, Option, Some, None, option_map, refl}
 use Rattle.std.specs.List.{list_all}
 use Rattle.std.proofs.Common.{ap, sym, ◌∙◌, subst, inl, inr}
-use Rattle.std.proofs.lemmas.Bool.{true≢false}
+use Rattle.std.proofs.lemmas.Bool.{and_parts, not-true}
 use Rattle.histar_flat.specs.declared.calls.User.{User}
 use Rattle.histar_flat.specs.declared.calls.UnixCall.{UnixCall}
 use Rattle.histar_flat.specs.declared.calls.UnixCall.TheVariants.{Create, Read, Write, Login}
@@ -20,7 +20,7 @@ use Rattle.histar_flat.specs.Meaning.{Asked, replies_from, flat_end}
 use Rattle.histar_flat.proofs.FileLemmas.{same_path_found, get_other, get_new}
 use Rattle.histar_flat.proofs.Alike.{ShowAlike, refused_alike}
 use Rattle.histar_flat.proofs.Entries.{shown}
-use Rattle.histar_flat.proofs.PrivateFiles.{private_file, is_of, private_file_stays, made_elsewhere, read_elsewhere, written_elsewhere}
+use Rattle.histar_flat.proofs.PrivateFiles.{private_file, runs_for, private_file_stays, made_elsewhere, read_elsewhere, written_elsewhere}
 
 -- two states that differ in the bytes of one private file alone
 pub record IsAlikeBut (owner : Name) (q : Path) (f g : Flat) : Type 0 where
@@ -90,7 +90,7 @@ module _ (owner : Name) (q : Path) (f g : Flat) (alike : IsAlikeBut owner q f g)
   flat_or_alike users me p call i (Some x) (Some y) r h = alike
 
   -- One call of a process that is not the owner's has the same reply in both.
-  pub reply_to_alike : (users : List User) (me : ProcName) (call : UnixCall) → is_of f me owner ≡ false → reply_to users f me call ≡ reply_to users g me call
+  pub reply_to_alike : (users : List User) (me : ProcName) (call : UnixCall) → runs_for f me owner ≡ false → reply_to users f me call ≡ reply_to users g me call
   reply_to_alike users me call other = by (running f me) other ∙ ap (λ o. reply_by users g me (if_running (o me)) call) alike.processes
     where
       by : (r : Option Process) → is_some_and r (λ p. same p.user owner) ≡ false → reply_by users f me r call ≡ reply_by users g me r call
@@ -98,7 +98,7 @@ module _ (owner : Name) (q : Path) (f g : Flat) (alike : IsAlikeBut owner q f g)
       by (Some p) i = reply_alike (refused users f me p call) (refused users g me p call) (answer f me p call) (answer g me p call) (refused_alike f g shown_alike users me p call) (answer_alike users me p call i)
 
   -- It leaves states that differ in these bytes alone.
-  pub flat_after_alike : (users : List User) (me : ProcName) (call : UnixCall) → is_of f me owner ≡ false → IsAlikeBut owner q (flat_after users f me call) (flat_after users g me call)
+  pub flat_after_alike : (users : List User) (me : ProcName) (call : UnixCall) → runs_for f me owner ≡ false → IsAlikeBut owner q (flat_after users f me call) (flat_after users g me call)
   flat_after_alike users me call other = subst (λ o. IsAlikeBut owner q (flat_after users f me call) (flat_by users g me (if_running (o me)) call)) alike.processes (by (running f me) other)
     where
       by : (r : Option Process) → is_some_and r (λ p. same p.user owner) ≡ false → IsAlikeBut owner q (flat_by users f me r call) (flat_by users g me r call)
@@ -118,15 +118,7 @@ has_no_login_as owner asked = list_all (λ a. not (is_login_as owner a.call)) as
 
 -- no process that runs is the owner's
 abbrev pub IsAway : Name → Flat → Type 0
-IsAway owner f = (me : ProcName) → is_of f me owner ≡ false
-
-both : (a b : Bool) → (a && b) ≡ true → (a ≡ true) × (b ≡ true)
-both true b h = (refl, h)
-both false b h = absurd (true≢false (sym h))
-
-fails : (b : Bool) → not b ≡ true → b ≡ false
-fails true h = absurd (true≢false (sym h))
-fails false h = refl
+IsAway owner f = (me : ProcName) → runs_for f me owner ≡ false
 
 module _ (owner : Name) where
   -- a process of another user is not the owner's, whether it runs or not
@@ -166,8 +158,8 @@ module _ (owner : Name) where
   pub replies_alike : (users : List User) (q : Path) (f g : Flat) → IsAlikeBut owner q f g → IsAway owner f → (asked : List Asked) → has_no_login_as owner asked ≡ true → replies_from users f asked ≡ replies_from users g asked
   replies_alike users q f g alike away [] h = refl
   replies_alike users q f g alike away (a ∷ asked) h =
-      let parts = both (not (is_login_as owner a.call)) (has_no_login_as owner asked) h in
-      let quiet = fails (is_login_as owner a.call) parts.0 in
+      let parts = and_parts (not (is_login_as owner a.call)) (has_no_login_as owner asked) h in
+      let quiet = not-true (is_login_as owner a.call) parts.0 in
       let here = reply_to_alike owner q f g alike users a.process a.call (away a.process) in
       let rest = replies_alike users q (flat_after users f a.process a.call) (flat_after users g a.process a.call)
           (flat_after_alike owner q f g alike users a.process a.call (away a.process)) (stays_away users f a.process a.call away quiet) asked parts.1 in
@@ -191,7 +183,7 @@ module _ (owner : Name) where
   pub private_bytes_stay : (users : List User) (f : Flat) (q : Path) (bytes : List ℕ) (asked : List Asked) → get f.files q ≡ Some (private_file owner bytes) → IsAway owner f → has_no_login_as owner asked ≡ true → get (flat_end users f asked).files q ≡ Some (private_file owner bytes)
   private_bytes_stay users f q bytes [] h away quiet = h
   private_bytes_stay users f q bytes (a ∷ asked) h away quiet =
-      let parts = both (not (is_login_as owner a.call)) (has_no_login_as owner asked) quiet in
+      let parts = and_parts (not (is_login_as owner a.call)) (has_no_login_as owner asked) quiet in
       private_bytes_stay users (flat_after users f a.process a.call) q bytes asked
       (private_file_stays f q owner bytes h users a.process a.call (away a.process))
-      (stays_away users f a.process a.call away (fails (is_login_as owner a.call) parts.0)) parts.1
+      (stays_away users f a.process a.call away (not-true (is_login_as owner a.call) parts.0)) parts.1

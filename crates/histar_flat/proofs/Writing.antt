@@ -2,7 +2,7 @@
 use Rattle.std.specs.Prelude.{◌≡◌, Bool, true, false, not, ◌&&◌, List, ℕ, length, nat_le, Option, Some, None, option_map, refl}
 use Rattle.std.specs.List.{list_all}
 use Rattle.std.proofs.Common.{ap, sym, ◌∙◌, subst, inl, inr}
-use Rattle.std.proofs.lemmas.Bool.{true≢false}
+use Rattle.std.proofs.lemmas.Bool.{true≢false, and_parts, not-true}
 use Rattle.histar_base.specs.Refusals.{◌orelse◌, unless}
 use Rattle.histar_flat.specs.declared.calls.User.{User}
 use Rattle.histar_flat.specs.declared.calls.UnixCall.TheVariants.{Read, Write}
@@ -22,16 +22,12 @@ use Rattle.histar_flat.proofs.FileLemmas.{same_path_found, get_other, get_new}
 use Rattle.histar_flat.proofs.PrivateFiles.{written_is_writable}
 use Rattle.histar_flat.proofs.Refusals.{passes_first, passes_later, passed}
 
-first_holds : (a b : Bool) → (a && b) ≡ true → a ≡ true
-first_holds true b h = refl
-first_holds false b h = absurd (true≢false (sym h))
-
 -- What a process may write it may read.
 pub writable_is_readable : (p : Process) (class : Class) → may_write p class ≡ true → may_read p class ≡ true
-writable_is_readable p (Private owner) h = first_holds (same p.user owner) (is_free p) h
+writable_is_readable p (Private owner) h = (and_parts (same p.user owner) (is_free p) h).0
 writable_is_readable p (Readable owner) h = refl
 writable_is_readable p Open h = refl
-writable_is_readable p (Scratch owner jobs) h = first_holds (same p.user owner && list_all (knows p) jobs) (list_all (has jobs) p.chain) h
+writable_is_readable p (Scratch owner jobs) h = (and_parts (same p.user owner && list_all (knows p) jobs) (list_all (has jobs) p.chain) h).0
 
 -- so a process reads what it writes
 pub writes_and_reads : (f : Flat) (p : Process) (q : Path) → writes f p q ≡ true → reads f p q ≡ true
@@ -48,13 +44,9 @@ bytes_show_nothing f q bytes h r = elim (same_path_found r q) [
   | inr n ↦ ap (option_map shown) (get_other f.files q _ r n.1)
 ]
   where
-    plain : (b : Bool) → not b ≡ true → false ≡ b
-    plain true i = absurd (true≢false (sym i))
-    plain false i = refl
-
     by : (o : Option Node) → is_some_and o (λ n. not (is_dir n)) ≡ true → Some (class_of o, false) ≡ option_map shown o
     by None i = absurd (true≢false (sym i))
-    by (Some n) i = ap (λ (b : Bool). Some (n.class, b)) (plain (is_dir n) i)
+    by (Some n) i = ap (λ (b : Bool). Some (n.class, b)) (sym (not-true (is_dir n) i))
 
 module _ (users : List User) (f : Flat) (me : ProcName) (q : Path) (bytes : List ℕ) where
   reply_after : (p : Process) → refused users f me p (Write q bytes) ≡ None → reply_by users (with_bytes f q bytes) me (Some p) (Read q) ≡ Data bytes
