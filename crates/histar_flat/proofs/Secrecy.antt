@@ -1,5 +1,5 @@
 -- No reply to others tells what a private file holds: a whole run.
-use Rattle.std.specs.Prelude.{◌≡◌, ◌≢◌, ℕ, Bool, true, false, not, cond, List, [], ◌∷◌, Option, Some, None, option_map, refl}
+use Rattle.std.specs.Prelude.{◌≡◌, ◌≢◌, ℕ, Bool, true, false, not, cond, List, [], ◌∷◌, ◌++◌, Option, Some, None, option_map, refl}
 use Rattle.std.specs.List.{list_all}
 use Rattle.std.proofs.Common.{ap, sym, ◌∙◌, subst, inl, inr}
 use Rattle.std.proofs.lemmas.Bool.{and_parts, not-true}
@@ -16,8 +16,10 @@ use Rattle.histar_flat.specs.Classes.{Process}
 use Rattle.histar_flat.specs.FlatState.{Flat, Node, is_some_and, bytes_of, class_of, with_bytes, with_process}
 use Rattle.histar_flat.specs.FlatState.Content.{File}
 use Rattle.histar_flat.specs.FlatCalls.{refused, changed, answer, reply_or, flat_or, if_running, running, reply_by, flat_by, reply_to, flat_after}
-use Rattle.histar_flat.specs.Meaning.{Asked, replies_from, flat_end}
+use Rattle.histar_flat.specs.Meaning.{Asked, boot, replies_from, flat_end, meaning}
 use Rattle.histar_flat.proofs.FileLemmas.{same_path_found, get_other, get_new}
+use Rattle.histar_flat.proofs.Laws.{replies_go_on}
+use Rattle.histar_flat.proofs.FirstProcess.{IsAlone, first_runs, others_are_still}
 use Rattle.histar_flat.proofs.Alike.{ShowAlike, refused_alike}
 use Rattle.histar_flat.proofs.Entries.{shown}
 use Rattle.histar_flat.proofs.PrivateFiles.{private_file, runs_for, private_file_stays, made_elsewhere, read_elsewhere, written_elsewhere}
@@ -187,3 +189,17 @@ module _ (owner : Name) where
       private_bytes_stay users (flat_after users f a.process a.call) q bytes asked
       (private_file_stays f q owner bytes h users a.process a.call (away a.process))
       (stays_away users f a.process a.call away (not-true (is_login_as owner a.call) parts.0)) parts.1
+
+  -- While process 0 is the only one, the owner is away where it is another user's or nobody's.
+  pub away_from_the_first : (f : Flat) (h : IsAlone f) → same h.first.user owner ≡ false → IsAway owner f
+  away_from_the_first f h other [] = ap (λ r. is_some_and r (λ p. same p.user owner)) (first_runs f h) ∙ other
+  away_from_the_first f h other (n ∷ q) = ap (λ r. is_some_and r (λ p. same p.user owner)) (others_are_still f h n q)
+
+  -- In a script: once a private file stands and its owner is away, all that follows is answered as if other bytes stood in the
+  -- file, until its owner logs in.
+  pub private_in_a_script : (users : List User) (before later : List Asked) (q : Path) (bytes other : List ℕ) → get (flat_end users (boot users) before).files q ≡ Some (private_file owner bytes)
+      → IsAway owner (flat_end users (boot users) before) → has_no_login_as owner later ≡ true
+      → meaning users (before ++ later) ≡ meaning users before ++ replies_from users (with_bytes (flat_end users (boot users) before) q other) later
+  private_in_a_script users before later q bytes other h away quiet =
+      replies_go_on users (boot users) before later
+      ∙ ap (λ l. meaning users before ++ l) (private_bytes_are_untold users (flat_end users (boot users) before) q bytes other later h away quiet)
