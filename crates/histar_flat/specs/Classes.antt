@@ -6,15 +6,15 @@ use Rattle.histar_flat.specs.declared.calls.Mode.TheVariants as modes
 use Rattle.histar_flat.specs.Words.{Name, ProcName}
 use Rattle.histar_flat.specs.PathOrder.{same}
 
--- who may read and write a file or a directory
+-- whose a file or a directory is, and for whom
 pub data Class : Type 0 where
-  -- its user alone
+  -- for its owner alone
   Private : Name → Class
-  -- everyone may read it, its user alone may write it
+  -- for everyone to read, and for its owner to write
   Readable : Name → Class
-  -- everyone
+  -- for everyone
   Open : Class
-  -- its user, in or with the jobs of the list; a job is named by its first process
+  -- for its owner in these jobs, outermost first; a job is named by its first process
   Scratch : Name → List ProcName → Class
 
 -- a process: its user, the jobs that it is in, outermost first, the jobs that it holds, the number that it has exited with, if
@@ -42,27 +42,27 @@ is_free p = elim p.chain [ [] ↦ true | job ∷ jobs ↦ false ]
 abbrev pub knows : Process → ProcName → Bool
 knows p job = has p.chain job || has p.held job
 
--- A process may read what is private where its user is the owner, what is readable or open always, and what is scratch where its
--- user is the owner and it knows each of the jobs.
+-- A process may read what is private where its user is the owner; what is readable or open always; and scratch where its user is
+-- the owner and it knows each of the jobs.
 abbrev pub may_read : Process → Class → Bool
 may_read p (Private owner) = same p.user owner
 may_read p (Readable owner) = true
 may_read p Open = true
 may_read p (Scratch owner jobs) = same p.user owner && list_all (knows p) jobs
 
--- A process in no job may write what is open and what its user owns; one in a job may write scratch alone, which it may read and
--- which is of all the jobs that it is in.
+-- A process may write what is private or readable where its user is the owner and it is in no job; what is open where it is in no
+-- job; and scratch where it may read it and is in no other job than these.
 abbrev pub may_write : Process → Class → Bool
 may_write p (Private owner) = same p.user owner && is_free p
 may_write p (Readable owner) = same p.user owner && is_free p
 may_write p Open = is_free p
 may_write p (Scratch owner jobs) = same p.user owner && list_all (knows p) jobs && list_all (has jobs) p.chain
 
--- what a process in no job makes for a mode: what its user owns, and nobody owns nothing
+-- what a process in no job makes for a mode: its user's, and nobody makes nothing of these modes
 abbrev pub free_class : Process → Mode → Option Class
 free_class p modes.Private = if same p.user nobody then None else Some (Private p.user)
 free_class p modes.Readable = if same p.user nobody then None else Some (Readable p.user)
 
--- the class that a process makes: in a job it is scratch of the jobs, whatever mode is named
+-- the class that a process makes: in a job it is scratch of its jobs, whatever mode is named
 abbrev pub class_made : Process → Mode → Option Class
 class_made p mode = if is_free p then free_class p mode else Some (Scratch p.user p.chain)

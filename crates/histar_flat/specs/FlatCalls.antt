@@ -20,8 +20,8 @@ abbrev pub is_below_root : Path → Bool
 is_below_root [] = false
 is_below_root (n ∷ d) = true
 
--- An entry is made at a path where the path is not `/`, the walk passes, nothing stands there, the directory has less than 64
--- entries and may be written.
+-- The first refusal of making an entry: the path is `/`, the walk to it is refused, something stands there, its directory has 64
+-- entries, its directory may not be written.
 abbrev pub no_room : Flat → Process → Path → Option Errno
 no_room f p q =
     unless (is_below_root q) EEXIST
@@ -30,7 +30,7 @@ no_room f p q =
     orelse unless (nat_lt (length (entries_in f (parent q))) 64) ENOSPC
     orelse unless (writes f p (parent q)) EACCES
 
--- A file is reached at a path where the path is not `/`, the walk passes, something stands there, and it is a file.
+-- The first refusal of reaching a file: the path is `/`, the walk to it is refused, nothing stands there, a directory stands there.
 abbrev pub no_file : Flat → Process → Path → Option Errno
 no_file f p q =
     unless (is_below_root q) EISDIR
@@ -45,34 +45,39 @@ user_named (u ∷ users) name = cond (same u.name name) (Some u) (user_named use
 
 -- the first refusal of a call of the process p, whose name is me
 abbrev pub refused : List User → Flat → ProcName → Process → UnixCall → Option Errno
+-- making a file: there is no room for it, or the process may make nothing of this mode
 refused users f me p (Create q mode) =
     no_room f p q
     orelse unless (is_some (class_made p mode)) EPERM
+-- reading: there is no file, or it may not be read
 refused users f me p (Read q) =
     no_file f p q
     orelse unless (reads f p q) EACCES
+-- writing: there is no file, it may not be written, or it would have more than 4,096 bytes
 refused users f me p (Write q bytes) =
     no_file f p q
     orelse unless (writes f p q) EACCES
     orelse unless (nat_le (length bytes) 4096) EFBIG
+-- logging in: no user has the name, the process is in a job, or the password is another
 refused users f me p (Login name password) =
     unless (is_some (user_named users name)) ENOENT
     orelse unless (is_free p) EACCES
     orelse unless (is_some_and (user_named users name) (λ u. same u.password password)) EAUTH
 
--- the class that is made; where none may be made, the call is refused
+-- the class that is made; where there is none the call was refused
 abbrev pub class_or_open : Option Class → Class
 class_or_open None = Open
 class_or_open (Some class) = class
 
--- the change of a call that is not refused
+-- the change of a call that is not refused: a file is made empty, a written file has the new bytes, and who logs in is that user and
+-- holds no job
 abbrev pub changed : List User → Flat → ProcName → Process → UnixCall → Flat
 changed users f me p (Create q mode) = with_node f q (class_or_open (class_made p mode)) (File [])
 changed users f me p (Read q) = f
 changed users f me p (Write q bytes) = with_bytes f q bytes
 changed users f me p (Login name password) = with_process f me (record p { user = name; held = [] })
 
--- the answer of a call that is not refused
+-- the answer of a call that is not refused: the bytes of a file that is read, and else `ok`
 abbrev pub answer : Flat → ProcName → Process → UnixCall → Reply
 answer f me p (Create q mode) = Done
 answer f me p (Read q) = Data (bytes_at f q)

@@ -75,7 +75,8 @@ entry_in d e = elim e.0 [ [] ↦ None | n ∷ above ↦ cond (same_path d above)
 abbrev pub entries_in : Flat → Path → List Entry
 entries_in f d = filter_map (entry_in d) f.files.entries
 
--- the first refusal on the way into a directory: each one from `/` on is read, the next name looked for, and it is a directory
+-- The first refusal on the way into a directory: from `/` on each directory may not be read, or the next name is not in it, or that
+-- is no directory.
 abbrev pub into : Flat → Process → Path → Option Errno
 into f p [] = unless (reads f p []) EACCES
 into f p (n ∷ d) =
@@ -84,7 +85,7 @@ into f p (n ∷ d) =
     orelse unless (is_dir_at f (n ∷ d)) ENOTDIR
     orelse unless (reads f p (n ∷ d)) EACCES
 
--- the first refusal on the walk to a path, which goes into the directory that it lies in; to `/` there is no walk
+-- the first refusal on the walk to a path, which is the way into the directory that it lies in; to `/` there is no walk
 abbrev pub walk : Flat → Process → Path → Option Errno
 walk f p [] = None
 walk f p (n ∷ d) = into f p d
@@ -93,7 +94,7 @@ walk f p (n ∷ d) = into f p d
 abbrev pub with_node : Flat → Path → Class → Content → Flat
 with_node f q class content = record f { files = insert f.files q (record { class = class; content = content }) }
 
--- the class of what stands there; where nothing does, no call asks for it
+-- the class of what stands there; no call that passes asks where nothing does
 abbrev pub class_of : Option Node → Class
 class_of None = Open
 class_of (Some n) = n.class
