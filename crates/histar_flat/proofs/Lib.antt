@@ -1,2 +1,13 @@
 pub mod PaddingLemmas
 pub mod WordLemmas
+pub mod Refusals
+pub mod FileLemmas
+pub mod Laws
+pub mod FirstProcess
+pub mod PrivateFiles
+pub mod Entries
+pub mod Alike
+pub mod Secrecy
+pub mod Writing
+pub mod Worked
+pub mod WorkedRights

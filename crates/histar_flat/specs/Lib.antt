@@ -2,3 +2,10 @@ pub mod Padding
 pub mod PaddingLaws
 pub mod Words
 pub mod Texts
+pub mod PathOrder
+pub mod PathOrderLaws
+pub mod Files
+pub mod Classes
+pub mod FlatState
+pub mod FlatCalls
+pub mod Meaning

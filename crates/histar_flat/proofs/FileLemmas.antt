@@ -1,0 +1,66 @@
+-- What a map of paths answers after a change.
+use Rattle.std.specs.Prelude.{◌≡◌, ◌≢◌, Bool, true, false, cond, ℕ, List, Some, refl}
+use Rattle.std.proofs.Common.{◌⊎◌, ap, inl, inr, sym, ◌∙◌}
+use Rattle.std.specs.declared.cmp.Ordering.{Ordering}
+use Rattle.std.specs.declared.cmp.Ordering.TheVariants.{Less, Equal, Greater}
+use Rattle.std.specs.Ordering.{eq_by_cmp, is_eq}
+use Rattle.std.specs.Cmp.{tied_itself}
+use Rattle.std.specs.Cmp.Lexicographic.{pointwise_decides, bytes_decides}
+use Rattle.std.specs.FinMap.Entries.{find-put}
+use Rattle.std.proofs.lemmas.Bool.{true≢false}
+use Rattle.histar_flat.specs.Words.{Name, Path}
+use Rattle.histar_flat.specs.PathOrder.{path_cmp, same, same_path}
+use Rattle.histar_flat.specs.PathOrderLaws.{path_cmp_total, path_cmp_exact}
+use Rattle.histar_flat.specs.Files.{Files, get, insert}
+
+-- what a test has found: it is true at equal things, or false at different ones
+abbrev pub Found : {A : Type 0} → Bool → A → A → Type 0
+Found answer x y = ((answer ≡ true) × (x ≡ y)) ⊎ ((answer ≡ false) × (x ≢ y))
+
+found : {A : Type 0} (answer : Bool) (x y : A) → (answer ≡ true → x ≡ y) × (x ≡ y → answer ≡ true) → Found answer x y
+found true x y d = inl (refl, d.0 refl)
+found false x y d = inr (refl, λ e. absurd (true≢false (sym (d.1 e))))
+
+-- the test of names tells equal names from different ones
+pub same_name_found : (m n : List ℕ) → Found (same m n) m n
+same_name_found m n = found (same m n) m n (bytes_decides m n)
+
+-- the test of paths tells equal paths from different ones
+pub same_path_found : (q r : Path) → Found (same_path q r) q r
+same_path_found q r = found (same_path q r) q r (pointwise_decides bytes_decides q r)
+
+-- a name is the same as itself
+pub same_itself : (n : Name) → same n n ≡ true
+same_itself n = (bytes_decides n n).1 refl
+
+is_equal : (r : Ordering) → is_eq r ≡ true → r ≡ Equal
+is_equal Less h = absurd (true≢false (sym h))
+is_equal Equal h = refl
+is_equal Greater h = absurd (true≢false (sym h))
+
+-- two paths tie where they are the same
+ties : (q r : Path) → eq_by_cmp path_cmp q r ≡ same_path q r
+ties q r = elim (same_path_found q r) [
+  | inl e ↦ ap (λ x. is_eq (path_cmp q x)) (sym e.1) ∙ ap is_eq (tied_itself path_cmp_total q) ∙ sym e.0
+  | inr n ↦ by n.1 (eq_by_cmp path_cmp q r) refl ∙ sym n.0
+]
+  where
+    by : q ≢ r → (b : Bool) → eq_by_cmp path_cmp q r ≡ b → eq_by_cmp path_cmp q r ≡ false
+    by n true h = absurd (n (path_cmp_exact q r (is_equal _ h)))
+    by n false h = h
+
+module _ {X : Type 0} where
+  -- after a change at a path, that path has the new value, and each other what it had
+  pub get-insert : (m : Files X) (k : Path) (x : X) (q : Path) → get (insert m k x) q ≡ cond (same_path q k) (Some x) (get m q)
+  get-insert m k x q = find-put path_cmp path_cmp_total q k x m.entries ∙ ap (λ b. cond b (Some x) (get m q)) (ties q k)
+
+  -- a change at another path leaves what stands at this one
+  pub get_other : (m : Files X) (k : Path) (x : X) (q : Path) → q ≢ k → get (insert m k x) q ≡ get m q
+  get_other m k x q n = elim (same_path_found q k) [
+    | inl e ↦ absurd (n e.1)
+    | inr d ↦ get-insert m k x q ∙ ap (λ b. cond b (Some x) (get m q)) d.0
+  ]
+
+  -- the changed path has the new value
+  pub get_new : (m : Files X) (k : Path) (x : X) → get (insert m k x) k ≡ Some x
+  get_new m k x = get-insert m k x k ∙ ap (λ b. cond b (Some x) (get m k)) ((pointwise_decides bytes_decides k k).1 refl)

@@ -1,0 +1,108 @@
+-- The flat state: a map from paths to files and directories, and a map from names to processes; what is there, and the walk.
+use Rattle.std.specs.Prelude.{Bool, true, false, not, cond, List, [], ◌∷◌, ℕ, Option, None, Some}
+use Rattle.std.specs.List.{filter_map}
+use Rattle.histar_base.specs.Refusals.{◌orelse◌, unless}
+use Rattle.histar_flat.specs.declared.replies.Errno.{Errno}
+use Rattle.histar_flat.specs.declared.replies.Errno.TheVariants.{EACCES, ENOENT, ENOTDIR}
+use Rattle.histar_flat.specs.Words.{Name, Path, ProcName}
+use Rattle.histar_flat.specs.PathOrder.{same, same_path}
+use Rattle.histar_flat.specs.Files.{Files, get, insert}
+use Rattle.histar_flat.specs.Classes.{Class, Process, may_read, may_write}
+use Rattle.histar_flat.specs.Classes.Class.{Open}
+
+-- a directory, or a file with its bytes
+pub data Content : Type 0 where
+  Dir : Content
+  File : List ℕ → Content
+
+-- what stands at a path
+pub record Node : Type 0 where
+  pub class : Class
+  pub content : Content
+
+-- the state: what stands at each path, and the process of each name
+pub record Flat : Type 0 where
+  pub files : Files Node
+  pub processes : ProcName → Option Process
+
+-- there is a value, and it passes the test
+abbrev pub is_some_and : {A : Type 0} → Option A → (A → Bool) → Bool
+is_some_and None test = false
+is_some_and (Some x) test = test x
+
+-- a directory
+abbrev pub is_dir : Node → Bool
+is_dir n = elim n.content [ Dir ↦ true | File bytes ↦ false ]
+
+-- something stands at the path
+abbrev pub is_there : Flat → Path → Bool
+is_there f q = is_some_and (get f.files q) (λ n. true)
+
+-- a directory stands at the path
+abbrev pub is_dir_at : Flat → Path → Bool
+is_dir_at f q = is_some_and (get f.files q) is_dir
+
+-- a file stands at the path
+abbrev pub is_file_at : Flat → Path → Bool
+is_file_at f q = is_some_and (get f.files q) (λ n. not (is_dir n))
+
+-- the process may read what stands at the path
+abbrev pub reads : Flat → Process → Path → Bool
+reads f p q = is_some_and (get f.files q) (λ n. may_read p n.class)
+
+-- the process may write what stands at the path
+abbrev pub writes : Flat → Process → Path → Bool
+writes f p q = is_some_and (get f.files q) (λ n. may_write p n.class)
+
+-- the bytes of a file, where one stands there
+abbrev pub bytes_of : Option Node → List ℕ
+bytes_of None = []
+bytes_of (Some n) = elim n.content [ Dir ↦ [] | File bytes ↦ bytes ]
+
+-- the bytes of the file at the path
+abbrev pub bytes_at : Flat → Path → List ℕ
+bytes_at f q = bytes_of (get f.files q)
+
+-- an entry of a directory: its name, and whether it is a directory
+abbrev pub Entry : Type 0
+Entry = Name × Bool
+
+-- the entry of the directory d that a path is, if it is one
+abbrev pub entry_in : Path → Path × Node → Option Entry
+entry_in d e = elim e.0 [ [] ↦ None | n ∷ above ↦ cond (same_path d above) (Some (n, is_dir e.1)) None ]
+
+-- the entries of a directory, by rising names
+abbrev pub entries_in : Flat → Path → List Entry
+entries_in f d = filter_map (entry_in d) f.files.entries
+
+-- The first refusal on the way into a directory: from `/` on each directory may not be read, or the next name is not in it, or that
+-- is no directory.
+abbrev pub into : Flat → Process → Path → Option Errno
+into f p [] = unless (reads f p []) EACCES
+into f p (n ∷ d) =
+    into f p d
+    orelse unless (is_there f (n ∷ d)) ENOENT
+    orelse unless (is_dir_at f (n ∷ d)) ENOTDIR
+    orelse unless (reads f p (n ∷ d)) EACCES
+
+-- the first refusal on the walk to a path, which is the way into the directory that it lies in; to `/` there is no walk
+abbrev pub walk : Flat → Process → Path → Option Errno
+walk f p [] = None
+walk f p (n ∷ d) = into f p d
+
+-- with this at the path
+abbrev pub with_node : Flat → Path → Class → Content → Flat
+with_node f q class content = record f { files = insert f.files q (record { class = class; content = content }) }
+
+-- the class of what stands there; no call that passes asks where nothing does
+abbrev pub class_of : Option Node → Class
+class_of None = Open
+class_of (Some n) = n.class
+
+-- with these bytes in the file, which stays of its class
+abbrev pub with_bytes : Flat → Path → List ℕ → Flat
+with_bytes f q bytes = with_node f q (class_of (get f.files q)) (File bytes)
+
+-- with this process under the name
+abbrev pub with_process : Flat → ProcName → Process → Flat
+with_process f me p = record f { processes = λ q. cond (same me q) (Some p) (f.processes q) }

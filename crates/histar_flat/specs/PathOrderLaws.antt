@@ -1,0 +1,34 @@
+-- The order of paths is total, and only equal paths tie.
+use Rattle.std.specs.Prelude.{◌≡◌, List, [], ◌∷◌, refl}
+use Rattle.std.proofs.Common.{sym, ◌∙◌, ap}
+use Rattle.std.specs.declared.cmp.Ordering.{Ordering}
+use Rattle.std.specs.Ordering.{nat_cmp}
+use Rattle.std.specs.Cmp.{IsTotalOrder, nat_cmp_total}
+use Rattle.std.specs.Cmp.Lexicographic.{slice_cmp, lists_total}
+use Rattle.std.specs.FinMap.{IsAntisymmetric, nat_cmp-IsAntisymmetric, slice_cmp-IsAntisymmetric}
+use Rattle.histar_flat.specs.PathOrder.{path_cmp, from_root, reverse_onto}
+
+-- things are ordered as what a function makes of them
+by_image : {A B : Type 0} (f : A → B) (R : B → B → Ordering) → IsTotalOrder R → IsTotalOrder (λ x y. R (f x) (f y))
+by_image f R o = record {
+  antisymm = λ x y. o.antisymm (f x) (f y);
+  trans = λ x y z. o.trans (f x) (f y) (f z);
+  congr = λ x y z. o.congr (f x) (f y) (f z);
+}
+
+-- the order is total
+pub path_cmp_total : IsTotalOrder path_cmp
+path_cmp_total = by_image from_root (slice_cmp (slice_cmp nat_cmp)) (lists_total (lists_total nat_cmp_total))
+
+-- turned round twice, the list is before the other as it was
+reversed-onto : {A : Type 0} (ys xs : List A) → reverse_onto [] (reverse_onto ys xs) ≡ reverse_onto xs ys
+reversed-onto ys [] = refl
+reversed-onto ys (x ∷ xs) = reversed-onto (x ∷ ys) xs
+
+-- a list that is turned round twice is as it was
+pub from_root_twice : {A : Type 0} (xs : List A) → from_root (from_root xs) ≡ xs
+from_root_twice xs = reversed-onto [] xs
+
+-- two paths tie only where they are equal
+pub path_cmp_exact : IsAntisymmetric path_cmp
+path_cmp_exact p q e = sym (from_root_twice p) ∙ ap from_root (slice_cmp-IsAntisymmetric (slice_cmp-IsAntisymmetric nat_cmp-IsAntisymmetric) (from_root p) (from_root q) e) ∙ from_root_twice q
