@@ -5,7 +5,7 @@ ghost use Rattle.std.specs.FinSet as set;
 ghost use Rattle.histar_label.specs.Levels.{Levels};
 ghost use Rattle.histar_label.specs.Store.{label_at, Keeps};
 ghost use Rattle.histar_object.specs.Objects.{objects_of, put, changed_at, with_new, holding, no_objects, thread_of, is_there, is_segment, is_container, is_thread, is_gate, links_in, bytes_there, label_there, clearance_there, entry_there};
-ghost use Rattle.histar_object.specs.State.{observes, modifies, in_range, added, with_next, skipping, counting, with_own, with_bytes};
+ghost use Rattle.histar_object.specs.State.{observes, modifies, in_range, added, with_next, counting, with_own, with_bytes};
 ghost use Rattle.histar_container.specs.Shown.{shown, kind_by, AllStand, KindStands, IsKept};
 ghost use Rattle.histar_container.specs.Kept.{state_of, CutsOff};
 ghost use Rattle.histar_container.specs.Tree.{AreTree};
@@ -56,7 +56,7 @@ impl<S: LabelStore + Drop> LabelledObjects<S> {
         }
     }
 
-    /// Keeps an object under the next number, linked by no container yet: for a given start state.
+    /// Keeps an object under the next number that no container links: the root container.
     pub fn push(&mut self, label: Label, kind: Kind<Label>) -> Result<(), AllocError>
         requires { self.old.next_object < 18446744073709551615 }
         ensures ok { OnOk result (state_of self.new ≡ with_next (state_of self.old) (record { label = label; kind = kind })) }
@@ -72,15 +72,6 @@ impl<S: LabelStore + Drop> LabelledObjects<S> {
         )?;
         self.next_object += 1;
         Ok(())
-    }
-
-    /// Gives the next number to no object: for a given start state.
-    pub fn skip(&mut self)
-        requires { self.old.next_object < 18446744073709551615 }
-        ensures state { state_of self.new ≡ skipping (state_of self.old) }
-        ensures counted { self.new.next_object ≡ self.old.next_object + 1 }
-    {
-        self.next_object += 1;
     }
 
     /// The number that the next object gets.

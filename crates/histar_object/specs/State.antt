@@ -51,10 +51,6 @@ added s d o = record {
 abbrev pub with_next : State → Object Levels → State
 with_next s o = record { objects = put s.objects s.next_object o; next_object = s.next_object + 1; next_category = s.next_category }
 
--- the state in which the next number was given to no object
-abbrev pub skipping : State → State
-skipping s = record { objects = s.objects; next_object = s.next_object + 1; next_category = s.next_category }
-
 -- the state with another label and another clearance for a thread
 abbrev pub with_own : State → ℕ → Levels → Levels → State
 with_own s t label clearance = record {

@@ -14,7 +14,7 @@ use Rattle.histar_calls.specs.contracts.places.Places as where_is
 use Rattle.histar_calls.specs.Follows.{ReadsFile, WritesFile, MakesFile}
 use Rattle.histar_calls.specs.Replies.{Replies}
 use Rattle.histar_login.specs.Boot.{IsBooted}
-use Rattle.histar_login.specs.Login.{LogsIn}
+use Rattle.histar_login.specs.Login.{place_of, LogsIn, BecomesUserAt}
 use Rattle.histar_login.specs.Start.{places_of, thread_number, start_state}
 use Rattle.histar_calls.specs.declared.stopping.Stopped.{Stopped}
 
@@ -50,7 +50,10 @@ abbrev pub Makes : List User → Places → Traced → Traced → ℕ → UnixCa
 Makes users places old new thread (Create path mode) result = MakesFile places old new thread path mode result × IfOk result (Replies old new thread)
 Makes users places old new thread (Write path bytes) result = WritesFile places old new thread path bytes result × IfOk result (Replies old new thread)
 Makes users places old new thread (Read path) result = ReadsFile places old new thread path result × IfOk result (Replies old new thread)
-Makes users places old new thread (Login name password) result = LogsIn users old new thread name password result
+Makes users places old new thread (Login name password) result =
+    LogsIn users old new thread name password result
+    × IfOk result (BecomesUserAt (place_of users name) (length users) thread (state old) (state new))
+    × IfOk result (Replies old new thread)
 
 -- The call was made by the thread on the line that was begun; the machine has the places, the thread and the users that it
 -- had, and has stopped where the call ended without an answer.

@@ -1,15 +1,13 @@
--- The empty kernel's objects, and what giving a thread other labels is checked for.
+-- The objects of the empty kernel.
 use Rattle.std.proofs.Common.{◌≡◌, ℕ, ◌==◌, Bool, true, false, Option, None, Some, refl, sym, ap, ◌∙◌, if◌then◌else◌}
 use Rattle.std.specs.Prelude.{option_map}
 use Rattle.std.specs.FinSet as set
-use Rattle.histar_base.specs.Refusals.{unless, ◌orelse◌}
 use Rattle.histar_label.specs.declared.levels.Level.TheVariants.{Star, L0, L1, L2, L3}
 use Rattle.histar_label.specs.Levels.{Levels, constant, with_level}
 use Rattle.histar_object.specs.declared.objects.Kind.TheVariants.{Container, Thread}
 use Rattle.histar_object.specs.declared.objects.Object.{Object}
 use Rattle.histar_object.specs.Objects.{no_objects, linking, is_container}
 use Rattle.histar_object.specs.State.{State, with_next, added, empty_state, root_object, boot_thread}
-use Rattle.histar_rules.specs.declared.raw.Denied.TheVariants.{NoThread, Range}
 
 -- no objects, where the next one is 1 and the next category 2
 abbrev pub nothing_yet : State
@@ -40,10 +38,3 @@ pub empty_made : (first second third : State) (guarded owning cleared : Levels) 
     → guarded ≡ with_level (constant L1) 1 L0 → owning ≡ with_level (constant L1) 1 Star → cleared ≡ with_level (constant L2) 1 L3 → third ≡ empty_state
 empty_made first second third guarded owning cleared at_first at_second at_third g o c =
     at_third ∙ (λ i. added ((at_second ∙ (λ j. with_next (at_first j) (root_alone (g j)))) i) 1 (record { label = o i; kind = Thread (c i) })) ∙ boot_linked
-
--- what passes the checks of other labels with no raw call
-pub own_passes : (thread label clearance : Bool) → (unless thread NoThread orelse unless label Range orelse unless clearance Range) ≡ None → (thread ≡ true) × (label ≡ true) × (clearance ≡ true)
-own_passes true true true none = (refl, refl, refl)
-own_passes true true false none = cc
-own_passes true false clearance none = cc
-own_passes false label clearance none = cc

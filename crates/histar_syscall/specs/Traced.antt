@@ -9,10 +9,7 @@ use Rattle.histar_rules.specs.declared.raw.Refusal.{Refusal}
 use Rattle.histar_rules.specs.declared.raw.Refusal.TheVariants as refusals
 use Rattle.histar_syscall.specs.declared.trace.TraceEntry.{TraceEntry}
 use Rattle.histar_syscall.specs.contracts.trace.TraceEntry as entry
-use Rattle.histar_base.specs.Refusals.{unless, ◌orelse◌}
-use Rattle.histar_label.specs.Levels.{Levels}
-use Rattle.histar_rules.specs.declared.raw.Denied.TheVariants.{Range}
-use Rattle.histar_rules.specs.Rules.{check, no_thread, known, Leaves}
+use Rattle.histar_rules.specs.Rules.{check, Leaves}
 
 -- what a kernel keeps: its objects, the line that was begun last, and the trace of its calls
 pub record Traced : Type 0 where
@@ -52,12 +49,3 @@ abbrev pub logged : {A : Type 0} → List TraceEntry → ℕ → ℕ → RawCall
 logged trace line t call (Ok answer) = trace ++ record { line = line; thread = t; call = call; denied = None } ∷ []
 logged trace line t call (Err (refusals.Denied denied)) = trace ++ record { line = line; thread = t; call = call; denied = Some denied } ∷ []
 logged trace line t call (Err refusals.OutOfMemory) = trace
-
--- the checks of giving a thread other labels with no raw call
-abbrev pub no_own : State → ℕ → Levels → Levels → Option Denied
-no_own s t label clearance = no_thread s t orelse unless (known s label) Range orelse unless (known s clearance) Range
-
--- a refusal by these checks, or want of memory
-abbrev pub TellsNoOwn : State → ℕ → Levels → Levels → Refusal → Type 0
-TellsNoOwn s t label clearance (refusals.Denied denied) = no_own s t label clearance ≡ Some denied
-TellsNoOwn s t label clearance refusals.OutOfMemory = Unit {0}

@@ -1,15 +1,15 @@
 //! The kernel and its raw calls.
-ghost use Rattle.std.specs.Prelude.{◌≡◌, [], IfOk, IfErr, OnOk, OnErr, Some};
+ghost use Rattle.std.specs.Prelude.{◌≡◌, [], IfOk, Some};
 ghost use Rattle.histar_object.specs.Objects.{objects_of, bytes_in, entry_there, label_there, clearance_there};
-ghost use Rattle.histar_object.specs.State.{empty_state, with_own};
+ghost use Rattle.histar_object.specs.State.{empty_state};
 ghost use Rattle.histar_rules.specs.Rules.{IsNextNumber};
 ghost use Rattle.histar_rules.specs.Sound.{IsSound};
 ghost use Rattle.histar_rules.specs.declared.raw.RawCall.TheVariants as calls;
-ghost use Rattle.histar_syscall.specs.Traced.{Answered, TellsNoOwn, state};
+ghost use Rattle.histar_syscall.specs.Traced.{Answered, state};
 
 use crate::containers;
 use crate::segments;
-use crate::starting::{empty_objects, refuses_own};
+use crate::starting::empty_objects;
 use crate::trace::{TraceEntry, log};
 use histar_base::Bytes;
 use histar_container::LabelledObjects;
@@ -98,23 +98,6 @@ impl<S: LabelStore + Drop> Kernel<S> {
         ensures { result.items ≡ self.trace }
     {
         self.trace
-    }
-
-    /// Gives a thread another label and another clearance with no raw call: for a login that is not
-    /// made of raw calls yet. `NoThread` where the number is no thread's, and `Range` where a label names
-    /// a category that was never made.
-    pub fn set_own(&mut self, thread: ObjId, label: Label, clearance: Label) -> Result<(), Refusal>
-        ensures ok { OnOk result (state self.new ≡ with_own (state self.old) thread label clearance) }
-        ensures err { OnErr result (state self.new ≡ state self.old) }
-        ensures refused { IfErr result (TellsNoOwn (state self.old) thread label clearance) }
-        ensures trace { self.new.trace ≡ self.old.trace }
-        ensures line { self.new.line ≡ self.old.line }
-    {
-        if let Some(denied) = refuses_own(&self.objects, thread, &label, &clearance) {
-            return Err(Refusal::Denied(denied));
-        }
-        self.objects.set_own(thread, label, clearance)?;
-        Ok(())
     }
 
     /// Makes a category. The thread owns it from then on, and may give anyone level 3 there.

@@ -1,14 +1,12 @@
-//! The empty kernel's objects, and labels given with no raw call.
+//! The objects of the empty kernel.
 ghost use Rattle.std.specs.Prelude.{◌≡◌, IfOk};
 ghost use Rattle.histar_label.specs.Levels.{constant, with_level};
 ghost use Rattle.histar_object.specs.State.{empty_state};
 ghost use Rattle.histar_container.specs.Kept.{state_of};
-ghost use Rattle.histar_syscall.specs.Traced.{no_own};
 
 use histar_container::LabelledObjects;
 use histar_label::{Category, Label, LabelStore, Level, OutOfMemory};
 use histar_object::{Kind, Links, ObjId};
-use histar_rules::Denied;
 use std::alloc::Global;
 
 /// The root container, which the owner of category 1 alone may modify, and the boot thread in it,
@@ -33,25 +31,4 @@ fn first_label(alloc: Global, default: Level, level: Level) -> Result<Label, Out
     ensures { IfOk result (λ label. label ≡ with_level (constant default) 1 level) }
 {
     Label::new(alloc, default).with(Category::new(1), level)
-}
-
-/// The checks of giving a thread other labels with no raw call.
-pub fn refuses_own<S: LabelStore + Drop>(
-    objects: &LabelledObjects<S>,
-    thread: ObjId,
-    label: &Label,
-    clearance: &Label,
-) -> Option<Denied>
-    ensures { result ≡ no_own (state_of objects.now) thread label.now clearance.now }
-{
-    if !objects.is_thread(thread) {
-        return Some(Denied::NoThread);
-    }
-    if !label.names_only_made(objects.next_category()) {
-        return Some(Denied::Range);
-    }
-    if !clearance.names_only_made(objects.next_category()) {
-        return Some(Denied::Range);
-    }
-    None
 }
