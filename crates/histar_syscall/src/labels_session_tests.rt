@@ -1,9 +1,8 @@
 //! A session on the labels of threads, and on the making of threads, containers and gates: each way in
 //! which a label is chosen, and each refusal.
-use crate::session_tests::{Asked, Expected, Row, Told, session};
-use crate::session_tests::{BAD_KIND, MODIFY, NO_ENTRY, NO_THREAD, OBSERVE, RANGE};
 use crate::session_tests::{
-    CLEARED_2, GUARDED, NOTHING, OWNS_2, PLAIN, SECRET, TAINTED, UNMADE, UNMADE_CLEARANCE,
+    Asked, BAD_KIND, CLEARED_2, Expected, GUARDED, MODIFY, NO_ENTRY, NO_THREAD, NOTHING, OBSERVE,
+    OWNS_2, PLAIN, RANGE, Row, SECRET, TAINTED, Told, UNMADE, UNMADE_CLEARANCE, session,
 };
 use histar_label::{Level, PlainStore};
 use std::test::Fail;
@@ -30,13 +29,33 @@ const LOW: Told = (&[], Level::L0);
 const MADE: [Row; 9] = [
     (1, 2, Asked::MakeCategory, Expected::Category(2)),
     (1, 2, Asked::MakeContainer(1, PLAIN), Expected::Object(3)),
-    (1, 2, Asked::MakeThread(3, PLAIN, CLEARED_2), Expected::Object(4)),
-    (1, 2, Asked::MakeThread(3, OWNS_2, CLEARED_2), Expected::Object(5)),
+    (
+        1,
+        2,
+        Asked::MakeThread(3, PLAIN, CLEARED_2),
+        Expected::Object(4),
+    ),
+    (
+        1,
+        2,
+        Asked::MakeThread(3, OWNS_2, CLEARED_2),
+        Expected::Object(5),
+    ),
     (1, 2, Asked::MakeContainer(3, SECRET), Expected::Object(6)),
     (1, 2, Asked::MakeCategory, Expected::Category(3)),
     (1, 2, Asked::MakeContainer(3, GUARDED), Expected::Object(7)),
-    (1, 2, Asked::MakeSegment(3, PLAIN, b"open", 1), Expected::Object(8)),
-    (1, 2, Asked::MakeThread(3, PLAIN, TAINTED), Expected::Object(9)),
+    (
+        1,
+        2,
+        Asked::MakeSegment(3, PLAIN, b"open", 1),
+        Expected::Object(8),
+    ),
+    (
+        1,
+        2,
+        Asked::MakeThread(3, PLAIN, TAINTED),
+        Expected::Object(9),
+    ),
 ];
 
 const CHOSEN: [Row; 32] = [
@@ -85,7 +104,12 @@ const NEW: [Row; 35] = [
     (5, 9, Asked::MakeThread(8, PLAIN, TAINTED), BAD_KIND),
     (5, 9, Asked::MakeThread(6, PLAIN, TAINTED), OBSERVE),
     (5, 9, Asked::MakeThread(7, OWNS_2, TAINTED), MODIFY),
-    (5, 9, Asked::MakeThread(3, PLAIN, TAINTED), Expected::Object(10)),
+    (
+        5,
+        9,
+        Asked::MakeThread(3, PLAIN, TAINTED),
+        Expected::Object(10),
+    ),
     (5, 10, Asked::OwnLabel, Expected::OwnLabel(PLAIN, TAINTED)),
     (6, 2, Asked::MakeContainer(3, OWNS_1), RANGE),
     (6, 9, Asked::MakeContainer(3, UNMADE), RANGE),
@@ -108,7 +132,12 @@ const NEW: [Row; 35] = [
     (7, 9, Asked::MakeGate(8, PLAIN, TAINTED, 1), BAD_KIND),
     (7, 9, Asked::MakeGate(6, PLAIN, TAINTED, 1), OBSERVE),
     (7, 9, Asked::MakeGate(7, OWNS_2, TAINTED, 1), MODIFY),
-    (7, 9, Asked::MakeGate(3, PLAIN, TAINTED, 1), Expected::Object(12)),
+    (
+        7,
+        9,
+        Asked::MakeGate(3, PLAIN, TAINTED, 1),
+        Expected::Object(12),
+    ),
     (8, 2, Asked::MakeCategory, Expected::Category(4)),
 ];
 

@@ -1,8 +1,7 @@
 //! A session on segments: each way in which they are read, written and made, and each refusal.
-use crate::session_tests::{Asked, Expected, Row, Told, session};
-use crate::session_tests::{BAD_KIND, MODIFY, NO_ENTRY, NO_THREAD, OBSERVE, RANGE, TOO_BIG};
 use crate::session_tests::{
-    CLEARED_2, GUARDED, NOTHING, OWNS_2, PLAIN, SECRET, TAINTED, UNMADE,
+    Asked, BAD_KIND, CLEARED_2, Expected, GUARDED, MODIFY, NO_ENTRY, NO_THREAD, NOTHING, OBSERVE,
+    OWNS_2, PLAIN, RANGE, Row, SECRET, TAINTED, TOO_BIG, Told, UNMADE, session,
 };
 use histar_label::{Level, PlainStore};
 use std::test::Fail;
@@ -19,9 +18,24 @@ const UNCLEARED: Told = (&[(3, Level::L3)], Level::L1);
 const MADE: [Row; 11] = [
     (1, 2, Asked::MakeCategory, Expected::Category(2)),
     (1, 2, Asked::MakeContainer(1, PLAIN), Expected::Object(3)),
-    (1, 2, Asked::MakeThread(3, OWNS_2, CLEARED_2), Expected::Object(4)),
-    (1, 2, Asked::MakeThread(3, PLAIN, TAINTED), Expected::Object(5)),
-    (1, 4, Asked::MakeSegment(3, SECRET, b"deep", 1), Expected::Object(6)),
+    (
+        1,
+        2,
+        Asked::MakeThread(3, OWNS_2, CLEARED_2),
+        Expected::Object(4),
+    ),
+    (
+        1,
+        2,
+        Asked::MakeThread(3, PLAIN, TAINTED),
+        Expected::Object(5),
+    ),
+    (
+        1,
+        4,
+        Asked::MakeSegment(3, SECRET, b"deep", 1),
+        Expected::Object(6),
+    ),
     (1, 4, Asked::MakeContainer(3, SECRET), Expected::Object(7)),
     (1, 2, Asked::MakeCategory, Expected::Category(3)),
     (1, 2, Asked::MakeContainer(3, GUARDED), Expected::Object(8)),
@@ -80,15 +94,35 @@ const NEW: [Row; 25] = [
     (9, 6, Asked::MakeSegment(3, PLAIN, b"", 0), NO_THREAD),
     (9, 4, Asked::MakeSegment(3, SECRET, b"a", 4097), TOO_BIG),
     (9, 4, Asked::MakeSegment(3, UNMADE, b"a", 4097), RANGE),
-    (10, 4, Asked::MakeSegment(3, SECRET, b"note", 1), Expected::Object(10)),
+    (
+        10,
+        4,
+        Asked::MakeSegment(3, SECRET, b"note", 1),
+        Expected::Object(10),
+    ),
     (10, 4, Asked::Read(3, 10), Expected::Bytes(b"note", 1)),
-    (10, 4, Asked::MakeSegment(3, TAINTED_4, b"a", 4096), Expected::Object(11)),
+    (
+        10,
+        4,
+        Asked::MakeSegment(3, TAINTED_4, b"a", 4096),
+        Expected::Object(11),
+    ),
     (10, 4, Asked::Read(3, 11), OBSERVE),
     (10, 4, Asked::Write(3, 11, 0, b"x", 1), MODIFY),
     (10, 2, Asked::Read(3, 11), Expected::Bytes(b"a", 4096)),
-    (10, 5, Asked::MakeSegment(3, PLAIN, b"open", 1), Expected::Object(12)),
+    (
+        10,
+        5,
+        Asked::MakeSegment(3, PLAIN, b"open", 1),
+        Expected::Object(12),
+    ),
     (10, 4, Asked::Read(3, 12), Expected::Bytes(b"open", 1)),
-    (11, 5, Asked::MakeSegment(3, PLAIN, b"a", 4095), Expected::Object(13)),
+    (
+        11,
+        5,
+        Asked::MakeSegment(3, PLAIN, b"a", 4095),
+        Expected::Object(13),
+    ),
     (11, 5, Asked::Write(3, 13, 4096, b"a", 2), TOO_BIG),
     (11, 5, Asked::Write(3, 13, 4096, b"a", 1), Expected::Done),
     (11, 5, Asked::Read(3, 13), Expected::Bytes(b"a", 4096)),

@@ -112,6 +112,55 @@ fn repeated(alloc: Global, text: &[u8], times: usize) -> Result<Bytes, OutOfMemo
     Ok(Bytes::from_vec(bytes))
 }
 
+fn segment_call(
+    alloc: Global,
+    container: u64,
+    told: Told,
+    bytes: Bytes,
+) -> Result<RawCall, OutOfMemory> {
+    let label = label(alloc, told)?;
+    Ok(RawCall::MakeSegment(ObjId::new(container), label, bytes))
+}
+
+fn thread_call(
+    alloc: Global,
+    container: u64,
+    told: Told,
+    clearance: Told,
+) -> Result<RawCall, OutOfMemory> {
+    let own = label(alloc, told)?;
+    let clearance = label(alloc, clearance)?;
+    Ok(RawCall::MakeThread(ObjId::new(container), own, clearance))
+}
+
+fn gate_call(
+    alloc: Global,
+    container: u64,
+    told: Told,
+    clearance: Told,
+    mark: u32,
+) -> Result<RawCall, OutOfMemory> {
+    let container = ObjId::new(container);
+    let given = label(alloc, told)?;
+    let clearance = label(alloc, clearance)?;
+    let entry = Entry::Mark(mark);
+    Ok(RawCall::MakeGate(container, given, clearance, entry))
+}
+
+fn enter_call(
+    alloc: Global,
+    place: (u64, u64),
+    wanted: Told,
+    clearance: Told,
+    shown: Told,
+) -> Result<RawCall, OutOfMemory> {
+    let (container, gate) = (ObjId::new(place.0), ObjId::new(place.1));
+    let wanted = label(alloc, wanted)?;
+    let clearance = label(alloc, clearance)?;
+    let shown = label(alloc, shown)?;
+    Ok(RawCall::Enter(container, gate, wanted, clearance, shown))
+}
+
 /// The raw call as the kernel takes it.
 fn raw_call(alloc: Global, asked: Asked) -> Result<RawCall, OutOfMemory> {
     match asked {
@@ -119,59 +168,36 @@ fn raw_call(alloc: Global, asked: Asked) -> Result<RawCall, OutOfMemory> {
         Asked::OwnLabel => Ok(RawCall::OwnLabel),
         Asked::SetLabel(told) => Ok(RawCall::SetLabel(label(alloc, told)?)),
         Asked::SetClearance(told) => Ok(RawCall::SetClearance(label(alloc, told)?)),
-        Asked::Enter(container, gate, wanted, clearance, shown) => Ok(RawCall::Enter(
-            ObjId::new(container),
-            ObjId::new(gate),
-            label(alloc, wanted)?,
-            label(alloc, clearance)?,
-            label(alloc, shown)?,
-        )),
-        Asked::Read(container, segment) => Ok(RawCall::Read(
-            ObjId::new(container),
-            ObjId::new(segment),
-        )),
-        Asked::Write(container, segment, keep, text, times) => Ok(RawCall::Write(
-            ObjId::new(container),
-            ObjId::new(segment),
-            keep,
-            repeated(alloc, text, times)?,
-        )),
-        Asked::Unlink(container, object) => Ok(RawCall::Unlink(
-            ObjId::new(container),
-            ObjId::new(object),
-        )),
-        Asked::LabelOf(container, object) => Ok(RawCall::LabelOf(
-            ObjId::new(container),
-            ObjId::new(object),
-        )),
-        _ => making_call(alloc, asked),
-    }
-}
-
-/// The same for the calls that make an object in a container.
-fn making_call(alloc: Global, asked: Asked) -> Result<RawCall, OutOfMemory> {
-    match asked {
-        Asked::MakeSegment(container, told, text, times) => Ok(RawCall::MakeSegment(
-            ObjId::new(container),
-            label(alloc, told)?,
-            repeated(alloc, text, times)?,
-        )),
-        Asked::MakeContainer(container, told) => Ok(RawCall::MakeContainer(
-            ObjId::new(container),
-            label(alloc, told)?,
-        )),
-        Asked::MakeThread(container, told, clearance) => Ok(RawCall::MakeThread(
-            ObjId::new(container),
-            label(alloc, told)?,
-            label(alloc, clearance)?,
-        )),
-        Asked::MakeGate(container, told, clearance, mark) => Ok(RawCall::MakeGate(
-            ObjId::new(container),
-            label(alloc, told)?,
-            label(alloc, clearance)?,
-            Entry::Mark(mark),
-        )),
-        _ => Ok(RawCall::OwnLabel),
+        Asked::MakeSegment(container, told, text, times) => {
+            segment_call(alloc, container, told, repeated(alloc, text, times)?)
+        }
+        Asked::MakeContainer(container, told) => {
+            let label = label(alloc, told)?;
+            Ok(RawCall::MakeContainer(ObjId::new(container), label))
+        }
+        Asked::MakeThread(container, told, clearance) => {
+            thread_call(alloc, container, told, clearance)
+        }
+        Asked::MakeGate(container, told, clearance, mark) => {
+            gate_call(alloc, container, told, clearance, mark)
+        }
+        Asked::Enter(container, gate, wanted, clearance, shown) => {
+            enter_call(alloc, (container, gate), wanted, clearance, shown)
+        }
+        Asked::Read(container, segment) => {
+            Ok(RawCall::Read(ObjId::new(container), ObjId::new(segment)))
+        }
+        Asked::Write(container, segment, keep, text, times) => {
+            let (container, segment) = (ObjId::new(container), ObjId::new(segment));
+            let bytes = repeated(alloc, text, times)?;
+            Ok(RawCall::Write(container, segment, keep, bytes))
+        }
+        Asked::Unlink(container, object) => {
+            Ok(RawCall::Unlink(ObjId::new(container), ObjId::new(object)))
+        }
+        Asked::LabelOf(container, object) => {
+            Ok(RawCall::LabelOf(ObjId::new(container), ObjId::new(object)))
+        }
     }
 }
 
@@ -246,7 +272,11 @@ fn run_by_call<S: LabelStore + Drop>(
                 assert!(rt; is_told, "thread {thread} on line {line}");
             }
             Err(Refusal::Denied(denied)) => {
-                assert_eq!(rt; Some(denied), denial(expected), "thread {thread} on line {line}");
+                assert_eq!(rt;
+                    Some(denied),
+                    denial(expected),
+                    "thread {thread} on line {line}"
+                );
             }
             Err(Refusal::OutOfMemory) => return Err(Refusal::OutOfMemory),
         }
