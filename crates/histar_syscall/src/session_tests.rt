@@ -281,7 +281,8 @@ fn run_by_call<S: LabelStore + Drop>(
             Err(Refusal::OutOfMemory) => return Err(Refusal::OutOfMemory),
         }
     }
-    is_traced(rt, kernel.trace(), rows, true);
+    let trace = kernel.into_trace();
+    is_traced(rt, trace.as_slice(), rows, true);
     Ok(())
 }
 
