@@ -281,8 +281,7 @@ fn run_by_call<S: LabelStore + Drop>(
             Err(Refusal::OutOfMemory) => return Err(Refusal::OutOfMemory),
         }
     }
-    let trace = kernel.into_trace();
-    is_traced(rt, trace.as_slice(), rows, true);
+    is_traced(rt, kernel.trace(), rows, true);
     Ok(())
 }
 
