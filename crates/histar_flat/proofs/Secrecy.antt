@@ -164,7 +164,7 @@ module _ (owner : Name) where
       let quiet = not-true (is_login_as owner a.call) parts.0 in
       let here = reply_to_alike owner q f g alike users a.process a.call (away a.process) in
       let rest = replies_alike users q (flat_after users f a.process a.call) (flat_after users g a.process a.call)
-          (flat_after_alike owner q f g alike users a.process a.call (away a.process)) (stays_away users f a.process a.call away quiet) asked parts.1 in
+      (flat_after_alike owner q f g alike users a.process a.call (away a.process)) (stays_away users f a.process a.call away quiet) asked parts.1 in
       λ i. (a.line, here i) ∷ rest i
 
   -- No reply tells others what a private file holds: whatever bytes stand in it, the replies are the same until its owner logs in.

@@ -54,9 +54,7 @@ pub fn make_gate<S: LabelStore + Drop>(
 ) -> Result<ObjId, Refusal>
     ensures { Decides (state_of objects.old) (state_of objects.new) thread (calls.MakeGate container label.now clearance.now entry) result (IsNextNumber objects.old) }
 {
-    if let Some(denied) =
-        refuses_make_gate(objects, thread, container, label, clearance, entry)
-    {
+    if let Some(denied) = refuses_make_gate(objects, thread, container, label, clearance, entry) {
         return Err(Refusal::Denied(denied));
     }
     let number = objects.next_object();
@@ -116,9 +114,9 @@ pub fn enter<S: LabelStore + Drop>(
 ) -> Result<Entry, Refusal>
     ensures { Decides (state_of objects.old) (state_of objects.new) thread (calls.Enter container gate wanted.now clearance.now shown.now) result (λ entry. Some entry ≡ entry_there (objects_of objects.old.objects gate)) }
 {
-    if let Some(denied) =
-        refuses_enter(objects, thread, container, gate, wanted, clearance, shown)?
-    {
+    if let Some(denied) = refuses_enter(
+        objects, thread, container, gate, wanted, clearance, shown,
+    )? {
         return Err(Refusal::Denied(denied));
     }
     let Some(entry) = objects.entry(gate) else {

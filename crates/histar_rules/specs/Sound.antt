@@ -1,5 +1,5 @@
 -- What holds of every state that the kernel comes to.
-use Rattle.std.specs.Prelude.{◌≡◌, ℕ, ◌<◌, true, false, ◌||◌, Option, Some}
+use Rattle.std.specs.Prelude.{◌≡◌, ℕ, ◌<◌, true, false, ◌||◌, Some}
 use Rattle.histar_label.specs.Levels.{Levels, is_made, has_star}
 use Rattle.histar_object.specs.declared.objects.Object.{Object}
 use Rattle.histar_object.specs.Objects.{kind_is_segment, kind_is_container, kind_clearance}

@@ -5,7 +5,5 @@
 mod checks;
 mod raw;
 
-pub use checks::{
-    refuses_container, refuses_gate, refuses_link, refuses_making, refuses_segment,
-};
+pub use checks::{refuses_container, refuses_gate, refuses_link, refuses_making, refuses_segment};
 pub use raw::{Denied, RawCall, Refusal};

@@ -32,12 +32,7 @@ pub enum Answer {
 
 impl<S: LabelStore + Drop> Kernel<S> {
     /// Makes one raw call of any kind.
-    pub fn call(
-        &mut self,
-        alloc: Global,
-        thread: ObjId,
-        call: RawCall,
-    ) -> Result<Answer, Refusal>
+    pub fn call(&mut self, alloc: Global, thread: ObjId, call: RawCall) -> Result<Answer, Refusal>
         ensures { Answered self.old self.new thread call result (λ a. answer (state self.old) thread call ≡ Some a) }
     {
         match call {
@@ -54,24 +49,24 @@ impl<S: LabelStore + Drop> Kernel<S> {
                 self.set_clearance(thread, clearance)?;
                 Ok(Answer::Done)
             }
-            RawCall::MakeSegment(container, label, bytes) => Ok(Answer::Object(
-                self.make_segment(alloc, thread, container, label, bytes)?,
-            )),
-            RawCall::MakeContainer(container, label) => Ok(Answer::Object(
-                self.make_container(alloc, thread, container, label)?,
-            )),
-            RawCall::MakeThread(container, label, clearance) => Ok(Answer::Object(
-                self.make_thread(thread, container, label, clearance)?,
-            )),
+            RawCall::MakeSegment(container, label, bytes) => Ok(Answer::Object(self.make_segment(
+                alloc, thread, container, label, bytes,
+            )?)),
+            RawCall::MakeContainer(container, label) => Ok(Answer::Object(self.make_container(
+                alloc, thread, container, label,
+            )?)),
+            RawCall::MakeThread(container, label, clearance) => Ok(Answer::Object(self.make_thread(
+                thread, container, label, clearance,
+            )?)),
             RawCall::MakeGate(container, label, clearance, entry) => Ok(Answer::Object(
                 self.make_gate(thread, container, label, clearance, entry)?,
             )),
             RawCall::Enter(container, gate, wanted, clearance, shown) => Ok(Answer::Entry(
                 self.enter(thread, container, gate, wanted, clearance, shown)?,
             )),
-            RawCall::Read(container, segment) => Ok(Answer::Bytes(
-                self.read_copy(alloc, thread, container, segment)?,
-            )),
+            RawCall::Read(container, segment) => Ok(Answer::Bytes(self.read_copy(
+                alloc, thread, container, segment,
+            )?)),
             RawCall::Write(container, segment, keep, bytes) => {
                 self.write(alloc, thread, container, segment, keep, bytes)?;
                 Ok(Answer::Done)
@@ -80,9 +75,9 @@ impl<S: LabelStore + Drop> Kernel<S> {
                 self.unlink(alloc, thread, container, object)?;
                 Ok(Answer::Done)
             }
-            RawCall::LabelOf(container, object) => Ok(Answer::Label(
-                self.label_of(thread, container, object)?,
-            )),
+            RawCall::LabelOf(container, object) => Ok(Answer::Label(self.label_of(
+                thread, container, object,
+            )?)),
         }
     }
 }

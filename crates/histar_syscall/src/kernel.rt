@@ -7,10 +7,9 @@ ghost use Rattle.histar_rules.specs.Sound.{IsSound};
 ghost use Rattle.histar_rules.specs.declared.raw.RawCall.TheVariants as calls;
 ghost use Rattle.histar_syscall.specs.Traced.{Answered, state};
 
-use crate::containers;
-use crate::segments;
 use crate::starting::empty_objects;
 use crate::trace::{TraceEntry, log};
+use crate::{containers, segments};
 use histar_base::Bytes;
 use histar_container::LabelledObjects;
 use histar_gate as gates;
@@ -106,7 +105,13 @@ impl<S: LabelStore + Drop> Kernel<S> {
     {
         self.trace.reserve(1)?;
         let answer = threads::make_category(&mut self.objects, thread);
-        log(&mut self.trace, self.line, thread, RawCall::MakeCategory, &answer);
+        log(
+            &mut self.trace,
+            self.line,
+            thread,
+            RawCall::MakeCategory,
+            &answer,
+        );
         answer
     }
 
@@ -116,7 +121,13 @@ impl<S: LabelStore + Drop> Kernel<S> {
     {
         self.trace.reserve(1)?;
         let answer = containers::own_label(&self.objects, thread);
-        log(&mut self.trace, self.line, thread, RawCall::OwnLabel, &answer);
+        log(
+            &mut self.trace,
+            self.line,
+            thread,
+            RawCall::OwnLabel,
+            &answer,
+        );
         answer
     }
 
@@ -234,7 +245,9 @@ impl<S: LabelStore + Drop> Kernel<S> {
     {
         self.trace.reserve(1)?;
         let objects = &mut self.objects;
-        let answer = gates::enter(objects, thread, container, gate, &wanted, &clearance, &shown);
+        let answer = gates::enter(
+            objects, thread, container, gate, &wanted, &clearance, &shown,
+        );
         let call = RawCall::Enter(container, gate, wanted, clearance, shown);
         log(&mut self.trace, self.line, thread, call, &answer);
         answer

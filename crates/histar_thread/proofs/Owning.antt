@@ -1,12 +1,11 @@
 -- What a thread owns once it made a category.
-use Rattle.std.proofs.Common.{◌≡◌, ℕ, ◌+◌, Bool, false, Option, None, Some, true, refl, sym, ap, ◌∙◌}
+use Rattle.std.proofs.Common.{◌≡◌, ℕ, ◌+◌, Bool, false, None, Some, true, refl, sym, ap, ◌∙◌}
 use Rattle.histar_base.specs.Refusals.{unless, ◌orelse◌}
 use Rattle.histar_rules.specs.declared.raw.Denied.TheVariants.{NoThread, TooBig}
 use Rattle.histar_label.specs.declared.levels.Level.TheVariants.{Star, L3}
 use Rattle.histar_label.specs.Levels.{Levels, with_level}
 use Rattle.histar_object.specs.declared.objects.Kind.{Kind}
 use Rattle.histar_object.specs.declared.objects.Kind.TheVariants.{Segment, Container, Thread, Gate}
-use Rattle.histar_object.specs.declared.objects.Object.{Object}
 use Rattle.histar_object.specs.Objects.{Objects, put, changed_at, thread_of, label_there, clearance_there, is_thread, kind_is_thread, kind_clearance}
 use Rattle.histar_object.specs.Rights.{owning, kind_cleared, with_category}
 use Rattle.histar_object.specs.State.{State, Found, with_own, counting}

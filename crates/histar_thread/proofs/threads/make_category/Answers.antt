@@ -1,6 +1,6 @@
-use Rattle.std.proofs.Common.{◌≡◌, ℕ, sym, ap, ◌∙◌}
+use Rattle.std.proofs.Common.{ℕ, sym, ap, ◌∙◌}
 use Rattle.histar_label.specs.declared.levels.Level.TheVariants.{Star, L3}
-use Rattle.histar_label.specs.Levels.{Levels, with_level}
+use Rattle.histar_label.specs.Levels.{with_level}
 use Rattle.histar_object.specs.State.{counting, with_own}
 use Rattle.histar_container.specs.Kept.{state_of}
 use Rattle.histar_thread.proofs.Owning.{category_made, is_maker}
@@ -13,8 +13,9 @@ returns g c =
     let granted = sym c.refuses_make_category.ensures ∙ c.in_default.is in
     let number = c.new-category.ensures ∙ c.next_category.ensures in
     let label = c.in_ok-label.ensures.value ∙ ap (λ (n : ℕ). with_level c.in-Some-label.label.now n Star) number in
-    let clearance = c.in_ok-clearance.ensures.value ∙ ap (λ (n : ℕ). with_level c.in-Some-clearance.clearance.now n L3) number in
-    (granted,
-    c.count_category.ensures ∙ ap counting c.in_ok-set_own.ensures.ok ∙ (λ i. counting (with_own s t (label i) (clearance i)))
-    ∙ category_made s t c.in-Some-label.label.now c.in-Some-clearance.clearance.now c.in-Some-label.ensures c.in-Some-clearance.ensures (is_maker _ _ granted),
-    number)
+    let clearance = c.in_ok-clearance.ensures.value ∙ ap (λ (n : ℕ). with_level c.in-Some-clearance.clearance.now n L3) number in (
+      granted,
+      c.count_category.ensures ∙ ap counting c.in_ok-set_own.ensures.ok ∙ (λ i. counting (with_own s t (label i) (clearance i)))
+          ∙ category_made s t c.in-Some-label.label.now c.in-Some-clearance.clearance.now c.in-Some-label.ensures c.in-Some-clearance.ensures (is_maker _ _ granted),
+      number,
+    )
