@@ -1,12 +1,10 @@
 -- From the raw calls of a login to what it answers.
 use Rattle.std.proofs.Common.{◌≡◌, ℕ, ◌==◌, Bool, true, false, List, [], ◌∷◌, ◌++◌, Option, None, Some, Result, Ok, Err, refl, sym, ap, ◌∙◌, subst, append_assoc, if◌then◌else◌}
-use Rattle.std.proofs.lemmas.List.{append-nil}
 use Rattle.std.specs.Prelude.{option_map}
 use Rattle.histar_base.specs.Refusals.{unless}
 use Rattle.histar_label.specs.Levels.{Levels}
 use Rattle.histar_object.specs.declared.objects.Kind.{Kind}
 use Rattle.histar_object.specs.declared.objects.Kind.TheVariants.{Segment, Container, Thread, Gate}
-use Rattle.histar_object.specs.declared.objects.Object.{Object}
 use Rattle.histar_object.specs.Objects.{Objects, thread_of, label_there, clearance_there, is_thread, is_segment, kind_is_thread, kind_clearance, bytes_in}
 use Rattle.histar_object.specs.Rights.{relabelled, clearing, with_changed}
 use Rattle.histar_object.specs.State.{State, Found, with_own, observes}
@@ -20,7 +18,7 @@ use Rattle.histar_rules.specs.declared.raw.Refusal.TheVariants as refusals
 use Rattle.histar_rules.specs.Rules.{check, no_link, no_segment}
 use Rattle.histar_rules.specs.Sound.{root_number}
 use Rattle.histar_rules.proofs.Passing.{unless_none, first, rest}
-use Rattle.histar_syscall.specs.Traced.{Traced, state, Called, Answered, IsUnchanged}
+use Rattle.histar_syscall.specs.Traced.{Traced, state, Called, Answered}
 use Rattle.histar_syscall.specs.Runs.{Made, Granted}
 use Rattle.histar_syscall.proofs.Runs.{same_kernel, granted_one, made_after}
 use Rattle.std.specs.Prelude.{IsErr}
