@@ -1,0 +1,1 @@
+-- What a state that lays out a flat state shows.

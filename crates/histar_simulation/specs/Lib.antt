@@ -1,0 +1,5 @@
+pub mod Addresses
+pub mod Labels
+pub mod Directories
+pub mod LaysOut
+pub mod Lines

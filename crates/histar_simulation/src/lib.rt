@@ -1,0 +1,5 @@
+//! How the state of a labelled kernel lays out a flat state.
+//!
+//! There is nothing to run here: the definitions stand in `specs/`, and what they are worth in
+//! `proofs/`.
+#![tactic(auto)]
