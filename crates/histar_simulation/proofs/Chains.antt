@@ -1,0 +1,89 @@
+-- Raw calls that were made, one after another, each with its outcome.
+use Rattle.std.proofs.Common.{◌≡◌, ℕ, Bool, false, List, [], ◌∷◌, ◌++◌, Option, None, Some, refl, sym, ap, ◌∙◌, subst, append_assoc}
+use Rattle.std.proofs.lemmas.List.{append-nil}
+use Rattle.std.specs.Prelude.{map, ◌||◌}
+use Rattle.std.specs.List.{AllByRecursion, list_any}
+use Rattle.histar_rules.specs.declared.raw.Denied.{Denied}
+use Rattle.histar_rules.specs.declared.raw.RawCall.{RawCall}
+use Rattle.histar_rules.specs.Rules.{check, Leaves}
+use Rattle.histar_object.specs.State.{State}
+use Rattle.histar_syscall.specs.declared.trace.TraceEntry.{TraceEntry}
+use Rattle.histar_syscall.specs.Traced.{Traced, state, Called, IsUnchanged}
+use Rattle.histar_syscall.specs.Runs.{IsBy, IsRun, GoesOn, Made}
+use Rattle.histar_syscall.proofs.Runs.{entry_of, same_kernel, call_before}
+use Rattle.histar_simulation.specs.Lines.{IsExhausted, IsRunUnlessExhausted}
+
+-- a raw call with its outcome
+abbrev pub Step : Type 0
+Step = RawCall × Option Denied
+
+-- the entries of raw calls of one thread on a line
+abbrev pub entries_of : ℕ → ℕ → List Step → List TraceEntry
+entries_of line thread steps = map (λ (s : Step). entry_of line thread s.0 s.1) steps
+
+-- the thread made these raw calls, each with this outcome, and nothing else was done
+abbrev pub Chain : Traced → ℕ → List Step → Traced → Type 0
+Chain old thread [] new = IsUnchanged old new
+Chain old thread (s ∷ steps) new = (mid : Traced) × Called old mid thread s.0 s.1 × Chain mid thread steps new
+
+-- the entries of one line are one after another the new end of the trace, and a run of the kernel
+pub record IsPart (old new : Traced) (entries : List TraceEntry) : Type 0 where
+  pub trace : new.trace ≡ old.trace ++ entries
+  pub run : IsRun (state old) entries (state new)
+  pub line : new.line ≡ old.line
+
+module _ (t : ℕ) where
+  -- what a chain has left behind
+  pub chain_run : (old new : Traced) (steps : List Step) → Chain old t steps new → IsPart old new (entries_of old.line t steps)
+  chain_run old new [] same = record { trace = same.trace ∙ sym (append-nil old.trace); run = same.state; line = same.line }
+  chain_run old new (s ∷ steps) chain =
+      let called = chain.1 in
+      let later = chain_run chain.0 new steps chain.2 in
+      let same_line : entries_of chain.0.line t steps ≡ entries_of old.line t steps = ap (λ (l : ℕ). entries_of l t steps) called.line in
+      record {
+        trace = later.trace ∙ ap (λ (es : List TraceEntry). es ++ entries_of chain.0.line t steps) called.trace ∙ append_assoc old.trace (entry_of old.line t s.0 s.1 ∷ []) (entries_of chain.0.line t steps) ∙ ap (λ (es : List TraceEntry). old.trace ++ entry_of old.line t s.0 s.1 ∷ es) same_line;
+        run = (state chain.0, called.outcome, called.state, subst (λ (es : List TraceEntry). IsRun (state chain.0) es (state new)) same_line later.run);
+        line = later.line ∙ called.line;
+      }
+
+  -- each entry of a chain is of the thread, on the line that was begun
+  pub chain_own : (line : ℕ) (steps : List Step) → AllByRecursion (IsBy line t) (entries_of line t steps)
+  chain_own line [] = tt
+  chain_own line (s ∷ steps) = ((refl, refl), chain_own line steps)
+
+  -- a raw call that the rules grant was granted, and the others were made after it
+  pub first_granted : (old new : Traced) (call : RawCall) (calls : List RawCall) (refusal : Option (RawCall × Denied)) → check (state old) t call ≡ None → Made old new t (call ∷ calls) refusal
+      → (mid : Traced) × Called old mid t call None × Made mid new t calls refusal
+  first_granted old new call calls refusal passes made = (elim made.1 as (λ (x : Option Denied). Called old made.0 t call x → GoesOn x call (Made made.0 new t calls refusal) made.0 new refusal
+      → (mid : Traced) × Called old mid t call None × Made mid new t calls refusal) [
+        | None ↦ λ called others. (made.0, called, others)
+        | Some denied ↦ λ called others. let k : Some denied ≡ None = sym called.outcome ∙ passes in absurd cc
+      ]) made.2 made.3
+
+  same_denied : (d e : Denied) → Some d ≡ Some e → d ≡ e
+  same_denied d e h = cc
+
+  -- a raw call that the rules refuse was refused, and none was made after it
+  pub first_refused : (old new : Traced) (call : RawCall) (calls : List RawCall) (refusal : Option (RawCall × Denied)) (denied : Denied) → check (state old) t call ≡ Some denied → Made old new t (call ∷ calls) refusal
+      → Chain old t ((call, Some denied) ∷ []) new × (refusal ≡ Some (call, denied))
+  first_refused old new call calls refusal denied fails made = (elim made.1 as (λ (x : Option Denied). Called old made.0 t call x → GoesOn x call (Made made.0 new t calls refusal) made.0 new refusal
+      → Chain old t ((call, Some denied) ∷ []) new × (refusal ≡ Some (call, denied))) [
+        | None ↦ λ called others. let k : None ≡ Some denied = sym called.outcome ∙ fails in absurd cc
+        | Some other ↦ λ called others.
+            let same : other ≡ denied = same_denied other denied (sym called.outcome ∙ fails) in
+            ((made.0, subst (λ (d : Denied). Called old made.0 t call (Some d)) same called, others.0), others.1 ∙ ap (λ (d : Denied). Some (call, d)) same)
+      ]) made.2 made.3
+
+  -- where no raw call was refused the entries are a run of granted calls
+  pub granted_run : (old new : Traced) (calls : List RawCall) → Made old new t calls None → (steps : List Step) × Chain old t steps new × (steps ≡ map (λ (c : RawCall). (c, None)) calls)
+  granted_run old new [] made = ([], made.0, refl)
+  granted_run old new (call ∷ calls) made = (elim made.1 as (λ (x : Option Denied). Called old made.0 t call x → GoesOn x call (Made made.0 new t calls None) made.0 new None
+      → (steps : List Step) × Chain old t steps new × (steps ≡ map (λ (c : RawCall). (c, None)) (call ∷ calls))) [
+        | None ↦ λ called others. let later = granted_run made.0 new calls others in ((call, None) ∷ later.0, (made.0, called, later.1), ap (λ (l : List Step). (call, None) ∷ l) later.2)
+        | Some denied ↦ λ called others. absurd cc
+      ]) made.2 made.3
+
+  -- a run of granted calls is refused nowhere
+  pub granted_unless : (old new : Traced) (line : ℕ) (calls : List RawCall) → Chain old t (map (λ (c : RawCall). (c, None)) calls) new → IsRunUnlessExhausted (state old) (entries_of line t (map (λ (c : RawCall). (c, None)) calls)) (state new)
+  granted_unless old new line [] same = same.state
+  granted_unless old new line (call ∷ calls) chain = (state chain.0, chain.1.outcome, chain.1.state, tt, granted_unless chain.0 new line calls chain.2)
