@@ -1,4 +1,20 @@
 pub mod Steps
+pub mod StartNames
+pub mod StartTable
+pub mod StartTree
+pub mod StartFlat
+pub mod Start
+pub mod MapFacts
+pub mod DirectoryLaws
+pub mod AddressPaths
+pub mod FoundObjects
+pub mod Written
+pub mod Leads
+pub mod NewEntry
+pub mod Created
+pub mod Owned
+pub mod Users
+pub mod Rights
 pub mod Chains
 pub mod Views
 pub mod Checks
@@ -6,3 +22,6 @@ pub mod Places
 pub mod Outcomes
 pub mod Scenes
 pub mod FileReads
+pub mod FileWrites
+pub mod FileCreates
+pub mod LoginRows

@@ -41,6 +41,21 @@ pub record IsOut (old new : Traced) (t : ℕ) : Type 0 where
   pub run : IsRunUnlessExhausted (state old) entries (state new)
   pub own : AllByRecursion (IsBy old.line t) entries
 
+-- where no raw call was refused, none was
+pub granted_out : (old new : Traced) (t : ℕ) (calls : List RawCall) → Made old new t calls None → IsOut old new t
+granted_out old new t calls made =
+    let steps = map (λ (c : RawCall). (c, None)) calls in
+    let granted = granted_run t old new calls made in
+    let chain : Chain old t steps new = subst (λ (s : List Step). Chain old t s new) granted.2 granted.1 in
+    let part = chain_run t old new steps chain in
+    record {
+      entries = entries_of old.line t steps;
+      trace = part.trace;
+      line = part.line;
+      run = granted_unless t old new old.line calls chain;
+      own = chain_own t old.line steps;
+    }
+
 -- a process that is there, alone
 pub record IsRunning (f : Flat) : Type 0 where
   pub process : Process
@@ -88,7 +103,7 @@ module _ (users : List User) (f : Flat) (call : UnixCall) (old new : Traced) (t 
         permission = permission;
         once = once;
         told = told;
-        reads = reads;
+        reads = λ answered. reads;
         gone = λ e. absurd (runs e);
       } in
       record {
@@ -124,17 +139,7 @@ module _ (users : List User) (f : Flat) (call : UnixCall) (old new : Traced) (t 
       untold r e = ap (option_map Refused) e
 
       by : (refusal : Option (RawCall × Denied)) → Made old new t h.front refusal → IsUntold refusal → IsOut old new t
-      by None made u =
-          let granted = granted_run t old new h.front made in
-          let chain : Chain old t (map (λ (c : RawCall). (c, None)) h.front) new = subst (λ (steps : List Step). Chain old t steps new) granted.2 granted.1 in
-          let part = chain_run t old new (map (λ (c : RawCall). (c, None)) h.front) chain in
-          record {
-            entries = entries_of old.line t (map (λ (c : RawCall). (c, None)) h.front);
-            trace = part.trace;
-            line = part.line;
-            run = granted_unless t old new old.line h.front chain;
-            own = chain_own t old.line (map (λ (c : RawCall). (c, None)) h.front);
-          }
+      by None made u = granted_out old new t h.front made
       by (Some r) made u = elim (ends (Some r) (subst (λ (calls : List RawCall). Made old new t calls (Some r)) (sym h.parts) (made_longer t old new h.front h.rest r made))) [
         | inl a ↦ let k : None ≡ Some (reply_to users f [] call) = sym (untold r u) ∙ a.0 in absurd cc
         | inr o ↦ o.1

@@ -34,7 +34,7 @@ use Rattle.histar_calls.specs.Plans.{Plan, answering, after_walk, at_target}
 use Rattle.histar_calls.specs.Replies.{is_access, is_permission}
 use Rattle.histar_calls.specs.Follows.{answer, listing_of}
 use Rattle.histar_login.specs.Start.{places_of}
-use Rattle.histar_simulation.specs.Labels.{class_label}
+use Rattle.histar_simulation.specs.Labels.{class_label, thread_labels}
 use Rattle.histar_simulation.specs.Directories.{target_for, directory_of}
 use Rattle.histar_simulation.specs.LaysOut.{LaysOut}
 use Rattle.histar_simulation.specs.Lines.{IsThreadOf, AreAmong, reads_owed}
@@ -42,20 +42,23 @@ use Rattle.histar_simulation.proofs.Chains.{Step, Chain, entries_of, first_grant
 use Rattle.histar_simulation.proofs.Views.{object}
 use Rattle.histar_simulation.proofs.Checks.{read_blocked, read_check}
 use Rattle.histar_simulation.proofs.Places.{IsDirectoryAt, IsRoot, root_is, IsFileAt, file_is, directory_leads}
+use Rattle.histar_simulation.proofs.Users.{IsNoUser}
+use Rattle.histar_simulation.proofs.DirectoryLaws.{get_directory}
 use Rattle.histar_simulation.proofs.Outcomes.{IsRunning, Ends, reply_is, after_is, answered_by}
 
 -- A state lays out a flat state, process 0 runs, its thread has this label and this clearance, and labels let it observe and
 -- modify what its process may read and write.
 pub record Scene (users : List User) (s : State) (f : Flat) : Type 0 where
   pub lays_out : LaysOut users s f
+  pub no_one : IsNoUser users
   pub run : IsRunning f
   pub label : Levels
   pub clearance : Levels
+  pub labels : thread_labels users run.process.user ≡ Some (label, clearance)
   pub thread : s.objects (8 + 2 * length users) ≡ object label (Thread clearance)
   pub named : IsThreadOf users s [] (8 + 2 * length users)
   pub observes : (class : Class) (l : Levels) → class_label users class ≡ Some l → is_below_raised l label ≡ may_read run.process class
   pub modifies : (class : Class) (l : Levels) → class_label users class ≡ Some l → (is_below label l && is_below_raised l label) ≡ may_write run.process class
-  pub entry : (n : Name) → map.get (directory_of f.files lays_out.naming.number []) n ≡ option_and_then (λ (there : Node). target_for lays_out.naming.number (n ∷ [], there)) (get f.files (n ∷ []))
 
 module _ (users : List User) (old : Traced) (f : Flat) (scene : Scene users (state old) f) where
   -- the thread of process 0, and what `/` is
@@ -153,7 +156,7 @@ module _ (users : List User) (old : Traced) (f : Flat) (scene : Scene users (sta
         leads_to o = option_and_then (λ (there : Node). target_for scene.lays_out.naming.number (m ∷ [], there)) o
 
         inner_at : (o : Option Node) (target : Option Target) → get f.files (m ∷ []) ≡ o → leads_to o ≡ target → inner ≡ at_target target plan_of
-        inner_at o target stands leads = ap (λ (x : Option Target). at_target x plan_of) (scene.entry m ∙ ap leads_to stands ∙ leads)
+        inner_at o target stands leads = ap (λ (x : Option Target). at_target x plan_of) (get_directory f.files scene.lays_out.naming.number [] m ∙ ap leads_to stands ∙ leads)
 
         module _ (seen : reads f scene.run.process [] ≡ true) (mid : Traced) (walked : Called old mid caller walk_call None) (made : Made mid new caller inner.calls refusal) where
           by_content : (there : Node) (stands : get f.files (m ∷ []) ≡ Some there) → (c : Content) → there.content ≡ c → Ends users f call old new caller (answer inner.reply refusal)

@@ -1,5 +1,5 @@
 -- What one line of a script does to the kernel, and what all lines do.
-use Rattle.std.specs.Prelude.{◌≡◌, ℕ, ◌+◌, ◌*◌, Bool, true, false, ◌⊎◌, IsTrue, List, [], ◌∷◌, ◌++◌, length, Option, None, Some}
+use Rattle.std.specs.Prelude.{◌≡◌, ◌≢◌, ℕ, ◌+◌, ◌*◌, Bool, true, false, ◌⊎◌, IsTrue, List, [], ◌∷◌, ◌++◌, length, Option, None, Some}
 use Rattle.std.specs.List.{AllByRecursion}
 use Rattle.histar_flat.specs.declared.calls.User.{User}
 use Rattle.histar_flat.specs.declared.calls.UnixCall.{UnixCall}
@@ -99,7 +99,7 @@ reads_owed users (Login name password) reply = reads_of_login (place_of users na
 -- The entries of a line that was answered so, between the state before the line and the one after it. They are a run of the
 -- kernel; each is of the line and of the thread that the process segment of the line's process names before it. Some is refused by
 -- comparing labels exactly where the reply is EACCES, and by range exactly where it is EPERM. What was read is what the last of
--- them reads. A line that is answered `gone` has none.
+-- them reads. The reads that the call cannot do without are among them. A line that is answered `gone` has none.
 pub record IsLine (users : List User) (before : State) (line : ℕ) (process : ProcName) (call : UnixCall) (reply : Reply) (entries : List TraceEntry) (after : State) : Type 0 where
   pub run : IsRun before entries after
   pub own : AllByRecursion (λ e. (e.line ≡ line) × IsThreadOf users before process e.thread) entries
@@ -107,7 +107,7 @@ pub record IsLine (users : List User) (before : State) (line : ℕ) (process : P
   pub permission : some_range_refusal entries ≡ is_no_permission reply
   pub once : IsRefusedOnce entries
   pub told : (bytes : List ℕ) → reply ≡ Data bytes → EndsWithRead before entries bytes
-  pub reads : AreAmong (reads_owed users call reply) entries
+  pub reads : reply ≢ Gone → AreAmong (reads_owed users call reply) entries
   pub gone : reply ≡ Gone → entries ≡ []
 
 -- The line is the row of its call: it is answered what the flat state says, and the state after it lays out the flat state after

@@ -1,0 +1,83 @@
+-- What stands at the addresses of a naming, and what a change of an object leaves there.
+use Rattle.std.specs.Prelude.{◌≡◌, ◌≢◌, ℕ, true, false, List, [], ◌∷◌, Option, Some, None, option_map, option_and_then, refl}
+use Rattle.std.proofs.Common.{ap, sym, ◌∙◌, inl, inr}
+use Rattle.histar_label.specs.Levels.{Levels}
+use Rattle.histar_object.specs.declared.objects.Kind.{Kind}
+use Rattle.histar_object.specs.declared.objects.Kind.TheVariants.{Segment, Container, Thread, Gate}
+use Rattle.histar_object.specs.declared.objects.Object.{Object}
+use Rattle.histar_object.specs.Objects.{Objects, linking, kind_linking, holding, kind_holding, is_there, is_container, kind_is_container}
+use Rattle.histar_object.specs.State.{Found}
+use Rattle.histar_container.specs.Tree.{Address, Naming, wanted, IsLaid}
+use Rattle.histar_simulation.specs.Addresses.{Step, same_step, found_at}
+use Rattle.histar_simulation.specs.LaysOut.{bare, kind_bare, labelled_as}
+
+-- objects that are laid out in some way are laid out as what stands at their addresses
+pub laid_found : (objects : Objects Levels) (next : ℕ) (wished : Address Step → Found) (naming : Naming Step) → IsLaid same_step objects next wished naming → IsLaid same_step objects next (found_at objects naming) naming
+laid_found objects next wished naming laid = record {
+  as_expected = λ q. by q (naming.address q) refl;
+  numbered = laid.numbered;
+  addressed = laid.addressed;
+  held = laid.held;
+  links = laid.links;
+  unused = laid.unused;
+}
+  where
+    by : (q : ℕ) (a : Option (Address Step)) → naming.address q ≡ a → objects q ≡ wanted (found_at objects naming) a
+    by q None is = laid.as_expected q ∙ ap (wanted wished) is
+    by q (Some a) is = sym (ap (option_and_then objects) (laid.numbered q a is))
+
+-- an object with other bytes, but for its links
+pub bare_held : (bytes : List ℕ) (o : Found) → bare (option_map (holding bytes) o) ≡ option_map (holding bytes) (bare o)
+bare_held bytes None = refl
+bare_held bytes (Some o) = ap (λ (k : Kind Levels). Some (record { label = o.label; kind = k })) (by o.kind)
+  where
+    by : (k : Kind Levels) → kind_bare (kind_holding bytes k) ≡ kind_holding bytes (kind_bare k)
+    by (Segment old) = refl
+    by (Container links) = refl
+    by (Thread clearance) = refl
+    by (Gate clearance entry) = refl
+
+-- a segment is given other bytes
+pub held_segment : (old bytes : List ℕ) (label : Option Levels) → option_map (holding bytes) (labelled_as (Segment old) label) ≡ labelled_as (Segment bytes) label
+held_segment old bytes None = refl
+held_segment old bytes (Some label) = refl
+
+-- and is there as before
+pub there_held : (bytes : List ℕ) (o : Found) → is_there (option_map (holding bytes) o) ≡ is_there o
+there_held bytes None = refl
+there_held bytes (Some o) = refl
+
+-- what stands at an address of another number is what stood there
+pub found_other : (naming : Naming Step) (objects new : Objects Levels) (a : Address Step) → ((k : ℕ) → naming.number a ≡ Some k → new k ≡ objects k) → found_at new naming a ≡ found_at objects naming a
+found_other naming objects new a same = by (naming.number a) refl
+  where
+    by : (k : Option ℕ) → naming.number a ≡ k → option_and_then new k ≡ option_and_then objects k
+    by None is = refl
+    by (Some k) is = same k is
+
+-- a container that links one number more is the same, but for its links
+pub bare_linked : (n : ℕ) (o : Found) → bare (option_map (linking n) o) ≡ bare o
+bare_linked n None = refl
+bare_linked n (Some o) = ap (λ (k : Kind Levels). Some (record { label = o.label; kind = k })) (by o.kind)
+  where
+    by : (k : Kind Levels) → kind_bare (kind_linking n k) ≡ kind_bare k
+    by (Segment old) = refl
+    by (Container links) = refl
+    by (Thread clearance) = refl
+    by (Gate clearance entry) = refl
+
+-- a container is one without its links too
+pub bare_container_there : (o : Found) → is_container (bare o) ≡ is_container o
+bare_container_there None = refl
+bare_container_there (Some o) = by o.kind
+  where
+    by : (k : Kind Levels) → kind_is_container (kind_bare k) ≡ kind_is_container k
+    by (Segment old) = refl
+    by (Container links) = refl
+    by (Thread clearance) = refl
+    by (Gate clearance entry) = refl
+
+-- an object with a label is there
+pub labelled_there : (kind : Kind Levels) (label : Option Levels) → label ≢ None → is_there (labelled_as kind label) ≡ true
+labelled_there kind None some = absurd (some refl)
+labelled_there kind (Some label) some = refl
