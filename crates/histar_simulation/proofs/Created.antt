@@ -1,5 +1,5 @@
 -- After a file is made in `/` the kernel lays out the flat state with the new file.
-use Rattle.std.specs.Prelude.{◌≡◌, ◌≢◌, ℕ, ◌+◌, ◌*◌, ◌<◌, ◌≤◌, Bool, true, false, IsTrue, List, [], ◌∷◌, length, Option, Some, None, is_some, option_map, option_and_then, refl, if◌then◌else◌}
+use Rattle.std.specs.Prelude.{◌≡◌, ◌≢◌, ℕ, ◌+◌, ◌*◌, ◌<◌, true, false, IsTrue, List, [], ◌∷◌, length, Option, Some, None, is_some, option_map, option_and_then, refl, if◌then◌else◌}
 use Rattle.std.proofs.Common.{ap, sym, ◌∙◌, subst, inl, inr, arith}
 use Rattle.std.specs.FinMap as map
 use Rattle.std.specs.FinSet as set
@@ -8,37 +8,33 @@ use Rattle.std.proofs.lemmas.Bool.{true≢false, cases_lt}
 use Rattle.std.proofs.lemmas.Bool.Decides.{eqb_tells}
 use Rattle.histar_flat.specs.declared.calls.User.{User}
 use Rattle.histar_flat.specs.Words.{Name, Path, is_name}
-use Rattle.histar_flat.specs.Files.{Files, get}
+use Rattle.histar_flat.specs.Files.{get}
 use Rattle.histar_flat.specs.Classes.{Class}
 use Rattle.histar_flat.specs.FlatState.{Node, Content, Flat, is_some_and, is_dir, is_dir_at, with_node, entries_in}
-use Rattle.histar_flat.specs.FlatState.Content.{Dir, File}
 use Rattle.histar_flat.proofs.FileLemmas.{same_path_found}
 use Rattle.histar_label.specs.Levels.{Levels}
 use Rattle.histar_layout.specs.Directory.{Entries, IsListable, spelling}
-use Rattle.histar_layout.specs.declared.entry.Target.{Target}
 use Rattle.histar_layout.specs.declared.entry.Target.TheVariants as targets
 use Rattle.histar_layout.proofs.MapLemmas.{listable_insert}
-use Rattle.histar_object.specs.declared.objects.Kind.{Kind}
 use Rattle.histar_object.specs.declared.objects.Kind.TheVariants.{Segment, Container}
 use Rattle.histar_object.specs.declared.objects.Object.{Object}
-use Rattle.histar_object.specs.Objects.{Objects, changed_at, with_new, holding, linking, is_there, is_container}
-use Rattle.histar_object.specs.State.{State, Found, added, with_bytes}
+use Rattle.histar_object.specs.Objects.{Objects, changed_at, with_new, holding, is_there, is_container}
+use Rattle.histar_object.specs.State.{State, added, with_bytes}
 use Rattle.histar_container.specs.Tree.{Address, Naming, with_number, IsLaid}
 use Rattle.histar_container.proofs.Addresses.{same_tells, same_itself, same_other}
 use Rattle.histar_container.proofs.Links.{none_linked}
-use Rattle.histar_container.proofs.Moves.{next_unused}
 use Rattle.histar_container.proofs.TableMoves.{changed_here, changed_other, new_there, new_holder, new_other, laid_new, laid_changed}
 use Rattle.histar_container.proofs.Trees.{kind_held_links}
-use Rattle.histar_simulation.specs.Addresses.{Step, same_step, found_at, address_of, boot_number}
+use Rattle.histar_simulation.specs.Addresses.{Step, same_step, found_at, boot_number}
 use Rattle.histar_simulation.specs.Addresses.Step.{Slash, Listing, Named}
 use Rattle.histar_simulation.specs.Labels.{class_label}
-use Rattle.histar_simulation.specs.Directories.{Numbers, target_for, directory_of}
+use Rattle.histar_simulation.specs.Directories.{directory_of}
 use Rattle.histar_simulation.specs.LaysOut.{LaysOut, bare, content_kind, labelled_as, node_object, expected}
 use Rattle.histar_simulation.proofs.Steps.{step_tells}
 use Rattle.histar_simulation.proofs.FoundObjects.{laid_found, bare_held, there_held, bare_linked, bare_container_there}
 use Rattle.histar_simulation.proofs.Leads.{entry_leads}
 use Rattle.histar_simulation.proofs.DirectoryLaws.{len_directory}
-use Rattle.histar_simulation.proofs.NewEntry.{get_made, get_same, same_directory, new_directory, wish_made, wish_listing, wish_same, made}
+use Rattle.histar_simulation.proofs.NewEntry.{get_made, get_same, same_directory, new_directory, wish_made, wish_listing, wish_same}
 
 -- a number that is not there is none
 not_some : (x : Option ℕ) → is_some x ≡ false → x ≡ None
@@ -58,6 +54,7 @@ module _ (users : List User) (s : State) (f : Flat) (l : LaysOut users s f) wher
   abbrev listing_number : ℕ
   listing_number = 5 + 2 * length users
 
+  -- they are the ones that boot gave
   slash_numbered : l.naming.number (Slash ∷ []) ≡ Some slash_number
   slash_numbered = l.as_booted (Slash ∷ []) slash_number refl
 
@@ -103,9 +100,11 @@ module _ (users : List User) (s : State) (f : Flat) (l : LaysOut users s f) wher
       abbrev objects : Objects Levels
       objects = changed_at linked listing_number (holding (spelling grown))
 
+      -- the new file's address has the next number
       at_file : naming.number file_address ≡ Some s.next_object
       at_file = ap (λ b. if b then Some s.next_object else l.naming.number file_address) (same_itself same_step step_tells file_address)
 
+      -- and each other address the number that it had
       elsewhere : (a : Address Step) → a ≢ file_address → naming.number a ≡ l.naming.number a
       elsewhere a other = ap (λ b. if b then Some s.next_object else l.naming.number a) (same_other same_step step_tells file_address a (λ e. other (sym e)))
 
@@ -113,6 +112,7 @@ module _ (users : List User) (s : State) (f : Flat) (l : LaysOut users s f) wher
       free : l.naming.number file_address ≡ None
       free = not_some _ (l.named file_address ∙ ap (λ found. is_there (node_object users found)) absent)
 
+      -- what had an address is not the next number
       old_is_not_next : (k : ℕ) (a : Address Step) → l.naming.number a ≡ Some k → k ≢ s.next_object
       old_is_not_next k a is e = omega (arith, number_old k a is)
 
@@ -131,9 +131,11 @@ module _ (users : List User) (s : State) (f : Flat) (l : LaysOut users s f) wher
       linked_tree = laid_found linked (s.next_object + 1) _ naming
           (laid_new same_step step_tells s.objects s.next_object (found_at s.objects l.naming) l.naming l.tree slash_number (Slash ∷ []) (Named m) empty_file (l.tree.addressed (Slash ∷ []) slash_number slash_numbered) free is_holder (λ c. sym (none_linked c)))
 
+      -- the directory segment has its number
       listing_now : naming.number (Listing ∷ Slash ∷ []) ≡ Some listing_number
       listing_now = elsewhere (Listing ∷ Slash ∷ []) (λ e. cc) ∙ listing_numbered
 
+      -- and once the directory segment has its entry
       new_tree : IsLaid same_step objects (s.next_object + 1) (found_at objects naming) naming
       new_tree = laid_found objects (s.next_object + 1) _ naming
           (laid_changed same_step step_tells linked (s.next_object + 1) (found_at linked naming) naming linked_tree listing_number (Listing ∷ Slash ∷ []) (holding (spelling grown))
@@ -146,6 +148,7 @@ module _ (users : List User) (s : State) (f : Flat) (l : LaysOut users s f) wher
         | inr e ↦ ap bare (new_other s.objects s.next_object slash_number empty_file k old e.1)
       ]
 
+      -- at each other address stands what stood there, but for links
       found_same : (a : Address Step) → a ≢ file_address → a ≢ Listing ∷ Slash ∷ [] → bare (found_at objects naming a) ≡ bare (found_at s.objects l.naming a)
       found_same a other_file other_listing = ap (λ k. bare (option_and_then objects k)) (elsewhere a other_file) ∙ by (l.naming.number a) refl
         where
@@ -156,11 +159,13 @@ module _ (users : List User) (s : State) (f : Flat) (l : LaysOut users s f) wher
           by None is = refl
           by (Some k) is = ap bare (changed_other linked listing_number (holding (spelling grown)) k (apart k is)) ∙ linked_bare k (old_is_not_next k a is)
 
+      -- the directory segment has its new bytes
       found_listing : bare (found_at objects naming (Listing ∷ Slash ∷ [])) ≡ option_map (holding (spelling grown)) (bare (found_at s.objects l.naming (Listing ∷ Slash ∷ [])))
       found_listing =
           ap (λ k. bare (option_and_then objects k)) listing_now ∙ ap bare (changed_here linked listing_number (holding (spelling grown))) ∙ bare_held (spelling grown) (linked listing_number)
           ∙ ap (option_map (holding (spelling grown))) (linked_bare listing_number (old_is_not_next listing_number (Listing ∷ Slash ∷ []) listing_numbered) ∙ ap (λ k. bare (option_and_then s.objects k)) (sym listing_numbered))
 
+      -- and the new file is empty
       found_file : bare (found_at objects naming file_address) ≡ Some empty_file
       found_file =
           ap (λ k. bare (option_and_then objects k)) at_file
@@ -187,12 +192,14 @@ module _ (users : List User) (s : State) (f : Flat) (l : LaysOut users s f) wher
         | inr e ↦ elim (same_tells same_step step_tells a (Listing ∷ Slash ∷ [])) [ inl i ↦ subst P (sym i.1) listing | inr i ↦ other a e.1 i.1 ]
       ]
 
+      -- what stands at an address is what is asked for there
       new_objects : (a : Address Step) → bare (found_at objects naming a) ≡ expected users after naming.number a
       new_objects = by_address (λ a. bare (found_at objects naming a) ≡ expected users after naming.number a)
           (found_file ∙ sym asked_file)
           (found_listing ∙ ap (option_map (holding (spelling grown))) (l.objects (Listing ∷ Slash ∷ [])) ∙ sym asked_listing)
           (λ a i j. found_same a i j ∙ l.objects a ∙ sym (asked_same a i j))
 
+      -- and an address has a number where it is asked for
       new_named : (a : Address Step) → is_some (naming.number a) ≡ is_there (expected users after naming.number a)
       new_named = by_address (λ a. is_some (naming.number a) ≡ is_there (expected users after naming.number a))
           (ap is_some at_file ∙ sym (ap is_there asked_file))
@@ -206,18 +213,20 @@ module _ (users : List User) (s : State) (f : Flat) (l : LaysOut users s f) wher
         | inr e ↦ elsewhere a e.1 ∙ l.as_booted a q is
       ]
 
-      -- what stands at a path after the change
+      -- at the path stands the new file
       get_file : get after.files (m ∷ []) ≡ Some (record { class = class; content = Content.File [] })
       get_file = get_made f m class l.naming.number naming.number s.next_object at_file elsewhere absent
 
+      -- and at each other path what stood there
       get_else : (p : Path) → p ≢ m ∷ [] → get after.files p ≡ get f.files p
       get_else = get_same f m class l.naming.number naming.number s.next_object at_file elsewhere absent
 
+      -- there is a label for each file and directory
       new_labelled : (p : Path) (there : Node) → get after.files p ≡ Some there → class_label users there.class ≢ None
       new_labelled p there is = elim (same_path_found p (m ∷ [])) [
         | inl e ↦
             let same = same_Some (record { class = class; content = Content.File [] }) there (sym get_file ∙ ap (get after.files) (sym e.1) ∙ is) in
-            subst (λ (c : Node). class_label users c.class ≢ None) same (λ none. none-some label (sym none ∙ class_has))
+            subst (λ (c : Node). class_label users c.class ≢ None) same (λ e. none-some label (sym e ∙ class_has))
         | inr e ↦ l.labelled p there (sym (get_else p e.1) ∙ is)
       ]
 
@@ -228,6 +237,7 @@ module _ (users : List User) (s : State) (f : Flat) (l : LaysOut users s f) wher
         | inr e ↦ ap (λ found. is_some_and found is_dir) (sym (get_else d e.1)) ∙ is
       ]
 
+      -- each directory is one that a directory segment can hold
       new_listable : IsListable grown → (d : Path) → is_dir_at after d ≡ true → IsListable (directory_of after.files naming.number d)
       new_listable room d is = elim (same_path_found d []) [
         | inl e ↦ subst (λ (p : Path). IsListable (directory_of after.files naming.number p)) (sym e.1) (subst IsListable (sym (new_directory f m class l.naming.number naming.number s.next_object at_file elsewhere absent)) room)

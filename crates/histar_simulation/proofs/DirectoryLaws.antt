@@ -31,13 +31,15 @@ module _ (number : Numbers) (d : Path) where
   abbrev leads : Name → Node → Option Target
   leads n there = target_for number (n ∷ d, there)
 
-  -- the path of an entry is another one than what is no entry of the directory
+  -- an entry of the directory is none of another one
   not_above : (n m : Name) (above : Path) → d ≢ above → n ∷ d ≢ m ∷ above
   not_above n m above other e = let same : d ≡ above = cc in other same
 
+  -- and it is not `/`
   not_root : (n : Name) → n ∷ d ≢ []
   not_root n e = cc
 
+  -- entries of different names are different
   not_named : (n m : Name) → n ≢ m → n ∷ d ≢ m ∷ d
   not_named n m other e = let same : n ≡ m = cc in other same
 
@@ -86,11 +88,12 @@ module _ (number : Numbers) (d : Path) where
             ∙ rest ∙ sym (ap (option_and_then (leads n)) (find_behind path_cmp_total path_cmp_exact (n ∷ d) (m ∷ above) there es (not_above n m above t.1)))
       ]
 
-  -- what is below all entries is below those of the directory
+  -- a name below one entry and those behind it is below both
   below_named : (n m : Name) (target : Option Target) (es : List (Path × Node)) → T (is_lt (path_cmp (n ∷ d) (m ∷ d))) → T (below_all by_bytes n (listed es)) → T (below_all by_bytes n (cons_option (option_map (λ goal. (m, goal)) target) (listed es)))
   below_named n m None es low rest = rest
   below_named n m (Some target) es low rest = both (is_lt (by_bytes n m)) _ (subst (λ o. T (is_lt o)) (names_decide d n m) low) rest
 
+  -- what is below all paths is below those of the directory
   below_listed : (n : Name) (es : List (Path × Node)) → T (below_all path_cmp (n ∷ d) es) → T (below_all by_bytes n (listed es))
   below_listed n [] h = tt
   below_listed n (e ∷ es) h = step e.0 e.1 (first (is_lt (path_cmp (n ∷ d) e.0)) _ h) (below_listed n es (second (is_lt (path_cmp (n ∷ d) e.0)) _ h))
@@ -133,6 +136,7 @@ module _ (number : Numbers) (d : Path) where
   AsMany n above there es b =
       length (cons_option (cond b (option_map (λ target. (n, target)) (target_for number (n ∷ above, there))) None) (listed es)) ≡ length (cons_option (cond b (Some (n, is_dir there)) None) (filter_map (entry_in d) es))
 
+  -- one entry that leads somewhere counts in both lists
   length_one : (n : Name) (target : Option Target) (small : Entry) (es : List (Path × Node)) → target ≢ None → length (listed es) ≡ length (filter_map (entry_in d) es)
       → length (cons_option (option_map (λ goal. (n, goal)) target) (listed es)) ≡ length (cons_option (Some small) (filter_map (entry_in d) es))
   length_one n None small es some rest = absurd (some refl)
@@ -171,10 +175,12 @@ len_directory f number d lead = len_sorted (filter_map (target_in number d) f.fi
 
 -- ---- the bytes of a directory
 
+-- a target takes 17 bytes
 length_target : (t : Target) → length (target_bytes t) ≡ 17
 length_target (targets.File file) = refl
 length_target (targets.Directory container listing) = refl
 
+-- an entry takes at most 50
 length_entries : (es : List (Name × Target)) → AllByRecursion IsEntry es → length (flat_map entry_bytes es) ≤ 50 * length es
 length_entries [] h = omega arith
 length_entries (e ∷ es) h =

@@ -1,5 +1,5 @@
 -- Each entry of a directory leads somewhere, where a kernel lays out the flat state.
-use Rattle.std.specs.Prelude.{◌≡◌, ◌≢◌, ℕ, true, false, List, [], ◌∷◌, Option, Some, None, is_some, option_map, refl}
+use Rattle.std.specs.Prelude.{◌≡◌, ◌≢◌, ℕ, true, List, ◌∷◌, Option, Some, None, is_some, option_map, refl}
 use Rattle.std.proofs.Common.{ap, sym, ◌∙◌}
 use Rattle.std.proofs.lemmas.Bool.{false≢true}
 use Rattle.histar_flat.specs.declared.calls.User.{User}
@@ -11,7 +11,7 @@ use Rattle.histar_layout.specs.Directory.{spelling}
 use Rattle.histar_layout.specs.declared.entry.Target.TheVariants as targets
 use Rattle.histar_object.specs.Objects.{is_there}
 use Rattle.histar_object.specs.State.{State}
-use Rattle.histar_simulation.specs.Addresses.{Step, address_of}
+use Rattle.histar_simulation.specs.Addresses.{address_of}
 use Rattle.histar_simulation.specs.Addresses.Step.{Listing}
 use Rattle.histar_simulation.specs.Labels.{class_label}
 use Rattle.histar_simulation.specs.Directories.{both_numbers, target_for, directory_of}
@@ -37,9 +37,9 @@ module _ (users : List User) (s : State) (f : Flat) (l : LaysOut users s f) (q :
 
   -- and a directory has a directory segment
   pub numbered_listing : entry.content ≡ Content.Dir → is_some (l.naming.number (Listing ∷ address_of q)) ≡ true
-  numbered_listing is_dir =
+  numbered_listing dir =
       l.named (Listing ∷ address_of q)
-      ∙ ap is_there (expected_listing users f l.naming.number q ∙ ap (listing_object users bytes) at_path ∙ ap (λ (c : Content). listing_object users bytes (Some (record { class = entry.class; content = c }))) is_dir)
+      ∙ ap is_there (expected_listing users f l.naming.number q ∙ ap (listing_object users bytes) at_path ∙ ap (λ (c : Content). listing_object users bytes (Some (record { class = entry.class; content = c }))) dir)
       ∙ labelled_there _ (class_label users entry.class) (l.labelled q entry at_path)
     where
       bytes : List ℕ

@@ -15,6 +15,11 @@ pub mod Created
 pub mod Owned
 pub mod Users
 pub mod Rights
+pub mod Gates
+pub mod Standing
+pub mod Granting
+pub mod LoginGranted
+pub mod LoginLaid
 pub mod Chains
 pub mod Views
 pub mod Checks

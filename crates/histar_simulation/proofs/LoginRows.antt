@@ -25,6 +25,8 @@ use Rattle.histar_simulation.specs.LaysOut.{LaysOut}
 use Rattle.histar_simulation.specs.Lines.{AreAmong, is_compared, reads_of_login}
 use Rattle.histar_simulation.proofs.Chains.{Step, Chain, entries_of, granted_run}
 use Rattle.histar_simulation.proofs.Users.{place_named, no_place_named}
+use Rattle.histar_simulation.proofs.LoginGranted.{password_agrees, login_is_granted}
+use Rattle.histar_simulation.proofs.LoginLaid.{login_lays_out}
 use Rattle.histar_simulation.proofs.Outcomes.{IsAnswered, IsOut, granted_out, reply_is, after_is, answered_by}
 use Rattle.histar_simulation.proofs.Scenes.{Scene}
 
@@ -53,3 +55,69 @@ module _ (users : List User) (old new : Traced) (f : Flat) (scene : Scene users 
   -- and so it is answered
   pub unknown_reply : place_of users name ≡ None → Refused ENOENT ≡ reply_to users f [] call
   unknown_reply no_place = sym (reply_is users f scene.run call (Some ENOENT) (refused_is None false (no_place_named users name no_place) refl))
+
+  -- a user has the name
+  module _ (place : ℕ) (place_is : place_of users name ≡ Some place) where
+    numbered : user_number users name ≡ Some (place + 1)
+    numbered = ap (option_map (λ (k : ℕ). k + 1)) place_is
+
+    the_user : (u : User) × (user_named users name ≡ Some u) × (slice_get users place ≡ Some u)
+    the_user = place_named users name place place_is
+
+    -- the password is right
+    abbrev right : Bool
+    right = is_password (state old) (place + 1) password
+
+    abbrev raw_calls : List RawCall
+    raw_calls = login_calls right (length users) (place + 1) (own_of (state old) (8 + 2 * length users)) (most_of (state old) (8 + 2 * length users))
+
+    refused_by : (b : Bool) → right ≡ b → refused users f [] scene.run.process call ≡ login_refusal (Some the_user.0) true b
+    refused_by b e = refused_is (Some the_user.0) b the_user.1 (sym (password_agrees users (state old) f scene.lays_out name (place + 1) numbered the_user.0 password the_user.1) ∙ e)
+
+    none_refused : (front rest : List RawCall) (refusal : Option (RawCall × Denied)) → raw_calls ≡ front ++ rest → Made old new (8 + 2 * length users) front refusal → refusal ≡ None
+    none_refused front rest refusal parts made = login_is_granted users (state old) f scene.lays_out name (place + 1) numbered scene.run.process scene.run.stands right old new front rest refusal refl parts made
+
+    -- the state after a login with this outcome lays out the flat state after it
+    module _ (made : Made old new (8 + 2 * length users) raw_calls None) where
+      chain : Chain old (8 + 2 * length users) (map (λ (c : RawCall). (c, None)) raw_calls) new
+      chain = let granted = granted_run (8 + 2 * length users) old new raw_calls made in subst (λ (s : List Step). Chain old (8 + 2 * length users) s new) granted.2 granted.1
+
+      owed : (compared : Bool) → compared ≡ true → AreAmong (reads_of_login (place_of users name) compared) (entries_of old.line (8 + 2 * length users) (map (λ (c : RawCall). (c, None)) raw_calls))
+      owed compared is = subst (λ (b : Bool). AreAmong (reads_of_login (place_of users name) b) (entries_of old.line (8 + 2 * length users) (map (λ (c : RawCall). (c, None)) raw_calls))) (sym is)
+          (subst (λ (o : Option ℕ). AreAmong (reads_of_login o true) (entries_of old.line (8 + 2 * length users) (map (λ (c : RawCall). (c, None)) raw_calls))) (sym place_is) (inr (inr (inl (refl, tt)))))
+
+      answered : (b : Bool) → right ≡ b → BecomesUser (length users) (place + 1) (8 + 2 * length users) (state old) (state new) (reply_if b) → (reply_if b ≡ reply_to users f [] call) × IsAnswered users f call old new
+      answered true is becomes =
+          let refusal = refused_by true is in
+          let reply = reply_is users f scene.run call None refusal in
+          (
+            sym reply,
+            answered_by users f call old new (8 + 2 * length users) scene.named (map (λ (c : RawCall). (c, None)) raw_calls) chain Done (with_process f [] (record scene.run.process { user = name; held = [] })) reply
+            (after_is users f scene.run call None refusal) refl refl tt (λ b e. absurd cc) (owed true refl) (λ e. absurd cc)
+            (login_lays_out users scene.no_one (state old) f scene.lays_out scene.run.process scene.run.stands name (place + 1) numbered (state new) becomes),
+          )
+      answered false is becomes =
+          let refusal = refused_by false is in
+          let reply = reply_is users f scene.run call (Some EAUTH) refusal in
+          (
+            sym reply,
+            answered_by users f call old new (8 + 2 * length users) scene.named (map (λ (c : RawCall). (c, None)) raw_calls) chain (Refused EAUTH) f reply
+            (after_is users f scene.run call (Some EAUTH) refusal) refl refl tt (λ b e. absurd cc) (owed true refl) (λ e. absurd cc)
+            (subst (λ (s : State). LaysOut users s f) (sym becomes) scene.lays_out),
+          )
+
+    same_reply : (a b : Reply) → Some a ≡ Some b → a ≡ b
+    same_reply a b e = cc
+
+    -- a login as this user that was answered
+    pub login_row : (reply : Reply) → LoginCompletes old new (8 + 2 * length users) raw_calls (reply_if right) reply → BecomesUser (length users) (place + 1) (8 + 2 * length users) (state old) (state new) reply
+        → (reply ≡ reply_to users f [] call) × IsAnswered users f call old new
+    login_row reply c becomes =
+        let no_refusal = none_refused raw_calls [] c.refusal (sym (append-nil raw_calls)) c.made in
+        let same : reply_if right ≡ reply = same_reply (reply_if right) reply (ap (login_answer (reply_if right)) (sym no_refusal) ∙ c.answers) in
+        let row = answered (subst (Made old new (8 + 2 * length users) raw_calls) no_refusal c.made) right refl (subst (BecomesUser (length users) (place + 1) (8 + 2 * length users) (state old) (state new)) (sym same) becomes) in
+        (sym same ∙ row.0, row.1)
+
+    -- and one that ended before its answer
+    pub login_out : LoginStops old new (8 + 2 * length users) raw_calls → IsOut old new (8 + 2 * length users)
+    login_out h = granted_out old new (8 + 2 * length users) h.front (subst (Made old new (8 + 2 * length users) h.front) (none_refused h.front h.rest h.refusal h.parts h.made) h.made)

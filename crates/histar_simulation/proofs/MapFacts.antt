@@ -27,11 +27,13 @@ pub both : (a b : Bool) → T a → T b → T (a && b)
 both true b p q = q
 both false b p q = p
 
+-- a test for less
 less : (o : Ordering) → T (is_lt o) → o ≡ Less
 less Less p = refl
 less Equal p = absurd p
 less Greater p = absurd p
 
+-- a test for ties
 equal : (o : Ordering) → is_eq o ≡ true → o ≡ Equal
 equal Less e = absurd cc
 equal Equal e = refl
@@ -68,6 +70,7 @@ ends_decide : {A : Type 0} (R : A → A → Ordering) → IsTotalOrder R → (d 
 ends_decide R total [] xs ys = refl
 ends_decide R total (n ∷ d) xs ys = ends_decide R total d (n ∷ xs) (n ∷ ys) ∙ ap (λ o. ordering_then o (slice_cmp R xs ys)) (tied_itself total n)
 
+-- where the rest ties, the first things decide
 one_by_one : (o : Ordering) → ordering_then o Equal ≡ o
 one_by_one Less = refl
 one_by_one Equal = refl

@@ -1,5 +1,5 @@
 -- What a flat state asks for after a file is made in `/`, where the file's address has the next number and the others stay.
-use Rattle.std.specs.Prelude.{◌≡◌, ◌≢◌, ℕ, Bool, true, false, cond, List, [], ◌∷◌, Option, Some, None, option_map, option_and_then, refl}
+use Rattle.std.specs.Prelude.{◌≡◌, ◌≢◌, ℕ, Bool, cond, List, [], ◌∷◌, Option, Some, None, option_map, option_and_then, refl}
 use Rattle.std.proofs.Common.{ap, sym, ◌∙◌, inl, inr}
 use Rattle.std.specs.FinMap as map
 use Rattle.std.specs.Ordering.{eq_by_cmp}
@@ -43,16 +43,19 @@ module _ (f : Flat) (m : Name) (class : Class) (number numbers : Numbers) (next 
   abbrev pub after : Flat
   after = with_node f (m ∷ []) class (Content.File [])
 
+  -- at the path stands the new file
   pub get_made : get after.files (m ∷ []) ≡ Some made
   get_made = get_new f.files (m ∷ []) made
 
+  -- and at each other path what stood there
   pub get_same : (p : Path) → p ≢ m ∷ [] → get after.files p ≡ get f.files p
   get_same p other = get_other f.files (m ∷ []) made p other
 
-  -- an address that is not the new file's has its number
+  -- another path's address has the number that it had
   same_number : (p : Path) → p ≢ m ∷ [] → numbers (address_of p) ≡ number (address_of p)
   same_number p other = elsewhere (address_of p) (λ e. other (same_address_path p (m ∷ []) e))
 
+  -- and so has that of a directory segment
   same_listing_number : (p : Path) → numbers (Listing ∷ address_of p) ≡ number (Listing ∷ address_of p)
   same_listing_number p = elsewhere (Listing ∷ address_of p) (λ e. cc)
 
@@ -89,6 +92,7 @@ module _ (f : Flat) (m : Name) (class : Class) (number numbers : Numbers) (next 
       tie : {b : Bool} → same n m ≡ b → cond (eq_by_cmp by_bytes n m) (Some (targets.File next)) old ≡ cond b (Some (targets.File next)) old
       tie e = ap (λ b. cond b (Some (targets.File next)) old) (sym (texts_ties n m) ∙ e)
 
+  -- so `/` has one entry more
   pub new_directory : directory_of after.files numbers [] ≡ grown
   new_directory = map.same_map nat_list_cmp_total antisymmetric _ _ (λ n.
       get_directory after.files numbers [] n ∙ target_grown n

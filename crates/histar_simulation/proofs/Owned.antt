@@ -1,6 +1,7 @@
 -- Labels with star at the categories that they own, and clearances with level 3 at these: what they let a thread see, write and make.
-use Rattle.std.proofs.Common.{◌≡◌, ◌≢◌, ℕ, ◌+◌, ◌<◌, ◌≤◌, ◌==◌, max, Bool, true, false, ◌&&◌, ◌||◌, inl, inr, List, [], ◌∷◌, map, if◌then◌else◌, arith, refl, sym, ap, ◌∙◌}
-use Rattle.std.proofs.lemmas.Bool.Decides.{eqb_tells}
+use Rattle.std.proofs.Common.{◌≡◌, ◌≢◌, ℕ, ◌+◌, ◌<◌, ◌≤◌, ◌==◌, max, Bool, true, false, ◌&&◌, ◌||◌, inl, inr, List, [], ◌∷◌, map, if◌then◌else◌, arith, refl, sym, ap, ◌∙◌, subst}
+use Rattle.std.specs.List.{AllByRecursion}
+use Rattle.std.proofs.lemmas.Bool.Decides.{eqb_tells, nat_tests}
 use mathlib.Core.Bool.{true≢false}
 use Rattle.histar_label.specs.declared.levels.Level.{Level}
 use Rattle.histar_label.specs.declared.levels.Level.TheVariants.{Star, L1, L2, L3}
@@ -12,15 +13,24 @@ use Rattle.histar_login.specs.Start.{with_levels}
 
 -- two tests agree where each passes if the other does
 pub same_truth : (a b : Bool) → (a ≡ true → b ≡ true) → (b ≡ true → a ≡ true) → a ≡ b
-same_truth true true there back = refl
-same_truth true false there back = sym (there refl)
-same_truth false true there back = back refl
-same_truth false false there back = refl
+same_truth true true forth back = refl
+same_truth true false forth back = sym (forth refl)
+same_truth false true forth back = back refl
+same_truth false false forth back = refl
 
 -- the category is among these
 abbrev pub among : List ℕ → ℕ → Bool
 among [] q = false
 among (c ∷ cs) q = q == c || among cs q
+
+-- what is among some categories has what each of them has, by the test of the first
+each_by : (P : ℕ → Type 0) (c q : ℕ) (cs : List ℕ) (b : Bool) → (q == c) ≡ b → P c → (among cs q ≡ true → P q) → (b || among cs q) ≡ true → P q
+each_by P c q cs true is first later e = let same : c ≡ q = grind (arith, nat_tests, is) in subst P same first
+each_by P c q cs false is first later e = later e
+
+pub among_each : (P : ℕ → Type 0) (cs : List ℕ) → AllByRecursion P cs → (q : ℕ) → among cs q ≡ true → P q
+among_each P [] all q e = absurd (true≢false (sym e))
+among_each P (c ∷ cs) all q e = each_by P c q cs (q == c) refl all.0 (among_each P cs all.1 q) e
 
 -- one level at each of these categories
 abbrev pub all_at : List ℕ → Level → List (ℕ × Level)
@@ -81,11 +91,11 @@ rank_cleared false = omega arith
 -- a level above 1 is seen only where it is owned, and one below 1 written
 seen_owned : (b : Bool) → 3 ≤ raised (if b then Star else L1) → b ≡ true
 seen_owned true h = refl
-seen_owned false h = let no : ⊥ = omega (arith, h) in absurd no
+seen_owned false h = absurd (omega (arith, h))
 
 written_owned : (b : Bool) → rank (if b then Star else L1) ≤ 1 → b ≡ true
 written_owned true h = refl
-written_owned false h = let no : ⊥ = omega (arith, h) in absurd no
+written_owned false h = absurd (omega (arith, h))
 
 module _ (own : Levels) (owned : ℕ → Bool) (owns : Owns own owned) where
   -- the label is nowhere above level 1
@@ -109,7 +119,7 @@ module _ (own : Levels) (owned : ℕ → Bool) (owns : Owns own owned) where
   secret_seen l r high low = same_truth (is_below_raised l own) (owned r)
     (λ below. let at : grades l r ≤ raised_grades own r = (is_below_raised-law l own).0 below r in seen_owned (owned r) (omega (arith, at, high, ap raised (owns r))))
     (λ is. (is_below_raised-law l own).1 (λ c. elim (eqb_tells c r) as (λ _. grades l c ≤ raised_grades own c) [
-      | inl e ↦ let there : grades l c ≡ 4 = ap (grades l) e.1 ∙ high in let star : raised_grades own c ≡ 5 = ap raised (ap (level_of own) e.1 ∙ own_star r is) in omega (arith, there, star)
+      | inl e ↦ let high_here : grades l c ≡ 4 = ap (grades l) e.1 ∙ high in let star : raised_grades own c ≡ 5 = ap raised (ap (level_of own) e.1 ∙ own_star r is) in omega (arith, high_here, star)
       | inr e ↦ omega (arith, low c e.1, own_raised c)
     ]))
 
@@ -139,8 +149,8 @@ module _ (most : Levels) (owned : ℕ → Bool) (clears : Clears most owned) whe
   pub cleared_at : (l : Levels) (r : ℕ) → owned r ≡ true → grades l r ≤ 4 → ((c : ℕ) → c ≢ r → grades l c ≤ 3) → is_below l most ≡ true
   cleared_at l r is high low = (is_below-law l most).1 (λ c. elim (eqb_tells c r) as (λ _. grades l c ≤ grades most c) [
     | inl e ↦
-        let there : grades l c ≤ 4 = omega (arith, ap (grades l) e.1, high) in
+        let high_here : grades l c ≤ 4 = omega (arith, ap (grades l) e.1, high) in
         let level : grades most c ≡ 4 = ap rank (ap (level_of most) e.1 ∙ clears r ∙ picked (owned r) L3 L2 is) in
-        omega (arith, there, level)
+        omega (arith, high_here, level)
     | inr e ↦ omega (arith, low c e.1, most_high c)
   ])

@@ -25,11 +25,11 @@ use Rattle.histar_login.specs.Start.{owner_of, cleared_of, own_read_category, ow
 use Rattle.histar_login.specs.Login.{user_label, user_clearance}
 use Rattle.histar_simulation.specs.Labels.{user_number, class_label, thread_labels}
 use Rattle.histar_simulation.specs.LaysOut.{IsLone}
-use Rattle.histar_simulation.proofs.Owned.{same_truth, among, all_at, Owns, Clears, owns_all, clears_all, own_star, seen, secret_seen, written, owner_writes, cleared, cleared_at}
+use Rattle.histar_simulation.proofs.Owned.{same_truth, among, among_each, all_at, Owns, Clears, owns_all, clears_all, own_star, seen, secret_seen, written, owner_writes, cleared, cleared_at}
 use Rattle.histar_simulation.proofs.Users.{IsNoUser, number_range, one_name, nobody_has_none}
 
 -- the place of a level that a test picks
-rank_picked : (b : Bool) (l m : Level) → rank (if b then l else m) ≡ (if b then rank l else rank m)
+pub rank_picked : (b : Bool) (l m : Level) → rank (if b then l else m) ≡ (if b then rank l else rank m)
 rank_picked true l m = refl
 rank_picked false l m = refl
 
@@ -46,7 +46,7 @@ secret_at r w c =
     ∙ ap (λ m. if c == r then 4 else m) (written_at w c)
 
 -- the levels of `{w:0, 1}`: 0 at w, and 1 elsewhere
-written_low : (w c : ℕ) → grades (with_level (constant L1) w L0) c ≤ 2
+pub written_low : (w c : ℕ) → grades (with_level (constant L1) w L0) c ≤ 2
 written_low w c = grind (arith, nat_tests, written_at w c)
 
 written_here : (w : ℕ) → grades (with_level (constant L1) w L0) w ≡ 1
@@ -62,7 +62,7 @@ secret_high r w = grind (arith, nat_tests, secret_at r w r)
 secret_here : (r w : ℕ) → r ≢ w → grades (with_level (with_level (constant L1) w L0) r L3) w ≡ 1
 secret_here r w apart = grind (arith, nat_tests, secret_at r w w)
 
-secret_low : (r w c : ℕ) → c ≢ r → grades (with_level (with_level (constant L1) w L0) r L3) c ≤ 2
+pub secret_low : (r w c : ℕ) → c ≢ r → grades (with_level (with_level (constant L1) w L0) r L3) c ≤ 2
 secret_low r w c other = grind (arith, nat_tests, secret_at r w c)
 
 secret_elsewhere : (r w c : ℕ) → c ≢ w → 2 ≤ grades (with_level (with_level (constant L1) w L0) r L3) c
@@ -70,7 +70,7 @@ secret_elsewhere r w c other = grind (arith, nat_tests, secret_at r w c)
 
 -- the two categories of a user are two
 two_categories : (user : ℕ) → read_category user ≢ write_category user
-two_categories user same = let no : ⊥ = omega (arith, same) in no
+two_categories user same = omega (arith, same)
 
 -- Whose a thread with these labels is: the number of its owner, and the categories that it owns, of which those of users are its
 -- owner's. Nobody's number is 0.
@@ -83,6 +83,9 @@ pub record IsWhose (users : List User) (name : Name) (label clearance : Levels) 
   pub writes : (j : ℕ) → j ≤ length users → 0 < j → owned (write_category j) ≡ (j == who)
   pub reads_none : owned (read_category 0) ≡ false
   pub writes_none : owned (write_category 0) ≡ false
+  pub own_read : owned (own_read_category (length users)) ≡ true
+  pub own_write : owned (own_write_category (length users)) ≡ true
+  pub made : (c : ℕ) → owned c ≡ true → (0 < c) × (c < 6 + 2 * length users)
   pub user : ((same name nobody ≡ true) × (who ≡ 0)) ⊎ ((same name nobody ≡ false) × (user_number users name ≡ Some who))
 
 -- the categories of a thread that is nobody's, and of a user's
@@ -105,6 +108,19 @@ users_read n i j le = grind (arith, nat_tests)
 users_write : (n i j : ℕ) → j ≤ n → among (users_own n i) (write_category j) ≡ (j == i)
 users_write n i j le = grind (arith, nat_tests)
 
+nobodys_own : (n : ℕ) → (among (nobodys n) (own_read_category n) ≡ true) × (among (nobodys n) (own_write_category n) ≡ true)
+nobodys_own n = (grind (arith, nat_tests), grind (arith, nat_tests))
+
+users_own_too : (n i : ℕ) → (among (users_own n i) (own_read_category n) ≡ true) × (among (users_own n i) (own_write_category n) ≡ true)
+users_own_too n i = (grind (arith, nat_tests), grind (arith, nat_tests))
+
+nobodys_made : (n c : ℕ) → among (nobodys n) c ≡ true → (0 < c) × (c < 6 + 2 * n)
+nobodys_made n c is = among_each (λ (q : ℕ). (0 < q) × (q < 6 + 2 * n)) (nobodys n) ((omega arith, omega arith), ((omega arith, omega arith), tt)) c is
+
+pub users_made : (n i c : ℕ) → i ≤ n → among (users_own n i) c ≡ true → (0 < c) × (c < 6 + 2 * n)
+users_made n i c le is =
+    among_each (λ (q : ℕ). (0 < q) × (q < 6 + 2 * n)) (users_own n i) ((omega arith, omega (arith, le)), ((omega arith, omega (arith, le)), ((omega arith, omega arith), ((omega arith, omega arith), tt)))) c is
+
 not_none : (j : ℕ) → 0 < j → (j == 0) ≡ false
 not_none j lt = grind (arith, nat_tests)
 
@@ -119,6 +135,9 @@ whose_nobody users name is = record {
   writes = λ j le lt. nobodys_write (length users) j le ∙ sym (not_none j lt);
   reads_none = nobodys_read (length users) 0 (omega arith);
   writes_none = nobodys_write (length users) 0 (omega arith);
+  own_read = (nobodys_own (length users)).0;
+  own_write = (nobodys_own (length users)).1;
+  made = nobodys_made (length users);
   user = inl (is, refl);
 }
 
@@ -136,13 +155,16 @@ whose_user users name i other is =
       writes = λ j le lt. users_write (length users) i j le;
       reads_none = users_read (length users) i 0 (omega arith) ∙ apart;
       writes_none = users_write (length users) i 0 (omega arith) ∙ apart;
+      own_read = (users_own_too (length users) i).0;
+      own_write = (users_own_too (length users) i).1;
+      made = λ c. users_made (length users) i c (number_range users name i is).1;
       user = inr (other, is);
     }
 
 -- by the number of the name
 whose_by : (users : List User) (name : Name) (number : Option ℕ) → user_number users name ≡ number → same name nobody ≡ false → (label clearance : Levels)
     → option_map {U = Levels × Levels} (λ i. (user_label (length users) i, user_clearance (length users) i)) number ≡ Some (label, clearance) → IsWhose users name label clearance
-whose_by users name None is other label clearance e = let no : ⊥ = cc in absurd no
+whose_by users name None is other label clearance e = absurd cc
 whose_by users name (Some i) is other label clearance e =
     let one : user_label (length users) i ≡ label = ap (λ (x : Levels × Levels). x.0) (inner _ _ e) in
     let two : user_clearance (length users) i ≡ clearance = ap (λ (x : Levels × Levels). x.1) (inner _ _ e) in
@@ -175,11 +197,11 @@ equal_tested a b h = (bytes_eq-Decides a b).1 h
 owner_same : (users : List User) → IsNoUser users → (name owner : Name) (who j : ℕ) → user_number users owner ≡ Some j
     → ((same name nobody ≡ true) × (who ≡ 0)) ⊎ ((same name nobody ≡ false) × (user_number users name ≡ Some who)) → (j == who) ≡ same name owner
 owner_same users no_one name owner who j numbered (inl is) = same_truth (j == who) (same name owner)
-    (λ e. let positive : 0 < j = (number_range users owner j numbered).0 in let zero_who : who ≡ 0 = is.1 in let no : ⊥ = grind (arith, nat_tests, positive, zero_who, e) in absurd no)
+    (λ e. let positive : 0 < j = (number_range users owner j numbered).0 in let zero_who : who ≡ 0 = is.1 in absurd (grind (arith, nat_tests, positive, zero_who, e)))
     (λ e.
       let mine : name ≡ owner = equal_names name owner e in
       let none_named : None ≡ Some j = sym (nobody_has_none users no_one) ∙ ap (user_number users) (sym (equal_names name nobody is.0) ∙ mine) ∙ numbered in
-      let no : ⊥ = cc in absurd no)
+      absurd cc)
 owner_same users no_one name owner who j numbered (inr is) = same_truth (j == who) (same name owner)
     (λ e. let one : j ≡ who = grind (arith, nat_tests, e) in equal_tested name owner (one_name users name owner j (is.1 ∙ ap Some (sym one)) numbered))
     (λ e. let both : Some who ≡ Some j = sym is.1 ∙ ap (user_number users) (equal_names name owner e) ∙ numbered in let one : who ≡ j = cc in grind (arith, nat_tests, one))
@@ -193,7 +215,7 @@ constant_high c = omega (arith, ap rank (level_of-constant L1 c))
 
 -- what a mapped number comes from
 mapped : (f : ℕ → Levels) (number : Option ℕ) (l : Levels) → option_map f number ≡ Some l → (j : ℕ) × (number ≡ Some j) × (f j ≡ l)
-mapped f None l e = let no : ⊥ = cc in absurd no
+mapped f None l e = absurd cc
 mapped f (Some j) l e = (j, refl, inner (f j) l e)
 
 twice : (b : Bool) → (b && b) ≡ b
@@ -258,7 +280,7 @@ module _ (users : List User) (no_one : IsNoUser users) (p : Process) (lone : IsL
       let of = mapped (file_label modes.Readable) (user_number users owner) l e in
       ap (λ (m : Levels). is_below_raised m label) (sym of.2) ∙ observes_written (write_category of.0)
   observes_class Open l e = ap (λ (m : Levels). is_below_raised m label) (sym (inner (constant L1) l e)) ∙ observes_open
-  observes_class (Scratch owner jobs) l e = let no : ⊥ = cc in absurd no
+  observes_class (Scratch owner jobs) l e = absurd cc
 
   -- a thread may modify what is of a class exactly where its process may write it
   pub modifies_class : (class : Class) (l : Levels) → class_label users class ≡ Some l → (is_below label l && is_below_raised l label) ≡ may_write p class
@@ -274,7 +296,7 @@ module _ (users : List User) (no_one : IsNoUser users) (p : Process) (lone : IsL
       ∙ ap (λ b. same p.user owner && b) (sym free)
   modifies_class Open l e =
       ap (λ (m : Levels). is_below label m && is_below_raised m label) (sym (inner (constant L1) l e)) ∙ (λ i. modifies_open i && observes_open i) ∙ sym free
-  modifies_class (Scratch owner jobs) l e = let no : ⊥ = cc in absurd no
+  modifies_class (Scratch owner jobs) l e = absurd cc
 
   -- the categories that the label owns
   owns_read : (j : ℕ) → owns label j ≡ mine.owned (read_category j)
@@ -283,7 +305,7 @@ module _ (users : List User) (no_one : IsNoUser users) (p : Process) (lone : IsL
   -- some user is the thread's
   number_known : mine.who ≤ length users
   number_known = elim mine.user [
-    | inl is ↦ let none : mine.who ≡ 0 = is.1 in omega (arith, none)
+    | inl is ↦ let zero_who : mine.who ≡ 0 = is.1 in omega (arith, zero_who)
     | inr is ↦ (number_range users p.user mine.who is.1).1
   ]
 
@@ -291,7 +313,7 @@ module _ (users : List User) (no_one : IsNoUser users) (p : Process) (lone : IsL
   owner_first = record {
     owner = λ lt. owns_read mine.who ∙ mine.reads mine.who number_known lt ∙ grind (arith, nat_tests);
     first = λ other lt below. owns_read other ∙ mine.reads other (omega (arith, below, number_known)) lt ∙ grind (arith, nat_tests, below);
-    nobody = λ none other lt le. owns_read other ∙ mine.reads other le lt ∙ grind (arith, nat_tests, none, lt);
+    nobody = λ zero_who other lt le. owns_read other ∙ mine.reads other le lt ∙ grind (arith, nat_tests, zero_who, lt);
     known = number_known;
   }
 
@@ -343,7 +365,7 @@ file_label_known n modes.Readable user le = is_made-with_level (6 + 2 * n) (cons
 
 -- where the place of a level is above 0, it is not star
 not_star : (l : Level) → 1 ≤ rank l → l ≢ Star
-not_star l above e = let star : rank l ≡ 0 = ap rank e in let no : ⊥ = omega (arith, star, above) in no
+not_star l above e = let star : rank l ≡ 0 = ap rank e in omega (arith, star, above)
 
 -- the label of a file owns nothing
 pub file_label_owns_nothing : (mode : Mode) (user : ℕ) → has_star (file_label mode user) ≡ false

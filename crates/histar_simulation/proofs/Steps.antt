@@ -1,43 +1,28 @@
--- The test of steps tells which two are the same.
-use Rattle.std.proofs.Common.{◌≡◌, ℕ, true, false, ◌&&◌, ◌==◌, List, [], ◌∷◌, inl, inr, refl, sym, ap, ◌∙◌}
+-- The test of steps tells equal steps from different ones.
+use Rattle.std.specs.Prelude.{◌≡◌, ℕ, zero, suc, List, [], ◌∷◌, refl}
+use Rattle.std.proofs.Common.{ap, sym, ◌∙◌, inl, inr}
+use Rattle.std.proofs.lemmas.Bool.{and_from, and_left, and_right}
 use Rattle.std.proofs.lemmas.Bool.Decides.{eqb_tells}
-use Rattle.histar_flat.specs.PathOrder.{same as same_name}
 use Rattle.histar_flat.proofs.FileLemmas.{same_name_found}
 use Rattle.histar_container.proofs.Addresses.{Tells}
 use Rattle.histar_simulation.specs.Addresses.{Step, split_step, same_step}
 use Rattle.histar_simulation.specs.Addresses.Step.{Left, Slash, Listing, Named, Home, Status, Inside, Runner}
 
--- what stands first in a list of numbers
-first_number : List ℕ → ℕ
-first_number [] = 0
-first_number (q ∷ rest) = q
+-- the step of a kind, with its number or its name
+join_step : ℕ → List ℕ → Step
+join_step zero [] = Slash
+join_step zero (q ∷ more) = Left q
+join_step (suc zero) more = Slash
+join_step (suc (suc zero)) more = Listing
+join_step (suc (suc (suc zero))) more = Named more
+join_step (suc (suc (suc (suc zero)))) more = Home
+join_step (suc (suc (suc (suc (suc zero))))) more = Status
+join_step (suc (suc (suc (suc (suc (suc zero)))))) more = Inside
+join_step (suc (suc (suc (suc (suc (suc (suc kind))))))) more = Runner
 
--- the step of a kind that says no more
-plain_step : ℕ → Step
-plain_step k = elim (k == 1) [
-  | true ↦ Slash
-  | false ↦ elim (k == 2) [
-    | true ↦ Listing
-    | false ↦ elim (k == 4) [
-      | true ↦ Home
-      | false ↦ elim (k == 5) [
-        | true ↦ Status
-        | false ↦ elim (k == 6) [ true ↦ Inside | false ↦ Runner ]
-      ]
-    ]
-  ]
-]
-
--- the step with this number of its kind, and this number or name
-join_step : ℕ × List ℕ → Step
-join_step parts = elim (parts.0 == 0) [
-  | true ↦ Left (first_number parts.1)
-  | false ↦ elim (parts.0 == 3) [ true ↦ Named parts.1 | false ↦ plain_step parts.0 ]
-]
-
--- a step is made again from what it is split into
-join_split : (x : Step) → join_step (split_step x) ≡ x
-unfolding first_number plain_step join_step
+-- a step that was split comes back
+join_split : (x : Step) → join_step (split_step x).0 (split_step x).1 ≡ x
+unfolding join_step
 join_split (Left q) = refl
 join_split Slash = refl
 join_split Listing = refl
@@ -47,19 +32,12 @@ join_split Status = refl
 join_split Inside = refl
 join_split Runner = refl
 
--- pairs are told apart by the tests of their parts
-parts_tell : Tells (λ (x : ℕ × List ℕ) (y : ℕ × List ℕ). x.0 == y.0 && same_name x.1 y.1)
-parts_tell x y = elim (eqb_tells x.0 y.0) [
-  | inl k ↦ elim (same_name_found x.1 y.1) [
-    | inl e ↦ inl (ap (λ b. b && same_name x.1 y.1) k.0 ∙ e.0, λ i. (k.1 i, e.1 i))
-    | inr e ↦ inr (ap (λ b. b && same_name x.1 y.1) k.0 ∙ e.0, λ r. e.1 (ap (λ p. p.1) r))
-  ]
-  | inr k ↦ inr (ap (λ b. b && same_name x.1 y.1) k.0, λ r. k.1 (ap (λ p. p.0) r))
-]
-
 -- whether two steps are the same tells whether they are equal
 pub step_tells : Tells same_step
-step_tells x y = elim (parts_tell (split_step x) (split_step y)) [
-  | inl e ↦ inl (e.0, sym (join_split x) ∙ ap join_step e.1 ∙ join_split y)
-  | inr e ↦ inr (e.0, λ r. e.1 (ap split_step r))
+step_tells x y = elim (eqb_tells (split_step x).0 (split_step y).0) [
+  | inl kind ↦ elim (same_name_found (split_step x).1 (split_step y).1) [
+    | inl rest ↦ inl (and_from _ _ kind.0 rest.0, sym (join_split x) ∙ (λ i. join_step (kind.1 i) (rest.1 i)) ∙ join_split y)
+    | inr rest ↦ inr (and_right _ _ rest.0, λ same. rest.1 (ap (λ z. (split_step z).1) same))
+  ]
+  | inr kind ↦ inr (and_left _ _ kind.0, λ same. kind.1 (ap (λ z. (split_step z).0) same))
 ]

@@ -43,20 +43,20 @@ named_is (v ∷ users) name u e = named_by (bytes_eq v.name name) v u name (user
 
 -- at each place below the length is a user
 user_at : (users : List User) (k : ℕ) → k < length users → (u : User) × (slice_get users k ≡ Some u)
-user_at [] k lt = let no : ⊥ = omega (arith, lt) in absurd no
+user_at [] k lt = absurd (omega (arith, lt))
 user_at (u ∷ users) zero lt = (u, refl)
 user_at (u ∷ users) (suc k) lt = user_at users k (omega (arith, lt))
 
 -- and at no other
 no_user_at : (users : List User) (k : ℕ) → length users ≤ k → slice_get users k ≡ None
 no_user_at [] k le = refl
-no_user_at (u ∷ users) zero le = let no : ⊥ = omega (arith, le) in absurd no
+no_user_at (u ∷ users) zero le = absurd (omega (arith, le))
 no_user_at (u ∷ users) (suc k) le = no_user_at users k (omega (arith, le))
 
 -- a place that a test tells, where it passes
 told_place : (b : Bool) (k m : ℕ) → cond b (Some k) None ≡ Some m → (b ≡ true) × (k ≡ m)
 told_place true k m e = (refl, cc)
-told_place false k m e = let no : ⊥ = cc in absurd no
+told_place false k m e = absurd cc
 
 -- the place of a name is the first place, and below the number of users
 place_is : (users : List User) (name : Name) (k : ℕ) → place_of users name ≡ Some k → (first_place users name ≡ k) × (k < length users)
@@ -76,7 +76,7 @@ place_named users name k e =
 
 -- by whether the first place is one
 no_place_by : (b : Bool) (users : List User) (k : ℕ) → nat_lt k (length users) ≡ b → cond b (Some k) None ≡ None → slice_get users k ≡ None
-no_place_by true users k is e = let no : ⊥ = cc in absurd no
+no_place_by true users k is e = absurd cc
 no_place_by false users k is e = no_user_at users k (grind (arith, nat_tests, is))
 
 -- where a name has no place, no user has it
@@ -85,7 +85,7 @@ no_place_named users name e = named_at users name ∙ no_place_by (nat_lt (first
 
 -- by whether the name has a place
 named_place_by : (users : List User) (name : Name) (u : User) (place : Option ℕ) → place_of users name ≡ place → user_named users name ≡ Some u → (k : ℕ) × (place_of users name ≡ Some k) × (slice_get users k ≡ Some u)
-named_place_by users name u None is e = let no : None ≡ Some u = sym (no_place_named users name is) ∙ e in let k : ⊥ = cc in absurd k
+named_place_by users name u None is e = let both : None ≡ Some u = sym (no_place_named users name is) ∙ e in absurd cc
 named_place_by users name u (Some k) is e = let found = place_named users name k is in (k, is, found.2 ∙ sym found.1 ∙ e)
 
 -- the user of a name stands at the place of the name
@@ -95,7 +95,7 @@ named_place users name u e = named_place_by users name u (place_of users name) r
 -- by whether the name has a place
 unnamed_place_by : (users : List User) (name : Name) (place : Option ℕ) → place_of users name ≡ place → user_named users name ≡ None → place_of users name ≡ None
 unnamed_place_by users name None is e = is
-unnamed_place_by users name (Some k) is e = let no : Some (place_named users name k is).0 ≡ None = sym (place_named users name k is).1 ∙ e in let k : ⊥ = cc in absurd k
+unnamed_place_by users name (Some k) is e = let both : Some (place_named users name k is).0 ≡ None = sym (place_named users name k is).1 ∙ e in absurd cc
 
 -- a name that no user has has no place
 pub unnamed_place : (users : List User) (name : Name) → user_named users name ≡ None → place_of users name ≡ None
@@ -103,12 +103,20 @@ unnamed_place users name e = unnamed_place_by users name (place_of users name) r
 
 -- what a mapped value comes from
 number_by : (place : Option ℕ) (i : ℕ) → option_map (λ k. k + 1) place ≡ Some i → (k : ℕ) × (place ≡ Some k) × (i ≡ k + 1)
-number_by None i e = let no : ⊥ = cc in absurd no
+number_by None i e = absurd cc
 number_by (Some k) i e = (k, refl, cc)
 
 -- a user's number is one more than the user's place
 pub number_place : (users : List User) (name : Name) (i : ℕ) → user_number users name ≡ Some i → (k : ℕ) × (place_of users name ≡ Some k) × (i ≡ k + 1)
 number_place users name i e = number_by (place_of users name) i e
+
+-- and the user of a place has the next number
+pub place_number : (users : List User) (name : Name) (k : ℕ) → place_of users name ≡ Some k → user_number users name ≡ Some (k + 1)
+place_number users name k e = ap (option_map (λ j. j + 1)) e
+
+-- a name that some user has has a number
+pub named_number : (users : List User) (name : Name) (u : User) → user_named users name ≡ Some u → (i : ℕ) × (user_number users name ≡ Some i)
+named_number users name u e = let place = named_place users name u e in (place.0 + 1, place_number users name place.0 place.1)
 
 -- users have the numbers from 1 on
 pub number_range : (users : List User) (name : Name) (i : ℕ) → user_number users name ≡ Some i → (0 < i) × (i ≤ length users)

@@ -1,38 +1,32 @@
 -- After a write to a file the kernel lays out the flat state with the new bytes.
-use Rattle.std.specs.Prelude.{◌≡◌, ◌≢◌, ℕ, true, false, cond, List, [], ◌∷◌, Option, Some, None, is_some, option_map, option_and_then, refl}
+use Rattle.std.specs.Prelude.{◌≡◌, ◌≢◌, ℕ, true, List, ◌∷◌, Some, None, is_some, option_map, option_and_then, refl}
 use Rattle.std.proofs.Common.{ap, sym, ◌∙◌, subst, inl, inr}
 use Rattle.std.specs.FinMap as map
 use Rattle.std.specs.Cmp.Lexicographic.{nat_list_cmp_total}
-use Rattle.std.proofs.lemmas.Option.{none-some, same_Some}
+use Rattle.std.proofs.lemmas.Option.{same_Some}
 use Rattle.std.proofs.lemmas.Bool.{true≢false}
 use Rattle.histar_flat.specs.declared.calls.User.{User}
-use Rattle.histar_flat.specs.Words.{Name, Path}
-use Rattle.histar_flat.specs.Files.{Files, get}
+use Rattle.histar_flat.specs.Words.{Path}
+use Rattle.histar_flat.specs.Files.{get}
 use Rattle.histar_flat.specs.FlatState.{Node, Content, Flat, is_some_and, is_dir, is_dir_at, class_of}
 use Rattle.histar_flat.specs.FlatState.{with_bytes as flat_with_bytes}
-use Rattle.histar_flat.specs.FlatState.Content.{Dir, File}
 use Rattle.histar_flat.proofs.FileLemmas.{same_path_found, get_other, get_new}
 use Rattle.histar_label.specs.Levels.{Levels}
 use Rattle.histar_layout.specs.Directory.{IsListable, spelling}
-use Rattle.histar_layout.specs.declared.entry.Target.{Target}
 use Rattle.histar_layout.proofs.MapLemmas.{antisymmetric}
-use Rattle.histar_object.specs.declared.objects.Kind.{Kind}
-use Rattle.histar_object.specs.declared.objects.Kind.TheVariants.{Segment, Container, Thread, Gate}
-use Rattle.histar_object.specs.declared.objects.Object.{Object}
-use Rattle.histar_object.specs.Objects.{Objects, changed_at, holding, kind_holding, is_there}
-use Rattle.histar_object.specs.State.{State, Found, with_bytes}
-use Rattle.histar_container.specs.Tree.{Address, Naming, wanted, set_at, IsLaid}
+use Rattle.histar_object.specs.Objects.{Objects, changed_at, holding, is_there}
+use Rattle.histar_object.specs.State.{State, with_bytes}
+use Rattle.histar_container.specs.Tree.{Address, IsLaid}
 use Rattle.histar_container.proofs.Addresses.{same_tells}
 use Rattle.histar_container.proofs.TableMoves.{changed_here, changed_other, laid_changed}
 use Rattle.histar_container.proofs.Trees.{kind_held_links}
-use Rattle.histar_simulation.specs.Addresses.{Step, same_step, same_address, found_at, address_of}
-use Rattle.histar_simulation.specs.Addresses.Step.{Listing}
+use Rattle.histar_simulation.specs.Addresses.{Step, same_step, found_at, address_of}
 use Rattle.histar_simulation.specs.Labels.{class_label}
 use Rattle.histar_simulation.specs.Directories.{Numbers, target_for, directory_of}
-use Rattle.histar_simulation.specs.LaysOut.{LaysOut, bare, kind_bare, content_kind, labelled_as, node_object, listing_object, listing_at, expected}
+use Rattle.histar_simulation.specs.LaysOut.{LaysOut, bare, content_kind, labelled_as, node_object, listing_object, listing_at, expected}
 use Rattle.histar_simulation.proofs.Steps.{step_tells}
 use Rattle.histar_simulation.proofs.FoundObjects.{laid_found, bare_held, held_segment, there_held, found_other}
-use Rattle.histar_simulation.proofs.AddressPaths.{same_address_path, expected_path, same_expected}
+use Rattle.histar_simulation.proofs.AddressPaths.{expected_path, same_expected}
 use Rattle.histar_simulation.proofs.DirectoryLaws.{get_directory}
 
 module _ (f : Flat) (q : Path) (entry : Node) (old bytes : List ℕ) (at_path : get f.files q ≡ Some entry) (is_file : entry.content ≡ Content.File old) where
@@ -44,10 +38,12 @@ module _ (f : Flat) (q : Path) (entry : Node) (old bytes : List ℕ) (at_path : 
   written : Node
   written = record { class = entry.class; content = Content.File bytes }
 
+  -- at the path stands the file with its new bytes
   get_written : get after.files q ≡ Some written
   unfolding after written
   get_written = get_new f.files q (record { class = class_of (get f.files q); content = Content.File bytes }) ∙ ap (λ found. Some (record { class = class_of found; content = Content.File bytes })) at_path
 
+  -- and at each other path what stood there
   get_same : (p : Path) → p ≢ q → get after.files p ≡ get f.files p
   unfolding after
   get_same p other = get_other f.files q (record { class = class_of (get f.files q); content = Content.File bytes }) p other
@@ -102,13 +98,16 @@ module _ (f : Flat) (q : Path) (entry : Node) (old bytes : List ℕ) (at_path : 
     objects : Objects Levels
     objects = changed_at s.objects file (holding bytes)
 
+    -- the file's number has the file's address
     at_file : l.naming.address file ≡ Some (address_of q)
     at_file = l.tree.addressed (address_of q) file numbered
 
+    -- at the file's address stands the segment with its new bytes
     found_here : found_at objects l.naming (address_of q) ≡ option_map (holding bytes) (found_at s.objects l.naming (address_of q))
     unfolding objects
     found_here = ap (option_and_then objects) numbered ∙ changed_here s.objects file (holding bytes) ∙ sym (ap (λ k. option_map (holding bytes) (option_and_then s.objects k)) numbered)
 
+    -- and at each other address what stood there
     found_there : (a : Address Step) → a ≢ address_of q → found_at objects l.naming a ≡ found_at s.objects l.naming a
     unfolding objects
     found_there a other = found_other l.naming s.objects objects a (λ k is. changed_other s.objects file (holding bytes) k (λ e. other (same_Some a (address_of q) (sym (l.tree.addressed a k is) ∙ ap l.naming.address e ∙ at_file))))
