@@ -30,3 +30,4 @@ pub mod FileReads
 pub mod FileWrites
 pub mod FileCreates
 pub mod LoginRows
+pub mod Rows
