@@ -5,3 +5,4 @@ pub mod Outcome
 pub mod Writing
 pub mod Machine
 pub mod Session
+pub mod Meaning

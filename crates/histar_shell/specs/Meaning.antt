@@ -1,0 +1,104 @@
+-- A run against the flat meaning of its script.
+use Rattle.std.specs.Prelude.{◌≡◌, ℕ, Bool, true, false, ◌⊎◌, List, [], ◌++◌, length, map, Option, Result, Ok, Err, MatchResult}
+use Rattle.std.specs.List.{flat_map, AllByRecursion}
+use Rattle.std.specs.Io.KnownBytes.{Appends, Keeps}
+use Rattle.histar_flat.specs.declared.calls.User.{User}
+use Rattle.histar_flat.specs.declared.replies.Reply.{Reply}
+use Rattle.histar_flat.specs.FlatState.{Flat}
+use Rattle.histar_flat.specs.FlatCalls.{reply_to, flat_after}
+use Rattle.histar_flat.specs.Meaning.{Asked, boot, meaning}
+use Rattle.histar_object.specs.State.{State, empty_state}
+use Rattle.histar_script.specs.Script.{Reading, IsUserList}
+use Rattle.histar_script.specs.declared.fault.Fault.{Fault}
+use Rattle.histar_script.specs.declared.fault.Fault.TheVariants.{BadScript, TooLong, OutOfMemory, ReadFailed, WriteFailed}
+use Rattle.histar_script.specs.declared.items.CallLine.{CallLine}
+use Rattle.histar_syscall.specs.declared.trace.TraceEntry.{TraceEntry}
+use Rattle.histar_syscall.specs.Traced.{state}
+use Rattle.histar_syscall.specs.Runs.{IsBy, IsRun}
+use Rattle.histar_calls.specs.declared.stopping.Stopped.{Stopped}
+use Rattle.histar_login.specs.Boot.{boot_thread_number}
+use Rattle.histar_login.specs.Start.{places_of, thread_number}
+use Rattle.histar_simulation.specs.LaysOut.{LaysOut}
+use Rattle.histar_simulation.specs.Lines.{IsScriptable, IsRow, AreRows, IsRunUnlessExhausted}
+use Rattle.histar_shell.specs.Answers.{line_text}
+use Rattle.histar_shell.specs.Machine.{Running}
+use Rattle.histar_shell.specs.Writing.{AppendsFront}
+
+-- a call line, as the flat meaning is asked it
+abbrev pub asked_by : CallLine → Asked
+asked_by c = record { line = c.line; process = c.process; call = c.call }
+
+-- the text of a script's meaning: for each call line, its number and the reply that the flat rules give
+abbrev pub meaning_text : Reading → List ℕ
+meaning_text script = flat_map (λ r. line_text r.0 r.1) (meaning script.users (map asked_by script.calls))
+
+-- A machine lays out a flat state: its kernel does, and it knows of `/`, of its process's thread and of its users what boot told it.
+pub record Shows (m : Running) (f : Flat) : Type 0 where
+  pub users : IsUserList m.users
+  pub places : m.places ≡ places_of (length m.users)
+  pub thread : m.thread ≡ thread_number (length m.users)
+  pub kernel : LaysOut m.users (state m.kernel) f
+
+-- The line was answered what the flat state says. The new end of the trace are its raw calls, which are its row, and the machine lays
+-- out the flat state after the call.
+pub record AnswersAsMeant (old new : Running) (f : Flat) (asked : Asked) (reply : Reply) : Type 0 where
+  pub reply : reply ≡ reply_to old.users f asked.process asked.call
+  pub entries : List TraceEntry
+  pub trace : new.kernel.trace ≡ old.kernel.trace ++ entries
+  pub row : IsRow old.users (state old.kernel) f asked entries (state new.kernel)
+  pub shows : Shows new (flat_after old.users f asked.process asked.call)
+
+-- The line ended without an answer: its raw calls are a run of the kernel by the thread of its process, of which none was refused but
+-- where a counter has its greatest value.
+pub record StopsUnrefused (old new : Running) (line : ℕ) : Type 0 where
+  pub entries : List TraceEntry
+  pub trace : new.kernel.trace ≡ old.kernel.trace ++ entries
+  pub run : IsRunUnlessExhausted (state old.kernel) entries (state new.kernel)
+  pub own : AllByRecursion (IsBy line old.thread) entries
+
+-- a line that ends so
+abbrev pub EndsAsMeant : Running → Running → Flat → Asked → Result Reply Stopped → Type 0
+EndsAsMeant old new f asked (Ok reply) = AnswersAsMeant old new f asked reply
+EndsAsMeant old new f asked (Err stopped) = StopsUnrefused old new asked.line
+
+-- Whatever flat state the machine lays out before the line, the line ends as that says.
+abbrev pub FollowsMeaning : Running → Running → Asked → Result Reply Stopped → Type 0
+FollowsMeaning old new asked result = (f : Flat) → Shows old f → IsScriptable asked.call → EndsAsMeant old new f asked result
+
+-- The trace of a run: raw calls of boot, by the boot thread on line 0 from the empty kernel on, which leave a state that lays out the
+-- flat start; then the raw calls of the lines, each line the row of its call.
+pub record IsMeantTrace (script : Reading) (trace : List TraceEntry) : Type 0 where
+  pub of_boot : List TraceEntry
+  pub of_lines : List TraceEntry
+  pub parts : trace ≡ of_boot ++ of_lines
+  pub start : State
+  pub boot_run : IsRun empty_state of_boot start
+  pub boot_own : AllByRecursion (IsBy 0 boot_thread_number) of_boot
+  pub boot_lays_out : LaysOut script.users start (boot script.users)
+  pub end : State
+  pub rows : AreRows script.users start (boot script.users) (map asked_by script.calls) of_lines end
+
+-- The reading is of a script, the text of its meaning was written, and the trace is that of the meaning.
+pub record WritesMeaning (old new : Option (List ℕ)) (read : Result Reading Fault) (trace : List TraceEntry) : Type 0 where
+  pub script : Reading
+  pub is_read : read ≡ Ok script
+  pub written : Appends old new (meaning_text script)
+  pub recorded : IsMeantTrace script trace
+
+-- the reading is of a script, and a beginning of the text of its meaning was written
+pub record BeginsMeaning (old new : Option (List ℕ)) (read : Result Reading Fault) : Type 0 where
+  pub script : Reading
+  pub is_read : read ≡ Ok script
+  pub written : AppendsFront old new (meaning_text script)
+
+-- at want of memory and at a failed write a beginning of the text was written, and at the other faults nothing
+abbrev pub WritesMeaningAtFault : Option (List ℕ) → Option (List ℕ) → Result Reading Fault → Fault → Type 0
+WritesMeaningAtFault old new read (BadScript n) = Keeps old new
+WritesMeaningAtFault old new read TooLong = Keeps old new
+WritesMeaningAtFault old new read OutOfMemory = Keeps old new ⊎ BeginsMeaning old new read
+WritesMeaningAtFault old new read ReadFailed = Keeps old new
+WritesMeaningAtFault old new read WriteFailed = BeginsMeaning old new read
+
+-- what a run writes, and the trace that it answers, are those of its script's meaning
+abbrev pub RunsAsMeant : Option (List ℕ) → Option (List ℕ) → Result Reading Fault → Result (List TraceEntry) Fault → Type 0
+RunsAsMeant old new read result = MatchResult result (WritesMeaning old new read) (WritesMeaningAtFault old new read)
