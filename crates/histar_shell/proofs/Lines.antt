@@ -1,5 +1,6 @@
 -- What a call line does to a machine that runs.
-use Rattle.std.proofs.Common.{◌≡◌, ℕ, Bool, false, [], Result, sym, subst}
+use Rattle.std.proofs.Common.{◌≡◌, ℕ, Bool, false, [], ◌∷◌, Result, Ok, refl, sym, subst}
+use Rattle.histar_flat.specs.declared.replies.Reply.TheVariants.{Gone}
 use Rattle.histar_flat.specs.declared.calls.UnixCall.{UnixCall}
 use Rattle.histar_flat.specs.declared.replies.Reply.{Reply}
 use Rattle.histar_flat.specs.Words.{ProcName}
@@ -11,3 +12,11 @@ pub had_made : (old new : Running) (line : ℕ) (process : ProcName) (call : Uni
     → AnswersLine old new line process call result
 had_made old new line process call result runs zero made =
     subst (λ (b : Bool). AnswersIf b old new line process call result) (sym runs) (subst (λ (p : ProcName). Runs old new line p call result) (sym zero) made)
+
+-- a machine that runs answers `gone` to a process that was never born
+pub gone_line : (m : Running) (line : ℕ) (process : ProcName) (call : UnixCall) → m.is_stopped ≡ false → (process ≡ [] → ⊥) → AnswersLine m m line process call (Ok Gone)
+gone_line m line process call runs born = subst (λ (b : Bool). AnswersIf b m m line process call (Ok Gone)) (sym runs) (by process born)
+  where
+    by : (p : ProcName) → (p ≡ [] → ⊥) → Runs m m line p call (Ok Gone)
+    by [] not_first = absurd (not_first refl)
+    by (n ∷ p) not_first = (refl, refl)

@@ -4,6 +4,8 @@ use Rattle.std.specs.List.{flat_map, AllByRecursion}
 use Rattle.std.specs.Io.KnownBytes.{Appends, Keeps}
 use Rattle.histar_flat.specs.declared.calls.User.{User}
 use Rattle.histar_flat.specs.declared.replies.Reply.{Reply}
+use Rattle.histar_flat.specs.declared.calls.UnixCall.{UnixCall}
+use Rattle.histar_flat.specs.Words.{ProcName}
 use Rattle.histar_flat.specs.FlatState.{Flat}
 use Rattle.histar_flat.specs.FlatCalls.{reply_to, flat_after}
 use Rattle.histar_flat.specs.Meaning.{Asked, boot, meaning}
@@ -42,7 +44,7 @@ pub record Shows (m : Running) (f : Flat) : Type 0 where
 -- The line was answered what the flat state says. The new end of the trace are its raw calls, which are its row, and the machine lays
 -- out the flat state after the call.
 pub record AnswersAsMeant (old new : Running) (f : Flat) (asked : Asked) (reply : Reply) : Type 0 where
-  pub reply : reply ≡ reply_to old.users f asked.process asked.call
+  pub told : reply ≡ reply_to old.users f asked.process asked.call
   pub entries : List TraceEntry
   pub trace : new.kernel.trace ≡ old.kernel.trace ++ entries
   pub row : IsRow old.users (state old.kernel) f asked entries (state new.kernel)
@@ -62,8 +64,13 @@ EndsAsMeant old new f asked (Ok reply) = AnswersAsMeant old new f asked reply
 EndsAsMeant old new f asked (Err stopped) = StopsUnrefused old new asked.line
 
 -- Whatever flat state the machine lays out before the line, the line ends as that says.
-abbrev pub FollowsMeaning : Running → Running → Asked → Result Reply Stopped → Type 0
-FollowsMeaning old new asked result = (f : Flat) → Shows old f → IsScriptable asked.call → EndsAsMeant old new f asked result
+abbrev pub FollowsMeaning : Running → Running → ℕ → ProcName → UnixCall → Result Reply Stopped → Type 0
+FollowsMeaning old new line process call result =
+    (f : Flat) → Shows old f → IsScriptable call → EndsAsMeant old new f (record { line = line; process = process; call = call }) result
+
+-- a machine lays out the flat start
+abbrev pub ShowsStart : List User → Running → Type 0
+ShowsStart users m = Shows m (boot users)
 
 -- The trace of a run: raw calls of boot, by the boot thread on line 0 from the empty kernel on, which leave a state that lays out the
 -- flat start; then the raw calls of the lines, each line the row of its call.

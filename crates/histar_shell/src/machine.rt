@@ -2,6 +2,7 @@
 ghost use Rattle.std.specs.Prelude.{◌≡◌, ◌≤◌, length, IfOk};
 ghost use Rattle.histar_script.specs.Script.{IsUserList};
 ghost use Rattle.histar_shell.specs.Machine.{AnswersLine, IsStart, Makes};
+ghost use Rattle.histar_shell.specs.Meaning.{FollowsMeaning, ShowsStart};
 
 use histar_calls::{Places, Stopped, create, read, write};
 use histar_flat::{ProcName, Reply, UnixCall, User};
@@ -69,7 +70,8 @@ impl<S: LabelStore + Drop> Machine<S> {
     /// `/` is the first user's, readable and empty, and process 0 is nobody's.
     pub fn boot(alloc: Global, store: S, users: &[User]) -> Result<Self, Stopped>
         requires { IsUserList users.now }
-        ensures { IfOk result (IsStart users.now) }
+        ensures starts { IfOk result (IsStart users.now) }
+        ensures shows { IfOk result (ShowsStart users.now) }
     {
         let users = Vec::from_slice(alloc, users)?;
         let (kernel, places, thread) = boot(alloc, store, users.as_slice())?;
@@ -91,7 +93,8 @@ impl<S: LabelStore + Drop> Machine<S> {
         process: &ProcName,
         call: UnixCall,
     ) -> Result<Reply, Stopped>
-        ensures { AnswersLine self.old self.new line process.now call result }
+        ensures answers { AnswersLine self.old self.new line process.now call result }
+        ensures means { FollowsMeaning self.old self.new line process.now call result }
     {
         if self.is_stopped {
             return Err(Stopped);

@@ -3,6 +3,7 @@ ghost use Rattle.std.specs.Prelude.{◌≡◌, IfErr, IfSome, OnOk, OnErr};
 ghost use Rattle.histar_script.specs.Reading.{script_of};
 ghost use Rattle.histar_shell.specs.Session.{AnswersCall, AnswersCalls, BeginsAnswer, BeginsAnswers};
 ghost use Rattle.histar_shell.specs.Device.{CountsFailure};
+ghost use Rattle.histar_shell.specs.Meaning.{RunsAsMeant};
 ghost use Rattle.histar_shell.specs.Outcome.{AgreesWith, IsOutputFault, TakesInput, WritesAnswers, WritesNothing, is_read_failed, is_write_failed};
 
 use crate::device::{Sink, Source};
@@ -41,6 +42,10 @@ pub fn run<R: Source, W: Sink>(
     // their order; what is written tells the machine's replies, and the trace is the machine's.
     ensures faults_of_input { IfSome (R.left reader.old) (λ input. AgreesWith (script_of input) result) }
     ensures answers { IfSome (R.left reader.old) (λ input. WritesAnswers (W.written writer.old) (W.written writer.new)
+        (script_of input) result) }
+
+    // So exactly the text of the script's meaning is written, and the trace is that of the meaning, line by line.
+    ensures means { IfSome (R.left reader.old) (λ input. RunsAsMeant (W.written writer.old) (W.written writer.new)
         (script_of input) result) }
 {
     let Options {} = options;

@@ -8,21 +8,21 @@ use Rattle.histar_shell.proofs.session.answer_call.Goals as goal
 
 pub returns-clause-ok : goal.returns-clause-ok
 returns-clause-ok g c =
-    let answered = subst (λ (r : Result Reply Stopped). AnswersLine c.args.machine.now c.step.new.self c.args.call.line c.args.call.process c.args.call.call r) c.in-Ok.is c.step.ensures in
+    let answered = subst (λ (r : Result Reply Stopped). AnswersLine c.args.machine.now c.step.new.self c.args.call.line c.args.call.process c.args.call.call r) c.in-Ok.is c.step.ensures.answers in
     answers_where_ok c.write_bytes.result _ _ _ _ c.args.call c.in-Ok.reply c.in_ok-line.line.items c.as_slice.result.now answered c.in_ok-line.ensures c.as_slice.ensures.value c.write_bytes.ensures.ok
 
 pub returns-clause-err : goal.returns-clause-err
 returns-clause-err g c =
-    let answered = subst (λ (r : Result Reply Stopped). AnswersLine c.args.machine.now c.step.new.self c.args.call.line c.args.call.process c.args.call.call r) c.in-Ok.is c.step.ensures in
+    let answered = subst (λ (r : Result Reply Stopped). AnswersLine c.args.machine.now c.step.new.self c.args.call.line c.args.call.process c.args.call.call r) c.in-Ok.is c.step.ensures.answers in
     begins_where_err c.write_bytes.result _ _ _ _ c.args.call c.in-Ok.reply c.in_ok-line.line.items c.as_slice.result.now answered c.in_ok-line.ensures c.as_slice.ensures.value c.write_bytes.ensures.err
 
 pub returns-in_default-clause-err : goal.returns-in_default-clause-err
 returns-in_default-clause-err g c =
-    let answered = subst (λ (r : Result Reply Stopped). AnswersLine c.args.machine.now c.step.new.self c.args.call.line c.args.call.process c.args.call.call r) c.in_default.is c.step.ensures in
+    let answered = subst (λ (r : Result Reply Stopped). AnswersLine c.args.machine.now c.step.new.self c.args.call.line c.args.call.process c.args.call.call r) c.in_default.is c.step.ensures.answers in
     begins_unanswered _ _ _ c.args.call c.in_default.field-0 answered
 
 pub returns-in_err-line-clause-err : goal.returns-in_err-line-clause-err
 returns-in_err-line-clause-err g c =
     let p = err_from_is_err_and c.from_residual.result c.from_residual.ensures.1 in
-    let answered = subst (λ (r : Result Reply Stopped). AnswersLine c.args.machine.now c.step.new.self c.args.call.line c.args.call.process c.args.call.call r) c.in-Ok.is c.step.ensures in
+    let answered = subst (λ (r : Result Reply Stopped). AnswersLine c.args.machine.now c.step.new.self c.args.call.line c.args.call.process c.args.call.call r) c.in-Ok.is c.step.ensures.answers in
     rw p.1 (begins_unwritten _ _ _ c.args.call c.in-Ok.reply answered)

@@ -3,10 +3,11 @@ use Rattle.histar_flat.specs.declared.calls.User.{User}
 use Rattle.histar_login.specs.Boot.{IsBooted}
 use Rattle.histar_login.specs.Start.{places_of, thread_number, start_state}
 use Rattle.histar_login.proofs.LastStage.{booted_line}
+use Rattle.histar_shell.proofs.SessionMeanings.{start_shows}
 use Rattle.histar_shell.proofs.machine.Machine.boot.Goals as goal
 
-pub returns : goal.returns
-returns g c =
+pub returns-clause-starts : goal.returns-clause-starts
+returns-clause-starts g c =
     let same : c.as_slice.result.now ≡ c.args.users.now = c.as_slice.ensures.value ∙ c.in_ok-users.ensures.items in
     let booted : IsBooted c.args.users.now c.in_ok-kernel.kernel = subst (λ (l : List User). IsBooted l c.in_ok-kernel.kernel) same c.in_ok-kernel.ensures.booted in
     record {
@@ -18,3 +19,6 @@ returns g c =
       line = booted_line c.args.users.now c.in_ok-kernel.kernel booted;
       runs = refl;
     }
+
+pub returns-clause-shows : goal.returns-clause-shows
+returns-clause-shows g c = start_shows c.args.users.now _ c.requires (returns-clause-starts g c)

@@ -1,0 +1,192 @@
+-- A run is as its script means: the fold of its lines.
+use Rattle.std.proofs.Common.{◌≡◌, ℕ, ◌<◌, List, [], ◌∷◌, ◌++◌, length, Option, None, Some, Result, Ok, Err, refl, sym, ap, ◌∙◌, subst, append-nil, append_assoc, inl, inr}
+use Rattle.std.specs.Prelude.{map, Bool, IfSome, MatchResult}
+use Rattle.std.specs.List.{flat_map, AllByRecursion}
+use Rattle.std.specs.Io.KnownBytes.{Appends, Keeps}
+use Rattle.std.proofs.lemmas.Grind.{flat_map-append}
+use Rattle.std.proofs.lemmas.List.{map-append}
+use Rattle.histar_flat.specs.declared.calls.User.{User}
+use Rattle.histar_flat.specs.declared.replies.Reply.{Reply}
+use Rattle.histar_flat.specs.FlatState.{Flat}
+use Rattle.histar_flat.specs.FlatCalls.{reply_to, flat_after}
+use Rattle.histar_flat.specs.Meaning.{Asked, boot, replies_from, flat_end, meaning}
+use Rattle.histar_flat.proofs.Laws.{replies_go_on}
+use Rattle.histar_object.specs.State.{State, empty_state}
+use Rattle.histar_script.specs.Script.{Reading, IsUserList}
+use Rattle.histar_script.specs.declared.fault.Fault.{Fault}
+use Rattle.histar_script.specs.declared.fault.Fault.TheVariants.{BadScript, TooLong, OutOfMemory, ReadFailed, WriteFailed}
+use Rattle.histar_script.specs.declared.items.CallLine.{CallLine}
+use Rattle.histar_script.specs.Reading.{script_of}
+use Rattle.histar_rules.specs.declared.raw.RawCall.{RawCall}
+use Rattle.histar_syscall.specs.declared.trace.TraceEntry.{TraceEntry}
+use Rattle.histar_syscall.specs.Traced.{Traced, state}
+use Rattle.histar_syscall.specs.Runs.{IsBy, IsRun}
+use Rattle.histar_calls.specs.declared.places.Places.{Places}
+use Rattle.histar_login.specs.Boot.{boot_thread_number, boot_calls, IsBooted}
+use Rattle.histar_login.specs.Start.{places_of, thread_number, start_state}
+use Rattle.histar_simulation.specs.LaysOut.{LaysOut}
+use Rattle.histar_simulation.specs.Lines.{AreRows}
+use Rattle.histar_simulation.proofs.Start.{start_lays_out}
+use Rattle.histar_simulation.proofs.Chains.{Step, Chain, entries_of, chain_run, chain_own, granted_run}
+use Rattle.histar_shell.specs.Answers.{Answered, answer_text, answers_text, calls_of, line_text}
+use Rattle.histar_shell.specs.Machine.{Running, IsStart, AnswersLine}
+use Rattle.histar_shell.specs.Session.{Session, AnswersCalls, BeginsAnswers}
+use Rattle.histar_shell.specs.Writing.{AppendsFront}
+use Rattle.histar_shell.specs.Outcome.{AnswersScript, BeginsScript, WritesAtFault, WritesAnswers}
+use Rattle.histar_shell.specs.Meaning.{asked_by, meaning_text, Shows, AnswersAsMeant, IsMeantTrace, WritesMeaning, BeginsMeaning, WritesMeaningAtFault, RunsAsMeant}
+use Rattle.histar_shell.proofs.Users.{AreScriptable, script_says}
+use Rattle.histar_shell.proofs.LineMeanings.{line_follows, users_stay}
+
+-- the text of replies with the numbers of their lines
+abbrev pub replies_text : List (ℕ × Reply) → List ℕ
+replies_text = flat_map (λ r. line_text r.0 r.1)
+
+-- What the lines of a session have done, from a machine that shows a flat state on.
+pub record IsMeantSession (m : Running) (f : Flat) (answers : List Answered) (end : Running) : Type 0 where
+  pub text : answers_text answers ≡ replies_text (replies_from m.users f (map asked_by (calls_of answers)))
+  pub entries : List TraceEntry
+  pub trace : end.kernel.trace ≡ m.kernel.trace ++ entries
+  pub rows : AreRows m.users (state m.kernel) f (map asked_by (calls_of answers)) entries (state end.kernel)
+
+-- a session of no line
+session_none : (m : Running) (f : Flat) (end : Running) → end ≡ m → IsMeantSession m f [] end
+session_none m f end same = record {
+  text = refl;
+  entries = [];
+  trace = ap (λ (x : Running). x.kernel.trace) same ∙ sym (append-nil m.kernel.trace);
+  rows = (refl, ap (λ (x : Running). state x.kernel) same);
+}
+
+-- a line before a session
+session_first : (m mid : Running) (f : Flat) (a : Answered) (answers : List Answered) (end : Running) → mid.users ≡ m.users → AnswersAsMeant m mid f (asked_by a.call) a.reply
+    → IsMeantSession mid (flat_after m.users f a.call.process a.call.call) answers end → IsMeantSession m f (a ∷ answers) end
+session_first m mid f a answers end same line later =
+    let g = flat_after m.users f a.call.process a.call.call in
+    let asked = map asked_by (calls_of answers) in
+    record {
+      text = (λ i. line_text a.call.line (line.told i) ++ later.text i) ∙ ap (λ (users : List User). line_text a.call.line (reply_of line) ++ replies_text (replies_from users g asked)) same;
+      entries = line.entries ++ later.entries;
+      trace = later.trace ∙ ap (λ (es : List TraceEntry). es ++ later.entries) line.trace ∙ append_assoc m.kernel.trace line.entries later.entries;
+      rows = (line.entries, later.entries, state mid.kernel, refl, line.row, subst (λ (users : List User). AreRows users (state mid.kernel) g asked later.entries (state end.kernel)) same later.rows);
+    }
+  where
+    reply_of : AnswersAsMeant m mid f (asked_by a.call) a.reply → Reply
+    reply_of l = reply_to m.users f a.call.process a.call.call
+
+-- a session of lines that a script can have
+pub session_means : (m : Running) (f : Flat) (answers : List Answered) (end : Running) → Session m answers end → Shows m f → AreScriptable (calls_of answers) → IsMeantSession m f answers end
+session_means m f [] end session shows can = session_none m f end session
+session_means m f (a ∷ answers) end session shows can =
+    let line = line_follows m session.0 a.call.line a.call.process a.call.call (Ok a.reply) session.1 f shows can.0 in
+    session_first m session.0 f a answers end (users_stay m session.0 a.call.line a.call.process a.call.call (Ok a.reply) session.1) line
+    (session_means session.0 (flat_after m.users f a.call.process a.call.call) answers end session.2 line.shows can.1)
+
+-- a machine that was booted shows the flat start
+pub start_shows : (users : List User) (m : Running) → IsUserList users → IsStart users m → Shows m (boot users)
+start_shows users m is_list start = record {
+  users = subst IsUserList (sym start.users) is_list;
+  places = start.places ∙ ap (λ (us : List User). places_of (length us)) (sym start.users);
+  thread = start.thread ∙ ap (λ (us : List User). thread_number (length us)) (sym start.users);
+  kernel = subst (λ (us : List User). LaysOut us (state m.kernel) (boot users)) (sym start.users) (subst (λ (s : State). LaysOut users s (boot users)) (sym start.state) (start_lays_out users is_list.some));
+}
+
+-- the raw calls of boot
+record IsBootTrace (users : List User) (m : Running) : Type 0 where
+  pub entries : List TraceEntry
+  pub trace : m.kernel.trace ≡ entries
+  pub run : IsRun empty_state entries (state m.kernel)
+  pub own : AllByRecursion (IsBy 0 boot_thread_number) entries
+
+boot_trace : (users : List User) (m : Running) → IsBooted users m.kernel → IsBootTrace users m
+boot_trace users m booted =
+    let granted = granted_run boot_thread_number booted.first m.kernel (boot_calls users) booted.made in
+    let part = chain_run boot_thread_number booted.first m.kernel granted.0 granted.1 in
+    let entries = entries_of booted.first.line boot_thread_number granted.0 in
+    record {
+      entries = entries;
+      trace = part.trace ∙ ap (λ (es : List TraceEntry). es ++ entries) booted.no_trace;
+      run = subst (λ (s : State). IsRun s entries (state m.kernel)) booted.empty part.run;
+      own = subst (λ (line : ℕ). AllByRecursion (IsBy line boot_thread_number) entries) booted.line (chain_own boot_thread_number booted.first.line granted.0);
+    }
+
+module _ (script : Reading) (is_list : IsUserList script.users) (can : AreScriptable script.calls) (start : Running) (starts : IsStart script.users start) where
+  -- the session from the start on
+  from_start : (answers : List Answered) (end : Running) → AreScriptable (calls_of answers) → Session start answers end → IsMeantSession start (boot script.users) answers end
+  from_start answers end these session = session_means start (boot script.users) answers end session (start_shows script.users start is_list starts) these
+
+  -- the text of the lines that were answered
+  text_is : (answers : List Answered) (end : Running) → AreScriptable (calls_of answers) → Session start answers end → answers_text answers ≡ replies_text (meaning script.users (map asked_by (calls_of answers)))
+  text_is answers end these session = (from_start answers end these session).text ∙ ap (λ (us : List User). replies_text (replies_from us (boot script.users) (map asked_by (calls_of answers)))) starts.users
+
+  -- all lines were answered
+  pub writes_meaning : (old new : Option (List ℕ)) (read : Result Reading Fault) → read ≡ Ok script → (trace : List TraceEntry) (end : Running) → AnswersCalls start end old new script.calls → trace ≡ end.kernel.trace → WritesMeaning old new read trace
+  writes_meaning old new read is_read trace end answered recorded =
+      let these : AreScriptable (calls_of answered.answers) = subst AreScriptable (sym answered.each) can in
+      let session = from_start answered.answers end these answered.session in
+      let of_boot = boot_trace script.users start starts.booted in
+      record {
+        script = script;
+        is_read = is_read;
+        written = subst (Appends old new) (text_is answered.answers end these answered.session ∙ ap (λ (calls : List CallLine). replies_text (meaning script.users (map asked_by calls))) answered.each) answered.written;
+        recorded = record {
+          of_boot = of_boot.entries;
+          of_lines = session.entries;
+          parts = recorded ∙ session.trace ∙ ap (λ (es : List TraceEntry). es ++ session.entries) of_boot.trace;
+          start = state start.kernel;
+          boot_run = of_boot.run;
+          boot_own = of_boot.own;
+          boot_lays_out = subst (λ (s : State). LaysOut script.users s (boot script.users)) (sym starts.state) (start_lays_out script.users is_list.some);
+          end = state end.kernel;
+          rows = subst (λ (calls : List CallLine). AreRows script.users (state start.kernel) (boot script.users) (map asked_by calls) session.entries (state end.kernel)) answered.each
+              (subst (λ (us : List User). AreRows us (state start.kernel) (boot script.users) (map asked_by (calls_of answered.answers)) session.entries (state end.kernel)) starts.users session.rows);
+        };
+      }
+
+  -- the first calls of a list that can all be said can be
+  front_can : (front rest : List CallLine) → AreScriptable (front ++ rest) → AreScriptable front
+  front_can [] rest h = tt
+  front_can (c ∷ front) rest h = (h.0, front_can front rest h.1)
+
+  -- a beginning of a text is one of a longer text
+  longer_front : (old new : Option (List ℕ)) (text more : List ℕ) → AppendsFront old new text → AppendsFront old new (text ++ more)
+  longer_front old new text more h = (h.0 ++ more, record { front = h.1.front; parts = ap (λ (t : List ℕ). t ++ more) h.1.parts ∙ append_assoc h.1.front h.0 more; appended = h.1.appended })
+
+  -- the first lines were answered
+  pub begins_meaning : (old new : Option (List ℕ)) (read : Result Reading Fault) → read ≡ Ok script → BeginsAnswers start old new script.calls → BeginsMeaning old new read
+  begins_meaning old new read is_read begun =
+      let front = calls_of begun.answers in
+      let these : AreScriptable front = front_can front begun.rest (subst AreScriptable begun.parts can) in
+      let asked = map asked_by front in
+      let more = map asked_by begun.rest in
+      let text = text_is begun.answers begun.end these begun.session in
+      let rest_text = replies_text (replies_from script.users (flat_end script.users (boot script.users) asked) more) in
+      let whole : meaning_text script ≡ answers_text begun.answers ++ rest_text =
+      ap (λ (calls : List CallLine). replies_text (meaning script.users (map asked_by calls))) begun.parts
+      ∙ ap (λ (a : List Asked). replies_text (meaning script.users a)) (map-append asked_by front begun.rest)
+      ∙ ap replies_text (replies_go_on script.users (boot script.users) asked more)
+      ∙ flat_map-append (λ r. line_text r.0 r.1) (meaning script.users asked) (replies_from script.users (flat_end script.users (boot script.users) asked) more)
+      ∙ ap (λ (t : List ℕ). t ++ rest_text) (sym text) in
+      record { script = script; is_read = is_read; written = subst (AppendsFront old new) (sym whole) (longer_front old new (answers_text begun.answers) rest_text begun.written) }
+
+-- the beginning of a script's answers is one of its meaning
+begun_script : (old new : Option (List ℕ)) (text : List ℕ) → BeginsScript old new (script_of text) → BeginsMeaning old new (script_of text)
+begun_script old new text h = let says = script_says text h.script h.is_read in begins_meaning h.script says.0 says.1 h.start h.starts old new (script_of text) h.is_read h.begun
+
+-- at a fault
+meant_at_fault : (old new : Option (List ℕ)) (text : List ℕ) (fault : Fault) → WritesAtFault old new (script_of text) fault → WritesMeaningAtFault old new (script_of text) fault
+meant_at_fault old new text (BadScript n) h = h
+meant_at_fault old new text TooLong h = h
+meant_at_fault old new text OutOfMemory (inl h) = inl h
+meant_at_fault old new text OutOfMemory (inr h) = inr (begun_script old new text h)
+meant_at_fault old new text ReadFailed h = h
+meant_at_fault old new text WriteFailed h = begun_script old new text h
+
+-- what a run answers is as its script means
+meant_run : (old new : Option (List ℕ)) (text : List ℕ) (result : Result (List TraceEntry) Fault) → WritesAnswers old new (script_of text) result → RunsAsMeant old new (script_of text) result
+meant_run old new text (Ok trace) h = let says = script_says text h.script h.is_read in writes_meaning h.script says.0 says.1 h.start h.starts old new (script_of text) h.is_read trace h.end h.answered h.recorded
+meant_run old new text (Err fault) h = meant_at_fault old new text fault h
+
+-- where the input is known
+pub runs_as_meant : (left old new : Option (List ℕ)) (result : Result (List TraceEntry) Fault) → IfSome left (λ text. WritesAnswers old new (script_of text) result) → IfSome left (λ text. RunsAsMeant old new (script_of text) result)
+runs_as_meant None old new result h = tt
+runs_as_meant (Some text) old new result h = meant_run old new text result h
