@@ -18,20 +18,21 @@ use Rattle.histar_layout.specs.declared.entry.Target.TheVariants as targets
 use Rattle.histar_layout.proofs.MapLemmas.{listable_insert}
 use Rattle.histar_object.specs.declared.objects.Kind.TheVariants.{Segment, Container}
 use Rattle.histar_object.specs.declared.objects.Object.{Object}
-use Rattle.histar_object.specs.Objects.{Objects, changed_at, with_new, holding, is_there, is_container}
+use Rattle.histar_object.specs.Objects.{Objects, put, changed_at, with_new, linking, holding, is_there, is_container}
 use Rattle.histar_object.specs.State.{State, added, with_bytes}
 use Rattle.histar_container.specs.Tree.{Address, Naming, with_number, IsLaid}
 use Rattle.histar_container.proofs.Addresses.{same_tells, same_itself, same_other}
 use Rattle.histar_container.proofs.Links.{none_linked}
-use Rattle.histar_container.proofs.TableMoves.{changed_here, changed_other, new_there, new_holder, new_other, laid_new, laid_changed}
+use Rattle.histar_container.proofs.TableMoves.{changed_here, changed_other, new_there, new_holder, new_other, put_other, laid_new, laid_changed}
 use Rattle.histar_container.proofs.Trees.{kind_held_links}
+use Rattle.histar_login.specs.Boot.{boot_thread_number}
 use Rattle.histar_simulation.specs.Addresses.{Step, same_step, found_at, boot_number}
 use Rattle.histar_simulation.specs.Addresses.Step.{Slash, Listing, Named}
 use Rattle.histar_simulation.specs.Labels.{class_label}
 use Rattle.histar_simulation.specs.Directories.{directory_of}
 use Rattle.histar_simulation.specs.LaysOut.{LaysOut, bare, content_kind, labelled_as, node_object, expected}
 use Rattle.histar_simulation.proofs.Steps.{step_tells}
-use Rattle.histar_simulation.proofs.FoundObjects.{laid_found, bare_held, there_held, bare_linked, bare_container_there}
+use Rattle.histar_simulation.proofs.FoundObjects.{laid_found, bare_held, there_held, bare_linked, bare_container_there, changed_none}
 use Rattle.histar_simulation.proofs.Leads.{entry_leads}
 use Rattle.histar_simulation.proofs.DirectoryLaws.{len_directory}
 use Rattle.histar_simulation.proofs.NewEntry.{get_made, get_same, same_directory, new_directory, wish_made, wish_listing, wish_same}
@@ -244,6 +245,12 @@ module _ (users : List User) (s : State) (f : Flat) (l : LaysOut users s f) wher
         | inr e ↦ subst IsListable (sym (same_directory f m class l.naming.number naming.number s.next_object at_file elsewhere absent d e.1)) (l.listable d (was_dir d is))
       ]
 
+      -- the boot thread is gone, since its number is below the next one
+      new_gone : objects boot_thread_number ≡ None
+      new_gone = changed_none linked listing_number (holding (spelling grown)) boot_thread_number
+          (changed_none (put s.objects s.next_object empty_file) slash_number (linking s.next_object) boot_thread_number
+          (put_other s.objects s.next_object empty_file boot_thread_number (λ e. omega (arith, e, number_old slash_number (Slash ∷ []) slash_numbered)) ∙ l.boot_thread_gone))
+
       -- the kernel lays out the flat state with the new file
       lays_out : IsListable grown → LaysOut users (with_bytes (added s slash_number empty_file) listing_number (spelling grown)) after
       lays_out room = record {
@@ -258,6 +265,7 @@ module _ (users : List User) (s : State) (f : Flat) (l : LaysOut users s f) wher
         others = l.others;
         owned = l.owned;
         categories = l.categories;
+        boot_thread_gone = new_gone;
       }
 
 -- where `/` has room, its directory segment can hold one entry more

@@ -15,6 +15,7 @@ use Rattle.histar_object.specs.Objects.{thread_of, links_in, is_there}
 use Rattle.histar_object.specs.State.{State, Found, with_own}
 use Rattle.histar_container.specs.Tree.{Address, IsLaid, is_child, wanted}
 use Rattle.histar_container.proofs.Addresses.{Tells, inner, not_true, same_tells}
+use Rattle.histar_login.specs.Boot.{boot_thread_number}
 use Rattle.histar_login.specs.Start.{thread_number, owner_of, cleared_of, own_read_category, own_write_category}
 use Rattle.histar_login.specs.Login.{user_label, user_clearance}
 use Rattle.histar_simulation.specs.Addresses.{Step, split_step, same_step, same_address, found_at, inside_address}
@@ -163,6 +164,7 @@ module _ (users : List User) (s : State) (f : Flat) (l : LaysOut users s f) (p :
     others = l.others;
     owned = owned_by;
     categories = l.categories;
+    boot_thread_gone = elsewhere boot_thread_number (λ e. omega (arith, e)) ∙ l.boot_thread_gone;
   }
 
 -- a user is not nobody

@@ -137,4 +137,5 @@ start_lays_out users h = record {
   others = λ n p. refl;
   owned = start_owned users h;
   categories = refl;
+  boot_thread_gone = refl;
 }
