@@ -1,19 +1,18 @@
 -- Raw calls of a login that no check refuses.
-use Rattle.std.proofs.Common.{◌≡◌, ◌≢◌, ℕ, ◌+◌, ◌*◌, ◌<◌, ◌≤◌, ◌==◌, Bool, true, false, ◌&&◌, ◌||◌, List, [], ◌∷◌, ◌++◌, Option, None, Some, arith, refl, sym, ap, ◌∙◌, subst, if◌then◌else◌}
-use Rattle.std.specs.Prelude.{option_map}
+use Rattle.std.proofs.Common.{◌≡◌, ◌≢◌, ℕ, ◌<◌, ◌≤◌, ◌==◌, Bool, true, false, ◌&&◌, ◌||◌, List, [], ◌∷◌, ◌++◌, Option, None, Some, arith, refl, sym, ap, ◌∙◌, subst, if◌then◌else◌}
 use Rattle.std.specs.FinSet as set
 use Rattle.std.proofs.lemmas.Bool.Decides.{nat_tests}
 use Rattle.histar_base.specs.Refusals.{unless, ◌orelse◌}
 use Rattle.histar_flat.specs.declared.calls.User.{User}
 use Rattle.histar_label.specs.declared.levels.Level.TheVariants.{Star, L0, L1, L2, L3}
 use Rattle.histar_label.specs.Level.{rank}
-use Rattle.histar_label.specs.Levels.{Levels, level_of, constant, with_level, level_of-constant, level_of-with_level, grades, is_below, is_below_join_raised, is_made}
+use Rattle.histar_label.specs.Levels.{Levels, constant, with_level, level_of-constant, level_of-with_level, grades, is_below, is_below_join_raised, is_made}
 use Rattle.histar_label.specs.Floors.{join_of, floor_of}
 use Rattle.histar_label.proofs.Orders.{is_below-refl}
 use Rattle.histar_object.specs.declared.objects.Kind.TheVariants.{Container}
 use Rattle.histar_object.specs.Objects.{Numbers, thread_of, links_in, is_there, is_container, is_thread, is_segment, is_gate}
-use Rattle.histar_object.specs.Rights.{relabelled, clearing, with_changed, is_let_in, is_under, in_gate, may_clear}
-use Rattle.histar_object.specs.State.{State, Found, with_own, observes, in_range}
+use Rattle.histar_object.specs.Rights.{is_let_in, is_under, in_gate, may_clear}
+use Rattle.histar_object.specs.State.{State, Found, observes, in_range}
 use Rattle.histar_rules.specs.declared.raw.Denied.{Denied}
 use Rattle.histar_rules.specs.declared.raw.Denied.TheVariants.{Observe, Range, Gate, NoEntry, NoThread, BadKind}
 use Rattle.histar_rules.specs.declared.raw.RawCall.{RawCall}
@@ -24,7 +23,6 @@ use Rattle.histar_syscall.specs.Traced.{Traced, state, Called}
 use Rattle.histar_syscall.specs.Runs.{Made, GoesOn}
 use Rattle.histar_calls.specs.Categories.{read_category, write_category}
 use Rattle.histar_login.specs.Start.{written_by, boot_category, secret_of, owner_of, cleared_of}
-use Rattle.histar_login.specs.Login.{password_of, gate_of, entering}
 use Rattle.histar_simulation.proofs.Owned.{Owns, Clears, among, owns_all, clears_all, seen, secret_seen}
 use Rattle.histar_simulation.proofs.Gates.{either_owns, floor_owns, join_clears, OwnsMore, owns_below, owns_cleared, join_within, clears_within, AreMade, owned_made}
 use Rattle.histar_simulation.proofs.Rights.{rank_picked, written_low}

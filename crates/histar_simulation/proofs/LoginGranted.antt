@@ -26,7 +26,7 @@ use Rattle.histar_container.proofs.Addresses.{inner}
 use Rattle.histar_calls.specs.Categories.{read_category, write_category}
 use Rattle.histar_calls.specs.Follows.{or_no_label}
 use Rattle.histar_login.specs.Start.{written_by, boot_category, owner_of, cleared_of, own_read_category, own_write_category, thread_number}
-use Rattle.histar_login.specs.Login.{place_of, password_of, gate_of, entering, label_if, clearance_if, login_calls, own_of, most_of, is_password, user_label, user_clearance}
+use Rattle.histar_login.specs.Login.{place_of, password_of, gate_of, entering, login_calls, own_of, most_of, is_password, user_label, user_clearance}
 use Rattle.histar_simulation.specs.Labels.{user_number, thread_labels}
 use Rattle.histar_simulation.specs.LaysOut.{LaysOut}
 use Rattle.histar_simulation.proofs.Owned.{Owns, Clears, among, among_each, owns_all, clears_all}
@@ -99,24 +99,32 @@ module _ (s : State) (t next : ℕ) (categories : s.next_category ≡ next) (own
   last_granted = (set_clearance_granted relabelled_state t next categories label limit clearance has more has of_label limit_clears relabelled_thread of_clearance fewer has_made, λ new is. tt)
 
   taking_granted : AreGranted entered t (SetLabel label ∷ SetClearance clearance ∷ [])
-  taking_granted = (set_label_granted entered t next categories wanted limit more wanted_owns limit_clears more_made entered_thread label has of_label fewer has_made,
-    λ new is. subst (λ (x : State). AreGranted x t (SetClearance clearance ∷ [])) (sym is) last_granted)
+  taking_granted = (
+    set_label_granted entered t next categories wanted limit more wanted_owns limit_clears more_made entered_thread label has of_label fewer has_made,
+    λ new is. subst (λ (x : State). AreGranted x t (SetClearance clearance ∷ [])) (sym is) last_granted,
+  )
 
   owns_gate : more (read_category i) ≡ true
   owns_gate = second_passes (owned (read_category i)) (among (read_category i ∷ write_category i ∷ []) (read_category i)) (grind (arith, nat_tests))
 
   reading_granted : AreGranted entered t (Read root_number (password_of i) ∷ SetLabel label ∷ SetClearance clearance ∷ [])
-  reading_granted = (read_granted entered t next categories wanted limit more wanted_owns limit_clears more_made entered_thread links (entered_root ∙ root) (password_of i)
-    (ap (λ (o : Found). set.contains (links_in o) (password_of i)) entered_root ∙ password_link) i u (entered_password ∙ password) owns_gate,
-    λ new is. subst (λ (x : State). AreGranted x t (SetLabel label ∷ SetClearance clearance ∷ [])) (sym is) taking_granted)
+  reading_granted = (
+    read_granted entered t next categories wanted limit more wanted_owns limit_clears more_made entered_thread links (entered_root ∙ root) (password_of i)
+        (ap (λ (o : Found). set.contains (links_in o) (password_of i)) entered_root ∙ password_link) i u (entered_password ∙ password) owns_gate,
+    λ new is. subst (λ (x : State). AreGranted x t (SetLabel label ∷ SetClearance clearance ∷ [])) (sym is) taking_granted,
+  )
 
   entering_granted : AreGranted s t (entering i own most ∷ Read root_number (password_of i) ∷ SetLabel label ∷ SetClearance clearance ∷ [])
-  entering_granted = (enter_granted s t next categories own most owned owns clears made thread links root (gate_of i) gate_link i gate gate_made,
-    λ new is. subst (λ (x : State). AreGranted x t (Read root_number (password_of i) ∷ SetLabel label ∷ SetClearance clearance ∷ [])) (sym is) reading_granted)
+  entering_granted = (
+    enter_granted s t next categories own most owned owns clears made thread links root (gate_of i) gate_link i gate gate_made,
+    λ new is. subst (λ (x : State). AreGranted x t (Read root_number (password_of i) ∷ SetLabel label ∷ SetClearance clearance ∷ [])) (sym is) reading_granted,
+  )
 
   pub calls_granted : AreGranted s t (OwnLabel ∷ entering i own most ∷ Read root_number (password_of i) ∷ SetLabel label ∷ SetClearance clearance ∷ [])
-  calls_granted = (own_label_granted s t next categories own most owned owns clears made thread,
-    λ new is. subst (λ (x : State). AreGranted x t (entering i own most ∷ Read root_number (password_of i) ∷ SetLabel label ∷ SetClearance clearance ∷ [])) (sym is) entering_granted)
+  calls_granted = (
+    own_label_granted s t next categories own most owned owns clears made thread,
+    λ new is. subst (λ (x : State). AreGranted x t (entering i own most ∷ Read root_number (password_of i) ∷ SetLabel label ∷ SetClearance clearance ∷ [])) (sym is) entering_granted,
+  )
 
 -- the numbers of the root container and of a user's password are not the thread's
 root_other : (n : ℕ) → (root_number == thread_number n) ≡ false
@@ -165,11 +173,16 @@ module _ (users : List User) (s : State) (f : Flat) (l : LaysOut users s f) (nam
     all_owned = either_owns mine.owned (among (read_category i ∷ write_category i ∷ []))
 
     owns_users : OwnsMore all_owned (among (users_own (length users) i))
-    owns_users = among_each (λ (q : ℕ). all_owned q ≡ true) (users_own (length users) i)
-      (second_passes (mine.owned (read_category i)) (among (read_category i ∷ write_category i ∷ []) (read_category i)) (grind (arith, nat_tests)),
-      (second_passes (mine.owned (write_category i)) (among (read_category i ∷ write_category i ∷ []) (write_category i)) (grind (arith, nat_tests)),
-      (first_passes (mine.owned (own_read_category (length users))) (among (read_category i ∷ write_category i ∷ []) (own_read_category (length users))) mine.own_read,
-      (first_passes (mine.owned (own_write_category (length users))) (among (read_category i ∷ write_category i ∷ []) (own_write_category (length users))) mine.own_write, tt))))
+    owns_users = among_each (λ (q : ℕ). all_owned q ≡ true) (users_own (length users) i) (
+      second_passes (mine.owned (read_category i)) (among (read_category i ∷ write_category i ∷ []) (read_category i)) (grind (arith, nat_tests)),
+      (
+        second_passes (mine.owned (write_category i)) (among (read_category i ∷ write_category i ∷ []) (write_category i)) (grind (arith, nat_tests)),
+        (
+          first_passes (mine.owned (own_read_category (length users))) (among (read_category i ∷ write_category i ∷ []) (own_read_category (length users))) mine.own_read,
+          (first_passes (mine.owned (own_write_category (length users))) (among (read_category i ∷ write_category i ∷ []) (own_write_category (length users))) mine.own_write, tt),
+        ),
+      ),
+    )
 
     owns_still : OwnsMore all_owned mine.owned
     owns_still c e = first_passes (mine.owned c) (among (read_category i ∷ write_category i ∷ []) c) e

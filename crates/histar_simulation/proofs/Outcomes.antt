@@ -1,5 +1,5 @@
 -- How a line ends: it is answered and is the row of its call, or a counter has its greatest value.
-use Rattle.std.proofs.Common.{◌≡◌, ◌≢◌, ℕ, ◌+◌, ◌*◌, Bool, true, false, List, [], ◌∷◌, ◌++◌, length, Option, None, Some, ◌⊎◌, inl, inr, refl, sym, ap, ◌∙◌, subst}
+use Rattle.std.proofs.Common.{◌≡◌, ◌≢◌, ℕ, List, [], ◌∷◌, ◌++◌, Option, None, Some, ◌⊎◌, inl, inr, refl, sym, ap, ◌∙◌, subst}
 use Rattle.std.specs.Prelude.{map, option_map}
 use Rattle.std.specs.List.{AllByRecursion}
 use Rattle.histar_flat.specs.declared.calls.User.{User}

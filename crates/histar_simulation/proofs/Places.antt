@@ -1,9 +1,9 @@
 -- What `/` and its entries are at a state that lays out a flat state.
-use Rattle.std.proofs.Common.{◌≡◌, ◌≢◌, ℕ, ◌+◌, ◌*◌, Bool, true, false, List, [], ◌∷◌, length, Option, None, Some, refl, sym, ap, ◌∙◌, subst, inl, inr, ◌⊎◌}
+use Rattle.std.proofs.Common.{◌≡◌, ◌≢◌, ℕ, ◌+◌, ◌*◌, true, List, [], ◌∷◌, length, Option, None, Some, refl, sym, ap, ◌∙◌}
 use Rattle.std.specs.Prelude.{is_some, option_map}
 use Rattle.std.specs.FinSet as set
 use Rattle.histar_flat.specs.declared.calls.User.{User}
-use Rattle.histar_flat.specs.Words.{Name, Path}
+use Rattle.histar_flat.specs.Words.{Name}
 use Rattle.histar_flat.specs.Files.{get}
 use Rattle.histar_flat.specs.FlatState.{Node, Content, Flat}
 use Rattle.histar_flat.specs.FlatState.Content.{Dir, File}
@@ -145,10 +145,9 @@ module _ (users : List User) (s : State) (f : Flat) (l : LaysOut users s f) wher
         let bytes = spelling (directory_of f.files l.naming.number (m ∷ [])) in
         let is : expected users f l.naming.number (Listing ∷ Named m ∷ Slash ∷ []) ≡ object label (Segment bytes) =
         ap (listing_object users bytes) stands ∙ (λ i. elim (content i) as (λ _. Found) [ Dir ↦ labelled_as (Segment bytes) (entry_label.1 i) | File old ↦ None ]) in
-        let listing = number_there (Listing ∷ Named m ∷ Slash ∷ []) (ap is_there is) in
-        (
+        let listing = number_there (Listing ∷ Named m ∷ Slash ∷ []) (ap is_there is) in (
           entry_number.0,
           listing.0,
           (λ i. elim (content i) as (λ _. Option Target) [ Dir ↦ both_numbers (l.naming.number (Named m ∷ Slash ∷ [])) (l.naming.number (Listing ∷ Named m ∷ Slash ∷ [])) | File old ↦ option_map targets.File (l.naming.number (Named m ∷ Slash ∷ [])) ])
-          ∙ (λ i. both_numbers (entry_number.1 i) (listing.1 i)),
+              ∙ (λ i. both_numbers (entry_number.1 i) (listing.1 i)),
         )

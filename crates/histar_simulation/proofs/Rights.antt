@@ -1,7 +1,7 @@
 -- What the labels of a thread of process 0 allow is what the flat state allows its process.
-use Rattle.std.proofs.Common.{◌≡◌, ◌≢◌, ℕ, ◌+◌, ◌*◌, ◌<◌, ◌≤◌, ◌==◌, ◌⊎◌, inl, inr, Bool, true, false, ◌&&◌, ◌||◌, List, [], ◌∷◌, length, Option, None, Some, arith, refl, sym, ap, ◌∙◌, subst, if◌then◌else◌}
+use Rattle.std.proofs.Common.{◌≡◌, ◌≢◌, ℕ, ◌+◌, ◌*◌, ◌<◌, ◌≤◌, ◌==◌, ◌⊎◌, inl, inr, Bool, true, false, ◌&&◌, List, [], ◌∷◌, length, Option, None, Some, arith, refl, sym, ap, ◌∙◌, subst, if◌then◌else◌}
 use Rattle.std.specs.Prelude.{option_map, cond}
-use Rattle.std.proofs.lemmas.Bool.Decides.{nat_tests, eqb_tells}
+use Rattle.std.proofs.lemmas.Bool.Decides.{nat_tests}
 use Rattle.std.proofs.lemmas.Slice.Eq.{bytes_eq-Decides}
 use mathlib.Core.Bool.{true≢false}
 use Rattle.histar_flat.specs.declared.calls.User.{User}
@@ -11,10 +11,9 @@ use Rattle.histar_flat.specs.Words.{Name, ProcName}
 use Rattle.histar_flat.specs.PathOrder.{same}
 use Rattle.histar_flat.specs.Classes.{Class, Process, nobody, may_read, may_write, is_free}
 use Rattle.histar_flat.specs.Classes.Class.{Private, Readable, Open, Scratch}
-use Rattle.histar_flat.proofs.FileLemmas.{same_name_found}
 use Rattle.histar_container.proofs.Addresses.{inner}
 use Rattle.histar_label.specs.declared.levels.Level.{Level}
-use Rattle.histar_label.specs.declared.levels.Level.TheVariants.{Star, L0, L1, L2, L3}
+use Rattle.histar_label.specs.declared.levels.Level.TheVariants.{Star, L0, L1, L3}
 use Rattle.histar_label.specs.Level.{rank, is_star}
 use Rattle.histar_label.specs.Levels.{Levels, level_of, constant, with_level, level_of-constant, level_of-with_level, grades, is_below, is_below_raised, is_made, has_star}
 use Rattle.histar_label.proofs.Made.{is_made-constant, is_made-with_level}
@@ -25,7 +24,7 @@ use Rattle.histar_login.specs.Start.{owner_of, cleared_of, own_read_category, ow
 use Rattle.histar_login.specs.Login.{user_label, user_clearance}
 use Rattle.histar_simulation.specs.Labels.{user_number, class_label, thread_labels}
 use Rattle.histar_simulation.specs.LaysOut.{IsLone}
-use Rattle.histar_simulation.proofs.Owned.{same_truth, among, among_each, all_at, Owns, Clears, owns_all, clears_all, own_star, seen, secret_seen, written, owner_writes, cleared, cleared_at}
+use Rattle.histar_simulation.proofs.Owned.{same_truth, among, among_each, Owns, Clears, owns_all, clears_all, seen, secret_seen, written, owner_writes, cleared, cleared_at}
 use Rattle.histar_simulation.proofs.Users.{IsNoUser, number_range, one_name, nobody_has_none}
 
 -- the place of a level that a test picks
@@ -199,9 +198,9 @@ owner_same : (users : List User) → IsNoUser users → (name owner : Name) (who
 owner_same users no_one name owner who j numbered (inl is) = same_truth (j == who) (same name owner)
     (λ e. let positive : 0 < j = (number_range users owner j numbered).0 in let zero_who : who ≡ 0 = is.1 in absurd (grind (arith, nat_tests, positive, zero_who, e)))
     (λ e.
-      let mine : name ≡ owner = equal_names name owner e in
-      let none_named : None ≡ Some j = sym (nobody_has_none users no_one) ∙ ap (user_number users) (sym (equal_names name nobody is.0) ∙ mine) ∙ numbered in
-      absurd cc)
+    let mine : name ≡ owner = equal_names name owner e in
+    let none_named : None ≡ Some j = sym (nobody_has_none users no_one) ∙ ap (user_number users) (sym (equal_names name nobody is.0) ∙ mine) ∙ numbered in
+    absurd cc)
 owner_same users no_one name owner who j numbered (inr is) = same_truth (j == who) (same name owner)
     (λ e. let one : j ≡ who = grind (arith, nat_tests, e) in equal_tested name owner (one_name users name owner j (is.1 ∙ ap Some (sym one)) numbered))
     (λ e. let both : Some who ≡ Some j = sym is.1 ∙ ap (user_number users) (equal_names name owner e) ∙ numbered in let one : who ≡ j = cc in grind (arith, nat_tests, one))

@@ -1,5 +1,5 @@
 -- What stands where in a state that lays out a flat state: the root container, users' passwords and gates, and the thread.
-use Rattle.std.proofs.Common.{◌≡◌, ◌≢◌, ℕ, zero, suc, ◌+◌, ◌*◌, ◌<◌, ◌≤◌, Bool, true, false, cond, List, [], ◌∷◌, ◌++◌, length, get_or, Option, None, Some, arith, refl, sym, ap, ◌∙◌, append_assoc}
+use Rattle.std.proofs.Common.{◌≡◌, ◌≢◌, ℕ, zero, suc, ◌+◌, ◌*◌, ◌<◌, ◌≤◌, true, false, cond, List, [], ◌∷◌, ◌++◌, length, get_or, Option, None, Some, arith, refl, sym, ap, ◌∙◌, append_assoc}
 use Rattle.std.specs.Prelude.{option_map, slice_get, option_and_then}
 use Rattle.std.specs.FinSet as set
 use Rattle.std.proofs.lemmas.Bool.Decides.{nat_tests}
@@ -18,7 +18,7 @@ use Rattle.histar_rules.specs.Sound.{root_number}
 use Rattle.histar_container.specs.Tree.{Address, is_child}
 use Rattle.histar_container.proofs.Addresses.{inner}
 use Rattle.histar_calls.specs.Categories.{read_category, write_category}
-use Rattle.histar_login.specs.Start.{numbered, of_user, of_directory, of_process, segment, secret_of, owner_of, cleared_of, written_by, boot_category, start_objects, object_at, thread_number}
+use Rattle.histar_login.specs.Start.{numbered, of_user, of_directory, of_process, secret_of, owner_of, cleared_of, written_by, boot_category, start_objects, object_at, thread_number}
 use Rattle.histar_login.specs.Login.{password_of, gate_of}
 use Rattle.histar_simulation.specs.Addresses.{Step, same_step, is_left, inside_address}
 use Rattle.histar_simulation.specs.Addresses.Step.{Left, Runner}
@@ -84,7 +84,6 @@ password_left : (users : List User) (k : ℕ) (u : User) → slice_get users k �
 password_left users k u e =
     let place : password_of (k + 1) ≡ suc (suc (suc (2 * k))) = omega arith in
     let number : 1 + k ≡ k + 1 = omega arith in
-    
     ap (object_at (start_objects users)) place
     ∙ ap (λ (objects : List Found). get_or objects (2 * k) None) (append_assoc (numbered of_user 1 users) (of_directory (length users) users) (of_process (length users)))
     ∙ password_among users 1 k u (of_directory (length users) users ++ of_process (length users)) e ∙ ap (λ (i : ℕ). Some (password_object i u)) number
@@ -93,7 +92,6 @@ gate_left : (users : List User) (k : ℕ) (u : User) → slice_get users k ≡ S
 gate_left users k u e =
     let place : gate_of (k + 1) ≡ suc (suc (suc (suc (2 * k)))) = omega arith in
     let number : 1 + k ≡ k + 1 = omega arith in
-    
     ap (object_at (start_objects users)) place
     ∙ ap (λ (objects : List Found). get_or objects (suc (2 * k)) None) (append_assoc (numbered of_user 1 users) (of_directory (length users) users) (of_process (length users)))
     ∙ gate_among users 1 k u (of_directory (length users) users ++ of_process (length users)) e ∙ ap (λ (i : ℕ). Some (gate_object i)) number
@@ -160,10 +158,14 @@ module _ (users : List User) (s : State) (f : Flat) (l : LaysOut users s f) wher
   thread_stands : (p : Process) (labels : Option (Levels × Levels)) → f.processes [] ≡ Some p → thread_labels users p.user ≡ labels → labels ≢ None
       → (label : Levels) × (clearance : Levels) × (thread_labels users p.user ≡ Some (label, clearance)) × (s.objects (thread_number (length users)) ≡ Some (thread_of label clearance))
   thread_stands p None is labelled some = absurd (some refl)
-  thread_stands p (Some labels) is labelled some = (labels.0, labels.1, labelled,
+  thread_stands p (Some labels) is labelled some = (
+    labels.0,
+    labels.1,
+    labelled,
     bare_is (s.objects (thread_number (length users))) (thread_of labels.0 labels.1) refl
-    (stands (Runner ∷ inside_address) (thread_number (length users)) thread_named ∙ ap (thread_object users) is
-    ∙ ap (option_map (λ (x : Levels × Levels). thread_of x.0 x.1)) labelled))
+        (stands (Runner ∷ inside_address) (thread_number (length users)) thread_named ∙ ap (thread_object users) is
+        ∙ ap (option_map (λ (x : Levels × Levels). thread_of x.0 x.1)) labelled),
+  )
 
   pub thread_is : (p : Process) → f.processes [] ≡ Some p → (label : Levels) × (clearance : Levels) × (thread_labels users p.user ≡ Some (label, clearance)) × (s.objects (thread_number (length users)) ≡ Some (thread_of label clearance))
   thread_is p is = thread_stands p (thread_labels users p.user) is refl (l.owned p is)

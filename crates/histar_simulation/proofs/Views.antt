@@ -1,5 +1,5 @@
 -- What a state that lays out a flat state shows.
-use Rattle.std.proofs.Common.{◌≡◌, ℕ, ◌+◌, ◌*◌, true, List, [], ◌∷◌, length, Option, None, Some, refl, sym, ap, ◌∙◌}
+use Rattle.std.proofs.Common.{◌≡◌, ℕ, true, List, [], ◌∷◌, Option, None, Some, sym, ap, ◌∙◌}
 use Rattle.std.specs.Prelude.{option_and_then}
 use Rattle.std.specs.FinSet as set
 use Rattle.histar_flat.specs.declared.calls.User.{User}
@@ -7,8 +7,7 @@ use Rattle.histar_flat.specs.FlatState.{Flat}
 use Rattle.histar_label.specs.Levels.{Levels}
 use Rattle.histar_object.specs.declared.objects.Kind.{Kind}
 use Rattle.histar_object.specs.declared.objects.Kind.TheVariants.{Segment, Container, Thread, Gate}
-use Rattle.histar_object.specs.declared.objects.Object.{Object}
-use Rattle.histar_object.specs.Objects.{Numbers, links_in, thread_of}
+use Rattle.histar_object.specs.Objects.{Numbers, links_in}
 use Rattle.histar_object.specs.State.{State, Found}
 use Rattle.histar_container.specs.Tree.{Address, is_child}
 use Rattle.histar_container.proofs.Addresses.{same_itself}

@@ -2,7 +2,7 @@
 use Rattle.std.specs.Prelude.{◌≡◌, ◌≢◌, ℕ, ◌+◌, ◌*◌, true, cond, List, [], ◌∷◌, length, Option, None, Some, is_some, option_map}
 use Rattle.std.specs.FinSet as set
 use Rattle.histar_flat.specs.declared.calls.User.{User}
-use Rattle.histar_flat.specs.Words.{Name, Path, ProcName}
+use Rattle.histar_flat.specs.Words.{Path, ProcName}
 use Rattle.histar_flat.specs.Files.{get}
 use Rattle.histar_flat.specs.Classes.{Process}
 use Rattle.histar_flat.specs.FlatState.{Node, Content, Flat, is_dir_at}
