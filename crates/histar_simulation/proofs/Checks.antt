@@ -1,5 +1,5 @@
 -- What the kernel answers to raw calls on a container and a segment in it, where the caller and both objects are known.
-use Rattle.std.proofs.Common.{◌≡◌, ℕ, ◌+◌, Bool, true, false, List, length, Option, None, Some, ap, ◌∙◌}
+use Rattle.std.proofs.Common.{arith, ◌≡◌, ℕ, ◌+◌, Bool, true, false, List, length, Option, None, Some, ap, ◌∙◌}
 use Rattle.std.specs.Prelude.{not, ◌&&◌, min}
 use Rattle.std.specs.FinSet as set
 use Rattle.histar_base.specs.Refusals.{◌orelse◌, unless}
@@ -12,6 +12,10 @@ use Rattle.histar_rules.specs.declared.raw.Denied.TheVariants.{Observe, Modify, 
 use Rattle.histar_rules.specs.declared.raw.RawCall.TheVariants.{MakeSegment, Read, Write}
 use Rattle.histar_rules.specs.Rules.{no_thread, no_container, no_link, no_segment, known, has_number, fits_segment, check}
 use Rattle.histar_simulation.proofs.Views.{object}
+
+-- a segment that holds these bytes alone has no more than they are
+pub kept_none : (held bytes : List ℕ) → min 0 (length held) + length bytes ≡ length bytes
+kept_none held bytes = omega arith
 
 module _ (s : State) (t : ℕ) (label clearance : Levels) (thread : s.objects t ≡ object label (Thread clearance)) where
   -- a thread may call

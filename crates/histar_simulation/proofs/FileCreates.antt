@@ -47,7 +47,7 @@ use Rattle.histar_simulation.specs.Labels.{class_label, user_number}
 use Rattle.histar_simulation.specs.Directories.{target_for}
 use Rattle.histar_simulation.specs.LaysOut.{LaysOut}
 use Rattle.histar_simulation.proofs.Chains.{Step, entries_of, chain_run, chain_own, first_granted, first_refused}
-use Rattle.histar_simulation.proofs.Checks.{caller_passes, making_check, write_check}
+use Rattle.histar_simulation.proofs.Checks.{kept_none, caller_passes, making_check, write_check}
 use Rattle.histar_simulation.proofs.Views.{object}
 use Rattle.histar_simulation.proofs.Places.{file_is, directory_leads}
 use Rattle.histar_simulation.proofs.Rights.{owner_is, user_makes, nobody_makes, file_label_known, file_label_owns_nothing}
@@ -59,10 +59,6 @@ use Rattle.histar_simulation.specs.Addresses.{Step as Place, same_step, found_at
 use Rattle.histar_simulation.specs.Addresses.Step.{Slash, Listing, Runner}
 use Rattle.histar_simulation.proofs.Outcomes.{Ends, reply_is, after_is, answered_by}
 use Rattle.histar_simulation.proofs.Scenes.{Scene, here, holds, root, listed, walk_call, sees_root, walk_granted, ends_unwalked, ends_at_once}
-
--- a segment that holds these bytes alone has no more than they are
-kept_none : (held : List ℕ) (bytes : List ℕ) → min 0 (length held) + length bytes ≡ length bytes
-kept_none held bytes = omega arith
 
 -- bytes that a segment can hold fit it
 fits_all : (k : ℕ) → k ≤ 4096 → nat_le k 4096 ≡ true

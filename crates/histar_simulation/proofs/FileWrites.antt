@@ -31,15 +31,11 @@ use Rattle.histar_calls.specs.Follows.{answer, write_errno_of}
 use Rattle.histar_calls.specs.Replies.{is_access, is_permission}
 use Rattle.histar_simulation.specs.LaysOut.{LaysOut}
 use Rattle.histar_simulation.proofs.Chains.{first_granted, first_refused}
-use Rattle.histar_simulation.proofs.Checks.{write_check}
+use Rattle.histar_simulation.proofs.Checks.{kept_none, write_check}
 use Rattle.histar_simulation.proofs.Places.{IsFileAt}
 use Rattle.histar_simulation.proofs.Outcomes.{Ends, reply_is, after_is, answered_by}
 use Rattle.histar_simulation.proofs.Scenes.{Scene, caller, here, root, listed, walk_call, sees_root, UsesFile, ends_at_file}
 use Rattle.histar_simulation.proofs.Written.{write_lays_out}
-
--- a segment that holds these bytes alone has no more than they are
-kept_none : (held : List ℕ) (bytes : List ℕ) → min 0 (length held) + length bytes ≡ length bytes
-kept_none held bytes = omega arith
 
 module _ (users : List User) (old new : Traced) (f : Flat) (scene : Scene users (state old) f) (m : Name) (bytes : List ℕ) where
   -- the refusal that comes after the way to the file

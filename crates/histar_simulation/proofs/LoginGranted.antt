@@ -33,7 +33,7 @@ use Rattle.histar_simulation.proofs.Owned.{Owns, Clears, among, among_each, owns
 use Rattle.histar_simulation.proofs.Gates.{either_owns, OwnsMore, AreMade}
 use Rattle.histar_simulation.proofs.Users.{number_place, number_range, place_named}
 use Rattle.histar_simulation.proofs.Rights.{IsWhose, whose, users_own, users_made}
-use Rattle.histar_simulation.proofs.Standing.{password_object, gate_object, root_is, password_stands, gate_stands, password_linked, gate_linked, password_is, thread_is}
+use Rattle.histar_simulation.proofs.Standing.{password_object, gate_object, root_container_is, password_stands, gate_stands, password_linked, gate_linked, password_is, thread_is}
 use Rattle.histar_simulation.proofs.Granting.{AreGranted, none_refused, set_clearance_granted, own_label_granted, set_label_granted, read_granted, enter_granted, behind_owns, behind_clears, behind_made}
 
 -- one of two tests passes
@@ -192,7 +192,7 @@ module _ (users : List User) (s : State) (f : Flat) (l : LaysOut users s f) (nam
         → AreGranted s (thread_number (length users)) (OwnLabel ∷ entering i thread.0 thread.1 ∷ Read root_number (password_of i) ∷ SetLabel label ∷ SetClearance clearance ∷ [])
     granted_with label clearance has of_label of_clearance fewer has_made =
         calls_granted s (thread_number (length users)) (6 + 2 * length users) l.categories thread.0 thread.1 mine.owned mine.owning mine.clearing mine.made thread.3
-        (root_is users s f l).0 (root_is users s f l).1 i the_user.0
+        (root_container_is users s f l).0 (root_container_is users s f l).1 i the_user.0
         (subst (λ (j : ℕ). s.objects (gate_of j) ≡ Some (gate_object j)) same_number (gate_stands users s f l at_place.0 the_user.0 the_user.2 below))
         (subst (λ (j : ℕ). set.contains (links_in (s.objects root_number)) (gate_of j) ≡ true) same_number (gate_linked users s f l at_place.0 the_user.0 the_user.2 below))
         (subst (λ (j : ℕ). s.objects (password_of j) ≡ Some (password_object j the_user.0)) same_number (password_stands users s f l at_place.0 the_user.0 the_user.2 below))

@@ -22,35 +22,9 @@ use Rattle.histar_simulation.specs.Addresses.{Step, split_step, same_step, same_
 use Rattle.histar_simulation.specs.Addresses.Step.{Left, Slash, Listing, Named, Home, Status, Inside, Runner}
 use Rattle.histar_simulation.specs.Labels.{user_number, thread_labels, thread_object}
 use Rattle.histar_simulation.specs.LaysOut.{bare, expected, IsLone, IsLoneProcess, LaysOut}
+use Rattle.histar_simulation.proofs.Steps.{step_tells}
 use Rattle.histar_simulation.proofs.Users.{IsNoUser, nobody_has_none}
 use Rattle.histar_simulation.proofs.Standing.{thread_named, thread_is}
-
--- the step that has these parts
-abbrev whole_step : ℕ → List ℕ → Step
-whole_step kind rest =
-    if kind == 0 then Left (get_or rest 0 0)
-    else (if kind == 1 then Slash else (if kind == 2 then Listing else (if kind == 3 then Named rest else (if kind == 4 then Home else (if kind == 5 then Status else (if kind == 6 then Inside else Runner))))))
-
--- a step is what its parts make
-whole_again : (x : Step) → whole_step (split_step x).0 (split_step x).1 ≡ x
-whole_again (Left q) = refl
-whole_again Slash = refl
-whole_again Listing = refl
-whole_again (Named name) = refl
-whole_again Home = refl
-whole_again Status = refl
-whole_again Inside = refl
-whole_again Runner = refl
-
--- the test of steps tells whether they are equal
-step_tells : Tells same_step
-step_tells x y = elim (eqb_tells (split_step x).0 (split_step y).0) [
-  | inl kind ↦ elim (same_name_found (split_step x).1 (split_step y).1) [
-    | inl rest ↦ inl ((λ i. kind.0 i && rest.0 i), sym (whole_again x) ∙ (λ i. whole_step (kind.1 i) (rest.1 i)) ∙ whole_again y)
-    | inr rest ↦ inr ((λ i. kind.0 i && rest.0 i), λ e. rest.1 (ap (λ (z : Step). (split_step z).1) e))
-  ]
-  | inr kind ↦ inr (ap (λ b. b && same_name (split_step x).1 (split_step y).1) kind.0, λ e. kind.1 (ap (λ (z : Step). (split_step z).0) e))
-]
 
 -- the address of the thread
 abbrev thread_address : Address Step

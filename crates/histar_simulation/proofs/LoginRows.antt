@@ -2,6 +2,7 @@
 use Rattle.std.proofs.Common.{◌≡◌, ℕ, ◌+◌, ◌*◌, Bool, true, false, List, [], ◌∷◌, ◌++◌, length, Option, None, Some, inl, inr, refl, sym, ap, ◌∙◌, subst, append-nil}
 use Rattle.std.specs.Prelude.{map, option_map, is_some as has_value, slice_get}
 use Rattle.histar_base.specs.Refusals.{◌orelse◌, unless}
+use Rattle.std.proofs.lemmas.Option.{same_Some}
 use Rattle.histar_flat.specs.declared.calls.User.{User}
 use Rattle.histar_flat.specs.declared.calls.UnixCall.{UnixCall}
 use Rattle.histar_flat.specs.declared.calls.UnixCall.TheVariants as calls
@@ -104,15 +105,12 @@ module _ (users : List User) (old new : Traced) (f : Flat) (scene : Scene users 
                 (subst (λ (s : State). LaysOut users s f) (sym becomes) scene.lays_out),
           )
 
-    same_reply : (a b : Reply) → Some a ≡ Some b → a ≡ b
-    same_reply a b e = cc
-
     -- a login as this user that was answered
     pub login_row : (reply : Reply) → LoginCompletes old new (8 + 2 * length users) raw_calls (reply_if right) reply → BecomesUser (length users) (place + 1) (8 + 2 * length users) (state old) (state new) reply
         → (reply ≡ reply_to users f [] call) × IsAnswered users f call old new
     login_row reply c becomes =
         let no_refusal = none_refused raw_calls [] c.refusal (sym (append-nil raw_calls)) c.made in
-        let same : reply_if right ≡ reply = same_reply (reply_if right) reply (ap (login_answer (reply_if right)) (sym no_refusal) ∙ c.answers) in
+        let same : reply_if right ≡ reply = same_Some (reply_if right) reply (ap (login_answer (reply_if right)) (sym no_refusal) ∙ c.answers) in
         let row = answered (subst (Made old new (8 + 2 * length users) raw_calls) no_refusal c.made) right refl (subst (BecomesUser (length users) (place + 1) (8 + 2 * length users) (state old) (state new)) (sym same) becomes) in
         (sym same ∙ row.0, row.1)
 

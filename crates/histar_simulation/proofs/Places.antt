@@ -20,7 +20,7 @@ use Rattle.histar_simulation.specs.Addresses.Step.{Slash, Listing, Named}
 use Rattle.histar_simulation.specs.Labels.{class_label}
 use Rattle.histar_simulation.specs.Directories.{target_for, both_numbers, directory_of}
 use Rattle.histar_simulation.specs.LaysOut.{LaysOut, bare, labelled_as, content_kind, node_object, listing_object, expected}
-use Rattle.histar_simulation.proofs.Views.{object, is_segment, is_container, at_number, links_child}
+use Rattle.histar_simulation.proofs.Views.{object, bare_is, bare_container_is, at_number, links_child}
 
 -- something is there
 some_there : {A : Type 0} (o : Option A) → is_some o ≡ true → (x : A) × (o ≡ Some x)
@@ -28,9 +28,9 @@ some_there None h = absurd cc
 some_there (Some x) h = (x, refl)
 
 -- there is a label for what is there
-labelled_there : (o : Option Levels) → o ≢ None → (label : Levels) × (o ≡ Some label)
-labelled_there None h = absurd (h refl)
-labelled_there (Some label) h = (label, refl)
+some_label : (o : Option Levels) → o ≢ None → (label : Levels) × (o ≡ Some label)
+some_label None h = absurd (h refl)
+some_label (Some label) h = (label, refl)
 
 module _ (users : List User) where
   -- a directory, and the label of its class
@@ -90,19 +90,19 @@ module _ (users : List User) (s : State) (f : Flat) (l : LaysOut users s f) wher
       let segment : bare (s.objects (5 + 2 * length users)) ≡ object d.label (Segment spelled) =
       at_number users s f l (Listing ∷ Slash ∷ []) (5 + 2 * length users) listing_number ∙ ap (listing_object users spelled) d.stands
       ∙ (λ i. elim (d.is_directory i) as (λ _. Found) [ Dir ↦ labelled_as (Segment spelled) (d.labelled i) | File old ↦ None ]) in
-      let holder = is_container (s.objects (4 + 2 * length users)) d.label slash in
+      let holder = bare_container_is (s.objects (4 + 2 * length users)) d.label slash in
       record {
         directory = d;
         links = holder.0;
         container = holder.1;
-        listing = is_segment (s.objects (5 + 2 * length users)) d.label spelled segment;
+        listing = bare_is (s.objects (5 + 2 * length users)) (record { label = d.label; kind = Segment spelled }) refl segment;
         linked = sym (ap (λ (o : Found). set.contains (links_in o) (5 + 2 * length users)) holder.1) ∙ links_child users s f l (Slash ∷ []) Listing (4 + 2 * length users) (5 + 2 * length users) slash_number listing_number;
       }
 
   module _ (m : Name) (there : Node) (stands : get f.files (m ∷ []) ≡ Some there) where
     -- there is a label for an entry of `/`
     entry_label : (label : Levels) × (class_label users there.class ≡ Some label)
-    entry_label = labelled_there (class_label users there.class) (l.labelled (m ∷ []) there stands)
+    entry_label = some_label (class_label users there.class) (l.labelled (m ∷ []) there stands)
 
     -- so the entry is expected, and has a number
     entry_expected : (label : Levels) → class_label users there.class ≡ Some label → expected users f l.naming.number (Named m ∷ Slash ∷ []) ≡ object label (content_kind there.content)
@@ -133,7 +133,7 @@ module _ (users : List User) (s : State) (f : Flat) (l : LaysOut users s f) wher
           label = label;
           named = e;
           labelled = entry_label.1;
-          segment = is_segment (s.objects q) label bytes segment;
+          segment = bare_is (s.objects q) (record { label = label; kind = Segment bytes }) refl segment;
           linked = sym (ap (λ (o : Found). set.contains (links_in o) q) root.container) ∙ links_child users s f l (Slash ∷ []) (Named m) (4 + 2 * length users) q slash_number e;
           leads = (λ i. elim (content i) as (λ _. Option Target) [ Dir ↦ both_numbers (l.naming.number (Named m ∷ Slash ∷ [])) (l.naming.number (Listing ∷ Named m ∷ Slash ∷ [])) | File old ↦ option_map targets.File (l.naming.number (Named m ∷ Slash ∷ [])) ]) ∙ ap (option_map targets.File) e;
         }

@@ -80,7 +80,6 @@ pub record IsWhose (users : List User) (name : Name) (label clearance : Levels) 
   pub clearing : Clears clearance owned
   pub reads : (j : ℕ) → j ≤ length users → 0 < j → owned (read_category j) ≡ (j == who)
   pub writes : (j : ℕ) → j ≤ length users → 0 < j → owned (write_category j) ≡ (j == who)
-  pub reads_none : owned (read_category 0) ≡ false
   pub writes_none : owned (write_category 0) ≡ false
   pub own_read : owned (own_read_category (length users)) ≡ true
   pub own_write : owned (own_write_category (length users)) ≡ true
@@ -132,7 +131,6 @@ whose_nobody users name is = record {
   clearing = clears_all (nobodys (length users));
   reads = λ j le lt. nobodys_read (length users) j le ∙ sym (not_none j lt);
   writes = λ j le lt. nobodys_write (length users) j le ∙ sym (not_none j lt);
-  reads_none = nobodys_read (length users) 0 (omega arith);
   writes_none = nobodys_write (length users) 0 (omega arith);
   own_read = (nobodys_own (length users)).0;
   own_write = (nobodys_own (length users)).1;
@@ -152,7 +150,6 @@ whose_user users name i other is =
       clearing = clears_all (users_own (length users) i);
       reads = λ j le lt. users_read (length users) i j le;
       writes = λ j le lt. users_write (length users) i j le;
-      reads_none = users_read (length users) i 0 (omega arith) ∙ apart;
       writes_none = users_write (length users) i 0 (omega arith) ∙ apart;
       own_read = (users_own_too (length users) i).0;
       own_write = (users_own_too (length users) i).1;

@@ -91,15 +91,6 @@ named_place_by users name u (Some k) is e = let found = place_named users name k
 pub named_place : (users : List User) (name : Name) (u : User) → user_named users name ≡ Some u → (k : ℕ) × (place_of users name ≡ Some k) × (slice_get users k ≡ Some u)
 named_place users name u e = named_place_by users name u (place_of users name) refl e
 
--- by whether the name has a place
-unnamed_place_by : (users : List User) (name : Name) (place : Option ℕ) → place_of users name ≡ place → user_named users name ≡ None → place_of users name ≡ None
-unnamed_place_by users name None is e = is
-unnamed_place_by users name (Some k) is e = let both : Some (place_named users name k is).0 ≡ None = sym (place_named users name k is).1 ∙ e in absurd cc
-
--- a name that no user has has no place
-pub unnamed_place : (users : List User) (name : Name) → user_named users name ≡ None → place_of users name ≡ None
-unnamed_place users name e = unnamed_place_by users name (place_of users name) refl e
-
 -- what a mapped value comes from
 number_by : (place : Option ℕ) (i : ℕ) → option_map (λ k. k + 1) place ≡ Some i → (k : ℕ) × (place ≡ Some k) × (i ≡ k + 1)
 number_by None i e = absurd cc
@@ -112,10 +103,6 @@ number_place users name i e = number_by (place_of users name) i e
 -- and the user of a place has the next number
 pub place_number : (users : List User) (name : Name) (k : ℕ) → place_of users name ≡ Some k → user_number users name ≡ Some (k + 1)
 place_number users name k e = ap (option_map (λ j. j + 1)) e
-
--- a name that some user has has a number
-pub named_number : (users : List User) (name : Name) (u : User) → user_named users name ≡ Some u → (i : ℕ) × (user_number users name ≡ Some i)
-named_number users name u e = let place = named_place users name u e in (place.0 + 1, place_number users name place.0 place.1)
 
 -- users have the numbers from 1 on
 pub number_range : (users : List User) (name : Name) (i : ℕ) → user_number users name ≡ Some i → (0 < i) × (i ≤ length users)
