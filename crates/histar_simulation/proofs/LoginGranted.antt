@@ -4,6 +4,7 @@ use Rattle.std.specs.Prelude.{option_map, slice_get}
 use Rattle.std.specs.FinSet as set
 use Rattle.std.specs.Str.{bytes_eq}
 use Rattle.std.proofs.lemmas.Bool.Decides.{nat_tests}
+use Rattle.std.proofs.lemmas.Option.{same_Some}
 use Rattle.histar_flat.specs.declared.calls.User.{User}
 use Rattle.histar_flat.specs.Words.{Name}
 use Rattle.histar_flat.specs.PathOrder.{same}
@@ -22,7 +23,6 @@ use Rattle.histar_rules.specs.declared.raw.RawCall.TheVariants.{OwnLabel, SetLab
 use Rattle.histar_rules.specs.Sound.{root_number}
 use Rattle.histar_syscall.specs.Traced.{Traced, state}
 use Rattle.histar_syscall.specs.Runs.{Made}
-use Rattle.histar_container.proofs.Addresses.{inner}
 use Rattle.histar_calls.specs.Categories.{read_category, write_category}
 use Rattle.histar_calls.specs.Follows.{or_no_label}
 use Rattle.histar_login.specs.Start.{written_by, boot_category, owner_of, cleared_of, own_read_category, own_write_category, thread_number}
@@ -157,7 +157,7 @@ module _ (users : List User) (s : State) (f : Flat) (l : LaysOut users s f) (nam
   -- a password is right where the flat state says so
   pub password_agrees : (u : User) (word : List ℕ) → user_named users name ≡ Some u → is_password s i word ≡ same u.password word
   password_agrees u word named =
-      let one : the_user.0 ≡ u = inner the_user.0 u (sym the_user.1 ∙ named) in
+      let one : the_user.0 ≡ u = same_Some the_user.0 u (sym the_user.1 ∙ named) in
       ap (λ (j : ℕ). is_password s j word) (sym same_number) ∙ ap (λ (bytes : List ℕ). bytes_eq bytes word) (password_is users s f l at_place.0 the_user.0 the_user.2 below)
       ∙ ap (λ (v : User). same v.password word) one
 

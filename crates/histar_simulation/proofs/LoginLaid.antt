@@ -1,24 +1,24 @@
 -- After a login the state lays out the flat state in which process 0 is the user's.
-use Rattle.std.proofs.Common.{◌≡◌, ◌≢◌, ℕ, ◌==◌, true, false, cond, ◌&&◌, inl, inr, List, [], ◌∷◌, length, get_or, Option, None, Some, arith, refl, sym, ap, ◌∙◌, subst, if◌then◌else◌}
+use Rattle.std.proofs.Common.{◌≡◌, ◌≢◌, ℕ, ◌==◌, true, false, cond, inl, inr, List, [], ◌∷◌, length, Option, None, Some, arith, refl, sym, ap, ◌∙◌, subst, if◌then◌else◌}
 use Rattle.std.specs.Prelude.{option_map, option_and_then, is_some}
 use Rattle.std.specs.FinSet as set
 use Rattle.std.proofs.lemmas.Bool.Decides.{eqb_tells, nat_tests}
 use Rattle.std.proofs.lemmas.Slice.Eq.{bytes_eq-Decides}
+use Rattle.std.proofs.lemmas.Option.{same_Some}
 use Rattle.histar_flat.specs.declared.calls.User.{User}
 use Rattle.histar_flat.specs.Words.{Name}
 use Rattle.histar_flat.specs.PathOrder.{same as same_name}
 use Rattle.histar_flat.specs.Classes.{Process, nobody}
 use Rattle.histar_flat.specs.FlatState.{Flat, with_process}
-use Rattle.histar_flat.proofs.FileLemmas.{same_name_found}
 use Rattle.histar_label.specs.Levels.{Levels}
 use Rattle.histar_object.specs.Objects.{thread_of, links_in, is_there}
 use Rattle.histar_object.specs.State.{State, Found, with_own}
 use Rattle.histar_container.specs.Tree.{Address, IsLaid, is_child, wanted}
-use Rattle.histar_container.proofs.Addresses.{Tells, inner, not_true, same_tells}
+use Rattle.histar_container.proofs.Addresses.{not_true, same_tells}
 use Rattle.histar_login.specs.Boot.{boot_thread_number}
 use Rattle.histar_login.specs.Start.{thread_number, owner_of, cleared_of, own_read_category, own_write_category}
 use Rattle.histar_login.specs.Login.{user_label, user_clearance}
-use Rattle.histar_simulation.specs.Addresses.{Step, split_step, same_step, same_address, found_at, inside_address}
+use Rattle.histar_simulation.specs.Addresses.{Step, same_step, same_address, found_at, inside_address}
 use Rattle.histar_simulation.specs.Addresses.Step.{Left, Slash, Listing, Named, Home, Status, Inside, Runner}
 use Rattle.histar_simulation.specs.Labels.{user_number, thread_labels, thread_object}
 use Rattle.histar_simulation.specs.LaysOut.{bare, expected, IsLone, IsLoneProcess, LaysOut}
@@ -96,7 +96,7 @@ module _ (users : List User) (s : State) (f : Flat) (l : LaysOut users s f) (p :
   -- and there stands what stood there
   same_found : (a : Address Step) → thread_address ≢ a → (q : Option ℕ) → l.naming.number a ≡ q → option_and_then after.objects q ≡ option_and_then s.objects q
   same_found a other None e = refl
-  same_found a other (Some q) e = elsewhere q (λ same. other (inner thread_address a (sym addressed ∙ ap l.naming.address (sym same) ∙ l.tree.addressed a q e)))
+  same_found a other (Some q) e = elsewhere q (λ same. other (same_Some thread_address a (sym addressed ∙ ap l.naming.address (sym same) ∙ l.tree.addressed a q e)))
 
   -- what is expected of the thread
   thread_expected : expected users after_flat l.naming.number thread_address ≡ Some (thread_of label clearance)
@@ -120,7 +120,7 @@ module _ (users : List User) (s : State) (f : Flat) (l : LaysOut users s f) (p :
   -- a process owns labels
   owned_by : (q : Process) → Some next ≡ Some q → thread_labels users q.user ≢ None
   owned_by q e unlabelled =
-      let same : next ≡ q = inner next q e in
+      let same : next ≡ q = same_Some next q e in
       let both : ◌≡◌ {A = Option (Levels × Levels)} (Some (label, clearance)) None = sym labels ∙ ap (λ (r : Process). thread_labels users r.user) same ∙ unlabelled in
       cc
 

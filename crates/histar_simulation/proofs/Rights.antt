@@ -4,6 +4,7 @@ use Rattle.std.specs.Prelude.{option_map, cond}
 use Rattle.std.proofs.lemmas.Bool.Decides.{nat_tests}
 use Rattle.std.proofs.lemmas.Slice.Eq.{bytes_eq-Decides}
 use mathlib.Core.Bool.{true≢false}
+use Rattle.std.proofs.lemmas.Option.{same_Some}
 use Rattle.histar_flat.specs.declared.calls.User.{User}
 use Rattle.histar_flat.specs.declared.calls.Mode.{Mode}
 use Rattle.histar_flat.specs.declared.calls.Mode.TheVariants as modes
@@ -11,7 +12,6 @@ use Rattle.histar_flat.specs.Words.{Name, ProcName}
 use Rattle.histar_flat.specs.PathOrder.{same}
 use Rattle.histar_flat.specs.Classes.{Class, Process, nobody, may_read, may_write, is_free}
 use Rattle.histar_flat.specs.Classes.Class.{Private, Readable, Open, Scratch}
-use Rattle.histar_container.proofs.Addresses.{inner}
 use Rattle.histar_label.specs.declared.levels.Level.{Level}
 use Rattle.histar_label.specs.declared.levels.Level.TheVariants.{Star, L0, L1, L3}
 use Rattle.histar_label.specs.Level.{rank, is_star}
@@ -162,8 +162,8 @@ whose_by : (users : List User) (name : Name) (number : Option ℕ) → user_numb
     → option_map {U = Levels × Levels} (λ i. (user_label (length users) i, user_clearance (length users) i)) number ≡ Some (label, clearance) → IsWhose users name label clearance
 whose_by users name None is other label clearance e = absurd cc
 whose_by users name (Some i) is other label clearance e =
-    let one : user_label (length users) i ≡ label = ap (λ (x : Levels × Levels). x.0) (inner _ _ e) in
-    let two : user_clearance (length users) i ≡ clearance = ap (λ (x : Levels × Levels). x.1) (inner _ _ e) in
+    let one : user_label (length users) i ≡ label = ap (λ (x : Levels × Levels). x.0) (same_Some _ _ e) in
+    let two : user_clearance (length users) i ≡ clearance = ap (λ (x : Levels × Levels). x.1) (same_Some _ _ e) in
     subst (λ (c : Levels). IsWhose users name label c) two (subst (λ (l : Levels). IsWhose users name l (user_clearance (length users) i)) one (whose_user users name i other is))
 
 -- by whether the name is nobody's
@@ -172,8 +172,8 @@ whose_named : (users : List User) (name : Name) (b : Bool) → same name nobody 
     (option_map {U = Levels × Levels} (λ i. (user_label (length users) i, user_clearance (length users) i)) (user_number users name)) ≡ Some (label, clearance)
     → IsWhose users name label clearance
 whose_named users name true is label clearance e =
-    let one : owner_of (own_read_category (length users)) (own_write_category (length users)) ≡ label = ap (λ (x : Levels × Levels). x.0) (inner _ _ e) in
-    let two : cleared_of (own_read_category (length users)) (own_write_category (length users)) ≡ clearance = ap (λ (x : Levels × Levels). x.1) (inner _ _ e) in
+    let one : owner_of (own_read_category (length users)) (own_write_category (length users)) ≡ label = ap (λ (x : Levels × Levels). x.0) (same_Some _ _ e) in
+    let two : cleared_of (own_read_category (length users)) (own_write_category (length users)) ≡ clearance = ap (λ (x : Levels × Levels). x.1) (same_Some _ _ e) in
     subst (λ (c : Levels). IsWhose users name label c) two
     (subst (λ (l : Levels). IsWhose users name l (cleared_of (own_read_category (length users)) (own_write_category (length users)))) one (whose_nobody users name is))
 whose_named users name false is label clearance e = whose_by users name (user_number users name) refl is label clearance e
@@ -212,7 +212,7 @@ constant_high c = omega (arith, ap rank (level_of-constant L1 c))
 -- what a mapped number comes from
 mapped : (f : ℕ → Levels) (number : Option ℕ) (l : Levels) → option_map f number ≡ Some l → (j : ℕ) × (number ≡ Some j) × (f j ≡ l)
 mapped f None l e = absurd cc
-mapped f (Some j) l e = (j, refl, inner (f j) l e)
+mapped f (Some j) l e = (j, refl, same_Some (f j) l e)
 
 twice : (b : Bool) → (b && b) ≡ b
 twice true = refl
@@ -275,7 +275,7 @@ module _ (users : List User) (no_one : IsNoUser users) (p : Process) (lone : IsL
   observes_class (Readable owner) l e =
       let of = mapped (file_label modes.Readable) (user_number users owner) l e in
       ap (λ (m : Levels). is_below_raised m label) (sym of.2) ∙ observes_written (write_category of.0)
-  observes_class Open l e = ap (λ (m : Levels). is_below_raised m label) (sym (inner (constant L1) l e)) ∙ observes_open
+  observes_class Open l e = ap (λ (m : Levels). is_below_raised m label) (sym (same_Some (constant L1) l e)) ∙ observes_open
   observes_class (Scratch owner jobs) l e = absurd cc
 
   -- a thread may modify what is of a class exactly where its process may write it
@@ -291,7 +291,7 @@ module _ (users : List User) (no_one : IsNoUser users) (p : Process) (lone : IsL
       ∙ (λ i. (modifies_readable of.0 ∙ owner_writes_too owner of.0 of.1) i && observes_written (write_category of.0) i)
       ∙ ap (λ b. same p.user owner && b) (sym free)
   modifies_class Open l e =
-      ap (λ (m : Levels). is_below label m && is_below_raised m label) (sym (inner (constant L1) l e)) ∙ (λ i. modifies_open i && observes_open i) ∙ sym free
+      ap (λ (m : Levels). is_below label m && is_below_raised m label) (sym (same_Some (constant L1) l e)) ∙ (λ i. modifies_open i && observes_open i) ∙ sym free
   modifies_class (Scratch owner jobs) l e = absurd cc
 
   -- the categories that the label owns

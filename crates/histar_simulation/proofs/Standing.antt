@@ -1,26 +1,23 @@
 -- What stands where in a state that lays out a flat state: the root container, users' passwords and gates, and the thread.
-use Rattle.std.proofs.Common.{◌≡◌, ◌≢◌, ℕ, zero, suc, ◌+◌, ◌*◌, ◌<◌, ◌≤◌, true, false, cond, List, [], ◌∷◌, ◌++◌, length, get_or, Option, None, Some, arith, refl, sym, ap, ◌∙◌, append_assoc}
-use Rattle.std.specs.Prelude.{option_map, slice_get, option_and_then}
+use Rattle.std.proofs.Common.{◌≡◌, ◌≢◌, ℕ, zero, suc, ◌+◌, ◌*◌, ◌<◌, ◌≤◌, true, cond, List, [], ◌∷◌, ◌++◌, length, get_or, Option, None, Some, arith, refl, ap, ◌∙◌, append_assoc}
+use Rattle.std.specs.Prelude.{option_map, slice_get}
 use Rattle.std.specs.FinSet as set
 use Rattle.std.proofs.lemmas.Bool.Decides.{nat_tests}
-use mathlib.Core.Bool.{true≢false}
+use Rattle.std.proofs.lemmas.Option.{same_Some}
 use Rattle.histar_flat.specs.declared.calls.User.{User}
 use Rattle.histar_flat.specs.Classes.{Process}
 use Rattle.histar_flat.specs.FlatState.{Flat}
 use Rattle.histar_label.specs.Levels.{Levels}
 use Rattle.histar_object.specs.declared.objects.Entry.TheVariants.{Login}
-use Rattle.histar_object.specs.declared.objects.Kind.{Kind}
-use Rattle.histar_object.specs.declared.objects.Kind.TheVariants.{Segment, Container, Thread, Gate}
+use Rattle.histar_object.specs.declared.objects.Kind.TheVariants.{Segment, Container, Gate}
 use Rattle.histar_object.specs.declared.objects.Object.{Object}
-use Rattle.histar_object.specs.Objects.{Numbers, thread_of, kind_is_container, is_container, links_in, label_there, bytes_in}
+use Rattle.histar_object.specs.Objects.{Numbers, thread_of, links_in, bytes_in}
 use Rattle.histar_object.specs.State.{State, Found}
 use Rattle.histar_rules.specs.Sound.{root_number}
-use Rattle.histar_container.specs.Tree.{Address, is_child}
-use Rattle.histar_container.proofs.Addresses.{inner}
 use Rattle.histar_calls.specs.Categories.{read_category, write_category}
 use Rattle.histar_login.specs.Start.{numbered, of_user, of_directory, of_process, secret_of, owner_of, cleared_of, written_by, boot_category, start_objects, object_at, thread_number}
 use Rattle.histar_login.specs.Login.{password_of, gate_of}
-use Rattle.histar_simulation.specs.Addresses.{Step, same_step, is_left, inside_address}
+use Rattle.histar_simulation.specs.Addresses.{is_left, inside_address}
 use Rattle.histar_simulation.specs.Addresses.Step.{Left, Runner}
 use Rattle.histar_simulation.specs.Labels.{thread_labels, thread_object}
 use Rattle.histar_simulation.specs.LaysOut.{bare, LaysOut}
@@ -37,7 +34,7 @@ gate_object i = record { label = owner_of (read_category i) (write_category i); 
 password_among : (users : List User) (j k : ℕ) (u : User) (more : List Found) → slice_get users k ≡ Some u → get_or (numbered of_user j users ++ more) (2 * k) None ≡ Some (password_object (j + k) u)
 password_among [] j k u more e = absurd cc
 password_among (v ∷ users) j zero u more e =
-    let same : v ≡ u = inner v u e in
+    let same : v ≡ u = same_Some v u e in
     let number : j ≡ j + 0 = omega arith in
     (λ i. Some (password_object (number i) (same i)))
 password_among (v ∷ users) j (suc k) u more e =

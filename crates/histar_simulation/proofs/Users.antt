@@ -82,15 +82,6 @@ no_place_by false users k is e = no_user_at users k (grind (arith, nat_tests, is
 pub no_place_named : (users : List User) (name : Name) → place_of users name ≡ None → user_named users name ≡ None
 no_place_named users name e = named_at users name ∙ no_place_by (nat_lt (first_place users name) (length users)) users (first_place users name) refl e
 
--- by whether the name has a place
-named_place_by : (users : List User) (name : Name) (u : User) (place : Option ℕ) → place_of users name ≡ place → user_named users name ≡ Some u → (k : ℕ) × (place_of users name ≡ Some k) × (slice_get users k ≡ Some u)
-named_place_by users name u None is e = let both : None ≡ Some u = sym (no_place_named users name is) ∙ e in absurd cc
-named_place_by users name u (Some k) is e = let found = place_named users name k is in (k, is, found.2 ∙ sym found.1 ∙ e)
-
--- the user of a name stands at the place of the name
-pub named_place : (users : List User) (name : Name) (u : User) → user_named users name ≡ Some u → (k : ℕ) × (place_of users name ≡ Some k) × (slice_get users k ≡ Some u)
-named_place users name u e = named_place_by users name u (place_of users name) refl e
-
 -- what a mapped value comes from
 number_by : (place : Option ℕ) (i : ℕ) → option_map (λ k. k + 1) place ≡ Some i → (k : ℕ) × (place ≡ Some k) × (i ≡ k + 1)
 number_by None i e = absurd cc
@@ -99,10 +90,6 @@ number_by (Some k) i e = (k, refl, cc)
 -- a user's number is one more than the user's place
 pub number_place : (users : List User) (name : Name) (i : ℕ) → user_number users name ≡ Some i → (k : ℕ) × (place_of users name ≡ Some k) × (i ≡ k + 1)
 number_place users name i e = number_by (place_of users name) i e
-
--- and the user of a place has the next number
-pub place_number : (users : List User) (name : Name) (k : ℕ) → place_of users name ≡ Some k → user_number users name ≡ Some (k + 1)
-place_number users name k e = ap (option_map (λ j. j + 1)) e
 
 -- users have the numbers from 1 on
 pub number_range : (users : List User) (name : Name) (i : ℕ) → user_number users name ≡ Some i → (0 < i) × (i ≤ length users)
