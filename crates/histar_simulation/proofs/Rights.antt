@@ -25,7 +25,7 @@ use Rattle.histar_login.specs.Login.{user_label, user_clearance}
 use Rattle.histar_simulation.specs.Labels.{user_number, class_label, thread_labels}
 use Rattle.histar_simulation.specs.LaysOut.{IsLone}
 use Rattle.histar_simulation.proofs.Owned.{same_truth, among, among_each, Owns, Clears, owns_all, clears_all, seen, secret_seen, written, owner_writes, cleared, cleared_at}
-use Rattle.histar_simulation.proofs.Users.{IsNoUser, number_range, one_name, nobody_has_none}
+use Rattle.histar_simulation.proofs.Users.{IsNoUser, number_range, one_name, nobody_has_none, mapped}
 
 -- the place of a level that a test picks
 pub rank_picked : (b : Bool) (l m : Level) → rank (if b then l else m) ≡ (if b then rank l else rank m)
@@ -209,11 +209,7 @@ constant_low c = omega (arith, ap rank (level_of-constant L1 c))
 constant_high : (c : ℕ) → 2 ≤ grades (constant L1) c
 constant_high c = omega (arith, ap rank (level_of-constant L1 c))
 
--- what a mapped number comes from
-mapped : (f : ℕ → Levels) (number : Option ℕ) (l : Levels) → option_map f number ≡ Some l → (j : ℕ) × (number ≡ Some j) × (f j ≡ l)
-mapped f None l e = absurd cc
-mapped f (Some j) l e = (j, refl, same_Some (f j) l e)
-
+-- a test with itself
 twice : (b : Bool) → (b && b) ≡ b
 twice true = refl
 twice false = refl

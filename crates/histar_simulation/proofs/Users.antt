@@ -6,6 +6,7 @@ use Rattle.std.proofs.lemmas.List.Folds.{find_at}
 use Rattle.std.proofs.lemmas.Slice.Eq.{bytes_eq-Decides}
 use Rattle.std.proofs.lemmas.Bool.Decides.{nat_tests}
 use Rattle.std.specs.List.{find, position_or_len}
+use Rattle.std.proofs.lemmas.Option.{same_Some}
 use Rattle.histar_flat.specs.declared.calls.User.{User}
 use Rattle.histar_flat.specs.Words.{Name}
 use Rattle.histar_flat.specs.Classes.{nobody}
@@ -83,13 +84,13 @@ pub no_place_named : (users : List User) (name : Name) → place_of users name �
 no_place_named users name e = named_at users name ∙ no_place_by (nat_lt (first_place users name) (length users)) users (first_place users name) refl e
 
 -- what a mapped value comes from
-number_by : (place : Option ℕ) (i : ℕ) → option_map (λ k. k + 1) place ≡ Some i → (k : ℕ) × (place ≡ Some k) × (i ≡ k + 1)
-number_by None i e = absurd cc
-number_by (Some k) i e = (k, refl, cc)
+pub mapped : {A B : Type 0} (f : A → B) (o : Option A) (b : B) → option_map f o ≡ Some b → (a : A) × (o ≡ Some a) × (f a ≡ b)
+mapped f None b e = absurd cc
+mapped f (Some a) b e = (a, refl, same_Some (f a) b e)
 
 -- a user's number is one more than the user's place
 pub number_place : (users : List User) (name : Name) (i : ℕ) → user_number users name ≡ Some i → (k : ℕ) × (place_of users name ≡ Some k) × (i ≡ k + 1)
-number_place users name i e = number_by (place_of users name) i e
+number_place users name i e = let place = mapped (λ k. k + 1) (place_of users name) i e in (place.0, place.1, sym place.2)
 
 -- users have the numbers from 1 on
 pub number_range : (users : List User) (name : Name) (i : ℕ) → user_number users name ≡ Some i → (0 < i) × (i ≤ length users)
