@@ -1,17 +1,16 @@
 -- Raw calls that were made, one after another, each with its outcome.
-use Rattle.std.proofs.Common.{◌≡◌, ℕ, Bool, false, List, [], ◌∷◌, ◌++◌, Option, None, Some, refl, sym, ap, ◌∙◌, subst, append_assoc}
+use Rattle.std.proofs.Common.{◌≡◌, ℕ, List, [], ◌∷◌, ◌++◌, Option, None, Some, refl, sym, ap, ◌∙◌, subst, append_assoc}
 use Rattle.std.proofs.lemmas.List.{append-nil}
-use Rattle.std.specs.Prelude.{map, ◌||◌}
-use Rattle.std.specs.List.{AllByRecursion, list_any}
+use Rattle.std.specs.Prelude.{map}
+use Rattle.std.specs.List.{AllByRecursion}
 use Rattle.histar_rules.specs.declared.raw.Denied.{Denied}
 use Rattle.histar_rules.specs.declared.raw.RawCall.{RawCall}
-use Rattle.histar_rules.specs.Rules.{check, Leaves}
-use Rattle.histar_object.specs.State.{State}
+use Rattle.histar_rules.specs.Rules.{check}
 use Rattle.histar_syscall.specs.declared.trace.TraceEntry.{TraceEntry}
 use Rattle.histar_syscall.specs.Traced.{Traced, state, Called, IsUnchanged}
 use Rattle.histar_syscall.specs.Runs.{IsBy, IsRun, GoesOn, Made}
-use Rattle.histar_syscall.proofs.Runs.{entry_of, same_kernel, call_before}
-use Rattle.histar_simulation.specs.Lines.{IsExhausted, IsRunUnlessExhausted}
+use Rattle.histar_syscall.proofs.Runs.{entry_of}
+use Rattle.histar_simulation.specs.Lines.{IsRunUnlessExhausted}
 
 -- a raw call with its outcome
 abbrev pub Step : Type 0

@@ -1,5 +1,5 @@
 -- What the kernel answers to raw calls on a container and a segment in it, where the caller and both objects are known.
-use Rattle.std.proofs.Common.{◌≡◌, ℕ, ◌+◌, Bool, true, false, List, [], ◌∷◌, length, Option, None, Some, refl, sym, ap, ◌∙◌}
+use Rattle.std.proofs.Common.{arith, ◌≡◌, ℕ, ◌+◌, Bool, true, false, List, length, Option, None, Some, ap, ◌∙◌}
 use Rattle.std.specs.Prelude.{not, ◌&&◌, min}
 use Rattle.std.specs.FinSet as set
 use Rattle.histar_base.specs.Refusals.{◌orelse◌, unless}
@@ -9,9 +9,13 @@ use Rattle.histar_object.specs.Objects.{Numbers, links_in, bytes_in, is_there, i
 use Rattle.histar_object.specs.State.{State, observes, modifies, in_range}
 use Rattle.histar_rules.specs.declared.raw.Denied.{Denied}
 use Rattle.histar_rules.specs.declared.raw.Denied.TheVariants.{Observe, Modify, Range, NoEntry, NoThread, BadKind, TooBig}
-use Rattle.histar_rules.specs.declared.raw.RawCall.TheVariants.{OwnLabel, MakeSegment, Read, Write}
-use Rattle.histar_rules.specs.Rules.{no_thread, no_container, no_link, no_segment, no_making, known, has_number, fits_segment, check}
+use Rattle.histar_rules.specs.declared.raw.RawCall.TheVariants.{MakeSegment, Read, Write}
+use Rattle.histar_rules.specs.Rules.{no_thread, no_container, no_link, no_segment, known, has_number, fits_segment, check}
 use Rattle.histar_simulation.proofs.Views.{object}
+
+-- a segment that holds these bytes alone has no more than they are
+pub kept_none : (held bytes : List ℕ) → min 0 (length held) + length bytes ≡ length bytes
+kept_none held bytes = omega arith
 
 module _ (s : State) (t : ℕ) (label clearance : Levels) (thread : s.objects t ≡ object label (Thread clearance)) where
   -- a thread may call
@@ -44,17 +48,17 @@ module _ (s : State) (t : ℕ) (label clearance : Levels) (thread : s.objects t 
           orelse unless (has_number s) TooBig)
       making_check new bytes =
           ap (λ (c : Option Denied). (c orelse unless (modifies (s.objects t) (s.objects d)) Modify)
-              orelse unless (in_range (s.objects t) new) Range
-              orelse unless (known s new) Range
-              orelse unless (not (has_star new)) Range
-              orelse unless (fits_segment (length bytes)) TooBig
-              orelse unless (has_number s) TooBig) container_passes
+          orelse unless (in_range (s.objects t) new) Range
+          orelse unless (known s new) Range
+          orelse unless (not (has_star new)) Range
+          orelse unless (fits_segment (length bytes)) TooBig
+          orelse unless (has_number s) TooBig) container_passes
           ∙ (λ i. unless (modifies (thread i) (holder i)) Modify
-              orelse unless (in_range (thread i) new) Range
-              orelse unless (known s new) Range
-              orelse unless (not (has_star new)) Range
-              orelse unless (fits_segment (length bytes)) TooBig
-              orelse unless (has_number s) TooBig)
+          orelse unless (in_range (thread i) new) Range
+          orelse unless (known s new) Range
+          orelse unless (not (has_star new)) Range
+          orelse unless (fits_segment (length bytes)) TooBig
+          orelse unless (has_number s) TooBig)
 
       module _ (o : ℕ) (linked : set.contains links o ≡ true) (below : Levels) (held : List ℕ) (segment : s.objects o ≡ object below (Segment held)) where
         link_passes : no_link s t d o ≡ None

@@ -18,20 +18,22 @@ use Rattle.histar_layout.specs.declared.entry.Target.TheVariants as targets
 use Rattle.histar_layout.proofs.MapLemmas.{listable_insert}
 use Rattle.histar_object.specs.declared.objects.Kind.TheVariants.{Segment, Container}
 use Rattle.histar_object.specs.declared.objects.Object.{Object}
-use Rattle.histar_object.specs.Objects.{Objects, changed_at, with_new, holding, is_there, is_container}
+use Rattle.histar_object.specs.Objects.{Objects, put, changed_at, with_new, linking, holding, is_there, is_container}
 use Rattle.histar_object.specs.State.{State, added, with_bytes}
 use Rattle.histar_container.specs.Tree.{Address, Naming, with_number, IsLaid}
 use Rattle.histar_container.proofs.Addresses.{same_tells, same_itself, same_other}
 use Rattle.histar_container.proofs.Links.{none_linked}
-use Rattle.histar_container.proofs.TableMoves.{changed_here, changed_other, new_there, new_holder, new_other, laid_new, laid_changed}
+use Rattle.histar_container.proofs.TableMoves.{changed_here, changed_other, new_there, new_holder, new_other, put_other, laid_new, laid_changed}
 use Rattle.histar_container.proofs.Trees.{kind_held_links}
+use Rattle.histar_login.specs.Boot.{boot_thread_number}
 use Rattle.histar_simulation.specs.Addresses.{Step, same_step, found_at, boot_number}
 use Rattle.histar_simulation.specs.Addresses.Step.{Slash, Listing, Named}
 use Rattle.histar_simulation.specs.Labels.{class_label}
 use Rattle.histar_simulation.specs.Directories.{directory_of}
 use Rattle.histar_simulation.specs.LaysOut.{LaysOut, bare, content_kind, labelled_as, node_object, expected}
 use Rattle.histar_simulation.proofs.Steps.{step_tells}
-use Rattle.histar_simulation.proofs.FoundObjects.{laid_found, bare_held, there_held, bare_linked, bare_container_there}
+use Rattle.histar_simulation.proofs.FoundObjects.{laid_found, bare_held, there_held, bare_linked, bare_container_there, changed_none}
+use Rattle.histar_simulation.proofs.Views.{slash_numbered, listing_numbered}
 use Rattle.histar_simulation.proofs.Leads.{entry_leads}
 use Rattle.histar_simulation.proofs.DirectoryLaws.{len_directory}
 use Rattle.histar_simulation.proofs.NewEntry.{get_made, get_same, same_directory, new_directory, wish_made, wish_listing, wish_same}
@@ -54,13 +56,6 @@ module _ (users : List User) (s : State) (f : Flat) (l : LaysOut users s f) wher
   abbrev listing_number : ℕ
   listing_number = 5 + 2 * length users
 
-  -- they are the ones that boot gave
-  slash_numbered : l.naming.number (Slash ∷ []) ≡ Some slash_number
-  slash_numbered = l.as_booted (Slash ∷ []) slash_number refl
-
-  listing_numbered : l.naming.number (Listing ∷ Slash ∷ []) ≡ Some listing_number
-  listing_numbered = l.as_booted (Listing ∷ Slash ∷ []) listing_number refl
-
   -- a number that has an address is below the next one
   number_old : (k : ℕ) (a : Address Step) → l.naming.number a ≡ Some k → k < s.next_object
   number_old k a is = elim (cases_lt k s.next_object) [
@@ -79,7 +74,7 @@ module _ (users : List User) (s : State) (f : Flat) (l : LaysOut users s f) wher
         listable_insert (directory_of f.files l.naming.number []) m (targets.File s.next_object)
         (l.listable [] (ap (λ found. is_some_and found is_dir) at_root ∙ ap (λ (c : Content). is_dir (record { class = root.class; content = c })) is_root))
         (omega (arith, room, len_directory f l.naming.number [] (λ n there is. entry_leads users s f l (n ∷ []) there is)))
-        (name, (omega (arith, number_old slash_number (Slash ∷ []) slash_numbered), omega (arith, below)))
+        (name, (omega (arith, number_old slash_number (Slash ∷ []) (slash_numbered users s f l)), omega (arith, below)))
 
     module _ (class : Class) (label : Levels) (class_has : class_label users class ≡ Some label) (absent : get f.files (m ∷ []) ≡ None) where
       -- the new file's address, and the object that is made there
@@ -117,23 +112,23 @@ module _ (users : List User) (s : State) (f : Flat) (l : LaysOut users s f) wher
       old_is_not_next k a is e = omega (arith, number_old k a is)
 
       slash_old : slash_number ≢ s.next_object
-      slash_old = old_is_not_next slash_number (Slash ∷ []) slash_numbered
+      slash_old = old_is_not_next slash_number (Slash ∷ []) (slash_numbered users s f l)
 
       -- `/` is a container
       is_holder : is_container (s.objects slash_number) ≡ true
       is_holder =
           sym (bare_container_there (s.objects slash_number))
-          ∙ ap is_container (ap (λ k. bare (option_and_then s.objects k)) (sym slash_numbered) ∙ l.objects (Slash ∷ []) ∙ ap (node_object users) at_root ∙ ap (λ (c : Content). labelled_as (content_kind c) (class_label users root.class)) is_root)
+          ∙ ap is_container (ap (λ k. bare (option_and_then s.objects k)) (sym (slash_numbered users s f l)) ∙ l.objects (Slash ∷ []) ∙ ap (node_object users) at_root ∙ ap (λ (c : Content). labelled_as (content_kind c) (class_label users root.class)) is_root)
           ∙ container_labelled (class_label users root.class) (l.labelled [] root at_root)
 
       -- the tree of objects with the new file
       linked_tree : IsLaid same_step linked (s.next_object + 1) (found_at linked naming) naming
       linked_tree = laid_found linked (s.next_object + 1) _ naming
-          (laid_new same_step step_tells s.objects s.next_object (found_at s.objects l.naming) l.naming l.tree slash_number (Slash ∷ []) (Named m) empty_file (l.tree.addressed (Slash ∷ []) slash_number slash_numbered) free is_holder (λ c. sym (none_linked c)))
+          (laid_new same_step step_tells s.objects s.next_object (found_at s.objects l.naming) l.naming l.tree slash_number (Slash ∷ []) (Named m) empty_file (l.tree.addressed (Slash ∷ []) slash_number (slash_numbered users s f l)) free is_holder (λ c. sym (none_linked c)))
 
       -- the directory segment has its number
       listing_now : naming.number (Listing ∷ Slash ∷ []) ≡ Some listing_number
-      listing_now = elsewhere (Listing ∷ Slash ∷ []) (λ e. cc) ∙ listing_numbered
+      listing_now = elsewhere (Listing ∷ Slash ∷ []) (λ e. cc) ∙ (listing_numbered users s f l)
 
       -- and once the directory segment has its entry
       new_tree : IsLaid same_step objects (s.next_object + 1) (found_at objects naming) naming
@@ -153,7 +148,7 @@ module _ (users : List User) (s : State) (f : Flat) (l : LaysOut users s f) wher
       found_same a other_file other_listing = ap (λ k. bare (option_and_then objects k)) (elsewhere a other_file) ∙ by (l.naming.number a) refl
         where
           apart : (k : ℕ) → l.naming.number a ≡ Some k → k ≢ listing_number
-          apart k is e = other_listing (same_Some a (Listing ∷ Slash ∷ []) (sym (l.tree.addressed a k is) ∙ ap l.naming.address e ∙ l.tree.addressed (Listing ∷ Slash ∷ []) listing_number listing_numbered))
+          apart k is e = other_listing (same_Some a (Listing ∷ Slash ∷ []) (sym (l.tree.addressed a k is) ∙ ap l.naming.address e ∙ l.tree.addressed (Listing ∷ Slash ∷ []) listing_number (listing_numbered users s f l)))
 
           by : (k : Option ℕ) → l.naming.number a ≡ k → bare (option_and_then objects k) ≡ bare (option_and_then s.objects k)
           by None is = refl
@@ -163,13 +158,13 @@ module _ (users : List User) (s : State) (f : Flat) (l : LaysOut users s f) wher
       found_listing : bare (found_at objects naming (Listing ∷ Slash ∷ [])) ≡ option_map (holding (spelling grown)) (bare (found_at s.objects l.naming (Listing ∷ Slash ∷ [])))
       found_listing =
           ap (λ k. bare (option_and_then objects k)) listing_now ∙ ap bare (changed_here linked listing_number (holding (spelling grown))) ∙ bare_held (spelling grown) (linked listing_number)
-          ∙ ap (option_map (holding (spelling grown))) (linked_bare listing_number (old_is_not_next listing_number (Listing ∷ Slash ∷ []) listing_numbered) ∙ ap (λ k. bare (option_and_then s.objects k)) (sym listing_numbered))
+          ∙ ap (option_map (holding (spelling grown))) (linked_bare listing_number (old_is_not_next listing_number (Listing ∷ Slash ∷ []) (listing_numbered users s f l)) ∙ ap (λ k. bare (option_and_then s.objects k)) (sym (listing_numbered users s f l)))
 
       -- and the new file is empty
       found_file : bare (found_at objects naming file_address) ≡ Some empty_file
       found_file =
           ap (λ k. bare (option_and_then objects k)) at_file
-          ∙ ap bare (changed_other linked listing_number (holding (spelling grown)) s.next_object (λ e. old_is_not_next listing_number (Listing ∷ Slash ∷ []) listing_numbered (sym e)) ∙ new_there s.objects s.next_object slash_number empty_file slash_old)
+          ∙ ap bare (changed_other linked listing_number (holding (spelling grown)) s.next_object (λ e. old_is_not_next listing_number (Listing ∷ Slash ∷ []) (listing_numbered users s f l) (sym e)) ∙ new_there s.objects s.next_object slash_number empty_file slash_old)
 
       -- the flat state with the new file
       abbrev after : Flat
@@ -244,6 +239,12 @@ module _ (users : List User) (s : State) (f : Flat) (l : LaysOut users s f) wher
         | inr e ↦ subst IsListable (sym (same_directory f m class l.naming.number naming.number s.next_object at_file elsewhere absent d e.1)) (l.listable d (was_dir d is))
       ]
 
+      -- the boot thread is gone, since its number is below the next one
+      new_gone : objects boot_thread_number ≡ None
+      new_gone = changed_none linked listing_number (holding (spelling grown)) boot_thread_number
+          (changed_none (put s.objects s.next_object empty_file) slash_number (linking s.next_object) boot_thread_number
+          (put_other s.objects s.next_object empty_file boot_thread_number (λ e. omega (arith, e, number_old slash_number (Slash ∷ []) (slash_numbered users s f l))) ∙ l.boot_thread_gone))
+
       -- the kernel lays out the flat state with the new file
       lays_out : IsListable grown → LaysOut users (with_bytes (added s slash_number empty_file) listing_number (spelling grown)) after
       lays_out room = record {
@@ -258,6 +259,7 @@ module _ (users : List User) (s : State) (f : Flat) (l : LaysOut users s f) wher
         others = l.others;
         owned = l.owned;
         categories = l.categories;
+        boot_thread_gone = new_gone;
       }
 
 -- where `/` has room, its directory segment can hold one entry more

@@ -1,9 +1,8 @@
 -- A create of a file is the row of its call.
-use Rattle.std.proofs.Common.{◌≡◌, ◌≢◌, ℕ, ◌+◌, ◌*◌, ◌<◌, ◌≤◌, ◌==◌, Bool, true, false, List, [], ◌∷◌, ◌++◌, length, Option, None, Some, ◌⊎◌, inl, inr, refl, sym, ap, ◌∙◌, subst, arith, if◌then◌else◌}
-use Rattle.std.specs.Prelude.{◌&&◌, ◌||◌, not, nat_lt, nat_le, min, is_some as has_value, option_map, option_and_then, IsTrue, IsSome}
+use Rattle.std.proofs.Common.{◌≡◌, ◌≢◌, ℕ, ◌+◌, ◌*◌, ◌<◌, ◌≤◌, ◌==◌, Bool, true, false, List, [], ◌∷◌, length, Option, None, Some, inl, inr, refl, sym, ap, ◌∙◌, subst, arith, if◌then◌else◌}
+use Rattle.std.specs.Prelude.{◌&&◌, ◌||◌, not, nat_lt, nat_le, is_some as has_value, option_map, option_and_then, IsTrue}
 use Rattle.std.specs.FinSet as set
 use Rattle.std.specs.FinMap as map
-use Rattle.std.proofs.lemmas.Bool.{cases_lt}
 use Rattle.std.proofs.lemmas.Bool.Decides.{nat_tests}
 use Rattle.histar_base.specs.Refusals.{◌orelse◌, unless}
 use Rattle.histar_flat.specs.declared.calls.User.{User}
@@ -13,20 +12,19 @@ use Rattle.histar_flat.specs.declared.calls.UnixCall.{UnixCall}
 use Rattle.histar_flat.specs.declared.calls.UnixCall.TheVariants as calls
 use Rattle.histar_flat.specs.declared.replies.Errno.{Errno}
 use Rattle.histar_flat.specs.declared.replies.Errno.TheVariants.{EACCES, EEXIST, ENOSPC, EPERM}
-use Rattle.histar_flat.specs.declared.replies.Reply.{Reply}
 use Rattle.histar_flat.specs.declared.replies.Reply.TheVariants.{Done, Refused}
 use Rattle.histar_flat.specs.Words.{Name, ProcName, is_name}
 use Rattle.histar_flat.specs.PathOrder.{same}
 use Rattle.histar_flat.specs.Files.{get}
-use Rattle.histar_flat.specs.Classes.{Class, Process, nobody, may_write, is_free, free_class, class_made}
+use Rattle.histar_flat.specs.Classes.{Class, Process, nobody, may_write, free_class, class_made}
 use Rattle.histar_flat.specs.Classes.Class.{Private, Readable, Scratch}
 use Rattle.histar_flat.specs.FlatState.{Node, Content, Flat, is_some_and, reads, writes, entries_in, with_node}
 use Rattle.histar_flat.specs.FlatState.Content.{Dir, File}
 use Rattle.histar_flat.specs.FlatCalls.{refused, class_or_open}
-use Rattle.histar_label.specs.Levels.{Levels, is_below, is_below_raised, is_made, has_star}
-use Rattle.histar_object.specs.declared.objects.Kind.TheVariants.{Segment, Container, Thread}
+use Rattle.histar_label.specs.Levels.{is_below, is_below_raised, is_made}
+use Rattle.histar_object.specs.declared.objects.Kind.TheVariants.{Segment, Container}
 use Rattle.histar_object.specs.Objects.{linking}
-use Rattle.histar_object.specs.State.{State, Found, added, with_bytes}
+use Rattle.histar_object.specs.State.{State, added}
 use Rattle.histar_rules.specs.declared.raw.Denied.{Denied}
 use Rattle.histar_rules.specs.declared.raw.Denied.TheVariants.{Modify, Range, TooBig}
 use Rattle.histar_rules.specs.declared.raw.RawCall.{RawCall}
@@ -34,7 +32,7 @@ use Rattle.histar_rules.specs.declared.raw.RawCall.TheVariants as raw
 use Rattle.histar_rules.specs.Rules.{check, has_number, known}
 use Rattle.histar_syscall.specs.Traced.{Traced, state, Called}
 use Rattle.histar_syscall.specs.Runs.{Made, is_label_refusal, is_range_refusal}
-use Rattle.histar_layout.specs.Directory.{Entries, IsListable, most_entries, spelling}
+use Rattle.histar_layout.specs.Directory.{Entries, most_entries, spelling}
 use Rattle.histar_layout.specs.declared.entry.Target.{Target}
 use Rattle.histar_layout.specs.declared.entry.Target.TheVariants as targets
 use Rattle.histar_container.proofs.Addresses.{or_false, or_true}
@@ -48,10 +46,10 @@ use Rattle.histar_calls.specs.Replies.{is_access, is_permission}
 use Rattle.histar_simulation.specs.Labels.{class_label, user_number}
 use Rattle.histar_simulation.specs.Directories.{target_for}
 use Rattle.histar_simulation.specs.LaysOut.{LaysOut}
-use Rattle.histar_simulation.proofs.Chains.{Step, Chain, entries_of, chain_run, chain_own, first_granted, first_refused}
-use Rattle.histar_simulation.proofs.Checks.{caller_passes, making_check, write_check}
+use Rattle.histar_simulation.proofs.Chains.{Step, entries_of, chain_run, chain_own, first_granted, first_refused}
+use Rattle.histar_simulation.proofs.Checks.{kept_none, caller_passes, making_check, write_check}
 use Rattle.histar_simulation.proofs.Views.{object}
-use Rattle.histar_simulation.proofs.Places.{IsRoot, IsFileAt, file_is, directory_leads}
+use Rattle.histar_simulation.proofs.Places.{file_is, directory_leads}
 use Rattle.histar_simulation.proofs.Rights.{owner_is, user_makes, nobody_makes, file_label_known, file_label_owns_nothing}
 use Rattle.histar_simulation.proofs.Users.{number_range}
 use Rattle.histar_simulation.proofs.DirectoryLaws.{get_directory, len_directory, spelling_fits}
@@ -59,12 +57,8 @@ use Rattle.histar_simulation.proofs.Created.{create_lays_out, create_listable}
 use Rattle.histar_container.proofs.Moves.{next_unused}
 use Rattle.histar_simulation.specs.Addresses.{Step as Place, same_step, found_at, inside_address}
 use Rattle.histar_simulation.specs.Addresses.Step.{Slash, Listing, Runner}
-use Rattle.histar_simulation.proofs.Outcomes.{IsAnswered, IsOut, Ends, reply_is, after_is, answered_by}
-use Rattle.histar_simulation.proofs.Scenes.{Scene, caller, here, holds, root, listed, walk_call, sees_root, walk_granted, ends_unwalked, ends_at_once}
-
--- a segment that holds these bytes alone has no more than they are
-kept_none : (held : List ℕ) (bytes : List ℕ) → min 0 (length held) + length bytes ≡ length bytes
-kept_none held bytes = omega arith
+use Rattle.histar_simulation.proofs.Outcomes.{Ends, reply_is, after_is, answered_by}
+use Rattle.histar_simulation.proofs.Scenes.{Scene, here, holds, root, listed, walk_call, sees_root, walk_granted, ends_unwalked, ends_at_once}
 
 -- bytes that a segment can hold fit it
 fits_all : (k : ℕ) → k ≤ 4096 → nat_le k 4096 ≡ true
@@ -201,9 +195,9 @@ module _ (users : List User) (old new : Traced) (f : Flat) (scene : Scene users 
                 inl (
                   ap (answer (Some Done)) last.1 ∙ ap (option_map Refused) told ∙ ap Some (sym reply),
                   answered_by users f call old new t scene.named ((walk_call users old f scene, None) ∷ (raw.OwnLabel, None) ∷ (make_call, Some denied) ∷ []) (mid, walked, (asked, asks, last.0)) (Refused errno) f
-                  reply (after_is users f scene.run call (Some errno) is)
-                  (or_false (is_label_refusal (Some denied)) ∙ access) (or_false (is_range_refusal (Some denied)) ∙ permission) tt (λ b e. absurd cc) (inl (refl, tt)) (λ e. absurd cc)
-                  (subst (λ (s : State). LaysOut users s f) (sym stays) scene.lays_out),
+                      reply (after_is users f scene.run call (Some errno) is)
+                      (or_false (is_label_refusal (Some denied)) ∙ access) (or_false (is_range_refusal (Some denied)) ∙ permission) tt (λ b e. absurd cc) (inl (refl, tt)) (λ e. absurd cc)
+                      (subst (λ (s : State). LaysOut users s f) (sym stays) scene.lays_out),
                 )
 
             -- there is no number for it any more
@@ -288,11 +282,11 @@ module _ (users : List User) (old new : Traced) (f : Flat) (scene : Scene users 
                     inl (
                       ap (answer (Some Done)) last.2.1 ∙ ap Some (sym reply),
                       answered_by users f call old new t scene.named ((walk_call users old f scene, None) ∷ (raw.OwnLabel, None) ∷ (make_call, None) ∷ (write_call, None) ∷ []) (mid, walked, (asked, asks, (made_it, makes, (last.0, last.1, last.2.0)))) Done
-                      (with_node f (m ∷ []) class (File [])) reply
-                      (after_is users f scene.run call None is_refused ∙ ap (λ (c : Option Class). with_node f (m ∷ []) (class_or_open c) (File [])) class_is)
-                      refl refl tt (λ b e. absurd cc) (inl (refl, tt)) (λ e. absurd cc)
-                      (create_lays_out users (state old) f scene.lays_out m class (file_label mode user) r.directory.entry named labelled r.directory.stands r.directory.is_directory free few_entries next_below (state made_it) (state new) made_state
-                      (last.2.0.state ∙ last.1.state)),
+                          (with_node f (m ∷ []) class (File [])) reply
+                          (after_is users f scene.run call None is_refused ∙ ap (λ (c : Option Class). with_node f (m ∷ []) (class_or_open c) (File [])) class_is)
+                          refl refl tt (λ b e. absurd cc) (inl (refl, tt)) (λ e. absurd cc)
+                          (create_lays_out users (state old) f scene.lays_out m class (file_label mode user) r.directory.entry named labelled r.directory.stands r.directory.is_directory free few_entries next_below (state made_it) (state new) made_state
+                          (last.2.0.state ∙ last.1.state)),
                     )
 
   -- what process 0 makes: nobody makes nothing, and a user makes its own
@@ -339,7 +333,7 @@ module _ (users : List User) (old new : Traced) (f : Flat) (scene : Scene users 
         let range = number_range users me.user user e in
         let in_range = user_makes users scene.no_one me scene.run.lone scene.label scene.clearance scene.labels mode user is e in
         let first = first_granted (8 + 2 * length users) asked new (make_call user owner refusal) (write_call user owner refusal ∷ []) refusal
-            (make_checked user owner refusal seen mid walked free room asked asks true true true may in_range next (is_known range.1)) made in
+        (make_checked user owner refusal seen mid walked free room asked asks true true true may in_range next (is_known range.1)) made in
         granted user owner refusal seen mid walked free room asked asks made may (user_class mode me.user) (class_of_user is) (label_of_user user e) named in_range (is_known range.1) next first.0 first.1 first.2
 
     by_owner : writes f me [] ≡ true → Ends users f call old new (8 + 2 * length users) (answer (Some Done) refusal)
@@ -377,7 +371,7 @@ module _ (users : List User) (old new : Traced) (f : Flat) (scene : Scene users 
           let same = inner_at user owner refusal None false (entry_at None free) (full_test true room) in
           let made_here = subst (λ (plan : Plan). Made mid new (8 + 2 * length users) plan.calls refusal) same made in
           let asks = first_granted (8 + 2 * length users) mid new raw.OwnLabel (make_call user owner refusal ∷ write_call user owner refusal ∷ []) refusal
-              (ap (λ (s : State). check s (8 + 2 * length users) raw.OwnLabel) walked.state ∙ caller_passes (state old) (8 + 2 * length users) scene.label scene.clearance scene.thread) made_here in
+          (ap (λ (s : State). check s (8 + 2 * length users) raw.OwnLabel) walked.state ∙ caller_passes (state old) (8 + 2 * length users) scene.label scene.clearance scene.thread) made_here in
           subst (λ (plan : Plan). Ends users f call old new (8 + 2 * length users) (answer plan.reply refusal)) (sym same)
           (makes user owner refusal seen mid walked free room asks.0 asks.1 named asks.2 (writes f me []) refl)
 

@@ -1,22 +1,20 @@
 -- A read of a file is the row of its call.
-use Rattle.std.proofs.Common.{◌≡◌, ◌≢◌, ℕ, ◌+◌, ◌*◌, Bool, true, false, List, [], ◌∷◌, ◌++◌, length, Option, None, Some, inl, inr, refl, sym, ap, ◌∙◌, subst}
-use Rattle.histar_base.specs.Refusals.{◌orelse◌, unless}
+use Rattle.std.proofs.Common.{◌≡◌, ℕ, ◌+◌, ◌*◌, Bool, true, false, List, [], ◌∷◌, length, Option, None, Some, inl, refl, sym, ap, ◌∙◌, subst}
+use Rattle.histar_base.specs.Refusals.{unless}
 use Rattle.histar_flat.specs.declared.calls.User.{User}
-use Rattle.histar_flat.specs.declared.calls.UnixCall.{UnixCall}
 use Rattle.histar_flat.specs.declared.calls.UnixCall.TheVariants as calls
 use Rattle.histar_flat.specs.declared.replies.Errno.{Errno}
 use Rattle.histar_flat.specs.declared.replies.Errno.TheVariants.{EACCES}
-use Rattle.histar_flat.specs.declared.replies.Reply.{Reply}
 use Rattle.histar_flat.specs.declared.replies.Reply.TheVariants.{Data, Refused}
 use Rattle.histar_flat.specs.Words.{Name}
 use Rattle.histar_flat.specs.Files.{get}
 use Rattle.histar_flat.specs.Classes.{may_read}
-use Rattle.histar_flat.specs.FlatState.{Node, Content, Flat, is_some_and, reads, bytes_of, bytes_at}
+use Rattle.histar_flat.specs.FlatState.{Node, Flat, is_some_and, reads, bytes_of, bytes_at}
 use Rattle.histar_flat.specs.FlatState.Content.{Dir, File}
 use Rattle.histar_flat.specs.FlatCalls.{refused}
 use Rattle.histar_label.specs.Levels.{is_below_raised}
 use Rattle.histar_object.specs.Objects.{bytes_in}
-use Rattle.histar_object.specs.State.{State, Found}
+use Rattle.histar_object.specs.State.{State}
 use Rattle.histar_rules.specs.declared.raw.Denied.{Denied}
 use Rattle.histar_rules.specs.declared.raw.Denied.TheVariants.{Observe}
 use Rattle.histar_rules.specs.declared.raw.RawCall.{RawCall}
@@ -30,17 +28,13 @@ use Rattle.std.specs.FinMap as map
 use Rattle.histar_calls.specs.Plans.{after_walk, at_target, read_segment}
 use Rattle.histar_calls.specs.Follows.{answer}
 use Rattle.histar_simulation.specs.LaysOut.{LaysOut}
-use Rattle.histar_simulation.specs.Lines.{EndsWithRead}
-use Rattle.histar_simulation.proofs.Chains.{entries_of, first_granted, first_refused}
+use Rattle.histar_simulation.proofs.Chains.{first_granted, first_refused}
 use Rattle.histar_simulation.proofs.Checks.{read_check}
 use Rattle.histar_simulation.proofs.Places.{IsFileAt}
 use Rattle.histar_simulation.proofs.Outcomes.{Ends, reply_is, after_is, answered_by}
 use Rattle.histar_simulation.proofs.Scenes.{Scene, caller, here, root, listed, walk_call, sees_root, UsesFile, ends_at_file}
 
 module _ (users : List User) (old new : Traced) (f : Flat) (scene : Scene users (state old) f) (m : Name) where
-
-
-
   -- the refusal that comes after the way to the file
   abbrev later : Option Errno
   later = unless (reads f scene.run.process (m ∷ [])) EACCES
@@ -80,9 +74,9 @@ module _ (users : List User) (old new : Traced) (f : Flat) (scene : Scene users 
           inl (
             ap (answer (Some (Data (bytes_in ((state old).objects file.number))))) last.1 ∙ ap Some (sym reply),
             answered_by users f (calls.Read (m ∷ [])) old new t scene.named ((walk_call users old f scene, None) ∷ (read_call, Some Observe) ∷ []) (mid, walked, last.0) (Refused EACCES) f
-            reply (after_is users f scene.run (calls.Read (m ∷ [])) (Some EACCES) is)
-            refl refl tt (λ b e. absurd cc) (inl (refl, tt)) (λ e. absurd cc)
-            (subst (λ (s : State). LaysOut users s f) (sym stays) scene.lays_out),
+                reply (after_is users f scene.run (calls.Read (m ∷ [])) (Some EACCES) is)
+                refl refl tt (λ b e. absurd cc) (inl (refl, tt)) (λ e. absurd cc)
+                (subst (λ (s : State). LaysOut users s f) (sym stays) scene.lays_out),
           )
 
       -- a file that may be read
@@ -98,19 +92,19 @@ module _ (users : List User) (old new : Traced) (f : Flat) (scene : Scene users 
           inl (
             ap (answer (Some (Data (bytes_in ((state old).objects file.number))))) last.2.1 ∙ ap (λ (b : List ℕ). Some (Data b)) held ∙ ap Some (sym reply),
             answered_by users f (calls.Read (m ∷ [])) old new t scene.named ((walk_call users old f scene, None) ∷ (read_call, None) ∷ []) (mid, walked, (last.0, last.1, last.2.0)) (Data bytes) f
-            reply (after_is users f scene.run (calls.Read (m ∷ [])) None is)
-            refl refl tt
-            (λ b e. record {
-              front = entry_of old.line t (walk_call users old f scene) None ∷ [];
-              last = entry_of old.line t read_call None;
-              parts = refl;
-              before = state mid;
-              run = (state mid, walked.outcome, walked.state, refl);
-              granted = refl;
-              answers = ap (λ (x : List ℕ). Some (answers.Bytes x)) (read ∙ same_bytes bytes b e);
-            })
-            (inl (refl, tt)) (λ e. absurd cc)
-            (subst (λ (s : State). LaysOut users s f) (sym stays) scene.lays_out),
+                reply (after_is users f scene.run (calls.Read (m ∷ [])) None is)
+                refl refl tt
+                (λ b e. record {
+                  front = entry_of old.line t (walk_call users old f scene) None ∷ [];
+                  last = entry_of old.line t read_call None;
+                  parts = refl;
+                  before = state mid;
+                  run = (state mid, walked.outcome, walked.state, refl);
+                  granted = refl;
+                  answers = ap (λ (x : List ℕ). Some (answers.Bytes x)) (read ∙ same_bytes bytes b e);
+                })
+                (inl (refl, tt)) (λ e. absurd cc)
+                (subst (λ (s : State). LaysOut users s f) (sym stays) scene.lays_out),
           )
         where
           same_bytes : (a b : List ℕ) → Data a ≡ Data b → a ≡ b

@@ -1,6 +1,6 @@
 -- A write of a file is the row of its call.
-use Rattle.std.proofs.Common.{◌≡◌, ◌≢◌, ℕ, ◌+◌, ◌*◌, Bool, true, false, List, [], ◌∷◌, ◌++◌, length, Option, None, Some, inl, inr, refl, sym, ap, ◌∙◌, subst, arith}
-use Rattle.std.specs.Prelude.{◌&&◌, nat_le, min, option_map}
+use Rattle.std.proofs.Common.{◌≡◌, ℕ, ◌+◌, ◌*◌, Bool, true, false, List, [], ◌∷◌, length, Option, None, Some, inl, refl, sym, ap, ◌∙◌, subst}
+use Rattle.std.specs.Prelude.{◌&&◌, nat_le, option_map}
 use Rattle.histar_container.proofs.Addresses.{or_false}
 use Rattle.histar_base.specs.Refusals.{◌orelse◌, unless}
 use Rattle.histar_flat.specs.declared.calls.User.{User}
@@ -8,13 +8,12 @@ use Rattle.histar_flat.specs.declared.calls.UnixCall.{UnixCall}
 use Rattle.histar_flat.specs.declared.calls.UnixCall.TheVariants as calls
 use Rattle.histar_flat.specs.declared.replies.Errno.{Errno}
 use Rattle.histar_flat.specs.declared.replies.Errno.TheVariants.{EACCES, EFBIG}
-use Rattle.histar_flat.specs.declared.replies.Reply.{Reply}
 use Rattle.histar_flat.specs.declared.replies.Reply.TheVariants.{Done, Refused}
 use Rattle.histar_flat.specs.Words.{Name}
 use Rattle.histar_flat.specs.Files.{get}
 use Rattle.histar_flat.specs.Classes.{may_write}
-use Rattle.histar_flat.specs.FlatState.{Node, Content, Flat, is_some_and, reads, writes, with_bytes}
-use Rattle.histar_flat.specs.FlatState.Content.{Dir, File}
+use Rattle.histar_flat.specs.FlatState.{Node, Flat, is_some_and, reads, writes, with_bytes}
+use Rattle.histar_flat.specs.FlatState.Content.{File}
 use Rattle.histar_flat.specs.FlatCalls.{refused}
 use Rattle.histar_label.specs.Levels.{is_below, is_below_raised}
 use Rattle.histar_object.specs.State.{with_bytes as state_with_bytes}
@@ -31,16 +30,12 @@ use Rattle.histar_calls.specs.Plans.{after_walk, at_target, write_segment}
 use Rattle.histar_calls.specs.Follows.{answer, write_errno_of}
 use Rattle.histar_calls.specs.Replies.{is_access, is_permission}
 use Rattle.histar_simulation.specs.LaysOut.{LaysOut}
-use Rattle.histar_simulation.proofs.Chains.{entries_of, first_granted, first_refused}
-use Rattle.histar_simulation.proofs.Checks.{write_check}
+use Rattle.histar_simulation.proofs.Chains.{first_granted, first_refused}
+use Rattle.histar_simulation.proofs.Checks.{kept_none, write_check}
 use Rattle.histar_simulation.proofs.Places.{IsFileAt}
 use Rattle.histar_simulation.proofs.Outcomes.{Ends, reply_is, after_is, answered_by}
 use Rattle.histar_simulation.proofs.Scenes.{Scene, caller, here, root, listed, walk_call, sees_root, UsesFile, ends_at_file}
 use Rattle.histar_simulation.proofs.Written.{write_lays_out}
-
--- a segment that holds these bytes alone has no more than they are
-kept_none : (held : List ℕ) (bytes : List ℕ) → min 0 (length held) + length bytes ≡ length bytes
-kept_none held bytes = omega arith
 
 module _ (users : List User) (old new : Traced) (f : Flat) (scene : Scene users (state old) f) (m : Name) (bytes : List ℕ) where
   -- the refusal that comes after the way to the file
@@ -84,9 +79,9 @@ module _ (users : List User) (old new : Traced) (f : Flat) (scene : Scene users 
           inl (
             ap (answer (Some Done)) last.1 ∙ ap (option_map Refused) told ∙ ap Some (sym reply),
             answered_by users f call old new t scene.named ((walk_call users old f scene, None) ∷ (write_call, Some denied) ∷ []) (mid, walked, last.0) (Refused errno) f
-            reply (after_is users f scene.run call (Some errno) is)
-            (or_false (is_label_refusal (Some denied)) ∙ access) (or_false (is_range_refusal (Some denied)) ∙ permission) tt (λ b e. absurd cc) (inl (refl, tt)) (λ e. absurd cc)
-            (subst (λ (s : State). LaysOut users s f) (sym stays) scene.lays_out),
+                reply (after_is users f scene.run call (Some errno) is)
+                (or_false (is_label_refusal (Some denied)) ∙ access) (or_false (is_range_refusal (Some denied)) ∙ permission) tt (λ b e. absurd cc) (inl (refl, tt)) (λ e. absurd cc)
+                (subst (λ (s : State). LaysOut users s f) (sym stays) scene.lays_out),
           )
 
       -- a write that is granted
@@ -100,9 +95,9 @@ module _ (users : List User) (old new : Traced) (f : Flat) (scene : Scene users 
           inl (
             ap (answer (Some Done)) last.2.1 ∙ ap Some (sym reply),
             answered_by users f call old new t scene.named ((walk_call users old f scene, None) ∷ (write_call, None) ∷ []) (mid, walked, (last.0, last.1, last.2.0)) Done (with_bytes f (m ∷ []) bytes)
-            reply (after_is users f scene.run call None is)
-            refl refl tt (λ b e. absurd cc) (inl (refl, tt)) (λ e. absurd cc)
-            (write_lays_out users (state old) f scene.lays_out (m ∷ []) there held bytes file.number stands content file.named (state new) writes_it),
+                reply (after_is users f scene.run call None is)
+                refl refl tt (λ b e. absurd cc) (inl (refl, tt)) (λ e. absurd cc)
+                (write_lays_out users (state old) f scene.lays_out (m ∷ []) there held bytes file.number stands content file.named (state new) writes_it),
           )
 
   uses_file : UsesFile users old f scene new call (λ r. refl) m later refl (write_segment (here users old f scene) bytes)

@@ -1,10 +1,11 @@
 -- What stands at the addresses of a naming, and what a change of an object leaves there.
 use Rattle.std.specs.Prelude.{◌≡◌, ◌≢◌, ℕ, true, List, Option, Some, None, option_map, option_and_then, refl}
-use Rattle.std.proofs.Common.{ap, sym, ◌∙◌}
+use Rattle.std.proofs.Common.{Bool, false, ◌==◌, if◌then◌else◌, ap, sym, ◌∙◌}
 use Rattle.histar_label.specs.Levels.{Levels}
 use Rattle.histar_object.specs.declared.objects.Kind.{Kind}
 use Rattle.histar_object.specs.declared.objects.Kind.TheVariants.{Segment, Container, Thread, Gate}
-use Rattle.histar_object.specs.Objects.{Objects, linking, kind_linking, holding, kind_holding, is_there, is_container, kind_is_container}
+use Rattle.histar_object.specs.declared.objects.Object.{Object}
+use Rattle.histar_object.specs.Objects.{Objects, changed_at, linking, kind_linking, holding, kind_holding, is_there, is_container, kind_is_container}
 use Rattle.histar_object.specs.State.{Found}
 use Rattle.histar_container.specs.Tree.{Address, Naming, wanted, IsLaid}
 use Rattle.histar_simulation.specs.Addresses.{Step, same_step, found_at}
@@ -80,3 +81,11 @@ bare_container_there (Some o) = by o.kind
 pub labelled_there : (kind : Kind Levels) (label : Option Levels) → label ≢ None → is_there (labelled_as kind label) ≡ true
 labelled_there kind None some = absurd (some refl)
 labelled_there kind (Some label) some = refl
+
+-- where nothing stands, a change of some object leaves nothing
+pub changed_none : {L : Type 0} (objects : Objects L) (n : ℕ) (f : Object L → Object L) (q : ℕ) → objects q ≡ None → changed_at objects n f q ≡ None
+changed_none {L = L} objects n f q e = by (q == n)
+  where
+    by : (b : Bool) → ◌≡◌ {A = Option (Object L)} (if b then option_map f (objects q) else objects q) None
+    by true = ap (option_map f) e
+    by false = e

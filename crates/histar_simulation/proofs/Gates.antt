@@ -1,16 +1,16 @@
 -- The labels of a thread that enters a gate and takes labels behind it, where both own some categories.
-use Rattle.std.proofs.Common.{◌≡◌, ℕ, ◌<◌, ◌≤◌, max, Bool, true, false, ◌&&◌, ◌||◌, if◌then◌else◌, arith, refl, sym, ap, ◌∙◌}
+use Rattle.std.proofs.Common.{◌≡◌, ℕ, ◌<◌, ◌≤◌, max, Bool, true, false, ◌||◌, if◌then◌else◌, arith, refl, sym, ap, ◌∙◌}
 use Rattle.histar_label.specs.declared.levels.Level.{Level}
 use Rattle.histar_label.specs.declared.levels.Level.TheVariants.{Star, L1, L2, L3}
 use Rattle.histar_label.specs.Level.{rank, raised, lowered, same_level}
-use Rattle.histar_label.specs.Levels.{Levels, level_of, default_of, beyond, level_of-beyond, grades, is_below, is_below_join, is_below_join_raised, is_made}
+use Rattle.histar_label.specs.Levels.{Levels, level_of, default_of, beyond, level_of-beyond, is_below, is_below_join, is_below_join_raised, is_made}
 use Rattle.histar_label.specs.Floors.{join_of, floor_of}
 use Rattle.histar_label.proofs.Floors.{grades-floor_of, grades-join_of}
-use Rattle.histar_label.proofs.Orders.{is_below-law, is_below_join-law, is_below_join_raised-law, is_below-refl}
+use Rattle.histar_label.proofs.Orders.{is_below-law, is_below_join-law, is_below_join_raised-law}
 use Rattle.histar_label.proofs.Made.{is_made-law}
 use Rattle.histar_container.proofs.Addresses.{not_true}
 use mathlib.Core.Bool.{true≢false}
-use Rattle.histar_simulation.proofs.Owned.{Owns, Clears, own_low, own_star, cleared, most_high, passed_by, picked}
+use Rattle.histar_simulation.proofs.Owned.{Owns, Clears, own_low, cleared, passed_by}
 
 -- one of two owns a category
 abbrev pub either_owns : (ℕ → Bool) → (ℕ → Bool) → ℕ → Bool
@@ -31,13 +31,13 @@ join_at false false = refl
 
 -- the floor owns what either label owns
 pub floor_owns : (own given : Levels) (first second : ℕ → Bool) → Owns own first → Owns given second → Owns (floor_of own given) (either_owns first second)
-floor_owns own given first second of_own of_given c = 
+floor_owns own given first second of_own of_given c =
     same_level (level_of (floor_of own given) c) (if first c || second c then Star else L1)
     (grades-floor_of own given c ∙ (λ i. lowered (max (raised (of_own c i)) (raised (of_given c i)))) ∙ floor_at (first c) (second c))
 
 -- the join clears what either clearance clears
 pub join_clears : (most limit : Levels) (first second : ℕ → Bool) → Clears most first → Clears limit second → Clears (join_of most limit) (either_owns first second)
-join_clears most limit first second of_most of_limit c = 
+join_clears most limit first second of_most of_limit c =
     same_level (level_of (join_of most limit) c) (if first c || second c then L3 else L2)
     (grades-join_of most limit c ∙ (λ i. max (rank (of_most c i)) (rank (of_limit c i))) ∙ join_at (first c) (second c))
 

@@ -1,33 +1,33 @@
 -- Raw calls of a login that no check refuses.
-use Rattle.std.proofs.Common.{◌≡◌, ◌≢◌, ℕ, ◌+◌, ◌*◌, ◌<◌, ◌≤◌, ◌==◌, Bool, true, false, ◌&&◌, ◌||◌, List, [], ◌∷◌, ◌++◌, Option, None, Some, arith, refl, sym, ap, ◌∙◌, subst, if◌then◌else◌}
-use Rattle.std.specs.Prelude.{option_map}
+use Rattle.std.proofs.Common.{◌≡◌, ◌≢◌, ℕ, ◌<◌, ◌≤◌, ◌==◌, Bool, true, false, ◌&&◌, ◌||◌, List, [], ◌∷◌, ◌++◌, Option, None, Some, arith, refl, sym, ap, ◌∙◌, subst, if◌then◌else◌}
 use Rattle.std.specs.FinSet as set
 use Rattle.std.proofs.lemmas.Bool.Decides.{nat_tests}
+use Rattle.std.proofs.lemmas.Bool.{and_from}
 use Rattle.histar_base.specs.Refusals.{unless, ◌orelse◌}
 use Rattle.histar_flat.specs.declared.calls.User.{User}
 use Rattle.histar_label.specs.declared.levels.Level.TheVariants.{Star, L0, L1, L2, L3}
 use Rattle.histar_label.specs.Level.{rank}
-use Rattle.histar_label.specs.Levels.{Levels, level_of, constant, with_level, level_of-constant, level_of-with_level, grades, is_below, is_below_join_raised, is_made}
+use Rattle.histar_label.specs.Levels.{Levels, constant, with_level, level_of-constant, level_of-with_level, grades, is_below, is_below_join_raised, is_made}
 use Rattle.histar_label.specs.Floors.{join_of, floor_of}
 use Rattle.histar_label.proofs.Orders.{is_below-refl}
 use Rattle.histar_object.specs.declared.objects.Kind.TheVariants.{Container}
 use Rattle.histar_object.specs.Objects.{Numbers, thread_of, links_in, is_there, is_container, is_thread, is_segment, is_gate}
-use Rattle.histar_object.specs.Rights.{relabelled, clearing, with_changed, is_let_in, is_under, in_gate, may_clear}
-use Rattle.histar_object.specs.State.{State, Found, with_own, observes, in_range}
+use Rattle.histar_object.specs.Rights.{is_let_in, is_under, in_gate, may_clear}
+use Rattle.histar_object.specs.State.{State, Found, observes, in_range}
 use Rattle.histar_rules.specs.declared.raw.Denied.{Denied}
 use Rattle.histar_rules.specs.declared.raw.Denied.TheVariants.{Observe, Range, Gate, NoEntry, NoThread, BadKind}
 use Rattle.histar_rules.specs.declared.raw.RawCall.{RawCall}
 use Rattle.histar_rules.specs.declared.raw.RawCall.TheVariants.{OwnLabel, SetLabel, SetClearance, Enter, Read}
-use Rattle.histar_rules.specs.Rules.{check, Changes, no_thread, no_link, known}
+use Rattle.histar_rules.specs.Rules.{check, Changes, no_link, known}
 use Rattle.histar_rules.specs.Sound.{root_number}
 use Rattle.histar_syscall.specs.Traced.{Traced, state, Called}
 use Rattle.histar_syscall.specs.Runs.{Made, GoesOn}
 use Rattle.histar_calls.specs.Categories.{read_category, write_category}
 use Rattle.histar_login.specs.Start.{written_by, boot_category, secret_of, owner_of, cleared_of}
-use Rattle.histar_login.specs.Login.{password_of, gate_of, entering}
 use Rattle.histar_simulation.proofs.Owned.{Owns, Clears, among, owns_all, clears_all, seen, secret_seen}
 use Rattle.histar_simulation.proofs.Gates.{either_owns, floor_owns, join_clears, OwnsMore, owns_below, owns_cleared, join_within, clears_within, AreMade, owned_made}
 use Rattle.histar_simulation.proofs.Rights.{rank_picked, written_low}
+use Rattle.histar_simulation.proofs.Checks.{caller_passes}
 use Rattle.histar_simulation.proofs.Standing.{password_object, gate_object}
 
 -- these raw calls are granted, each in whatever state those before it leave
@@ -57,9 +57,6 @@ neither a b one two i = one i orelse two i
 passes : (b : Bool) (d : Denied) → b ≡ true → unless b d ≡ None
 passes b d is = ap (λ x. unless x d) is
 
-both_true : (a b : Bool) → a ≡ true → b ≡ true → (a && b) ≡ true
-both_true a b one two i = one i && two i
-
 -- `{r:3, w:0, 1}`, where r comes first, at each category
 secret_of_at : (r w c : ℕ) → grades (secret_of r w) c ≡ (if c == w then 1 else (if c == r then 4 else 2))
 secret_of_at r w c =
@@ -77,7 +74,7 @@ pub set_clearance_granted : (s : State) (t next : ℕ) → s.next_category ≡ n
     → Clears clearance has → OwnsMore cleared has → AreMade next has → check s t (SetClearance clearance) ≡ None
 set_clearance_granted s t next categories own most clearance owned clears has of_own of_most thread is fewer made =
     let clear : may_clear (s.objects t) clearance ≡ true = ap (λ (o : Found). may_clear o clearance) thread
-    ∙ both_true (is_below own clearance) (is_below_join_raised clearance most own) (owns_cleared own clearance owned has of_own is) (clears_within clearance most own clears has of_most is fewer) in
+    ∙ and_from (is_below own clearance) (is_below_join_raised clearance most own) (owns_cleared own clearance owned has of_own is) (clears_within clearance most own clears has of_most is fewer) in
     let made_too : known s clearance ≡ true = ap (λ (n : ℕ). is_made n clearance) categories ∙ owned_made next has made clearance L3 L2 is in
     neither _ _ (ap (λ (o : Found). unless (is_thread o) NoThread) thread)
     (neither _ _ (passes (may_clear (s.objects t) clearance) Range clear) (passes (known s clearance) Range made_too))
@@ -85,12 +82,9 @@ set_clearance_granted s t next categories own most clearance owned clears has of
 -- A thread with a label that owns some categories and a clearance that clears them, where boot made these.
 module _ (s : State) (t next : ℕ) (categories : s.next_category ≡ next) (own most : Levels) (owned : ℕ → Bool) (owns : Owns own owned) (clears : Clears most owned) (made : AreMade next owned)
     (thread : s.objects t ≡ Some (thread_of own most)) where
-  -- it is a thread
-  caller : no_thread s t ≡ None
-  caller = ap (λ (o : Found). unless (is_thread o) NoThread) thread
-
+  -- it may read its own label
   pub own_label_granted : check s t OwnLabel ≡ None
-  own_label_granted = caller
+  own_label_granted = caller_passes s t own most thread
 
   -- a label that it hands in names only categories that were made
   label_known : (label : Levels) (has : ℕ → Bool) → Owns label has → AreMade next has → known s label ≡ true
@@ -102,15 +96,15 @@ module _ (s : State) (t next : ℕ) (categories : s.next_category ≡ next) (own
   -- it takes a label that owns no more
   pub set_label_granted : (label : Levels) (has : ℕ → Bool) → Owns label has → OwnsMore owned has → AreMade next has → check s t (SetLabel label) ≡ None
   set_label_granted label has is fewer made_too =
-      let range : in_range (s.objects t) label ≡ true = ap (λ (o : Found). in_range o label) thread ∙ both_true (is_below own label) (is_below label most) (owns_below own label owned has owns is fewer) (owns_cleared label most has owned is clears) in
-      neither _ _ caller (neither _ _ (passes (in_range (s.objects t) label) Range range) (passes (known s label) Range (label_known label has is made_too)))
+      let range : in_range (s.objects t) label ≡ true = ap (λ (o : Found). in_range o label) thread ∙ and_from (is_below own label) (is_below label most) (owns_below own label owned has owns is fewer) (owns_cleared label most has owned is clears) in
+      neither _ _ (caller_passes s t own most thread) (neither _ _ (passes (in_range (s.objects t) label) Range range) (passes (known s label) Range (label_known label has is made_too)))
 
   module _ (links : Numbers) (root : s.objects root_number ≡ Some (record { label = written_by boot_category; kind = Container links })) (o : ℕ) (linked : set.contains (links_in (s.objects root_number)) o ≡ true) where
     -- what the root container links is found
     found : no_link s t root_number o ≡ None
     found =
         let sees : observes (s.objects t) (s.objects root_number) ≡ true = (λ i. observes (thread i) (root i)) ∙ seen own owned owns (written_by boot_category) (written_low boot_category) in
-        neither _ _ (neither _ _ caller (neither _ _ (ap (λ (x : Found). unless (is_there x) NoEntry) root)
+        neither _ _ (neither _ _ (caller_passes s t own most thread) (neither _ _ (ap (λ (x : Found). unless (is_there x) NoEntry) root)
         (neither _ _ (ap (λ (x : Found). unless (is_container x) BadKind) root) (passes (observes (s.objects t) (s.objects root_number)) Observe sees))))
         (passes (set.contains (links_in (s.objects root_number)) o) NoEntry linked)
 

@@ -4,6 +4,7 @@ use Rattle.std.specs.Prelude.{option_map, slice_get}
 use Rattle.std.specs.FinSet as set
 use Rattle.std.specs.Str.{bytes_eq}
 use Rattle.std.proofs.lemmas.Bool.Decides.{nat_tests}
+use Rattle.std.proofs.lemmas.Option.{same_Some}
 use Rattle.histar_flat.specs.declared.calls.User.{User}
 use Rattle.histar_flat.specs.Words.{Name}
 use Rattle.histar_flat.specs.PathOrder.{same}
@@ -22,18 +23,17 @@ use Rattle.histar_rules.specs.declared.raw.RawCall.TheVariants.{OwnLabel, SetLab
 use Rattle.histar_rules.specs.Sound.{root_number}
 use Rattle.histar_syscall.specs.Traced.{Traced, state}
 use Rattle.histar_syscall.specs.Runs.{Made}
-use Rattle.histar_container.proofs.Addresses.{inner}
 use Rattle.histar_calls.specs.Categories.{read_category, write_category}
 use Rattle.histar_calls.specs.Follows.{or_no_label}
 use Rattle.histar_login.specs.Start.{written_by, boot_category, owner_of, cleared_of, own_read_category, own_write_category, thread_number}
-use Rattle.histar_login.specs.Login.{place_of, password_of, gate_of, entering, label_if, clearance_if, login_calls, own_of, most_of, is_password, user_label, user_clearance}
+use Rattle.histar_login.specs.Login.{place_of, password_of, gate_of, entering, login_calls, own_of, most_of, is_password, user_label, user_clearance}
 use Rattle.histar_simulation.specs.Labels.{user_number, thread_labels}
 use Rattle.histar_simulation.specs.LaysOut.{LaysOut}
 use Rattle.histar_simulation.proofs.Owned.{Owns, Clears, among, among_each, owns_all, clears_all}
 use Rattle.histar_simulation.proofs.Gates.{either_owns, OwnsMore, AreMade}
 use Rattle.histar_simulation.proofs.Users.{number_place, number_range, place_named}
 use Rattle.histar_simulation.proofs.Rights.{IsWhose, whose, users_own, users_made}
-use Rattle.histar_simulation.proofs.Standing.{password_object, gate_object, root_is, password_stands, gate_stands, password_linked, gate_linked, password_is, thread_is}
+use Rattle.histar_simulation.proofs.Standing.{password_object, gate_object, root_container_is, password_stands, gate_stands, password_linked, gate_linked, password_is, thread_is}
 use Rattle.histar_simulation.proofs.Granting.{AreGranted, none_refused, set_clearance_granted, own_label_granted, set_label_granted, read_granted, enter_granted, behind_owns, behind_clears, behind_made}
 
 -- one of two tests passes
@@ -99,24 +99,32 @@ module _ (s : State) (t next : ℕ) (categories : s.next_category ≡ next) (own
   last_granted = (set_clearance_granted relabelled_state t next categories label limit clearance has more has of_label limit_clears relabelled_thread of_clearance fewer has_made, λ new is. tt)
 
   taking_granted : AreGranted entered t (SetLabel label ∷ SetClearance clearance ∷ [])
-  taking_granted = (set_label_granted entered t next categories wanted limit more wanted_owns limit_clears more_made entered_thread label has of_label fewer has_made,
-    λ new is. subst (λ (x : State). AreGranted x t (SetClearance clearance ∷ [])) (sym is) last_granted)
+  taking_granted = (
+    set_label_granted entered t next categories wanted limit more wanted_owns limit_clears more_made entered_thread label has of_label fewer has_made,
+    λ new is. subst (λ (x : State). AreGranted x t (SetClearance clearance ∷ [])) (sym is) last_granted,
+  )
 
   owns_gate : more (read_category i) ≡ true
   owns_gate = second_passes (owned (read_category i)) (among (read_category i ∷ write_category i ∷ []) (read_category i)) (grind (arith, nat_tests))
 
   reading_granted : AreGranted entered t (Read root_number (password_of i) ∷ SetLabel label ∷ SetClearance clearance ∷ [])
-  reading_granted = (read_granted entered t next categories wanted limit more wanted_owns limit_clears more_made entered_thread links (entered_root ∙ root) (password_of i)
-    (ap (λ (o : Found). set.contains (links_in o) (password_of i)) entered_root ∙ password_link) i u (entered_password ∙ password) owns_gate,
-    λ new is. subst (λ (x : State). AreGranted x t (SetLabel label ∷ SetClearance clearance ∷ [])) (sym is) taking_granted)
+  reading_granted = (
+    read_granted entered t next categories wanted limit more wanted_owns limit_clears more_made entered_thread links (entered_root ∙ root) (password_of i)
+        (ap (λ (o : Found). set.contains (links_in o) (password_of i)) entered_root ∙ password_link) i u (entered_password ∙ password) owns_gate,
+    λ new is. subst (λ (x : State). AreGranted x t (SetLabel label ∷ SetClearance clearance ∷ [])) (sym is) taking_granted,
+  )
 
   entering_granted : AreGranted s t (entering i own most ∷ Read root_number (password_of i) ∷ SetLabel label ∷ SetClearance clearance ∷ [])
-  entering_granted = (enter_granted s t next categories own most owned owns clears made thread links root (gate_of i) gate_link i gate gate_made,
-    λ new is. subst (λ (x : State). AreGranted x t (Read root_number (password_of i) ∷ SetLabel label ∷ SetClearance clearance ∷ [])) (sym is) reading_granted)
+  entering_granted = (
+    enter_granted s t next categories own most owned owns clears made thread links root (gate_of i) gate_link i gate gate_made,
+    λ new is. subst (λ (x : State). AreGranted x t (Read root_number (password_of i) ∷ SetLabel label ∷ SetClearance clearance ∷ [])) (sym is) reading_granted,
+  )
 
   pub calls_granted : AreGranted s t (OwnLabel ∷ entering i own most ∷ Read root_number (password_of i) ∷ SetLabel label ∷ SetClearance clearance ∷ [])
-  calls_granted = (own_label_granted s t next categories own most owned owns clears made thread,
-    λ new is. subst (λ (x : State). AreGranted x t (entering i own most ∷ Read root_number (password_of i) ∷ SetLabel label ∷ SetClearance clearance ∷ [])) (sym is) entering_granted)
+  calls_granted = (
+    own_label_granted s t next categories own most owned owns clears made thread,
+    λ new is. subst (λ (x : State). AreGranted x t (entering i own most ∷ Read root_number (password_of i) ∷ SetLabel label ∷ SetClearance clearance ∷ [])) (sym is) entering_granted,
+  )
 
 -- the numbers of the root container and of a user's password are not the thread's
 root_other : (n : ℕ) → (root_number == thread_number n) ≡ false
@@ -149,7 +157,7 @@ module _ (users : List User) (s : State) (f : Flat) (l : LaysOut users s f) (nam
   -- a password is right where the flat state says so
   pub password_agrees : (u : User) (word : List ℕ) → user_named users name ≡ Some u → is_password s i word ≡ same u.password word
   password_agrees u word named =
-      let one : the_user.0 ≡ u = inner the_user.0 u (sym the_user.1 ∙ named) in
+      let one : the_user.0 ≡ u = same_Some the_user.0 u (sym the_user.1 ∙ named) in
       ap (λ (j : ℕ). is_password s j word) (sym same_number) ∙ ap (λ (bytes : List ℕ). bytes_eq bytes word) (password_is users s f l at_place.0 the_user.0 the_user.2 below)
       ∙ ap (λ (v : User). same v.password word) one
 
@@ -165,11 +173,16 @@ module _ (users : List User) (s : State) (f : Flat) (l : LaysOut users s f) (nam
     all_owned = either_owns mine.owned (among (read_category i ∷ write_category i ∷ []))
 
     owns_users : OwnsMore all_owned (among (users_own (length users) i))
-    owns_users = among_each (λ (q : ℕ). all_owned q ≡ true) (users_own (length users) i)
-      (second_passes (mine.owned (read_category i)) (among (read_category i ∷ write_category i ∷ []) (read_category i)) (grind (arith, nat_tests)),
-      (second_passes (mine.owned (write_category i)) (among (read_category i ∷ write_category i ∷ []) (write_category i)) (grind (arith, nat_tests)),
-      (first_passes (mine.owned (own_read_category (length users))) (among (read_category i ∷ write_category i ∷ []) (own_read_category (length users))) mine.own_read,
-      (first_passes (mine.owned (own_write_category (length users))) (among (read_category i ∷ write_category i ∷ []) (own_write_category (length users))) mine.own_write, tt))))
+    owns_users = among_each (λ (q : ℕ). all_owned q ≡ true) (users_own (length users) i) (
+      second_passes (mine.owned (read_category i)) (among (read_category i ∷ write_category i ∷ []) (read_category i)) (grind (arith, nat_tests)),
+      (
+        second_passes (mine.owned (write_category i)) (among (read_category i ∷ write_category i ∷ []) (write_category i)) (grind (arith, nat_tests)),
+        (
+          first_passes (mine.owned (own_read_category (length users))) (among (read_category i ∷ write_category i ∷ []) (own_read_category (length users))) mine.own_read,
+          (first_passes (mine.owned (own_write_category (length users))) (among (read_category i ∷ write_category i ∷ []) (own_write_category (length users))) mine.own_write, tt),
+        ),
+      ),
+    )
 
     owns_still : OwnsMore all_owned mine.owned
     owns_still c e = first_passes (mine.owned c) (among (read_category i ∷ write_category i ∷ []) c) e
@@ -179,7 +192,7 @@ module _ (users : List User) (s : State) (f : Flat) (l : LaysOut users s f) (nam
         → AreGranted s (thread_number (length users)) (OwnLabel ∷ entering i thread.0 thread.1 ∷ Read root_number (password_of i) ∷ SetLabel label ∷ SetClearance clearance ∷ [])
     granted_with label clearance has of_label of_clearance fewer has_made =
         calls_granted s (thread_number (length users)) (6 + 2 * length users) l.categories thread.0 thread.1 mine.owned mine.owning mine.clearing mine.made thread.3
-        (root_is users s f l).0 (root_is users s f l).1 i the_user.0
+        (root_container_is users s f l).0 (root_container_is users s f l).1 i the_user.0
         (subst (λ (j : ℕ). s.objects (gate_of j) ≡ Some (gate_object j)) same_number (gate_stands users s f l at_place.0 the_user.0 the_user.2 below))
         (subst (λ (j : ℕ). set.contains (links_in (s.objects root_number)) (gate_of j) ≡ true) same_number (gate_linked users s f l at_place.0 the_user.0 the_user.2 below))
         (subst (λ (j : ℕ). s.objects (password_of j) ≡ Some (password_object j the_user.0)) same_number (password_stands users s f l at_place.0 the_user.0 the_user.2 below))

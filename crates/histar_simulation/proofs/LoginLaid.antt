@@ -1,55 +1,30 @@
 -- After a login the state lays out the flat state in which process 0 is the user's.
-use Rattle.std.proofs.Common.{◌≡◌, ◌≢◌, ℕ, ◌+◌, ◌*◌, ◌==◌, Bool, true, false, cond, ◌&&◌, inl, inr, List, [], ◌∷◌, length, get_or, Option, None, Some, arith, refl, sym, ap, ◌∙◌, subst, if◌then◌else◌}
+use Rattle.std.proofs.Common.{◌≡◌, ◌≢◌, ℕ, ◌==◌, true, false, cond, inl, inr, List, [], ◌∷◌, length, Option, None, Some, arith, refl, sym, ap, ◌∙◌, subst, if◌then◌else◌}
 use Rattle.std.specs.Prelude.{option_map, option_and_then, is_some}
 use Rattle.std.specs.FinSet as set
 use Rattle.std.proofs.lemmas.Bool.Decides.{eqb_tells, nat_tests}
 use Rattle.std.proofs.lemmas.Slice.Eq.{bytes_eq-Decides}
+use Rattle.std.proofs.lemmas.Option.{same_Some}
 use Rattle.histar_flat.specs.declared.calls.User.{User}
 use Rattle.histar_flat.specs.Words.{Name}
 use Rattle.histar_flat.specs.PathOrder.{same as same_name}
 use Rattle.histar_flat.specs.Classes.{Process, nobody}
 use Rattle.histar_flat.specs.FlatState.{Flat, with_process}
-use Rattle.histar_flat.proofs.FileLemmas.{same_name_found}
 use Rattle.histar_label.specs.Levels.{Levels}
 use Rattle.histar_object.specs.Objects.{thread_of, links_in, is_there}
 use Rattle.histar_object.specs.State.{State, Found, with_own}
 use Rattle.histar_container.specs.Tree.{Address, IsLaid, is_child, wanted}
-use Rattle.histar_container.proofs.Addresses.{Tells, inner, not_true, same_tells}
+use Rattle.histar_container.proofs.Addresses.{not_true, same_tells}
+use Rattle.histar_login.specs.Boot.{boot_thread_number}
 use Rattle.histar_login.specs.Start.{thread_number, owner_of, cleared_of, own_read_category, own_write_category}
 use Rattle.histar_login.specs.Login.{user_label, user_clearance}
-use Rattle.histar_simulation.specs.Addresses.{Step, split_step, same_step, same_address, found_at, inside_address}
+use Rattle.histar_simulation.specs.Addresses.{Step, same_step, same_address, found_at, inside_address}
 use Rattle.histar_simulation.specs.Addresses.Step.{Left, Slash, Listing, Named, Home, Status, Inside, Runner}
 use Rattle.histar_simulation.specs.Labels.{user_number, thread_labels, thread_object}
 use Rattle.histar_simulation.specs.LaysOut.{bare, expected, IsLone, IsLoneProcess, LaysOut}
+use Rattle.histar_simulation.proofs.Steps.{step_tells}
 use Rattle.histar_simulation.proofs.Users.{IsNoUser, nobody_has_none}
 use Rattle.histar_simulation.proofs.Standing.{thread_named, thread_is}
-
--- the step that has these parts
-abbrev whole_step : ℕ → List ℕ → Step
-whole_step kind rest =
-    if kind == 0 then Left (get_or rest 0 0)
-    else (if kind == 1 then Slash else (if kind == 2 then Listing else (if kind == 3 then Named rest else (if kind == 4 then Home else (if kind == 5 then Status else (if kind == 6 then Inside else Runner))))))
-
--- a step is what its parts make
-whole_again : (x : Step) → whole_step (split_step x).0 (split_step x).1 ≡ x
-whole_again (Left q) = refl
-whole_again Slash = refl
-whole_again Listing = refl
-whole_again (Named name) = refl
-whole_again Home = refl
-whole_again Status = refl
-whole_again Inside = refl
-whole_again Runner = refl
-
--- the test of steps tells whether they are equal
-step_tells : Tells same_step
-step_tells x y = elim (eqb_tells (split_step x).0 (split_step y).0) [
-  | inl kind ↦ elim (same_name_found (split_step x).1 (split_step y).1) [
-    | inl rest ↦ inl ((λ i. kind.0 i && rest.0 i), sym (whole_again x) ∙ (λ i. whole_step (kind.1 i) (rest.1 i)) ∙ whole_again y)
-    | inr rest ↦ inr ((λ i. kind.0 i && rest.0 i), λ e. rest.1 (ap (λ (z : Step). (split_step z).1) e))
-  ]
-  | inr kind ↦ inr (ap (λ b. b && same_name (split_step x).1 (split_step y).1) kind.0, λ e. kind.1 (ap (λ (z : Step). (split_step z).0) e))
-]
 
 -- the address of the thread
 abbrev thread_address : Address Step
@@ -121,7 +96,7 @@ module _ (users : List User) (s : State) (f : Flat) (l : LaysOut users s f) (p :
   -- and there stands what stood there
   same_found : (a : Address Step) → thread_address ≢ a → (q : Option ℕ) → l.naming.number a ≡ q → option_and_then after.objects q ≡ option_and_then s.objects q
   same_found a other None e = refl
-  same_found a other (Some q) e = elsewhere q (λ same. other (inner thread_address a (sym addressed ∙ ap l.naming.address (sym same) ∙ l.tree.addressed a q e)))
+  same_found a other (Some q) e = elsewhere q (λ same. other (same_Some thread_address a (sym addressed ∙ ap l.naming.address (sym same) ∙ l.tree.addressed a q e)))
 
   -- what is expected of the thread
   thread_expected : expected users after_flat l.naming.number thread_address ≡ Some (thread_of label clearance)
@@ -145,7 +120,7 @@ module _ (users : List User) (s : State) (f : Flat) (l : LaysOut users s f) (p :
   -- a process owns labels
   owned_by : (q : Process) → Some next ≡ Some q → thread_labels users q.user ≢ None
   owned_by q e unlabelled =
-      let same : next ≡ q = inner next q e in
+      let same : next ≡ q = same_Some next q e in
       let both : ◌≡◌ {A = Option (Levels × Levels)} (Some (label, clearance)) None = sym labels ∙ ap (λ (r : Process). thread_labels users r.user) same ∙ unlabelled in
       cc
 
@@ -163,6 +138,7 @@ module _ (users : List User) (s : State) (f : Flat) (l : LaysOut users s f) (p :
     others = l.others;
     owned = owned_by;
     categories = l.categories;
+    boot_thread_gone = elsewhere boot_thread_number (λ e. omega (arith, e)) ∙ l.boot_thread_gone;
   }
 
 -- a user is not nobody

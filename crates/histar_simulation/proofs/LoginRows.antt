@@ -1,7 +1,8 @@
 -- A login is the row of its call.
-use Rattle.std.proofs.Common.{◌≡◌, ◌≢◌, ℕ, ◌+◌, ◌*◌, Bool, true, false, List, [], ◌∷◌, ◌++◌, length, Option, None, Some, inl, inr, refl, sym, ap, ◌∙◌, subst, append-nil}
+use Rattle.std.proofs.Common.{◌≡◌, ℕ, ◌+◌, ◌*◌, Bool, true, false, List, [], ◌∷◌, ◌++◌, length, Option, None, Some, inl, inr, refl, sym, ap, ◌∙◌, subst, append-nil}
 use Rattle.std.specs.Prelude.{map, option_map, is_some as has_value, slice_get}
 use Rattle.histar_base.specs.Refusals.{◌orelse◌, unless}
+use Rattle.std.proofs.lemmas.Option.{same_Some}
 use Rattle.histar_flat.specs.declared.calls.User.{User}
 use Rattle.histar_flat.specs.declared.calls.UnixCall.{UnixCall}
 use Rattle.histar_flat.specs.declared.calls.UnixCall.TheVariants as calls
@@ -11,18 +12,18 @@ use Rattle.histar_flat.specs.declared.replies.Reply.{Reply}
 use Rattle.histar_flat.specs.declared.replies.Reply.TheVariants.{Done, Refused}
 use Rattle.histar_flat.specs.Words.{Name, Password, ProcName}
 use Rattle.histar_flat.specs.PathOrder.{same}
-use Rattle.histar_flat.specs.Classes.{Process, is_free}
+use Rattle.histar_flat.specs.Classes.{is_free}
 use Rattle.histar_flat.specs.FlatState.{Flat, is_some_and, with_process}
 use Rattle.histar_flat.specs.FlatCalls.{refused, user_named, reply_to}
-use Rattle.histar_object.specs.State.{State, with_own}
+use Rattle.histar_object.specs.State.{State}
 use Rattle.histar_rules.specs.declared.raw.Denied.{Denied}
 use Rattle.histar_rules.specs.declared.raw.RawCall.{RawCall}
 use Rattle.histar_syscall.specs.Traced.{Traced, state, IsUnchanged}
 use Rattle.histar_syscall.specs.Runs.{Made}
-use Rattle.histar_login.specs.Login.{place_of, user_label, user_clearance, login_calls, reply_if, own_of, most_of, is_password, login_answer, LoginCompletes, LoginStops, BecomesUser}
+use Rattle.histar_login.specs.Login.{place_of, login_calls, reply_if, own_of, most_of, is_password, login_answer, LoginCompletes, LoginStops, BecomesUser}
 use Rattle.histar_simulation.specs.Labels.{user_number}
 use Rattle.histar_simulation.specs.LaysOut.{LaysOut}
-use Rattle.histar_simulation.specs.Lines.{AreAmong, is_compared, reads_of_login}
+use Rattle.histar_simulation.specs.Lines.{AreAmong, reads_of_login}
 use Rattle.histar_simulation.proofs.Chains.{Step, Chain, entries_of, granted_run}
 use Rattle.histar_simulation.proofs.Users.{place_named, no_place_named}
 use Rattle.histar_simulation.proofs.LoginGranted.{password_agrees, login_is_granted}
@@ -89,32 +90,27 @@ module _ (users : List User) (old new : Traced) (f : Flat) (scene : Scene users 
       answered : (b : Bool) → right ≡ b → BecomesUser (length users) (place + 1) (8 + 2 * length users) (state old) (state new) (reply_if b) → (reply_if b ≡ reply_to users f [] call) × IsAnswered users f call old new
       answered true is becomes =
           let refusal = refused_by true is in
-          let reply = reply_is users f scene.run call None refusal in
-          (
+          let reply = reply_is users f scene.run call None refusal in (
             sym reply,
             answered_by users f call old new (8 + 2 * length users) scene.named (map (λ (c : RawCall). (c, None)) raw_calls) chain Done (with_process f [] (record scene.run.process { user = name; held = [] })) reply
-            (after_is users f scene.run call None refusal) refl refl tt (λ b e. absurd cc) (owed true refl) (λ e. absurd cc)
-            (login_lays_out users scene.no_one (state old) f scene.lays_out scene.run.process scene.run.stands name (place + 1) numbered (state new) becomes),
+                (after_is users f scene.run call None refusal) refl refl tt (λ b e. absurd cc) (owed true refl) (λ e. absurd cc)
+                (login_lays_out users scene.no_one (state old) f scene.lays_out scene.run.process scene.run.stands name (place + 1) numbered (state new) becomes),
           )
       answered false is becomes =
           let refusal = refused_by false is in
-          let reply = reply_is users f scene.run call (Some EAUTH) refusal in
-          (
+          let reply = reply_is users f scene.run call (Some EAUTH) refusal in (
             sym reply,
             answered_by users f call old new (8 + 2 * length users) scene.named (map (λ (c : RawCall). (c, None)) raw_calls) chain (Refused EAUTH) f reply
-            (after_is users f scene.run call (Some EAUTH) refusal) refl refl tt (λ b e. absurd cc) (owed true refl) (λ e. absurd cc)
-            (subst (λ (s : State). LaysOut users s f) (sym becomes) scene.lays_out),
+                (after_is users f scene.run call (Some EAUTH) refusal) refl refl tt (λ b e. absurd cc) (owed true refl) (λ e. absurd cc)
+                (subst (λ (s : State). LaysOut users s f) (sym becomes) scene.lays_out),
           )
-
-    same_reply : (a b : Reply) → Some a ≡ Some b → a ≡ b
-    same_reply a b e = cc
 
     -- a login as this user that was answered
     pub login_row : (reply : Reply) → LoginCompletes old new (8 + 2 * length users) raw_calls (reply_if right) reply → BecomesUser (length users) (place + 1) (8 + 2 * length users) (state old) (state new) reply
         → (reply ≡ reply_to users f [] call) × IsAnswered users f call old new
     login_row reply c becomes =
         let no_refusal = none_refused raw_calls [] c.refusal (sym (append-nil raw_calls)) c.made in
-        let same : reply_if right ≡ reply = same_reply (reply_if right) reply (ap (login_answer (reply_if right)) (sym no_refusal) ∙ c.answers) in
+        let same : reply_if right ≡ reply = same_Some (reply_if right) reply (ap (login_answer (reply_if right)) (sym no_refusal) ∙ c.answers) in
         let row = answered (subst (Made old new (8 + 2 * length users) raw_calls) no_refusal c.made) right refl (subst (BecomesUser (length users) (place + 1) (8 + 2 * length users) (state old) (state new)) (sym same) becomes) in
         (sym same ∙ row.0, row.1)
 

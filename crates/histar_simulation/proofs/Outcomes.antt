@@ -1,7 +1,8 @@
 -- How a line ends: it is answered and is the row of its call, or a counter has its greatest value.
-use Rattle.std.proofs.Common.{◌≡◌, ◌≢◌, ℕ, ◌+◌, ◌*◌, Bool, true, false, List, [], ◌∷◌, ◌++◌, length, Option, None, Some, ◌⊎◌, inl, inr, refl, sym, ap, ◌∙◌, subst}
+use Rattle.std.proofs.Common.{◌≡◌, ◌≢◌, ℕ, List, [], ◌∷◌, ◌++◌, Option, None, Some, ◌⊎◌, inl, inr, refl, sym, ap, ◌∙◌, subst}
 use Rattle.std.specs.Prelude.{map, option_map}
 use Rattle.std.specs.List.{AllByRecursion}
+use Rattle.std.proofs.lemmas.Option.{same_Some}
 use Rattle.histar_flat.specs.declared.calls.User.{User}
 use Rattle.histar_flat.specs.declared.calls.UnixCall.{UnixCall}
 use Rattle.histar_flat.specs.declared.replies.Errno.{Errno}
@@ -121,13 +122,10 @@ abbrev pub Ends : (users : List User) (f : Flat) (call : UnixCall) (old new : Tr
 Ends users f call old new t told = ((told ≡ Some (reply_to users f [] call)) × IsAnswered users f call old new) ⊎ ((told ≡ None) × IsOut old new t)
 
 module _ (users : List User) (f : Flat) (call : UnixCall) (old new : Traced) (t : ℕ) (plan : Plan) (ends : (refusal : Option (RawCall × Denied)) → Made old new t plan.calls refusal → Ends users f call old new t (answer plan.reply refusal)) where
-  same_reply : (a b : Reply) → Some a ≡ Some b → a ≡ b
-  same_reply a b e = cc
-
   -- a plan that was followed to its answer is the row of the call
   pub completed : (r : Reply) → Completes old new t plan r → (r ≡ reply_to users f [] call) × IsAnswered users f call old new
   completed r c = elim (ends c.refusal c.made) [
-    | inl a ↦ (same_reply r (reply_to users f [] call) (sym c.answers ∙ a.0), a.1)
+    | inl a ↦ (same_Some r (reply_to users f [] call) (sym c.answers ∙ a.0), a.1)
     | inr o ↦ let k : None ≡ Some r = sym o.0 ∙ c.answers in absurd cc
   ]
 

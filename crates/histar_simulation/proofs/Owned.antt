@@ -1,14 +1,13 @@
 -- Labels with star at the categories that they own, and clearances with level 3 at these: what they let a thread see, write and make.
-use Rattle.std.proofs.Common.{◌≡◌, ◌≢◌, ℕ, ◌+◌, ◌<◌, ◌≤◌, ◌==◌, max, Bool, true, false, ◌&&◌, ◌||◌, inl, inr, List, [], ◌∷◌, map, if◌then◌else◌, arith, refl, sym, ap, ◌∙◌, subst}
+use Rattle.std.proofs.Common.{◌≡◌, ◌≢◌, ℕ, ◌≤◌, ◌==◌, Bool, true, false, ◌||◌, inl, inr, List, [], ◌∷◌, if◌then◌else◌, arith, refl, sym, ap, ◌∙◌, subst}
 use Rattle.std.specs.List.{AllByRecursion}
 use Rattle.std.proofs.lemmas.Bool.Decides.{eqb_tells, nat_tests}
 use mathlib.Core.Bool.{true≢false}
 use Rattle.histar_label.specs.declared.levels.Level.{Level}
 use Rattle.histar_label.specs.declared.levels.Level.TheVariants.{Star, L1, L2, L3}
 use Rattle.histar_label.specs.Level.{rank, raised}
-use Rattle.histar_label.specs.Levels.{Levels, level_of, default_of, beyond, constant, with_level, level_of-constant, level_of-with_level, level_of-beyond, grades, raised_grades, is_below, is_below_raised, is_made}
+use Rattle.histar_label.specs.Levels.{Levels, level_of, constant, with_level, level_of-constant, level_of-with_level, grades, raised_grades, is_below, is_below_raised}
 use Rattle.histar_label.proofs.Orders.{is_below-law, is_below_raised-law}
-use Rattle.histar_label.proofs.Made.{is_made-law}
 use Rattle.histar_login.specs.Start.{with_levels}
 
 -- two tests agree where each passes if the other does
@@ -117,11 +116,11 @@ module _ (own : Levels) (owned : ℕ → Bool) (owns : Owns own owned) where
   -- what has level 3 at one category and no level above 1 elsewhere is seen by its owner alone
   pub secret_seen : (l : Levels) (r : ℕ) → grades l r ≡ 4 → ((c : ℕ) → c ≢ r → grades l c ≤ 2) → is_below_raised l own ≡ owned r
   secret_seen l r high low = same_truth (is_below_raised l own) (owned r)
-    (λ below. let at : grades l r ≤ raised_grades own r = (is_below_raised-law l own).0 below r in seen_owned (owned r) (omega (arith, at, high, ap raised (owns r))))
-    (λ is. (is_below_raised-law l own).1 (λ c. elim (eqb_tells c r) as (λ _. grades l c ≤ raised_grades own c) [
-      | inl e ↦ let high_here : grades l c ≡ 4 = ap (grades l) e.1 ∙ high in let star : raised_grades own c ≡ 5 = ap raised (ap (level_of own) e.1 ∙ own_star r is) in omega (arith, high_here, star)
-      | inr e ↦ omega (arith, low c e.1, own_raised c)
-    ]))
+      (λ below. let at : grades l r ≤ raised_grades own r = (is_below_raised-law l own).0 below r in seen_owned (owned r) (omega (arith, at, high, ap raised (owns r))))
+      (λ is. (is_below_raised-law l own).1 (λ c. elim (eqb_tells c r) as (λ _. grades l c ≤ raised_grades own c) [
+        | inl e ↦ let high_here : grades l c ≡ 4 = ap (grades l) e.1 ∙ high in let star : raised_grades own c ≡ 5 = ap raised (ap (level_of own) e.1 ∙ own_star r is) in omega (arith, high_here, star)
+        | inr e ↦ omega (arith, low c e.1, own_raised c)
+      ]))
 
   -- what has no level below 1 may be written
   pub written : (l : Levels) → ((c : ℕ) → 2 ≤ grades l c) → is_below own l ≡ true
@@ -130,11 +129,11 @@ module _ (own : Levels) (owned : ℕ → Bool) (owns : Owns own owned) where
   -- what has level 0 at one category and no level below 1 elsewhere is written by its owner alone
   pub owner_writes : (l : Levels) (w : ℕ) → grades l w ≡ 1 → ((c : ℕ) → c ≢ w → 2 ≤ grades l c) → is_below own l ≡ owned w
   owner_writes l w low high = same_truth (is_below own l) (owned w)
-    (λ below. let at : grades own w ≤ grades l w = (is_below-law own l).0 below w in written_owned (owned w) (omega (arith, at, low, ap rank (owns w))))
-    (λ is. (is_below-law own l).1 (λ c. elim (eqb_tells c w) as (λ _. grades own c ≤ grades l c) [
-      | inl e ↦ let star : grades own c ≡ 0 = ap rank (ap (level_of own) e.1 ∙ own_star w is) in omega (arith, star)
-      | inr e ↦ omega (arith, high c e.1, own_low c)
-    ]))
+      (λ below. let at : grades own w ≤ grades l w = (is_below-law own l).0 below w in written_owned (owned w) (omega (arith, at, low, ap rank (owns w))))
+      (λ is. (is_below-law own l).1 (λ c. elim (eqb_tells c w) as (λ _. grades own c ≤ grades l c) [
+        | inl e ↦ let star : grades own c ≡ 0 = ap rank (ap (level_of own) e.1 ∙ own_star w is) in omega (arith, star)
+        | inr e ↦ omega (arith, high c e.1, own_low c)
+      ]))
 
 module _ (most : Levels) (owned : ℕ → Bool) (clears : Clears most owned) where
   -- the clearance is nowhere below level 2

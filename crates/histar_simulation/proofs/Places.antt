@@ -1,9 +1,9 @@
 -- What `/` and its entries are at a state that lays out a flat state.
-use Rattle.std.proofs.Common.{◌≡◌, ◌≢◌, ℕ, ◌+◌, ◌*◌, Bool, true, false, List, [], ◌∷◌, length, Option, None, Some, refl, sym, ap, ◌∙◌, subst, inl, inr, ◌⊎◌}
+use Rattle.std.proofs.Common.{◌≡◌, ◌≢◌, ℕ, ◌+◌, ◌*◌, true, List, [], ◌∷◌, length, Option, None, Some, refl, sym, ap, ◌∙◌}
 use Rattle.std.specs.Prelude.{is_some, option_map}
 use Rattle.std.specs.FinSet as set
 use Rattle.histar_flat.specs.declared.calls.User.{User}
-use Rattle.histar_flat.specs.Words.{Name, Path}
+use Rattle.histar_flat.specs.Words.{Name}
 use Rattle.histar_flat.specs.Files.{get}
 use Rattle.histar_flat.specs.FlatState.{Node, Content, Flat}
 use Rattle.histar_flat.specs.FlatState.Content.{Dir, File}
@@ -20,7 +20,7 @@ use Rattle.histar_simulation.specs.Addresses.Step.{Slash, Listing, Named}
 use Rattle.histar_simulation.specs.Labels.{class_label}
 use Rattle.histar_simulation.specs.Directories.{target_for, both_numbers, directory_of}
 use Rattle.histar_simulation.specs.LaysOut.{LaysOut, bare, labelled_as, content_kind, node_object, listing_object, expected}
-use Rattle.histar_simulation.proofs.Views.{object, is_segment, is_container, at_number, links_child}
+use Rattle.histar_simulation.proofs.Views.{object, bare_is, bare_container_is, at_number, slash_numbered, listing_numbered, links_child}
 
 -- something is there
 some_there : {A : Type 0} (o : Option A) → is_some o ≡ true → (x : A) × (o ≡ Some x)
@@ -28,9 +28,9 @@ some_there None h = absurd cc
 some_there (Some x) h = (x, refl)
 
 -- there is a label for what is there
-labelled_there : (o : Option Levels) → o ≢ None → (label : Levels) × (o ≡ Some label)
-labelled_there None h = absurd (h refl)
-labelled_there (Some label) h = (label, refl)
+some_label : (o : Option Levels) → o ≢ None → (label : Levels) × (o ≡ Some label)
+some_label None h = absurd (h refl)
+some_label (Some label) h = (label, refl)
 
 module _ (users : List User) where
   -- a directory, and the label of its class
@@ -63,13 +63,6 @@ module _ (users : List User) (s : State) (f : Flat) (l : LaysOut users s f) wher
   number_there : (a : Address Step) → is_there (expected users f l.naming.number a) ≡ true → (q : ℕ) × (l.naming.number a ≡ Some q)
   number_there a h = some_there (l.naming.number a) (l.named a ∙ h)
 
-  -- `/` has the numbers that boot gave it
-  pub slash_number : l.naming.number (Slash ∷ []) ≡ Some (4 + 2 * length users)
-  slash_number = l.as_booted (Slash ∷ []) (4 + 2 * length users) refl
-
-  pub listing_number : l.naming.number (Listing ∷ Slash ∷ []) ≡ Some (5 + 2 * length users)
-  listing_number = l.as_booted (Listing ∷ Slash ∷ []) (5 + 2 * length users) refl
-
   -- what `/` is: a directory, a container that links its directory segment, and that
   pub record IsRoot : Type 0 where
     pub directory : IsDirectoryAt users (get f.files [])
@@ -84,25 +77,25 @@ module _ (users : List User) (s : State) (f : Flat) (l : LaysOut users s f) wher
   pub root_is : IsRoot
   unfolding spelled
   root_is =
-      let d = directory_there users spelled (get f.files []) (expected_there (Listing ∷ Slash ∷ []) (5 + 2 * length users) listing_number) in
+      let d = directory_there users spelled (get f.files []) (expected_there (Listing ∷ Slash ∷ []) (5 + 2 * length users) (listing_numbered users s f l)) in
       let slash : bare (s.objects (4 + 2 * length users)) ≡ object d.label (Container set.empty) =
-      at_number users s f l (Slash ∷ []) (4 + 2 * length users) slash_number ∙ ap (node_object users) d.stands ∙ (λ i. labelled_as (content_kind (d.is_directory i)) (d.labelled i)) in
+      at_number users s f l (Slash ∷ []) (4 + 2 * length users) (slash_numbered users s f l) ∙ ap (node_object users) d.stands ∙ (λ i. labelled_as (content_kind (d.is_directory i)) (d.labelled i)) in
       let segment : bare (s.objects (5 + 2 * length users)) ≡ object d.label (Segment spelled) =
-      at_number users s f l (Listing ∷ Slash ∷ []) (5 + 2 * length users) listing_number ∙ ap (listing_object users spelled) d.stands
+      at_number users s f l (Listing ∷ Slash ∷ []) (5 + 2 * length users) (listing_numbered users s f l) ∙ ap (listing_object users spelled) d.stands
       ∙ (λ i. elim (d.is_directory i) as (λ _. Found) [ Dir ↦ labelled_as (Segment spelled) (d.labelled i) | File old ↦ None ]) in
-      let holder = is_container (s.objects (4 + 2 * length users)) d.label slash in
+      let holder = bare_container_is (s.objects (4 + 2 * length users)) d.label slash in
       record {
         directory = d;
         links = holder.0;
         container = holder.1;
-        listing = is_segment (s.objects (5 + 2 * length users)) d.label spelled segment;
-        linked = sym (ap (λ (o : Found). set.contains (links_in o) (5 + 2 * length users)) holder.1) ∙ links_child users s f l (Slash ∷ []) Listing (4 + 2 * length users) (5 + 2 * length users) slash_number listing_number;
+        listing = bare_is (s.objects (5 + 2 * length users)) (record { label = d.label; kind = Segment spelled }) refl segment;
+        linked = sym (ap (λ (o : Found). set.contains (links_in o) (5 + 2 * length users)) holder.1) ∙ links_child users s f l (Slash ∷ []) Listing (4 + 2 * length users) (5 + 2 * length users) (slash_numbered users s f l) (listing_numbered users s f l);
       }
 
   module _ (m : Name) (there : Node) (stands : get f.files (m ∷ []) ≡ Some there) where
     -- there is a label for an entry of `/`
     entry_label : (label : Levels) × (class_label users there.class ≡ Some label)
-    entry_label = labelled_there (class_label users there.class) (l.labelled (m ∷ []) there stands)
+    entry_label = some_label (class_label users there.class) (l.labelled (m ∷ []) there stands)
 
     -- so the entry is expected, and has a number
     entry_expected : (label : Levels) → class_label users there.class ≡ Some label → expected users f l.naming.number (Named m ∷ Slash ∷ []) ≡ object label (content_kind there.content)
@@ -133,8 +126,8 @@ module _ (users : List User) (s : State) (f : Flat) (l : LaysOut users s f) wher
           label = label;
           named = e;
           labelled = entry_label.1;
-          segment = is_segment (s.objects q) label bytes segment;
-          linked = sym (ap (λ (o : Found). set.contains (links_in o) q) root.container) ∙ links_child users s f l (Slash ∷ []) (Named m) (4 + 2 * length users) q slash_number e;
+          segment = bare_is (s.objects q) (record { label = label; kind = Segment bytes }) refl segment;
+          linked = sym (ap (λ (o : Found). set.contains (links_in o) q) root.container) ∙ links_child users s f l (Slash ∷ []) (Named m) (4 + 2 * length users) q (slash_numbered users s f l) e;
           leads = (λ i. elim (content i) as (λ _. Option Target) [ Dir ↦ both_numbers (l.naming.number (Named m ∷ Slash ∷ [])) (l.naming.number (Listing ∷ Named m ∷ Slash ∷ [])) | File old ↦ option_map targets.File (l.naming.number (Named m ∷ Slash ∷ [])) ]) ∙ ap (option_map targets.File) e;
         }
 
@@ -145,10 +138,9 @@ module _ (users : List User) (s : State) (f : Flat) (l : LaysOut users s f) wher
         let bytes = spelling (directory_of f.files l.naming.number (m ∷ [])) in
         let is : expected users f l.naming.number (Listing ∷ Named m ∷ Slash ∷ []) ≡ object label (Segment bytes) =
         ap (listing_object users bytes) stands ∙ (λ i. elim (content i) as (λ _. Found) [ Dir ↦ labelled_as (Segment bytes) (entry_label.1 i) | File old ↦ None ]) in
-        let listing = number_there (Listing ∷ Named m ∷ Slash ∷ []) (ap is_there is) in
-        (
+        let listing = number_there (Listing ∷ Named m ∷ Slash ∷ []) (ap is_there is) in (
           entry_number.0,
           listing.0,
           (λ i. elim (content i) as (λ _. Option Target) [ Dir ↦ both_numbers (l.naming.number (Named m ∷ Slash ∷ [])) (l.naming.number (Listing ∷ Named m ∷ Slash ∷ [])) | File old ↦ option_map targets.File (l.naming.number (Named m ∷ Slash ∷ [])) ])
-          ∙ (λ i. both_numbers (entry_number.1 i) (listing.1 i)),
+              ∙ (λ i. both_numbers (entry_number.1 i) (listing.1 i)),
         )

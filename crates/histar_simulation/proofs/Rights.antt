@@ -1,9 +1,10 @@
 -- What the labels of a thread of process 0 allow is what the flat state allows its process.
-use Rattle.std.proofs.Common.{◌≡◌, ◌≢◌, ℕ, ◌+◌, ◌*◌, ◌<◌, ◌≤◌, ◌==◌, ◌⊎◌, inl, inr, Bool, true, false, ◌&&◌, ◌||◌, List, [], ◌∷◌, length, Option, None, Some, arith, refl, sym, ap, ◌∙◌, subst, if◌then◌else◌}
+use Rattle.std.proofs.Common.{◌≡◌, ◌≢◌, ℕ, ◌+◌, ◌*◌, ◌<◌, ◌≤◌, ◌==◌, ◌⊎◌, inl, inr, Bool, true, false, ◌&&◌, List, [], ◌∷◌, length, Option, None, Some, arith, refl, sym, ap, ◌∙◌, subst, if◌then◌else◌}
 use Rattle.std.specs.Prelude.{option_map, cond}
-use Rattle.std.proofs.lemmas.Bool.Decides.{nat_tests, eqb_tells}
+use Rattle.std.proofs.lemmas.Bool.Decides.{nat_tests}
 use Rattle.std.proofs.lemmas.Slice.Eq.{bytes_eq-Decides}
 use mathlib.Core.Bool.{true≢false}
+use Rattle.std.proofs.lemmas.Option.{same_Some}
 use Rattle.histar_flat.specs.declared.calls.User.{User}
 use Rattle.histar_flat.specs.declared.calls.Mode.{Mode}
 use Rattle.histar_flat.specs.declared.calls.Mode.TheVariants as modes
@@ -11,10 +12,8 @@ use Rattle.histar_flat.specs.Words.{Name, ProcName}
 use Rattle.histar_flat.specs.PathOrder.{same}
 use Rattle.histar_flat.specs.Classes.{Class, Process, nobody, may_read, may_write, is_free}
 use Rattle.histar_flat.specs.Classes.Class.{Private, Readable, Open, Scratch}
-use Rattle.histar_flat.proofs.FileLemmas.{same_name_found}
-use Rattle.histar_container.proofs.Addresses.{inner}
 use Rattle.histar_label.specs.declared.levels.Level.{Level}
-use Rattle.histar_label.specs.declared.levels.Level.TheVariants.{Star, L0, L1, L2, L3}
+use Rattle.histar_label.specs.declared.levels.Level.TheVariants.{Star, L0, L1, L3}
 use Rattle.histar_label.specs.Level.{rank, is_star}
 use Rattle.histar_label.specs.Levels.{Levels, level_of, constant, with_level, level_of-constant, level_of-with_level, grades, is_below, is_below_raised, is_made, has_star}
 use Rattle.histar_label.proofs.Made.{is_made-constant, is_made-with_level}
@@ -25,8 +24,8 @@ use Rattle.histar_login.specs.Start.{owner_of, cleared_of, own_read_category, ow
 use Rattle.histar_login.specs.Login.{user_label, user_clearance}
 use Rattle.histar_simulation.specs.Labels.{user_number, class_label, thread_labels}
 use Rattle.histar_simulation.specs.LaysOut.{IsLone}
-use Rattle.histar_simulation.proofs.Owned.{same_truth, among, among_each, all_at, Owns, Clears, owns_all, clears_all, own_star, seen, secret_seen, written, owner_writes, cleared, cleared_at}
-use Rattle.histar_simulation.proofs.Users.{IsNoUser, number_range, one_name, nobody_has_none}
+use Rattle.histar_simulation.proofs.Owned.{same_truth, among, among_each, Owns, Clears, owns_all, clears_all, seen, secret_seen, written, owner_writes, cleared, cleared_at}
+use Rattle.histar_simulation.proofs.Users.{IsNoUser, number_range, one_name, nobody_has_none, mapped}
 
 -- the place of a level that a test picks
 pub rank_picked : (b : Bool) (l m : Level) → rank (if b then l else m) ≡ (if b then rank l else rank m)
@@ -81,7 +80,6 @@ pub record IsWhose (users : List User) (name : Name) (label clearance : Levels) 
   pub clearing : Clears clearance owned
   pub reads : (j : ℕ) → j ≤ length users → 0 < j → owned (read_category j) ≡ (j == who)
   pub writes : (j : ℕ) → j ≤ length users → 0 < j → owned (write_category j) ≡ (j == who)
-  pub reads_none : owned (read_category 0) ≡ false
   pub writes_none : owned (write_category 0) ≡ false
   pub own_read : owned (own_read_category (length users)) ≡ true
   pub own_write : owned (own_write_category (length users)) ≡ true
@@ -133,7 +131,6 @@ whose_nobody users name is = record {
   clearing = clears_all (nobodys (length users));
   reads = λ j le lt. nobodys_read (length users) j le ∙ sym (not_none j lt);
   writes = λ j le lt. nobodys_write (length users) j le ∙ sym (not_none j lt);
-  reads_none = nobodys_read (length users) 0 (omega arith);
   writes_none = nobodys_write (length users) 0 (omega arith);
   own_read = (nobodys_own (length users)).0;
   own_write = (nobodys_own (length users)).1;
@@ -153,7 +150,6 @@ whose_user users name i other is =
       clearing = clears_all (users_own (length users) i);
       reads = λ j le lt. users_read (length users) i j le;
       writes = λ j le lt. users_write (length users) i j le;
-      reads_none = users_read (length users) i 0 (omega arith) ∙ apart;
       writes_none = users_write (length users) i 0 (omega arith) ∙ apart;
       own_read = (users_own_too (length users) i).0;
       own_write = (users_own_too (length users) i).1;
@@ -166,8 +162,8 @@ whose_by : (users : List User) (name : Name) (number : Option ℕ) → user_numb
     → option_map {U = Levels × Levels} (λ i. (user_label (length users) i, user_clearance (length users) i)) number ≡ Some (label, clearance) → IsWhose users name label clearance
 whose_by users name None is other label clearance e = absurd cc
 whose_by users name (Some i) is other label clearance e =
-    let one : user_label (length users) i ≡ label = ap (λ (x : Levels × Levels). x.0) (inner _ _ e) in
-    let two : user_clearance (length users) i ≡ clearance = ap (λ (x : Levels × Levels). x.1) (inner _ _ e) in
+    let one : user_label (length users) i ≡ label = ap (λ (x : Levels × Levels). x.0) (same_Some _ _ e) in
+    let two : user_clearance (length users) i ≡ clearance = ap (λ (x : Levels × Levels). x.1) (same_Some _ _ e) in
     subst (λ (c : Levels). IsWhose users name label c) two (subst (λ (l : Levels). IsWhose users name l (user_clearance (length users) i)) one (whose_user users name i other is))
 
 -- by whether the name is nobody's
@@ -176,8 +172,8 @@ whose_named : (users : List User) (name : Name) (b : Bool) → same name nobody 
     (option_map {U = Levels × Levels} (λ i. (user_label (length users) i, user_clearance (length users) i)) (user_number users name)) ≡ Some (label, clearance)
     → IsWhose users name label clearance
 whose_named users name true is label clearance e =
-    let one : owner_of (own_read_category (length users)) (own_write_category (length users)) ≡ label = ap (λ (x : Levels × Levels). x.0) (inner _ _ e) in
-    let two : cleared_of (own_read_category (length users)) (own_write_category (length users)) ≡ clearance = ap (λ (x : Levels × Levels). x.1) (inner _ _ e) in
+    let one : owner_of (own_read_category (length users)) (own_write_category (length users)) ≡ label = ap (λ (x : Levels × Levels). x.0) (same_Some _ _ e) in
+    let two : cleared_of (own_read_category (length users)) (own_write_category (length users)) ≡ clearance = ap (λ (x : Levels × Levels). x.1) (same_Some _ _ e) in
     subst (λ (c : Levels). IsWhose users name label c) two
     (subst (λ (l : Levels). IsWhose users name l (cleared_of (own_read_category (length users)) (own_write_category (length users)))) one (whose_nobody users name is))
 whose_named users name false is label clearance e = whose_by users name (user_number users name) refl is label clearance e
@@ -199,9 +195,9 @@ owner_same : (users : List User) → IsNoUser users → (name owner : Name) (who
 owner_same users no_one name owner who j numbered (inl is) = same_truth (j == who) (same name owner)
     (λ e. let positive : 0 < j = (number_range users owner j numbered).0 in let zero_who : who ≡ 0 = is.1 in absurd (grind (arith, nat_tests, positive, zero_who, e)))
     (λ e.
-      let mine : name ≡ owner = equal_names name owner e in
-      let none_named : None ≡ Some j = sym (nobody_has_none users no_one) ∙ ap (user_number users) (sym (equal_names name nobody is.0) ∙ mine) ∙ numbered in
-      absurd cc)
+    let mine : name ≡ owner = equal_names name owner e in
+    let none_named : None ≡ Some j = sym (nobody_has_none users no_one) ∙ ap (user_number users) (sym (equal_names name nobody is.0) ∙ mine) ∙ numbered in
+    absurd cc)
 owner_same users no_one name owner who j numbered (inr is) = same_truth (j == who) (same name owner)
     (λ e. let one : j ≡ who = grind (arith, nat_tests, e) in equal_tested name owner (one_name users name owner j (is.1 ∙ ap Some (sym one)) numbered))
     (λ e. let both : Some who ≡ Some j = sym is.1 ∙ ap (user_number users) (equal_names name owner e) ∙ numbered in let one : who ≡ j = cc in grind (arith, nat_tests, one))
@@ -213,11 +209,7 @@ constant_low c = omega (arith, ap rank (level_of-constant L1 c))
 constant_high : (c : ℕ) → 2 ≤ grades (constant L1) c
 constant_high c = omega (arith, ap rank (level_of-constant L1 c))
 
--- what a mapped number comes from
-mapped : (f : ℕ → Levels) (number : Option ℕ) (l : Levels) → option_map f number ≡ Some l → (j : ℕ) × (number ≡ Some j) × (f j ≡ l)
-mapped f None l e = absurd cc
-mapped f (Some j) l e = (j, refl, inner (f j) l e)
-
+-- a test with itself
 twice : (b : Bool) → (b && b) ≡ b
 twice true = refl
 twice false = refl
@@ -279,7 +271,7 @@ module _ (users : List User) (no_one : IsNoUser users) (p : Process) (lone : IsL
   observes_class (Readable owner) l e =
       let of = mapped (file_label modes.Readable) (user_number users owner) l e in
       ap (λ (m : Levels). is_below_raised m label) (sym of.2) ∙ observes_written (write_category of.0)
-  observes_class Open l e = ap (λ (m : Levels). is_below_raised m label) (sym (inner (constant L1) l e)) ∙ observes_open
+  observes_class Open l e = ap (λ (m : Levels). is_below_raised m label) (sym (same_Some (constant L1) l e)) ∙ observes_open
   observes_class (Scratch owner jobs) l e = absurd cc
 
   -- a thread may modify what is of a class exactly where its process may write it
@@ -295,7 +287,7 @@ module _ (users : List User) (no_one : IsNoUser users) (p : Process) (lone : IsL
       ∙ (λ i. (modifies_readable of.0 ∙ owner_writes_too owner of.0 of.1) i && observes_written (write_category of.0) i)
       ∙ ap (λ b. same p.user owner && b) (sym free)
   modifies_class Open l e =
-      ap (λ (m : Levels). is_below label m && is_below_raised m label) (sym (inner (constant L1) l e)) ∙ (λ i. modifies_open i && observes_open i) ∙ sym free
+      ap (λ (m : Levels). is_below label m && is_below_raised m label) (sym (same_Some (constant L1) l e)) ∙ (λ i. modifies_open i && observes_open i) ∙ sym free
   modifies_class (Scratch owner jobs) l e = absurd cc
 
   -- the categories that the label owns

@@ -1,5 +1,5 @@
 -- Each call of process 0 is its row, at every state that lays out a flat state.
-use Rattle.std.proofs.Common.{◌≡◌, ℕ, ◌+◌, ◌*◌, true, List, [], ◌∷◌, length, Option, None, Some, Result, Ok, Err, refl, sym, ap, ◌∙◌, subst}
+use Rattle.std.proofs.Common.{◌≡◌, ℕ, ◌+◌, ◌*◌, List, [], ◌∷◌, length, Option, None, Some, Result, Ok, Err, refl, sym, ap, ◌∙◌, subst}
 use Rattle.std.specs.Prelude.{IfOk, IsTrue}
 use Rattle.histar_flat.specs.declared.calls.User.{User}
 use Rattle.histar_flat.specs.declared.calls.Mode.{Mode}
@@ -8,10 +8,11 @@ use Rattle.histar_flat.specs.declared.calls.UnixCall.TheVariants as calls
 use Rattle.histar_flat.specs.declared.replies.Reply.{Reply}
 use Rattle.histar_flat.specs.declared.replies.Reply.TheVariants.{Refused}
 use Rattle.histar_flat.specs.declared.replies.Errno.TheVariants.{ENOENT}
-use Rattle.histar_flat.specs.Words.{Name, Password, Path, is_name, is_path}
+use Rattle.histar_flat.specs.Words.{Name, Password, is_name}
 use Rattle.histar_flat.specs.FlatState.{Flat}
 use Rattle.histar_flat.specs.FlatCalls.{reply_to}
 use Rattle.histar_label.specs.Levels.{Levels}
+use Rattle.histar_object.specs.declared.objects.Kind.TheVariants.{Segment}
 use Rattle.histar_object.specs.Objects.{bytes_in, label_there}
 use Rattle.histar_object.specs.State.{State, Found}
 use Rattle.histar_syscall.specs.Traced.{Traced, state}
@@ -26,7 +27,7 @@ use Rattle.histar_simulation.specs.LaysOut.{LaysOut}
 use Rattle.histar_simulation.proofs.Users.{IsNoUser}
 use Rattle.histar_simulation.proofs.Standing.{thread_is}
 use Rattle.histar_simulation.proofs.Rights.{observes_class, modifies_class, has_owner}
-use Rattle.histar_simulation.proofs.Views.{is_segment, at_number}
+use Rattle.histar_simulation.proofs.Views.{bare_is, at_number}
 use Rattle.histar_simulation.proofs.Outcomes.{IsAnswered, IsOut, process_is, completed, stopped}
 use Rattle.histar_simulation.proofs.Scenes.{Scene, holds, listed}
 use Rattle.histar_simulation.proofs.FileReads.{read_ends}
@@ -49,8 +50,8 @@ scene_of users no_one s f l =
       thread = thread.3;
       named = (
         7 + 2 * length users,
-        ap bytes_in (is_segment (s.objects (9 + 2 * length users)) (written_by (own_write_category (length users))) (process_bytes (7 + 2 * length users) (8 + 2 * length users))
-        (at_number users s f l (Status ∷ process_address) (9 + 2 * length users) (l.as_booted (Status ∷ process_address) (9 + 2 * length users) refl))),
+        ap bytes_in (bare_is (s.objects (9 + 2 * length users)) (record { label = written_by (own_write_category (length users)); kind = Segment (process_bytes (7 + 2 * length users) (8 + 2 * length users)) }) refl
+            (at_number users s f l (Status ∷ process_address) (9 + 2 * length users) (l.as_booted (Status ∷ process_address) (9 + 2 * length users) refl))),
       );
       observes = observes_class users no_one run.process run.lone thread.0 thread.1 thread.2;
       modifies = modifies_class users no_one run.process run.lone thread.0 thread.1 thread.2;

@@ -1,5 +1,5 @@
 -- The scene of a call: a kernel that lays out a flat state, process 0 with its thread, and the walk to an entry of `/`.
-use Rattle.std.proofs.Common.{◌≡◌, ◌≢◌, ℕ, ◌+◌, ◌*◌, Bool, true, false, List, [], ◌∷◌, ◌++◌, length, Option, None, Some, ◌⊎◌, inl, inr, refl, sym, ap, ◌∙◌, subst}
+use Rattle.std.proofs.Common.{◌≡◌, ℕ, ◌+◌, ◌*◌, Bool, true, false, List, [], ◌∷◌, length, Option, None, Some, inl, refl, sym, ap, ◌∙◌, subst}
 use Rattle.std.specs.Prelude.{◌&&◌, not, option_and_then}
 use Rattle.std.specs.FinMap as map
 use Rattle.histar_base.specs.Refusals.{◌orelse◌, unless}
@@ -8,11 +8,11 @@ use Rattle.histar_flat.specs.declared.calls.UnixCall.{UnixCall}
 use Rattle.histar_flat.specs.declared.replies.Errno.{Errno}
 use Rattle.histar_flat.specs.declared.replies.Errno.TheVariants.{EACCES, ENOENT, EISDIR}
 use Rattle.histar_flat.specs.declared.replies.Reply.{Reply}
-use Rattle.histar_flat.specs.declared.replies.Reply.TheVariants.{Data, Refused}
+use Rattle.histar_flat.specs.declared.replies.Reply.TheVariants.{Refused}
 use Rattle.histar_flat.specs.Words.{Name}
 use Rattle.histar_flat.specs.Files.{get}
 use Rattle.histar_flat.specs.Classes.{Class, may_read, may_write}
-use Rattle.histar_flat.specs.FlatState.{Node, Content, Flat, is_dir, is_some_and, is_there, is_file_at, is_dir_at, reads}
+use Rattle.histar_flat.specs.FlatState.{Node, Content, Flat, is_dir, is_some_and, reads}
 use Rattle.histar_flat.specs.FlatState.Content.{Dir, File}
 use Rattle.histar_flat.specs.FlatCalls.{refused}
 use Rattle.histar_label.specs.Levels.{Levels, is_below, is_below_raised}
@@ -38,10 +38,10 @@ use Rattle.histar_simulation.specs.Labels.{class_label, thread_labels}
 use Rattle.histar_simulation.specs.Directories.{target_for, directory_of}
 use Rattle.histar_simulation.specs.LaysOut.{LaysOut}
 use Rattle.histar_simulation.specs.Lines.{IsThreadOf, AreAmong, reads_owed}
-use Rattle.histar_simulation.proofs.Chains.{Step, Chain, entries_of, first_granted, first_refused}
+use Rattle.histar_simulation.proofs.Chains.{entries_of, first_granted, first_refused}
 use Rattle.histar_simulation.proofs.Views.{object}
 use Rattle.histar_simulation.proofs.Checks.{read_blocked, read_check}
-use Rattle.histar_simulation.proofs.Places.{IsDirectoryAt, IsRoot, root_is, IsFileAt, file_is, directory_leads}
+use Rattle.histar_simulation.proofs.Places.{IsRoot, root_is, IsFileAt, file_is, directory_leads}
 use Rattle.histar_simulation.proofs.Users.{IsNoUser}
 use Rattle.histar_simulation.proofs.DirectoryLaws.{get_directory}
 use Rattle.histar_simulation.proofs.Outcomes.{IsRunning, Ends, reply_is, after_is, answered_by}
@@ -110,9 +110,9 @@ module _ (users : List User) (old : Traced) (f : Flat) (scene : Scene users (sta
         inl (
           ap (answer plan.reply) first.1 ∙ ap Some (sym (reply_is users f scene.run call (Some EACCES) is_refused)),
           answered_by users f call old new caller scene.named ((walk_call, Some Observe) ∷ []) chain (Refused EACCES) f
-          (reply_is users f scene.run call (Some EACCES) is_refused) (after_is users f scene.run call (Some EACCES) is_refused)
-          refl refl tt (λ bytes e. absurd cc) (subst (λ (calls : List RawCall). AreAmong calls (entries_of old.line caller ((walk_call, Some Observe) ∷ []))) (sym (owed (Refused EACCES))) (inl (refl, tt))) (λ e. absurd cc)
-          (subst (λ (s : State). LaysOut users s f) (sym same) scene.lays_out),
+              (reply_is users f scene.run call (Some EACCES) is_refused) (after_is users f scene.run call (Some EACCES) is_refused)
+              refl refl tt (λ bytes e. absurd cc) (subst (λ (calls : List RawCall). AreAmong calls (entries_of old.line caller ((walk_call, Some Observe) ∷ []))) (sym (owed (Refused EACCES))) (inl (refl, tt))) (λ e. absurd cc)
+              (subst (λ (s : State). LaysOut users s f) (sym same) scene.lays_out),
         )
 
     -- a call that is refused after its walk, which no raw call tells
@@ -125,9 +125,9 @@ module _ (users : List User) (old : Traced) (f : Flat) (scene : Scene users (sta
         inl (
           told ∙ ap Some (sym (reply_is users f scene.run call (Some errno) is_refused)),
           answered_by users f call old new caller scene.named ((walk_call, None) ∷ []) (mid, walked, end.0) (Refused errno) f
-          (reply_is users f scene.run call (Some errno) is_refused) (after_is users f scene.run call (Some errno) is_refused)
-          (sym no_access) (sym no_permission) tt (λ bytes e. absurd cc) (subst (λ (calls : List RawCall). AreAmong calls (entries_of old.line caller ((walk_call, None) ∷ []))) (sym (owed (Refused errno))) (inl (refl, tt))) (λ e. absurd cc)
-          (subst (λ (s : State). LaysOut users s f) (sym stays) scene.lays_out),
+              (reply_is users f scene.run call (Some errno) is_refused) (after_is users f scene.run call (Some errno) is_refused)
+              (sym no_access) (sym no_permission) tt (λ bytes e. absurd cc) (subst (λ (calls : List RawCall). AreAmong calls (entries_of old.line caller ((walk_call, None) ∷ []))) (sym (owed (Refused errno))) (inl (refl, tt))) (λ e. absurd cc)
+              (subst (λ (s : State). LaysOut users s f) (sym stays) scene.lays_out),
         )
 
     -- what the flat rules refuse on the way to a file

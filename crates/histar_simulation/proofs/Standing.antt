@@ -1,56 +1,27 @@
 -- What stands where in a state that lays out a flat state: the root container, users' passwords and gates, and the thread.
-use Rattle.std.proofs.Common.{◌≡◌, ◌≢◌, ℕ, zero, suc, ◌+◌, ◌*◌, ◌<◌, ◌≤◌, Bool, true, false, cond, List, [], ◌∷◌, ◌++◌, length, get_or, Option, None, Some, arith, refl, sym, ap, ◌∙◌, append_assoc}
-use Rattle.std.specs.Prelude.{option_map, slice_get, option_and_then}
+use Rattle.std.proofs.Common.{◌≡◌, ◌≢◌, ℕ, zero, suc, ◌+◌, ◌*◌, ◌<◌, ◌≤◌, true, cond, List, [], ◌∷◌, ◌++◌, length, get_or, Option, None, Some, arith, refl, ap, ◌∙◌, append_assoc}
+use Rattle.std.specs.Prelude.{option_map, slice_get}
 use Rattle.std.specs.FinSet as set
 use Rattle.std.proofs.lemmas.Bool.Decides.{nat_tests}
-use mathlib.Core.Bool.{true≢false}
+use Rattle.std.proofs.lemmas.Option.{same_Some}
 use Rattle.histar_flat.specs.declared.calls.User.{User}
 use Rattle.histar_flat.specs.Classes.{Process}
 use Rattle.histar_flat.specs.FlatState.{Flat}
 use Rattle.histar_label.specs.Levels.{Levels}
 use Rattle.histar_object.specs.declared.objects.Entry.TheVariants.{Login}
-use Rattle.histar_object.specs.declared.objects.Kind.{Kind}
-use Rattle.histar_object.specs.declared.objects.Kind.TheVariants.{Segment, Container, Thread, Gate}
+use Rattle.histar_object.specs.declared.objects.Kind.TheVariants.{Segment, Container, Gate}
 use Rattle.histar_object.specs.declared.objects.Object.{Object}
-use Rattle.histar_object.specs.Objects.{Numbers, thread_of, kind_is_container, is_container, links_in, label_there, bytes_in}
+use Rattle.histar_object.specs.Objects.{Numbers, thread_of, links_in, bytes_in}
 use Rattle.histar_object.specs.State.{State, Found}
 use Rattle.histar_rules.specs.Sound.{root_number}
-use Rattle.histar_container.specs.Tree.{Address, is_child}
-use Rattle.histar_container.proofs.Addresses.{inner}
 use Rattle.histar_calls.specs.Categories.{read_category, write_category}
-use Rattle.histar_login.specs.Start.{numbered, of_user, of_directory, of_process, segment, secret_of, owner_of, cleared_of, written_by, boot_category, start_objects, object_at, thread_number}
+use Rattle.histar_login.specs.Start.{numbered, of_user, of_directory, of_process, secret_of, owner_of, cleared_of, written_by, boot_category, start_objects, object_at, thread_number}
 use Rattle.histar_login.specs.Login.{password_of, gate_of}
-use Rattle.histar_simulation.specs.Addresses.{Step, same_step, is_left, inside_address}
+use Rattle.histar_simulation.specs.Addresses.{is_left, inside_address}
 use Rattle.histar_simulation.specs.Addresses.Step.{Left, Runner}
 use Rattle.histar_simulation.specs.Labels.{thread_labels, thread_object}
-use Rattle.histar_simulation.specs.LaysOut.{bare, kind_bare, expected, LaysOut}
-
--- what is found is what it is but for its links, unless it is a container
-bare_kind : (label : Levels) (k : Kind Levels) (o : Object Levels) → kind_is_container o.kind ≡ false → Some (record { label = label; kind = kind_bare k }) ≡ Some o → Some (record { label = label; kind = k }) ≡ Some o
-bare_kind label (Segment bytes) o other e = e
-bare_kind label (Container links) o other e =
-    let is : true ≡ false = ap (λ (x : Object Levels). kind_is_container x.kind) (inner (record { label = label; kind = Container set.empty }) o e) ∙ other in
-    absurd cc
-bare_kind label (Thread clearance) o other e = e
-bare_kind label (Gate clearance entry) o other e = e
-
-pub bare_is : (found : Found) (o : Object Levels) → kind_is_container o.kind ≡ false → bare found ≡ Some o → found ≡ Some o
-bare_is None o other e = absurd cc
-bare_is (Some x) o other e = bare_kind x.label x.kind o other e
-
--- a container but for its links is one with some links
-container_kind : (label : Levels) (k : Kind Levels) (l : Levels) → ◌≡◌ {A = Found} (Some (record { label = label; kind = kind_bare k })) (Some (record { label = l; kind = Container set.empty }))
-    → (links : Numbers) × (◌≡◌ {A = Found} (Some (record { label = label; kind = k })) (Some (record { label = l; kind = Container links })))
-container_kind label (Segment bytes) l e = absurd (true≢false (sym (ap is_container e)))
-container_kind label (Container links) l e =
-    let same : label ≡ l = inner label l (ap label_there e) in
-    (links, ap (λ (m : Levels). Some (record { label = m; kind = Container links })) same)
-container_kind label (Thread clearance) l e = absurd (true≢false (sym (ap is_container e)))
-container_kind label (Gate clearance entry) l e = absurd (true≢false (sym (ap is_container e)))
-
-pub bare_container_is : (found : Found) (l : Levels) → bare found ≡ Some (record { label = l; kind = Container set.empty }) → (links : Numbers) × (found ≡ Some (record { label = l; kind = Container links }))
-bare_container_is None l e = absurd cc
-bare_container_is (Some x) l e = container_kind x.label x.kind l e
+use Rattle.histar_simulation.specs.LaysOut.{bare, LaysOut}
+use Rattle.histar_simulation.proofs.Views.{bare_is, bare_container_is, at_number, links_child}
 
 -- the password of user i, and the gate
 abbrev pub password_object : ℕ → User → Object Levels
@@ -63,7 +34,7 @@ gate_object i = record { label = owner_of (read_category i) (write_category i); 
 password_among : (users : List User) (j k : ℕ) (u : User) (more : List Found) → slice_get users k ≡ Some u → get_or (numbered of_user j users ++ more) (2 * k) None ≡ Some (password_object (j + k) u)
 password_among [] j k u more e = absurd cc
 password_among (v ∷ users) j zero u more e =
-    let same : v ≡ u = inner v u e in
+    let same : v ≡ u = same_Some v u e in
     let number : j ≡ j + 0 = omega arith in
     (λ i. Some (password_object (number i) (same i)))
 password_among (v ∷ users) j (suc k) u more e =
@@ -84,7 +55,6 @@ password_left : (users : List User) (k : ℕ) (u : User) → slice_get users k �
 password_left users k u e =
     let place : password_of (k + 1) ≡ suc (suc (suc (2 * k))) = omega arith in
     let number : 1 + k ≡ k + 1 = omega arith in
-    
     ap (object_at (start_objects users)) place
     ∙ ap (λ (objects : List Found). get_or objects (2 * k) None) (append_assoc (numbered of_user 1 users) (of_directory (length users) users) (of_process (length users)))
     ∙ password_among users 1 k u (of_directory (length users) users ++ of_process (length users)) e ∙ ap (λ (i : ℕ). Some (password_object i u)) number
@@ -93,7 +63,6 @@ gate_left : (users : List User) (k : ℕ) (u : User) → slice_get users k ≡ S
 gate_left users k u e =
     let place : gate_of (k + 1) ≡ suc (suc (suc (suc (2 * k)))) = omega arith in
     let number : 1 + k ≡ k + 1 = omega arith in
-    
     ap (object_at (start_objects users)) place
     ∙ ap (λ (objects : List Found). get_or objects (suc (2 * k)) None) (append_assoc (numbered of_user 1 users) (of_directory (length users) users) (of_process (length users)))
     ∙ gate_among users 1 k u (of_directory (length users) users ++ of_process (length users)) e ∙ ap (λ (i : ℕ). Some (gate_object i)) number
@@ -106,27 +75,23 @@ gate_is_left : (n i : ℕ) → 0 < i → i ≤ n → is_left n (gate_of i) ≡ t
 gate_is_left n i low high = grind (arith, nat_tests, low, high)
 
 module _ (users : List User) (s : State) (f : Flat) (l : LaysOut users s f) where
-  -- what stands at an address that has this number
-  pub stands : (a : Address Step) (q : ℕ) → l.naming.number a ≡ Some q → bare (s.objects q) ≡ expected users f l.naming.number a
-  stands a q e = ap (λ (o : Option ℕ). bare (option_and_then s.objects o)) (sym e) ∙ l.objects a
-
   -- the root container, and its links
   root_named : l.naming.number [] ≡ Some root_number
   root_named = l.as_booted [] root_number refl
 
-  pub root_is : (links : Numbers) × (s.objects root_number ≡ Some (record { label = written_by boot_category; kind = Container links }))
-  root_is = bare_container_is (s.objects root_number) (written_by boot_category) (stands [] root_number root_named)
+  pub root_container_is : (links : Numbers) × (s.objects root_number ≡ Some (record { label = written_by boot_category; kind = Container links }))
+  root_container_is = bare_container_is (s.objects root_number) (written_by boot_category) (at_number users s f l [] root_number root_named)
 
   -- what boot left has its number
   left_named : (q : ℕ) → is_left (length users) q ≡ true → l.naming.number (Left q ∷ []) ≡ Some q
   left_named q is = l.as_booted (Left q ∷ []) q (ap (λ b. cond b (Some q) None) is)
 
   left_stands : (q : ℕ) → is_left (length users) q ≡ true → bare (s.objects q) ≡ object_at (start_objects users) q
-  left_stands q is = stands (Left q ∷ []) q (left_named q is) ∙ ap (λ b. cond b (object_at (start_objects users) q) None) is
+  left_stands q is = at_number users s f l (Left q ∷ []) q (left_named q is) ∙ ap (λ b. cond b (object_at (start_objects users) q) None) is
 
   -- and the root container links it
   left_linked : (q : ℕ) → is_left (length users) q ≡ true → set.contains (links_in (s.objects root_number)) q ≡ true
-  left_linked q is = l.tree.links root_number q [] (l.tree.addressed [] root_number root_named) ∙ ap (is_child same_step []) (l.tree.addressed (Left q ∷ []) q (left_named q is))
+  left_linked q is = links_child users s f l [] (Left q) root_number q root_named (left_named q is)
 
   module _ (k : ℕ) (u : User) (at : slice_get users k ≡ Some u) (below : k < length users) where
     low : 0 < k + 1
@@ -160,10 +125,14 @@ module _ (users : List User) (s : State) (f : Flat) (l : LaysOut users s f) wher
   thread_stands : (p : Process) (labels : Option (Levels × Levels)) → f.processes [] ≡ Some p → thread_labels users p.user ≡ labels → labels ≢ None
       → (label : Levels) × (clearance : Levels) × (thread_labels users p.user ≡ Some (label, clearance)) × (s.objects (thread_number (length users)) ≡ Some (thread_of label clearance))
   thread_stands p None is labelled some = absurd (some refl)
-  thread_stands p (Some labels) is labelled some = (labels.0, labels.1, labelled,
+  thread_stands p (Some labels) is labelled some = (
+    labels.0,
+    labels.1,
+    labelled,
     bare_is (s.objects (thread_number (length users))) (thread_of labels.0 labels.1) refl
-    (stands (Runner ∷ inside_address) (thread_number (length users)) thread_named ∙ ap (thread_object users) is
-    ∙ ap (option_map (λ (x : Levels × Levels). thread_of x.0 x.1)) labelled))
+        (at_number users s f l (Runner ∷ inside_address) (thread_number (length users)) thread_named ∙ ap (thread_object users) is
+        ∙ ap (option_map (λ (x : Levels × Levels). thread_of x.0 x.1)) labelled),
+  )
 
   pub thread_is : (p : Process) → f.processes [] ≡ Some p → (label : Levels) × (clearance : Levels) × (thread_labels users p.user ≡ Some (label, clearance)) × (s.objects (thread_number (length users)) ≡ Some (thread_of label clearance))
   thread_is p is = thread_stands p (thread_labels users p.user) is refl (l.owned p is)

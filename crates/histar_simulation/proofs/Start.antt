@@ -2,6 +2,7 @@
 use Rattle.std.proofs.Common.{◌≡◌, ◌≢◌, ℕ, ◌+◌, ◌*◌, ◌<◌, Bool, true, false, cond, List, [], ◌∷◌, length, Option, None, Some, refl, sym, ap, ◌∙◌}
 use Rattle.std.specs.Prelude.{is_some, option_map, option_and_then}
 use Rattle.std.specs.FinSet as set
+use Rattle.std.proofs.lemmas.Option.{same_Some}
 use Rattle.histar_flat.specs.declared.calls.User.{User}
 use Rattle.histar_flat.specs.Words.{Name, Path}
 use Rattle.histar_flat.specs.Files.{get}
@@ -13,7 +14,6 @@ use Rattle.histar_object.specs.declared.objects.Kind.TheVariants.{Segment, Conta
 use Rattle.histar_object.specs.Objects.{Objects, is_there}
 use Rattle.histar_object.specs.State.{Found}
 use Rattle.histar_container.specs.Tree.{Address}
-use Rattle.histar_container.proofs.Addresses.{inner}
 use Rattle.histar_login.specs.Start.{start_objects, start_state, object_at}
 use Rattle.histar_simulation.specs.Addresses.{Step, same_address, found_at, if_at, path_at, is_left, process_address, inside_address, boot_number}
 use Rattle.histar_simulation.specs.Addresses.Step.{Left, Slash, Listing, Named, Home, Status, Inside, Runner}
@@ -111,7 +111,7 @@ module _ (users : List User) (some_user : 0 < length users) where
   -- there is a label for `/`, and nothing else is there
   start_labelled : (q : Path) (node : Node) → get (boot users).files q ≡ Some node → class_label users node.class ≢ None
   start_labelled [] node e without =
-      let is : slash_node users ≡ node = inner (slash_node users) node (sym (slash_got users) ∙ e) in
+      let is : slash_node users ≡ node = same_Some (slash_node users) node (sym (slash_got users) ∙ e) in
       let label = sym (ap (λ (x : Node). class_label users x.class) is) ∙ slash_label users some_user in
       absurd cc
   start_labelled (name ∷ d) node e without = let no : None ≡ Some node = sym (nothing_named users name d) ∙ e in absurd cc
@@ -119,7 +119,7 @@ module _ (users : List User) (some_user : 0 < length users) where
   -- process 0 is nobody's
   start_owned : (p : Process) → (boot users).processes [] ≡ Some p → thread_labels users p.user ≢ None
   start_owned p e without =
-      let is : first_process ≡ p = inner first_process p e in
+      let is : first_process ≡ p = same_Some first_process p e in
       let labels : thread_labels users nobody ≡ None = ap (λ (x : Process). thread_labels users x.user) is ∙ without in
       absurd cc
 
@@ -137,4 +137,5 @@ start_lays_out users h = record {
   others = λ n p. refl;
   owned = start_owned users h;
   categories = refl;
+  boot_thread_gone = refl;
 }

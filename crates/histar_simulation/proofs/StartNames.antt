@@ -2,8 +2,9 @@
 use Rattle.std.proofs.Common.{◌≡◌, ℕ, zero, suc, ◌+◌, ◌*◌, ◌-◌, ◌≤◌, ◌⊎◌, inl, inr, Bool, true, false, [], ◌∷◌, Option, None, Some, if◌then◌else◌, refl, sym, ap, ◌∙◌, subst, arith}
 use Rattle.std.specs.Prelude.{nat_le}
 use Rattle.std.proofs.lemmas.Bool.Decides.{leb_tells, nat_tests}
+use Rattle.std.proofs.lemmas.Option.{same_Some}
 use Rattle.histar_container.specs.Tree.{Address}
-use Rattle.histar_container.proofs.Addresses.{inner, same_tells}
+use Rattle.histar_container.proofs.Addresses.{same_tells}
 use Rattle.histar_simulation.specs.Addresses.{Step, same_step, if_at, is_left, process_address, inside_address, boot_number}
 use Rattle.histar_simulation.specs.Addresses.Step.{Left, Slash, Listing, Named, Home, Status, Inside, Runner}
 use Rattle.histar_simulation.proofs.Steps.{step_tells}
@@ -82,7 +83,7 @@ module _ (n : ℕ) where
   -- the address of a number has that number
   pub place_of_address : (q : ℕ) (a : Address Step) → start_address q ≡ Some a → Place a q
   place_of_address q a h = elim (seen q) [
-    | placed b p e ↦ subst (λ x. Place x q) (inner b a (sym e ∙ h)) p
+    | placed b p e ↦ subst (λ x. Place x q) (same_Some b a (sym e ∙ h)) p
     | unplaced f e ↦ absurd cc
   ]
 
@@ -130,19 +131,19 @@ module _ (n : ℕ) where
 
   -- what boot left has a number only if it did
   left_here : (p q : ℕ) (b : Bool) → is_left n p ≡ b → (if b then Some p else None) ≡ Some q → Place (Left p ∷ []) q
-  left_here p q true e h = subst (Place (Left p ∷ [])) (inner p q h) (on_left p e)
+  left_here p q true e h = subst (Place (Left p ∷ [])) (same_Some p q h) (on_left p e)
   left_here p q false e h = absurd cc
 
   -- an address that has a number is one of these
   pub place_of_number : (q : ℕ) (a : Address Step) → boot_number n a ≡ Some q → Place a q
-  place_of_number q [] h = on_root q (sym (inner 1 q h))
+  place_of_number q [] h = on_root q (sym (same_Some 1 q h))
   place_of_number q (Left p ∷ a) h =
       let k = at_here [] a (if is_left n p then Some p else None) q h in
       subst (λ x. Place (Left p ∷ x) q) k.0 (left_here p q (is_left n p) refl k.1)
-  place_of_number q (Slash ∷ a) h = let k = at_here [] a (Some (4 + 2 * n)) q h in subst (λ x. Place (Slash ∷ x) q) k.0 (on_slash q (sym (inner _ q k.1)))
-  place_of_number q (Listing ∷ a) h = let k = at_here (Slash ∷ []) a (Some (5 + 2 * n)) q h in subst (λ x. Place (Listing ∷ x) q) k.0 (on_listing q (sym (inner _ q k.1)))
+  place_of_number q (Slash ∷ a) h = let k = at_here [] a (Some (4 + 2 * n)) q h in subst (λ x. Place (Slash ∷ x) q) k.0 (on_slash q (sym (same_Some _ q k.1)))
+  place_of_number q (Listing ∷ a) h = let k = at_here (Slash ∷ []) a (Some (5 + 2 * n)) q h in subst (λ x. Place (Listing ∷ x) q) k.0 (on_listing q (sym (same_Some _ q k.1)))
   place_of_number q (Named name ∷ a) h = absurd cc
-  place_of_number q (Home ∷ a) h = let k = at_here [] a (Some (6 + 2 * n)) q h in subst (λ x. Place (Home ∷ x) q) k.0 (on_home q (sym (inner _ q k.1)))
-  place_of_number q (Status ∷ a) h = let k = at_here process_address a (Some (9 + 2 * n)) q h in subst (λ x. Place (Status ∷ x) q) k.0 (on_status q (sym (inner _ q k.1)))
-  place_of_number q (Inside ∷ a) h = let k = at_here process_address a (Some (7 + 2 * n)) q h in subst (λ x. Place (Inside ∷ x) q) k.0 (on_inside q (sym (inner _ q k.1)))
-  place_of_number q (Runner ∷ a) h = let k = at_here inside_address a (Some (8 + 2 * n)) q h in subst (λ x. Place (Runner ∷ x) q) k.0 (on_runner q (sym (inner _ q k.1)))
+  place_of_number q (Home ∷ a) h = let k = at_here [] a (Some (6 + 2 * n)) q h in subst (λ x. Place (Home ∷ x) q) k.0 (on_home q (sym (same_Some _ q k.1)))
+  place_of_number q (Status ∷ a) h = let k = at_here process_address a (Some (9 + 2 * n)) q h in subst (λ x. Place (Status ∷ x) q) k.0 (on_status q (sym (same_Some _ q k.1)))
+  place_of_number q (Inside ∷ a) h = let k = at_here process_address a (Some (7 + 2 * n)) q h in subst (λ x. Place (Inside ∷ x) q) k.0 (on_inside q (sym (same_Some _ q k.1)))
+  place_of_number q (Runner ∷ a) h = let k = at_here inside_address a (Some (8 + 2 * n)) q h in subst (λ x. Place (Runner ∷ x) q) k.0 (on_runner q (sym (same_Some _ q k.1)))

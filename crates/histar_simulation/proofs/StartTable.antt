@@ -10,6 +10,7 @@ use Rattle.histar_object.specs.Objects.{is_there, links_in}
 use Rattle.histar_object.specs.State.{Found}
 use Rattle.histar_calls.specs.Categories.{write_category}
 use Rattle.histar_login.specs.Start.{written_by, secret_of, owner_of, cleared_of, boot_category, own_read_category, own_write_category, segment, container, numbered, of_user, of_users, of_directory, of_process, process_bytes, user_table, start_objects, object_at}
+use Rattle.histar_login.proofs.Stages.{length-numbered}
 use Rattle.histar_simulation.specs.Addresses.{is_left}
 use Rattle.histar_simulation.specs.LaysOut.{bare}
 
@@ -32,11 +33,6 @@ users_plain i (user ∷ users) label bytes back zero h = record { there = refl; 
 users_plain i (user ∷ users) label bytes back (suc zero) h = record { there = refl; bared = refl; linkless = refl }
 users_plain i (user ∷ users) label bytes back (suc (suc k)) h = users_plain (i + 1) users label bytes back k (omega arith)
 
--- each user has two objects
-length_users : (i : ℕ) (users : List User) → length (numbered of_user i users) ≡ 2 * length users
-length_users i [] = refl
-length_users i (user ∷ users) = omega (arith, length-append (of_user i user) (numbered of_user (i + 1) users), length_users (i + 1) users)
-
 module _ (users : List User) where
   -- what stands behind the root container
   from_users : (k : ℕ) → object_at (start_objects users) (suc (suc (suc k))) ≡ get_or (of_users users ++ (of_directory (length users) users ++ of_process (length users))) k None
@@ -45,7 +41,7 @@ module _ (users : List User) where
   -- what stands behind the users' passwords and gates
   last_at : (k q : ℕ) → q ≡ 3 + 2 * length users + k → object_at (start_objects users) q ≡ get_or (of_directory (length users) users ++ of_process (length users)) k None
   last_at k q e =
-      let is : q ≡ suc (suc (suc (length (of_users users) + k))) = omega (arith, length_users 1 users) in
+      let is : q ≡ suc (suc (suc (length (of_users users) + k))) = omega (arith, length-numbered 1 users) in
       ap (object_at (start_objects users)) is ∙ from_users (length (of_users users) + k) ∙ behind (of_users users) (of_directory (length users) users ++ of_process (length users)) k
 
   -- what boot left is there, and is no container
@@ -88,4 +84,4 @@ module _ (users : List User) where
 
   -- so many objects stand at the start
   pub length_start : length (start_objects users) ≡ 9 + 2 * length users
-  length_start = omega (arith, length-append (of_users users ++ of_directory (length users) users) (of_process (length users)), length-append (of_users users) (of_directory (length users) users), length_users 1 users)
+  length_start = omega (arith, length-append (of_users users ++ of_directory (length users) users) (of_process (length users)), length-append (of_users users) (of_directory (length users) users), length-numbered 1 users)

@@ -5,12 +5,13 @@ use Rattle.std.proofs.lemmas.Bool.Decides.{eqb_tells, nat_tests}
 use Rattle.std.specs.List.{list_any, range_with_len}
 use Rattle.std.specs.FinSet as set
 use Rattle.std.specs.Ordering.{nat_cmp}
+use Rattle.std.proofs.lemmas.Option.{same_Some}
 use Rattle.histar_flat.specs.declared.calls.User.{User}
 use Rattle.histar_label.specs.Levels.{Levels}
 use Rattle.histar_object.specs.Objects.{Objects, is_there, links_in}
 use Rattle.histar_object.specs.State.{Found}
 use Rattle.histar_container.specs.Tree.{Address, Naming, wanted, same, is_child, IsLaid}
-use Rattle.histar_container.proofs.Addresses.{inner, or_false, same_itself, same_other}
+use Rattle.histar_container.proofs.Addresses.{or_false, same_itself, same_other}
 use Rattle.histar_login.specs.Start.{start_objects, start_state, object_at}
 use Rattle.histar_simulation.specs.Addresses.{Step, same_step, found_at, process_address, inside_address, boot_number}
 use Rattle.histar_simulation.specs.Addresses.Step.{Left, Slash, Listing, Status, Runner}
@@ -48,7 +49,7 @@ module _ (n : ℕ) where
       by other None e = refl
       by other (Some b) e = same_other same_step step_tells here b (λ r.
           let numbers : Some m ≡ Some c = sym (number_of_place n m here p) ∙ ap (boot_number n) r ∙ number_of_place n c b (place_of_address n c b e) in
-          other (inner m c numbers))
+          other (same_Some m c numbers))
 
   -- a test of addresses tells what is one step below an address, where it does for those that have a number
   child_is : (a : Address Step) (t : Option (Address Step) → Bool) → t None ≡ false → ((b : Address Step) (q : ℕ) → Place n b q → t (Some b) ≡ is_child same_step a (Some b))

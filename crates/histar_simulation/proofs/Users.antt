@@ -6,7 +6,7 @@ use Rattle.std.proofs.lemmas.List.Folds.{find_at}
 use Rattle.std.proofs.lemmas.Slice.Eq.{bytes_eq-Decides}
 use Rattle.std.proofs.lemmas.Bool.Decides.{nat_tests}
 use Rattle.std.specs.List.{find, position_or_len}
-use mathlib.Core.Bool.{true≢false}
+use Rattle.std.proofs.lemmas.Option.{same_Some}
 use Rattle.histar_flat.specs.declared.calls.User.{User}
 use Rattle.histar_flat.specs.Words.{Name}
 use Rattle.histar_flat.specs.Classes.{nobody}
@@ -83,40 +83,14 @@ no_place_by false users k is e = no_user_at users k (grind (arith, nat_tests, is
 pub no_place_named : (users : List User) (name : Name) → place_of users name ≡ None → user_named users name ≡ None
 no_place_named users name e = named_at users name ∙ no_place_by (nat_lt (first_place users name) (length users)) users (first_place users name) refl e
 
--- by whether the name has a place
-named_place_by : (users : List User) (name : Name) (u : User) (place : Option ℕ) → place_of users name ≡ place → user_named users name ≡ Some u → (k : ℕ) × (place_of users name ≡ Some k) × (slice_get users k ≡ Some u)
-named_place_by users name u None is e = let both : None ≡ Some u = sym (no_place_named users name is) ∙ e in absurd cc
-named_place_by users name u (Some k) is e = let found = place_named users name k is in (k, is, found.2 ∙ sym found.1 ∙ e)
-
--- the user of a name stands at the place of the name
-pub named_place : (users : List User) (name : Name) (u : User) → user_named users name ≡ Some u → (k : ℕ) × (place_of users name ≡ Some k) × (slice_get users k ≡ Some u)
-named_place users name u e = named_place_by users name u (place_of users name) refl e
-
--- by whether the name has a place
-unnamed_place_by : (users : List User) (name : Name) (place : Option ℕ) → place_of users name ≡ place → user_named users name ≡ None → place_of users name ≡ None
-unnamed_place_by users name None is e = is
-unnamed_place_by users name (Some k) is e = let both : Some (place_named users name k is).0 ≡ None = sym (place_named users name k is).1 ∙ e in absurd cc
-
--- a name that no user has has no place
-pub unnamed_place : (users : List User) (name : Name) → user_named users name ≡ None → place_of users name ≡ None
-unnamed_place users name e = unnamed_place_by users name (place_of users name) refl e
-
 -- what a mapped value comes from
-number_by : (place : Option ℕ) (i : ℕ) → option_map (λ k. k + 1) place ≡ Some i → (k : ℕ) × (place ≡ Some k) × (i ≡ k + 1)
-number_by None i e = absurd cc
-number_by (Some k) i e = (k, refl, cc)
+pub mapped : {A B : Type 0} (f : A → B) (o : Option A) (b : B) → option_map f o ≡ Some b → (a : A) × (o ≡ Some a) × (f a ≡ b)
+mapped f None b e = absurd cc
+mapped f (Some a) b e = (a, refl, same_Some (f a) b e)
 
 -- a user's number is one more than the user's place
 pub number_place : (users : List User) (name : Name) (i : ℕ) → user_number users name ≡ Some i → (k : ℕ) × (place_of users name ≡ Some k) × (i ≡ k + 1)
-number_place users name i e = number_by (place_of users name) i e
-
--- and the user of a place has the next number
-pub place_number : (users : List User) (name : Name) (k : ℕ) → place_of users name ≡ Some k → user_number users name ≡ Some (k + 1)
-place_number users name k e = ap (option_map (λ j. j + 1)) e
-
--- a name that some user has has a number
-pub named_number : (users : List User) (name : Name) (u : User) → user_named users name ≡ Some u → (i : ℕ) × (user_number users name ≡ Some i)
-named_number users name u e = let place = named_place users name u e in (place.0 + 1, place_number users name place.0 place.1)
+number_place users name i e = let place = mapped (λ k. k + 1) (place_of users name) i e in (place.0, place.1, sym place.2)
 
 -- users have the numbers from 1 on
 pub number_range : (users : List User) (name : Name) (i : ℕ) → user_number users name ≡ Some i → (0 < i) × (i ≤ length users)

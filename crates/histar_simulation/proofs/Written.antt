@@ -20,12 +20,13 @@ use Rattle.histar_container.specs.Tree.{Address, IsLaid}
 use Rattle.histar_container.proofs.Addresses.{same_tells}
 use Rattle.histar_container.proofs.TableMoves.{changed_here, changed_other, laid_changed}
 use Rattle.histar_container.proofs.Trees.{kind_held_links}
+use Rattle.histar_login.specs.Boot.{boot_thread_number}
 use Rattle.histar_simulation.specs.Addresses.{Step, same_step, found_at, address_of}
 use Rattle.histar_simulation.specs.Labels.{class_label}
 use Rattle.histar_simulation.specs.Directories.{Numbers, target_for, directory_of}
 use Rattle.histar_simulation.specs.LaysOut.{LaysOut, bare, content_kind, labelled_as, node_object, listing_object, listing_at, expected}
 use Rattle.histar_simulation.proofs.Steps.{step_tells}
-use Rattle.histar_simulation.proofs.FoundObjects.{laid_found, bare_held, held_segment, there_held, found_other}
+use Rattle.histar_simulation.proofs.FoundObjects.{laid_found, bare_held, held_segment, there_held, found_other, changed_none}
 use Rattle.histar_simulation.proofs.AddressPaths.{expected_path, same_expected}
 use Rattle.histar_simulation.proofs.DirectoryLaws.{get_directory}
 
@@ -167,6 +168,7 @@ module _ (f : Flat) (q : Path) (entry : Node) (old bytes : List ℕ) (at_path : 
       others = l.others;
       owned = l.owned;
       categories = l.categories;
+      boot_thread_gone = changed_none s.objects file (holding bytes) boot_thread_number l.boot_thread_gone;
     }
 
 -- after a write to a file the kernel lays out the flat state with the new bytes

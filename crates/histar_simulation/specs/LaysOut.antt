@@ -2,7 +2,7 @@
 use Rattle.std.specs.Prelude.{◌≡◌, ◌≢◌, ℕ, ◌+◌, ◌*◌, true, cond, List, [], ◌∷◌, length, Option, None, Some, is_some, option_map}
 use Rattle.std.specs.FinSet as set
 use Rattle.histar_flat.specs.declared.calls.User.{User}
-use Rattle.histar_flat.specs.Words.{Name, Path, ProcName}
+use Rattle.histar_flat.specs.Words.{Path, ProcName}
 use Rattle.histar_flat.specs.Files.{get}
 use Rattle.histar_flat.specs.Classes.{Process}
 use Rattle.histar_flat.specs.FlatState.{Node, Content, Flat, is_dir_at}
@@ -15,6 +15,7 @@ use Rattle.histar_object.specs.Objects.{is_there}
 use Rattle.histar_object.specs.State.{State, Found}
 use Rattle.histar_container.specs.Tree.{Address, Naming, IsLaid}
 use Rattle.histar_layout.specs.Directory.{IsListable, spelling}
+use Rattle.histar_login.specs.Boot.{boot_thread_number}
 use Rattle.histar_login.specs.Start.{written_by, secret_of, boot_category, own_read_category, own_write_category, process_bytes, start_objects, object_at, segment}
 use Rattle.histar_simulation.specs.Addresses.{Step, same_step, found_at, if_at, path_at, is_left, process_address, inside_address, boot_number}
 use Rattle.histar_simulation.specs.Addresses.Step.{Left, Slash, Listing, Named, Home, Status, Inside, Runner}
@@ -118,3 +119,5 @@ pub record LaysOut (users : List User) (s : State) (f : Flat) : Type 0 where
   pub owned : (p : Process) → f.processes [] ≡ Some p → thread_labels users p.user ≢ None
   -- no category was made but those of boot
   pub categories : s.next_category ≡ 6 + 2 * length users
+  -- the boot thread is gone for good
+  pub boot_thread_gone : s.objects boot_thread_number ≡ None
