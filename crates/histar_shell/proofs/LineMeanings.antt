@@ -87,6 +87,7 @@ module _ (old new : Running) (f : Flat) (shows : Shows old f) where
         own = tt;
         access = refl;
         permission = refl;
+        denials = tt;
         once = tt;
         told = λ bytes e. absurd cc;
         reads = λ answered. absurd (answered refl);

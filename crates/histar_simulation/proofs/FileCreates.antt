@@ -41,7 +41,7 @@ use Rattle.std.specs.Cmp.{nat_cmp_total}
 use Rattle.histar_container.proofs.TableMoves.{new_holder, new_other}
 use Rattle.histar_calls.specs.Plans.{Plan, after_walk, make_at, make_file}
 use Rattle.histar_calls.specs.Categories.{IsUserOf, file_label}
-use Rattle.histar_calls.specs.Follows.{answer, told_as}
+use Rattle.histar_calls.specs.Follows.{answer, told_as, write_errno_of}
 use Rattle.histar_calls.specs.Replies.{is_access, is_permission}
 use Rattle.histar_simulation.specs.Labels.{class_label, user_number}
 use Rattle.histar_simulation.specs.Directories.{target_for}
@@ -185,10 +185,10 @@ module _ (users : List User) (old new : Traced) (f : Flat) (scene : Scene users 
 
           module _ (made : Made asked new t (make_call ∷ write_call ∷ []) refusal) where
             -- the kernel refuses to make the segment, for a reason that is told
-            blocked : (denied : Denied) (errno : Errno) → check (state asked) t make_call ≡ Some denied → told_as make_call denied ≡ Some errno → refused users f [] me call ≡ Some errno
+            blocked : (denied : Denied) (errno : Errno) → check (state asked) t make_call ≡ Some denied → told_as make_call denied ≡ Some errno → write_errno_of denied ≡ Some errno → refused users f [] me call ≡ Some errno
                 → is_label_refusal (Some denied) ≡ is_access errno → is_range_refusal (Some denied) ≡ is_permission errno → Ends users f call old new t (answer (Some Done) refusal)
             unfolding t
-            blocked denied errno fails told is access permission =
+            blocked denied errno fails told shown is access permission =
                 let last = first_refused t asked new make_call (write_call ∷ []) refusal denied fails made in
                 let stays : state new ≡ state old = last.0.2.state ∙ last.0.1.state ∙ asked_state in
                 let reply = reply_is users f scene.run call (Some errno) is in
@@ -196,7 +196,7 @@ module _ (users : List User) (old new : Traced) (f : Flat) (scene : Scene users 
                   ap (answer (Some Done)) last.1 ∙ ap (option_map Refused) told ∙ ap Some (sym reply),
                   answered_by users f call old new t scene.named ((walk_call users old f scene, None) ∷ (raw.OwnLabel, None) ∷ (make_call, Some denied) ∷ []) (mid, walked, (asked, asks, last.0)) (Refused errno) f
                       reply (after_is users f scene.run call (Some errno) is)
-                      (or_false (is_label_refusal (Some denied)) ∙ access) (or_false (is_range_refusal (Some denied)) ∙ permission) tt (λ b e. absurd cc) (inl (refl, tt)) (λ e. absurd cc)
+                      (or_false (is_label_refusal (Some denied)) ∙ access) (or_false (is_range_refusal (Some denied)) ∙ permission) (tt, (tt, (ap (option_map Refused) shown, tt))) tt (λ b e. absurd cc) (inl (refl, tt)) (λ e. absurd cc)
                       (subst (λ (s : State). LaysOut users s f) (sym stays) scene.lays_out),
                 )
 
@@ -284,7 +284,7 @@ module _ (users : List User) (old new : Traced) (f : Flat) (scene : Scene users 
                       answered_by users f call old new t scene.named ((walk_call users old f scene, None) ∷ (raw.OwnLabel, None) ∷ (make_call, None) ∷ (write_call, None) ∷ []) (mid, walked, (asked, asks, (made_it, makes, (last.0, last.1, last.2.0)))) Done
                           (with_node f (m ∷ []) class (File [])) reply
                           (after_is users f scene.run call None is_refused ∙ ap (λ (c : Option Class). with_node f (m ∷ []) (class_or_open c) (File [])) class_is)
-                          refl refl tt (λ b e. absurd cc) (inl (refl, tt)) (λ e. absurd cc)
+                          refl refl (tt, (tt, (tt, (tt, tt)))) tt (λ b e. absurd cc) (inl (refl, tt)) (λ e. absurd cc)
                           (create_lays_out users (state old) f scene.lays_out m class (file_label mode user) r.directory.entry named labelled r.directory.stands r.directory.is_directory free few_entries next_below (state made_it) (state new) made_state
                           (last.2.0.state ∙ last.1.state)),
                     )
@@ -344,7 +344,7 @@ module _ (users : List User) (old new : Traced) (f : Flat) (scene : Scene users 
           (make_checked user owner refusal seen mid walked free room asked asks true false (has_number (state old)) may
           (ap (λ (u : ℕ). is_below scene.label (file_label mode u) && is_below (file_label mode u) scene.clearance) no_user.1 ∙ nobody_makes users scene.no_one me scene.run.lone scene.label scene.clearance scene.labels mode no_user.0) refl
           (is_known (omega (arith, no_user.1))))
-          refl (refused_is true None true true false seen free room may (ap has_value (class_of_nobody no_user.0))) refl refl
+          refl refl (refused_is true None true true false seen free room may (ap has_value (class_of_nobody no_user.0))) refl refl
       | inr is_user ↦ by_number may is_user.0 is_user.1 (has_number (state old)) refl
     ]
 
@@ -356,7 +356,7 @@ module _ (users : List User) (old new : Traced) (f : Flat) (scene : Scene users 
         let most : user ≤ length users = owner.known in
         blocked user owner refusal seen mid walked free room asked asks made Modify EACCES
         (make_checked user owner refusal seen mid walked free room asked asks false (is_below scene.label (file_label mode user) && is_below (file_label mode user) scene.clearance) (has_number (state old)) may_not refl refl (is_known most))
-        refl (refused_is true None true false (has_value (class_made me mode)) seen free room may_not refl) refl refl
+        refl refl (refused_is true None true false (has_value (class_made me mode)) seen free room may_not refl) refl refl
 
   module _ (user : ℕ) (owner : IsUserOf scene.label (length users) user) (named : IsTrue (is_name m)) (refusal : Option (RawCall × Denied)) where
     -- the plan within `/`

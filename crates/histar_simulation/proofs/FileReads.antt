@@ -75,7 +75,7 @@ module _ (users : List User) (old new : Traced) (f : Flat) (scene : Scene users 
             ap (answer (Some (Data (bytes_in ((state old).objects file.number))))) last.1 ∙ ap Some (sym reply),
             answered_by users f (calls.Read (m ∷ [])) old new t scene.named ((walk_call users old f scene, None) ∷ (read_call, Some Observe) ∷ []) (mid, walked, last.0) (Refused EACCES) f
                 reply (after_is users f scene.run (calls.Read (m ∷ [])) (Some EACCES) is)
-                refl refl tt (λ b e. absurd cc) (inl (refl, tt)) (λ e. absurd cc)
+                refl refl (tt, (refl, tt)) tt (λ b e. absurd cc) (inl (refl, tt)) (λ e. absurd cc)
                 (subst (λ (s : State). LaysOut users s f) (sym stays) scene.lays_out),
           )
 
@@ -93,7 +93,7 @@ module _ (users : List User) (old new : Traced) (f : Flat) (scene : Scene users 
             ap (answer (Some (Data (bytes_in ((state old).objects file.number))))) last.2.1 ∙ ap (λ (b : List ℕ). Some (Data b)) held ∙ ap Some (sym reply),
             answered_by users f (calls.Read (m ∷ [])) old new t scene.named ((walk_call users old f scene, None) ∷ (read_call, None) ∷ []) (mid, walked, (last.0, last.1, last.2.0)) (Data bytes) f
                 reply (after_is users f scene.run (calls.Read (m ∷ [])) None is)
-                refl refl tt
+                refl refl (tt, (tt, tt)) tt
                 (λ b e. record {
                   front = entry_of old.line t (walk_call users old f scene) None ∷ [];
                   last = entry_of old.line t read_call None;

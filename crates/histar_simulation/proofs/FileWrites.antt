@@ -80,7 +80,7 @@ module _ (users : List User) (old new : Traced) (f : Flat) (scene : Scene users 
             ap (answer (Some Done)) last.1 ∙ ap (option_map Refused) told ∙ ap Some (sym reply),
             answered_by users f call old new t scene.named ((walk_call users old f scene, None) ∷ (write_call, Some denied) ∷ []) (mid, walked, last.0) (Refused errno) f
                 reply (after_is users f scene.run call (Some errno) is)
-                (or_false (is_label_refusal (Some denied)) ∙ access) (or_false (is_range_refusal (Some denied)) ∙ permission) tt (λ b e. absurd cc) (inl (refl, tt)) (λ e. absurd cc)
+                (or_false (is_label_refusal (Some denied)) ∙ access) (or_false (is_range_refusal (Some denied)) ∙ permission) (tt, (ap (option_map Refused) told, tt)) tt (λ b e. absurd cc) (inl (refl, tt)) (λ e. absurd cc)
                 (subst (λ (s : State). LaysOut users s f) (sym stays) scene.lays_out),
           )
 
@@ -96,7 +96,7 @@ module _ (users : List User) (old new : Traced) (f : Flat) (scene : Scene users 
             ap (answer (Some Done)) last.2.1 ∙ ap Some (sym reply),
             answered_by users f call old new t scene.named ((walk_call users old f scene, None) ∷ (write_call, None) ∷ []) (mid, walked, (last.0, last.1, last.2.0)) Done (with_bytes f (m ∷ []) bytes)
                 reply (after_is users f scene.run call None is)
-                refl refl tt (λ b e. absurd cc) (inl (refl, tt)) (λ e. absurd cc)
+                refl refl (tt, (tt, tt)) tt (λ b e. absurd cc) (inl (refl, tt)) (λ e. absurd cc)
                 (write_lays_out users (state old) f scene.lays_out (m ∷ []) there held bytes file.number stands content file.named (state new) writes_it),
           )
 

@@ -50,7 +50,7 @@ module _ (users : List User) (old new : Traced) (f : Flat) (scene : Scene users 
   unknown_user no_place same_kernel =
       let is = refused_is None false (no_place_named users name no_place) refl in
       answered_by users f call old new (8 + 2 * length users) scene.named [] same_kernel (Refused ENOENT) f (reply_is users f scene.run call (Some ENOENT) is) (after_is users f scene.run call (Some ENOENT) is)
-      refl refl tt (λ b e. absurd cc) (subst (λ (place : Option ℕ). AreAmong (reads_of_login place false) []) (sym no_place) tt) (λ e. absurd cc)
+      refl refl tt tt (λ b e. absurd cc) (subst (λ (place : Option ℕ). AreAmong (reads_of_login place false) []) (sym no_place) tt) (λ e. absurd cc)
       (subst (λ (s : State). LaysOut users s f) (sym same_kernel.state) scene.lays_out)
 
   -- and so it is answered
@@ -93,7 +93,7 @@ module _ (users : List User) (old new : Traced) (f : Flat) (scene : Scene users 
           let reply = reply_is users f scene.run call None refusal in (
             sym reply,
             answered_by users f call old new (8 + 2 * length users) scene.named (map (λ (c : RawCall). (c, None)) raw_calls) chain Done (with_process f [] (record scene.run.process { user = name; held = [] })) reply
-                (after_is users f scene.run call None refusal) refl refl tt (λ b e. absurd cc) (owed true refl) (λ e. absurd cc)
+                (after_is users f scene.run call None refusal) refl refl (tt, (tt, (tt, (tt, (tt, tt))))) tt (λ b e. absurd cc) (owed true refl) (λ e. absurd cc)
                 (login_lays_out users scene.no_one (state old) f scene.lays_out scene.run.process scene.run.stands name (place + 1) numbered (state new) becomes),
           )
       answered false is becomes =
@@ -101,7 +101,7 @@ module _ (users : List User) (old new : Traced) (f : Flat) (scene : Scene users 
           let reply = reply_is users f scene.run call (Some EAUTH) refusal in (
             sym reply,
             answered_by users f call old new (8 + 2 * length users) scene.named (map (λ (c : RawCall). (c, None)) raw_calls) chain (Refused EAUTH) f reply
-                (after_is users f scene.run call (Some EAUTH) refusal) refl refl tt (λ b e. absurd cc) (owed true refl) (λ e. absurd cc)
+                (after_is users f scene.run call (Some EAUTH) refusal) refl refl (tt, (tt, (tt, (tt, (tt, tt))))) tt (λ b e. absurd cc) (owed true refl) (λ e. absurd cc)
                 (subst (λ (s : State). LaysOut users s f) (sym becomes) scene.lays_out),
           )
 

@@ -23,7 +23,7 @@ use Rattle.histar_calls.specs.Plans.{Plan}
 use Rattle.histar_calls.specs.Follows.{told_as, answer, IsUntold, StopsWithin, Completes}
 use Rattle.histar_calls.specs.Replies.{is_no_access, is_no_permission}
 use Rattle.histar_simulation.specs.LaysOut.{LaysOut, IsLone, IsLoneProcess}
-use Rattle.histar_simulation.specs.Lines.{IsThreadOf, IsRefusedOnce, EndsWithRead, AreAmong, reads_owed, IsLine, IsRow, IsRunUnlessExhausted}
+use Rattle.histar_simulation.specs.Lines.{IsThreadOf, IsDenialTold, IsRefusedOnce, EndsWithRead, AreAmong, reads_owed, IsLine, IsRow, IsRunUnlessExhausted}
 use Rattle.histar_simulation.proofs.Chains.{Step, entries_of, Chain, chain_run, chain_own, granted_run, granted_unless}
 
 module _ (users : List User) (f : Flat) (call : UnixCall) where
@@ -92,9 +92,10 @@ module _ (users : List User) (f : Flat) (call : UnixCall) (old new : Traced) (t 
   -- a line is the row of its call where its raw calls went so, and the state after it lays out the flat state after the call
   pub answered_by : (steps : List Step) → Chain old t steps new → (r : Reply) (g : Flat) → reply_to users f [] call ≡ r → flat_after users f [] call ≡ g
       → some_label_refusal (entries_of old.line t steps) ≡ is_no_access r → some_range_refusal (entries_of old.line t steps) ≡ is_no_permission r
+      → AllByRecursion (λ (e : TraceEntry). IsDenialTold r e.denied) (entries_of old.line t steps)
       → IsRefusedOnce (entries_of old.line t steps) → ((bytes : List ℕ) → r ≡ Data bytes → EndsWithRead (state old) (entries_of old.line t steps) bytes)
       → AreAmong (reads_owed users call r) (entries_of old.line t steps) → r ≢ Gone → LaysOut users (state new) g → IsAnswered users f call old new
-  answered_by steps chain r g reply after access permission once told reads runs lays_out =
+  answered_by steps chain r g reply after access permission denials once told reads runs lays_out =
       let part = chain_run t old new steps chain in
       let entries = entries_of old.line t steps in
       let is_line : IsLine users (state old) old.line [] call r entries (state new) = record {
@@ -102,6 +103,7 @@ module _ (users : List User) (f : Flat) (call : UnixCall) (old new : Traced) (t 
         own = all_own old.line steps;
         access = access;
         permission = permission;
+        denials = denials;
         once = once;
         told = told;
         reads = λ answered. reads;

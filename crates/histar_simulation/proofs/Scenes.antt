@@ -111,7 +111,7 @@ module _ (users : List User) (old : Traced) (f : Flat) (scene : Scene users (sta
           ap (answer plan.reply) first.1 ∙ ap Some (sym (reply_is users f scene.run call (Some EACCES) is_refused)),
           answered_by users f call old new caller scene.named ((walk_call, Some Observe) ∷ []) chain (Refused EACCES) f
               (reply_is users f scene.run call (Some EACCES) is_refused) (after_is users f scene.run call (Some EACCES) is_refused)
-              refl refl tt (λ bytes e. absurd cc) (subst (λ (calls : List RawCall). AreAmong calls (entries_of old.line caller ((walk_call, Some Observe) ∷ []))) (sym (owed (Refused EACCES))) (inl (refl, tt))) (λ e. absurd cc)
+              refl refl (refl, tt) tt (λ bytes e. absurd cc) (subst (λ (calls : List RawCall). AreAmong calls (entries_of old.line caller ((walk_call, Some Observe) ∷ []))) (sym (owed (Refused EACCES))) (inl (refl, tt))) (λ e. absurd cc)
               (subst (λ (s : State). LaysOut users s f) (sym same) scene.lays_out),
         )
 
@@ -126,7 +126,7 @@ module _ (users : List User) (old : Traced) (f : Flat) (scene : Scene users (sta
           told ∙ ap Some (sym (reply_is users f scene.run call (Some errno) is_refused)),
           answered_by users f call old new caller scene.named ((walk_call, None) ∷ []) (mid, walked, end.0) (Refused errno) f
               (reply_is users f scene.run call (Some errno) is_refused) (after_is users f scene.run call (Some errno) is_refused)
-              (sym no_access) (sym no_permission) tt (λ bytes e. absurd cc) (subst (λ (calls : List RawCall). AreAmong calls (entries_of old.line caller ((walk_call, None) ∷ []))) (sym (owed (Refused errno))) (inl (refl, tt))) (λ e. absurd cc)
+              (sym no_access) (sym no_permission) (tt, tt) tt (λ bytes e. absurd cc) (subst (λ (calls : List RawCall). AreAmong calls (entries_of old.line caller ((walk_call, None) ∷ []))) (sym (owed (Refused errno))) (inl (refl, tt))) (λ e. absurd cc)
               (subst (λ (s : State). LaysOut users s f) (sym stays) scene.lays_out),
         )
 

@@ -83,6 +83,15 @@ no_place_by false users k is e = no_user_at users k (grind (arith, nat_tests, is
 pub no_place_named : (users : List User) (name : Name) → place_of users name ≡ None → user_named users name ≡ None
 no_place_named users name e = named_at users name ∙ no_place_by (nat_lt (first_place users name) (length users)) users (first_place users name) refl e
 
+-- by whether the name has a place
+unnamed_place_by : (users : List User) (name : Name) (place : Option ℕ) → place_of users name ≡ place → user_named users name ≡ None → place_of users name ≡ None
+unnamed_place_by users name None is e = is
+unnamed_place_by users name (Some k) is e = let both : Some (place_named users name k is).0 ≡ None = sym (place_named users name k is).1 ∙ e in absurd cc
+
+-- a name that no user has has no place
+pub unnamed_place : (users : List User) (name : Name) → user_named users name ≡ None → place_of users name ≡ None
+unnamed_place users name e = unnamed_place_by users name (place_of users name) refl e
+
 -- what a mapped value comes from
 pub mapped : {A B : Type 0} (f : A → B) (o : Option A) (b : B) → option_map f o ≡ Some b → (a : A) × (o ≡ Some a) × (f a ≡ b)
 mapped f None b e = absurd cc

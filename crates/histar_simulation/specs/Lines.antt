@@ -1,5 +1,5 @@
 -- What one line of a script does to the kernel, and what all lines do.
-use Rattle.std.specs.Prelude.{◌≡◌, ◌≢◌, ℕ, ◌+◌, ◌*◌, Bool, true, false, ◌⊎◌, IsTrue, List, [], ◌∷◌, ◌++◌, length, Option, None, Some}
+use Rattle.std.specs.Prelude.{◌≡◌, ◌≢◌, ℕ, ◌+◌, ◌*◌, Bool, true, false, ◌⊎◌, IsTrue, List, [], ◌∷◌, ◌++◌, length, Option, None, Some, option_map}
 use Rattle.std.specs.List.{AllByRecursion}
 use Rattle.histar_flat.specs.declared.calls.User.{User}
 use Rattle.histar_flat.specs.declared.calls.UnixCall.{UnixCall}
@@ -23,6 +23,7 @@ use Rattle.histar_syscall.specs.declared.trace.TraceEntry.{TraceEntry}
 use Rattle.histar_syscall.specs.declared.calling.Answer.TheVariants as answers
 use Rattle.histar_syscall.specs.Answers.{answer}
 use Rattle.histar_syscall.specs.Runs.{IsRun, some_label_refusal, some_range_refusal}
+use Rattle.histar_calls.specs.Follows.{write_errno_of}
 use Rattle.histar_calls.specs.Replies.{is_no_access, is_no_permission}
 use Rattle.histar_login.specs.Login.{place_of, password_of}
 use Rattle.histar_login.specs.Start.{process_bytes}
@@ -95,15 +96,22 @@ reads_owed users (Write path bytes) reply = reads_on_way (length users) path
 reads_owed users (Read path) reply = reads_on_way (length users) path
 reads_owed users (Login name password) reply = reads_of_login (place_of users name) (is_compared reply)
 
+-- a denial that the reply tells: EACCES one by label, EPERM one by range, EFBIG one of bytes that are too many; no other is told
+abbrev pub IsDenialTold : Reply → Option Denied → Type 0
+IsDenialTold reply None = Unit {0}
+IsDenialTold reply (Some denied) = option_map Refused (write_errno_of denied) ≡ Some reply
+
 -- The entries of a line that was answered so, between the state before the line and the one after it. They are a run of the
 -- kernel; each is of the line and of the thread that the process segment of the line's process names before it. Some is refused by
--- comparing labels exactly where the reply is EACCES, and by range exactly where it is EPERM. What was read is what the last of
+-- comparing labels exactly where the reply is EACCES, and by range exactly where it is EPERM; a denial that the reply doesn't tell is
+-- not among them. What was read is what the last of
 -- them reads. The reads that the call cannot do without are among them. A line that is answered `gone` has none.
 pub record IsLine (users : List User) (before : State) (line : ℕ) (process : ProcName) (call : UnixCall) (reply : Reply) (entries : List TraceEntry) (after : State) : Type 0 where
   pub run : IsRun before entries after
   pub own : AllByRecursion (λ e. (e.line ≡ line) × IsThreadOf users before process e.thread) entries
   pub access : some_label_refusal entries ≡ is_no_access reply
   pub permission : some_range_refusal entries ≡ is_no_permission reply
+  pub denials : AllByRecursion (λ e. IsDenialTold reply e.denied) entries
   pub once : IsRefusedOnce entries
   pub told : (bytes : List ℕ) → reply ≡ Data bytes → EndsWithRead before entries bytes
   pub reads : reply ≢ Gone → AreAmong (reads_owed users call reply) entries
