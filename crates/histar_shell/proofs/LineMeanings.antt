@@ -1,6 +1,5 @@
 -- A line ends as the flat state says that the machine lays out before it.
-use Rattle.std.proofs.Common.{◌≡◌, ℕ, ◌+◌, ◌*◌, Bool, true, false, List, [], ◌∷◌, ◌++◌, length, Option, None, Some, Result, Ok, Err, refl, sym, ap, ◌∙◌, subst, append-nil}
-use Rattle.std.specs.Prelude.{IsTrue, IfOk}
+use Rattle.std.proofs.Common.{◌≡◌, ℕ, ◌+◌, ◌*◌, Bool, true, false, List, [], ◌∷◌, length, Result, Ok, Err, refl, sym, ap, ◌∙◌, subst, append-nil}
 use Rattle.std.specs.List.{AllByRecursion}
 use Rattle.histar_flat.specs.declared.calls.User.{User}
 use Rattle.histar_flat.specs.declared.calls.UnixCall.{UnixCall}
@@ -9,22 +8,19 @@ use Rattle.histar_flat.specs.declared.replies.Reply.{Reply}
 use Rattle.histar_flat.specs.declared.replies.Reply.TheVariants.{Gone}
 use Rattle.histar_flat.specs.Words.{ProcName}
 use Rattle.histar_flat.specs.FlatState.{Flat}
-use Rattle.histar_flat.specs.FlatCalls.{if_running, running, reply_to, flat_after}
-use Rattle.histar_flat.specs.Meaning.{Asked}
+use Rattle.histar_flat.specs.FlatCalls.{if_running, flat_after}
 use Rattle.histar_flat.proofs.Laws.{not_running_is_gone}
 use Rattle.histar_script.specs.Script.{IsUserList}
-use Rattle.histar_syscall.specs.declared.trace.TraceEntry.{TraceEntry}
 use Rattle.histar_syscall.specs.Traced.{Traced, state}
 use Rattle.histar_syscall.specs.Runs.{IsBy}
 use Rattle.histar_calls.specs.declared.places.Places.{Places}
 use Rattle.histar_calls.specs.declared.stopping.Stopped.{Stopped}
 use Rattle.histar_login.specs.Start.{places_of, thread_number}
 use Rattle.histar_simulation.specs.LaysOut.{LaysOut}
-use Rattle.histar_simulation.specs.Lines.{IsScriptable, IsLine, IsRow}
-use Rattle.histar_simulation.proofs.Outcomes.{IsAnswered, IsOut}
+use Rattle.histar_simulation.specs.Lines.{IsScriptable, IsLine}
 use Rattle.histar_simulation.proofs.Rows.{IsRowOf, read_row, write_row, create_row, login_is_row}
 use Rattle.histar_shell.specs.Machine.{Running, on_line, Makes, HasMade, Runs, AnswersIf, AnswersLine}
-use Rattle.histar_shell.specs.Meaning.{Shows, AnswersAsMeant, StopsUnrefused, EndsAsMeant, FollowsMeaning}
+use Rattle.histar_shell.specs.Meaning.{Shows, EndsAsMeant, FollowsMeaning}
 use Rattle.histar_shell.proofs.Users.{no_user_is_nobody}
 
 module _ (old new : Running) (f : Flat) (shows : Shows old f) where

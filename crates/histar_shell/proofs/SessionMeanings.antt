@@ -1,8 +1,8 @@
 -- A run is as its script means: the fold of its lines.
-use Rattle.std.proofs.Common.{◌≡◌, ℕ, ◌<◌, List, [], ◌∷◌, ◌++◌, length, Option, None, Some, Result, Ok, Err, refl, sym, ap, ◌∙◌, subst, append-nil, append_assoc, inl, inr}
-use Rattle.std.specs.Prelude.{map, Bool, IfSome, MatchResult}
+use Rattle.std.proofs.Common.{◌≡◌, ℕ, List, [], ◌∷◌, ◌++◌, length, Option, None, Some, Result, Ok, Err, refl, sym, ap, ◌∙◌, subst, append-nil, append_assoc, inl, inr}
+use Rattle.std.specs.Prelude.{map, IfSome}
 use Rattle.std.specs.List.{flat_map, AllByRecursion}
-use Rattle.std.specs.Io.KnownBytes.{Appends, Keeps}
+use Rattle.std.specs.Io.KnownBytes.{Appends}
 use Rattle.std.proofs.lemmas.Grind.{flat_map-append}
 use Rattle.std.proofs.lemmas.List.{map-append}
 use Rattle.histar_flat.specs.declared.calls.User.{User}
@@ -17,23 +17,21 @@ use Rattle.histar_script.specs.declared.fault.Fault.{Fault}
 use Rattle.histar_script.specs.declared.fault.Fault.TheVariants.{BadScript, TooLong, OutOfMemory, ReadFailed, WriteFailed}
 use Rattle.histar_script.specs.declared.items.CallLine.{CallLine}
 use Rattle.histar_script.specs.Reading.{script_of}
-use Rattle.histar_rules.specs.declared.raw.RawCall.{RawCall}
 use Rattle.histar_syscall.specs.declared.trace.TraceEntry.{TraceEntry}
-use Rattle.histar_syscall.specs.Traced.{Traced, state}
+use Rattle.histar_syscall.specs.Traced.{state}
 use Rattle.histar_syscall.specs.Runs.{IsBy, IsRun}
-use Rattle.histar_calls.specs.declared.places.Places.{Places}
 use Rattle.histar_login.specs.Boot.{boot_thread_number, boot_calls, IsBooted}
-use Rattle.histar_login.specs.Start.{places_of, thread_number, start_state}
+use Rattle.histar_login.specs.Start.{places_of, thread_number}
 use Rattle.histar_simulation.specs.LaysOut.{LaysOut}
 use Rattle.histar_simulation.specs.Lines.{AreRows}
 use Rattle.histar_simulation.proofs.Start.{start_lays_out}
-use Rattle.histar_simulation.proofs.Chains.{Step, Chain, entries_of, chain_run, chain_own, granted_run}
-use Rattle.histar_shell.specs.Answers.{Answered, answer_text, answers_text, calls_of, line_text}
-use Rattle.histar_shell.specs.Machine.{Running, IsStart, AnswersLine}
+use Rattle.histar_simulation.proofs.Chains.{entries_of, chain_run, chain_own, granted_run}
+use Rattle.histar_shell.specs.Answers.{Answered, answers_text, calls_of, line_text}
+use Rattle.histar_shell.specs.Machine.{Running, IsStart}
 use Rattle.histar_shell.specs.Session.{Session, AnswersCalls, BeginsAnswers}
 use Rattle.histar_shell.specs.Writing.{AppendsFront}
-use Rattle.histar_shell.specs.Outcome.{AnswersScript, BeginsScript, WritesAtFault, WritesAnswers}
-use Rattle.histar_shell.specs.Meaning.{asked_by, meaning_text, Shows, AnswersAsMeant, IsMeantTrace, WritesMeaning, BeginsMeaning, WritesMeaningAtFault, RunsAsMeant}
+use Rattle.histar_shell.specs.Outcome.{BeginsScript, WritesAtFault, WritesAnswers}
+use Rattle.histar_shell.specs.Meaning.{asked_by, meaning_text, Shows, AnswersAsMeant, WritesMeaning, BeginsMeaning, WritesMeaningAtFault, RunsAsMeant}
 use Rattle.histar_shell.proofs.Users.{AreScriptable, script_says}
 use Rattle.histar_shell.proofs.LineMeanings.{line_follows, users_stay}
 
