@@ -1,5 +1,5 @@
 -- A private file and the processes of others: one call.
-use Rattle.std.specs.Prelude.{◌≡◌, ◌≢◌, ℕ, Bool, true, false, not, ◌&&◌, List, length, nat_lt, nat_le, Option, Some, None, is_some, refl}
+use Rattle.std.specs.Prelude.{◌≡◌, ◌≢◌, ℕ, true, false, not, ◌&&◌, List, length, nat_lt, nat_le, Option, Some, None, is_some, refl}
 use Rattle.std.proofs.Common.{ap, sym, ◌∙◌}
 use Rattle.std.proofs.lemmas.Bool.{true≢false, not-true}
 use Rattle.histar_base.specs.Refusals.{◌orelse◌, unless}
@@ -14,20 +14,11 @@ use Rattle.histar_flat.specs.Words.{Name, Path, ProcName}
 use Rattle.histar_flat.specs.PathOrder.{same, parent}
 use Rattle.histar_flat.specs.Files.{get}
 use Rattle.histar_flat.specs.Classes.{Process, is_free, may_read, may_write, class_made}
-use Rattle.histar_flat.specs.Classes.Class.{Private}
-use Rattle.histar_flat.specs.FlatState.{Flat, Node, is_some_and, is_there, reads, writes, entries_in, walk}
-use Rattle.histar_flat.specs.FlatState.Content.{File}
+use Rattle.histar_flat.specs.FlatState.{Flat, is_some_and, is_there, reads, writes, entries_in, walk}
 use Rattle.histar_flat.specs.FlatCalls.{is_below_root, no_room, no_file, refused, changed, answer, reply_or, flat_or, running, reply_by, flat_by, reply_to, flat_after}
+use Rattle.histar_flat.specs.Laws.{private_file, runs_for}
 use Rattle.histar_flat.proofs.Refusals.{passes_first, passes_later, passed}
 use Rattle.histar_flat.proofs.FileLemmas.{get_other}
-
--- a private file of this owner with these bytes
-abbrev pub private_file : Name → List ℕ → Node
-private_file owner bytes = record { class = Private owner; content = File bytes }
-
--- the process of this name runs, and it is the owner's
-abbrev pub runs_for : Flat → ProcName → Name → Bool
-runs_for f me owner = is_some_and (running f me) (λ p. same p.user owner)
 
 -- a file is made only where nothing stands
 pub made_where_nothing_is : (users : List User) (f : Flat) (me : ProcName) (p : Process) (r : Path) (mode : Mode) → refused users f me p (Create r mode) ≡ None → is_there f r ≡ false

@@ -1,6 +1,5 @@
 -- No reply to others tells what a private file holds: a whole run.
 use Rattle.std.specs.Prelude.{◌≡◌, ◌≢◌, ℕ, Bool, true, false, not, cond, List, [], ◌∷◌, ◌++◌, Option, Some, None, option_map, refl}
-use Rattle.std.specs.List.{list_all}
 use Rattle.std.proofs.Common.{ap, sym, ◌∙◌, subst, inl, inr}
 use Rattle.std.proofs.lemmas.Bool.{and_parts, not-true}
 use Rattle.histar_flat.specs.declared.calls.User.{User}
@@ -17,12 +16,13 @@ use Rattle.histar_flat.specs.FlatState.{Flat, Node, is_some_and, bytes_of, class
 use Rattle.histar_flat.specs.FlatState.Content.{File}
 use Rattle.histar_flat.specs.FlatCalls.{refused, changed, answer, reply_or, flat_or, if_running, running, reply_by, flat_by, reply_to, flat_after}
 use Rattle.histar_flat.specs.Meaning.{Asked, boot, replies_from, flat_end, meaning}
+use Rattle.histar_flat.specs.Laws.{private_file, runs_for, is_login_as, has_no_login_as, IsAway}
 use Rattle.histar_flat.proofs.FileLemmas.{same_path_found, get_other, get_new}
 use Rattle.histar_flat.proofs.Laws.{replies_go_on}
 use Rattle.histar_flat.proofs.FirstProcess.{IsAlone, first_runs, others_are_still}
 use Rattle.histar_flat.proofs.Alike.{ShowAlike, refused_alike}
 use Rattle.histar_flat.proofs.Entries.{shown}
-use Rattle.histar_flat.proofs.PrivateFiles.{private_file, runs_for, private_file_stays, made_elsewhere, read_elsewhere, written_elsewhere}
+use Rattle.histar_flat.proofs.PrivateFiles.{private_file_stays, made_elsewhere, read_elsewhere, written_elsewhere}
 
 -- two states that differ in the bytes of one private file alone
 pub record IsAlikeBut (owner : Name) (q : Path) (f g : Flat) : Type 0 where
@@ -106,21 +106,6 @@ module _ (owner : Name) (q : Path) (f g : Flat) (alike : IsAlikeBut owner q f g)
       by : (r : Option Process) → is_some_and r (λ p. same p.user owner) ≡ false → IsAlikeBut owner q (flat_by users f me r call) (flat_by users g me r call)
       by None i = alike
       by (Some p) i = flat_or_alike users me p call i (refused users f me p call) (refused users g me p call) refl (refused_alike f g shown_alike users me p call)
-
--- a login as this user
-abbrev pub is_login_as : Name → UnixCall → Bool
-is_login_as owner (Login name password) = same name owner
-is_login_as owner (Create r mode) = false
-is_login_as owner (Read r) = false
-is_login_as owner (Write r bytes) = false
-
--- none of the calls is a login as this user
-abbrev pub has_no_login_as : Name → List Asked → Bool
-has_no_login_as owner asked = list_all (λ a. not (is_login_as owner a.call)) asked
-
--- no process that runs is the owner's
-abbrev pub IsAway : Name → Flat → Type 0
-IsAway owner f = (me : ProcName) → runs_for f me owner ≡ false
 
 module _ (owner : Name) where
   -- a process of another user is not the owner's, whether it runs or not

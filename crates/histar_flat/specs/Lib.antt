@@ -9,3 +9,4 @@ pub mod Classes
 pub mod FlatState
 pub mod FlatCalls
 pub mod Meaning
+pub mod Laws
