@@ -1,3 +1,4 @@
+pub mod LabellingLemmas
 pub mod Files
 pub mod NewFiles
 pub mod Owners

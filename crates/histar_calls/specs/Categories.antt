@@ -2,9 +2,9 @@
 use Rattle.std.specs.Prelude.{◌≡◌, ℕ, ◌+◌, ◌*◌, ◌<◌, ◌≤◌, Bool, true, false}
 use Rattle.histar_flat.specs.declared.calls.Mode.{Mode}
 use Rattle.histar_flat.specs.declared.calls.Mode.TheVariants.{Private, Readable}
-use Rattle.histar_label.specs.declared.levels.Level.TheVariants.{L0, L1, L3}
 use Rattle.histar_label.specs.Level.{is_star}
-use Rattle.histar_label.specs.Levels.{Levels, level_of, constant, with_level}
+use Rattle.histar_label.specs.Levels.{Levels, level_of}
+use Rattle.histar_calls.specs.Labelling.{written_by, secret_of}
 
 -- boot makes two categories for nobody, who is number 0, and two for each user in turn; this is the first of them
 abbrev pub read_category : ℕ → ℕ
@@ -27,5 +27,5 @@ pub record IsUserOf (own : Levels) (users user : ℕ) : Type 0 where
 
 -- the label of a user's file: everyone may read a readable one, and its owner alone a private one; its owner alone writes it
 abbrev pub file_label : Mode → ℕ → Levels
-file_label Readable user = with_level (constant L1) (write_category user) L0
-file_label Private user = with_level (with_level (constant L1) (write_category user) L0) (read_category user) L3
+file_label Readable user = written_by (write_category user)
+file_label Private user = secret_of (read_category user) (write_category user)

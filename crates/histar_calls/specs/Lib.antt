@@ -1,3 +1,4 @@
+pub mod Labelling
 pub mod Categories
 pub mod Plans
 pub mod Follows

@@ -1,11 +1,27 @@
-//! The labels of files.
+//! Labels by their exceptions, and the labels of files.
 ghost use Rattle.std.specs.Prelude.{◌≡◌, ℕ, IfOk};
 ghost use Rattle.histar_calls.specs.Categories.{IsUserOf, file_label};
+ghost use Rattle.histar_calls.specs.Labelling.{labelled};
 
 use crate::places::{read_category, write_category};
 use histar_flat::Mode;
-use histar_label::{Label, Level};
+use histar_label::{Category, Label, Level};
 use std::alloc::{AllocError, Global};
+
+/// A label with one level for all categories but for a few.
+pub fn label_of(
+    alloc: Global,
+    default: Level,
+    exceptions: &[(Category, Level)],
+) -> Result<Label, AllocError>
+    ensures { IfOk result (λ v. v ≡ labelled exceptions.now default) }
+{
+    let mut label = Label::new(alloc, default);
+    for &(category, level) in exceptions {
+        label = label.with(category, level)?;
+    }
+    Ok(label)
+}
 
 /// The number of the user whose read category a thread owns by its label: 0, nobody's, where it owns
 /// none. That it is the thread's user is read off its label alone, as the kernel does.
@@ -26,9 +42,9 @@ pub fn label_made(alloc: Global, own: &Label, users: u8, mode: Mode) -> Result<L
     ensures { IfOk result (λ label. (user : ℕ) × IsUserOf own.now users user × (label ≡ file_label mode user)) }
 {
     let user = user_of(own, users);
-    let readable = Label::new(alloc, Level::L1).with(write_category(user), Level::L0)?;
+    let (read, write) = (read_category(user), write_category(user));
     match mode {
-        Mode::Readable => Ok(readable),
-        Mode::Private => readable.with(read_category(user), Level::L3),
+        Mode::Readable => label_of(alloc, Level::L1, &[(write, Level::L0)]),
+        Mode::Private => label_of(alloc, Level::L1, &[(read, Level::L3), (write, Level::L0)]),
     }
 }

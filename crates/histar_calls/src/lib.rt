@@ -9,6 +9,7 @@ mod stopping;
 mod using;
 mod walking;
 
+pub use labels::label_of;
 pub use making::create;
 pub use places::{Places, read_category, write_category};
 pub use refusals::told;

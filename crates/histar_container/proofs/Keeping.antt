@@ -290,10 +290,6 @@ pub kept_next : {Id : Type 0} (labels : Id → Option Levels) (objects : Objects
     → AllStand labels (objects_of fs) → IsUnusedFrom objects next → objects_of (shown labels fs) ≡ put objects next o → IsKept labels fs (next + 1)
 kept_next labels objects fs next o stand unused e = record { stand = stand; unused = subst (λ (f : Objects Levels). IsUnusedFrom f (next + 1)) (sym e) (unused_put objects next unused next (next + 1) o (omega arith) (omega arith)); positive = omega arith }
 
--- what a call that gives the next number to no object keeps
-pub kept_skip : {Id : Type 0} (labels : Id → Option Levels) (es : List (ℕ × Object Id)) (next : ℕ) → IsKept labels es next → IsKept labels es (next + 1)
-kept_skip labels es next kept = record { stand = kept.stand; unused = record { none = λ q le. kept.unused.none q (omega arith) }; positive = omega arith }
-
 -- what a call that sets a thread's labels keeps, whether it did or not
 pub kept_own : {Id A E : Type 0} (labels : Id → Option Levels) (objects : Objects Levels) (fs : List (ℕ × Object Id)) (next t : ℕ) (o : Object Levels) (r : Result A E)
     → AllStand labels (objects_of fs) → IsUnusedFrom objects next → 0 < next → is_thread (objects t) ≡ true → OnOk r (objects_of (shown labels fs) ≡ put objects t o) → OnErr r (objects_of (shown labels fs) ≡ objects) → IsKept labels fs next

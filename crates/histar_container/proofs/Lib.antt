@@ -11,4 +11,3 @@ pub mod Gathering
 pub mod Removals
 pub mod Roots
 pub mod KeepingTrees
-pub mod OwnSteps

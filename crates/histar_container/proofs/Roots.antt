@@ -73,7 +73,7 @@ module _ {L : Type 0} (root next : ℕ) (o : Object L) (below : root < next) (le
   pub tree_root : IsTree (put no_objects root o) root next
   tree_root = record {
     naming = root_naming;
-    laid = laid_itself (put no_objects root o) next root_expected root_naming (record {
+    laid = laid_itself nat_eq (put no_objects root o) next root_expected root_naming (record {
       as_expected = root_as_expected;
       numbered = root_numbered;
       addressed = root_addressed;

@@ -1,5 +1,5 @@
 -- A table whose objects are a tree stays one: an object is put or changed, a new one is linked, a tree is cut off.
-use Rattle.std.proofs.Common.{◌≡◌, ◌≢◌, ℕ, ◌+◌, nat_eq, true, false, List, [], ◌∷◌, Option, None, Some, arith, ◌⊎◌, inl, inr, refl, sym, ap, ◌∙◌, subst, if◌then◌else◌}
+use Rattle.std.proofs.Common.{◌≡◌, ◌≢◌, ℕ, ◌+◌, nat_eq, Bool, true, false, List, [], ◌∷◌, Option, None, Some, arith, ◌⊎◌, inl, inr, refl, sym, ap, ◌∙◌, subst, if◌then◌else◌}
 use Rattle.std.specs.Prelude.{option_map, option_and_then}
 use Rattle.std.specs.FinSet as set
 use mathlib.Core.Bool.{true≢false, false≢true}
@@ -17,9 +17,9 @@ use Rattle.histar_container.proofs.Moves.{next_unused}
 use Rattle.histar_container.proofs.Cutting.{some_left}
 use Rattle.histar_container.proofs.TableMoves.{put_here, put_other, new_there, new_holder, new_other, laid_put, laid_new, laid_without}
 
-module _ {L : Type 0} where
+module _ {L X : Type 0} (same_step : X → X → Bool) where
   -- objects that are laid out in some way are laid out as themselves
-  pub laid_itself : (objects : Objects L) (next : ℕ) (expected : Address ℕ → Option (Object L)) (naming : Naming ℕ) → IsLaid nat_eq objects next expected naming → IsLaid nat_eq objects next (objects_at objects naming) naming
+  pub laid_itself : (objects : Objects L) (next : ℕ) (expected : Address X → Option (Object L)) (naming : Naming X) → IsLaid same_step objects next expected naming → IsLaid same_step objects next (objects_at objects naming) naming
   laid_itself objects next expected naming laid = record {
     as_expected = λ q. by q (naming.address q) refl;
     numbered = laid.numbered;
@@ -29,10 +29,11 @@ module _ {L : Type 0} where
     unused = laid.unused;
   }
     where
-      by : (q : ℕ) (y : Option (Address ℕ)) → naming.address q ≡ y → objects q ≡ wanted (objects_at objects naming) y
+      by : (q : ℕ) (y : Option (Address X)) → naming.address q ≡ y → objects q ≡ wanted (objects_at objects naming) y
       by q None i = laid.as_expected q ∙ ap (wanted expected) i
       by q (Some a) i = sym (ap (option_and_then objects) (laid.numbered q a i))
 
+module _ {L : Type 0} where
   there_not_none : (o : Option (Object L)) → is_there o ≡ true → o ≡ None → ⊥
   there_not_none o t e = false≢true (sym (ap is_there e) ∙ t)
 
@@ -129,7 +130,7 @@ module _ {L : Type 0} where
         let at_n = address_of n t in
         record {
           naming = tree.naming;
-          laid = laid_itself (put objects n o) next _ tree.naming (laid_put nat_eq eqb_tells objects next (objects_at objects tree.naming) tree.naming tree.laid n at_n.0 o at_n.1 same_links);
+          laid = laid_itself nat_eq (put objects n o) next _ tree.naming (laid_put nat_eq eqb_tells objects next (objects_at objects tree.naming) tree.naming tree.laid n at_n.0 o at_n.1 same_links);
           rooted = tree.rooted;
           own_step = tree.own_step;
           filled = λ q a i. elim (eqb_tells q n) [
@@ -162,7 +163,7 @@ module _ {L : Type 0} where
         let apart = not_next d at_d.0 at_d.1 in
         record {
           naming = with_number nat_eq tree.naming next (next ∷ at_d.0);
-          laid = laid_itself (with_new objects d next o) (next + 1) _ (with_number nat_eq tree.naming next (next ∷ at_d.0))
+          laid = laid_itself nat_eq (with_new objects d next o) (next + 1) _ (with_number nat_eq tree.naming next (next ∷ at_d.0))
               (laid_new nat_eq eqb_tells objects next (objects_at objects tree.naming) tree.naming tree.laid d at_d.0 next o at_d.1 (free at_d.0 (tree.naming.number (next ∷ at_d.0)) refl) container leaf);
           rooted = elim (eqb_tells root next) [
             | inl e ↦ absurd (not_next root [] tree.rooted e.1)
@@ -196,7 +197,7 @@ module _ {L : Type 0} where
         let l = link_addresses d o k in
         record {
           naming = without_below nat_eq tree.naming (l.step ∷ l.above);
-          laid = laid_itself new next _ (without_below nat_eq tree.naming (l.step ∷ l.above)) (laid_without nat_eq eqb_tells objects next (objects_at objects tree.naming) tree.naming tree.laid new d o l.above l.step is_cut l.at_linked l.at_holder);
+          laid = laid_itself nat_eq new next _ (without_below nat_eq tree.naming (l.step ∷ l.above)) (laid_without nat_eq eqb_tells objects next (objects_at objects tree.naming) tree.naming tree.laid new d o l.above l.step is_cut l.at_linked l.at_holder);
           rooted = ap (λ y. if is_under nat_eq (l.step ∷ l.above) y then None else y) tree.rooted;
           own_step = λ q x a i. tree.own_step q x a (some_left _ _ (x ∷ a) i).1;
           filled = λ q a i.

@@ -18,6 +18,10 @@ abbrev pub wanted : {L X : Type 0} → (Address X → Option (Object L)) → Opt
 wanted expected None = None
 wanted expected (Some a) = expected a
 
+-- the objects at addresses are the ones at the numbers of these
+abbrev pub objects_at : {L X : Type 0} → Objects L → Naming X → Address X → Option (Object L)
+objects_at objects naming a = option_and_then objects (naming.number a)
+
 module _ {X : Type 0} (same_step : X → X → Bool) where
   -- two addresses are the same, step by step
   abbrev pub same : Address X → Address X → Bool
@@ -85,10 +89,6 @@ module _ {L : Type 0} where
   pub data Reached (objects : Objects L) (o : ℕ) : ℕ → Type 0 where
     here : Reached objects o o
     there : (q c : ℕ) → Reached objects o q → set.contains (links_in (objects q)) c ≡ true → Reached objects o c
-
-  -- the objects at addresses are the ones at the numbers of these
-  abbrev pub objects_at : Objects L → Naming ℕ → Address ℕ → Option (Object L)
-  objects_at objects naming a = option_and_then objects (naming.number a)
 
   -- links lead from the root to each object that there is, in one way, and to no number without an object
   pub record IsTree (objects : Objects L) (root next : ℕ) : Type 0 where

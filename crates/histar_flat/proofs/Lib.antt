@@ -1,6 +1,7 @@
 pub mod PaddingLemmas
 pub mod WordLemmas
 pub mod Refusals
+pub mod Finding
 pub mod FileLemmas
 pub mod Laws
 pub mod FirstProcess

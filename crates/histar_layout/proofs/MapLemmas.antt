@@ -14,6 +14,7 @@ use Rattle.std.specs.FinMap.{IsAntisymmetric, empty, get, insert, len, contains_
 use Rattle.std.specs.FinMap.Entries.{below_all, by_order, put}
 use Rattle.std.proofs.lemmas.List.{nil_from_length}
 use Rattle.histar_flat.specs.Words.{Name}
+use Rattle.histar_flat.proofs.Finding.{both, first, second, less, equal, find_first, find_later}
 use Rattle.histar_layout.specs.declared.entry.Target.{Target}
 use Rattle.histar_layout.specs.Directory.{Entries, IsEntry, IsListable}
 
@@ -24,29 +25,6 @@ by_bytes = slice_cmp nat_cmp
 -- only equal names tie
 pub antisymmetric : IsAntisymmetric by_bytes
 antisymmetric = slice_cmp-IsAntisymmetric nat_cmp-IsAntisymmetric
-
--- ---- tests
-
--- two tests that hold
-both : (a b : Bool) → T a → T b → T (a && b)
-both true b p q = q
-both false b p q = absurd p
-
--- the first of two tests
-first : (a b : Bool) → T (a && b) → T a
-first true b p = tt
-first false b p = absurd p
-
--- the second of two tests
-second : (a b : Bool) → T (a && b) → T b
-second true b p = p
-second false b p = absurd p
-
--- a test for less
-less : (o : Ordering) → T (is_lt o) → o ≡ Less
-less Less p = refl
-less Equal p = absurd p
-less Greater p = absurd p
 
 -- ---- the entries of a `BTreeMap`
 
@@ -77,15 +55,22 @@ unfolding IsStrictlySortedBy
 rising [] h = tt
 rising (e ∷ es) h = both _ _ (below e.0 es h.0) (rising es h.1)
 
--- entries by rising names are those of the directory that they make
-pub entries_made : (es : List (Name × Target)) → IsStrictlySortedBy by_bytes (keys_of es) → entries (from_entries {R = by_bytes} es) ≡ es
-entries_made es h =
-    let same : from_entries {R = by_bytes} es ≡ from_sorted es = same_map nat_list_cmp_total antisymmetric _ _ (λ q. get-from_entries nat_list_cmp_total es q ∙ sym (get-from_sorted by_bytes es q (rising es h))) in
-    ap entries same ∙ entries-from_sorted by_bytes es (rising es h)
+-- entries in order are those of the directory that they make
+sorted_made : (es : List (Name × Target)) → T (is_sorted by_bytes es) → entries (from_entries {R = by_bytes} es) ≡ es
+sorted_made es h =
+    let same : from_entries {R = by_bytes} es ≡ from_sorted es = same_map nat_list_cmp_total antisymmetric _ _ (λ q. get-from_entries nat_list_cmp_total es q ∙ sym (get-from_sorted by_bytes es q h)) in
+    ap entries same ∙ entries-from_sorted by_bytes es h
 
 -- and they are as many
+pub len_sorted : (es : List (Name × Target)) → T (is_sorted by_bytes es) → len (from_entries {R = by_bytes} es) ≡ length es
+len_sorted es h = len-entries (from_entries es) ∙ ap length (sorted_made es h)
+
+-- so are entries by rising names
+pub entries_made : (es : List (Name × Target)) → IsStrictlySortedBy by_bytes (keys_of es) → entries (from_entries {R = by_bytes} es) ≡ es
+entries_made es h = sorted_made es (rising es h)
+
 pub len_made : (es : List (Name × Target)) → IsStrictlySortedBy by_bytes (keys_of es) → length es ≡ len (from_entries {R = by_bytes} es)
-len_made es h = sym (len-entries (from_entries es) ∙ ap length (entries_made es h))
+len_made es h = sym (len_sorted es (rising es h))
 
 -- ---- what a segment can hold
 
@@ -127,12 +112,6 @@ one_cleared es fs k h = same_map nat_list_cmp_total antisymmetric _ _ (λ q.
     get_made fs q ∙ h q ∙ ap (λ b. cond b None (lookup (is_at (by_bytes q)) es)) ((eq_by_cmp_equiv nat_list_cmp_total).symm k q)
     ∙ sym (get-remove nat_list_cmp_total (from_entries es) k q ∙ ap (cond (is_at (by_bytes q) k) None) (get_made es q)))
 
--- a test for ties
-equal : (o : Ordering) → is_eq o ≡ true → o ≡ Equal
-equal Less e = absurd cc
-equal Equal e = refl
-equal Greater e = absurd cc
-
 -- an entry that is found is one
 found_entry : (es : List (Name × Target)) (q : Name) (v : Target) → AllByRecursion IsEntry es → find by_bytes q es ≡ Some v → IsEntry (q, v)
 found_entry [] q v h e = absurd cc
@@ -145,29 +124,12 @@ found_entry (x ∷ es) q v h e =
       | false ↦ λ t f. found_entry es q v h.1 f
     ] refl e
 
--- a name below all entries isn't found
-not_found_below : (x : Name) (es : List (Name × Target)) → T (below_all by_bytes x es) → find by_bytes x es ≡ None
-not_found_below x [] h = refl
-not_found_below x (e ∷ es) h =
-    ap (λ o. cond (is_eq o) (Some e.1) (find by_bytes x es)) (less (by_bytes x e.0) (first _ (below_all by_bytes x es) h)) ∙ not_found_below x es (second (is_lt (by_bytes x e.0)) _ h)
-
--- what is found in the rest is found
-found_later : (e : Name × Target) (es : List (Name × Target)) (q : Name) (v : Target) → T (below_all by_bytes e.0 es) → find by_bytes q es ≡ Some v → find by_bytes q (e ∷ es) ≡ Some v
-found_later e es q v h f =
-    elim (eq_by_cmp by_bytes q e.0) as (λ b. eq_by_cmp by_bytes q e.0 ≡ b → cond b (Some e.1) (find by_bytes q es) ≡ Some v) [
-      | true ↦ λ t.
-          let name : q ≡ e.0 = antisymmetric q e.0 (equal (by_bytes q e.0) t) in
-          let none : find by_bytes q es ≡ None = ap (λ (k : Name). find by_bytes k es) name ∙ not_found_below e.0 es h in
-          absurd cc
-      | false ↦ λ t. f
-    ] refl
-
 -- where what is found is an entry, each is
 each_from_find : (es : List (Name × Target)) → T (is_sorted by_bytes es) → ((q : Name) (v : Target) → find by_bytes q es ≡ Some v → IsEntry (q, v)) → AllByRecursion IsEntry es
 each_from_find [] h p = tt
 each_from_find (e ∷ es) h p = (
-  p e.0 e.1 (ap (λ o. cond (is_eq o) (Some e.1) (find by_bytes e.0 es)) (tied_itself nat_list_cmp_total e.0)),
-  each_from_find es (second (below_all by_bytes e.0 es) _ h) (λ q v f. p q v (found_later e es q v (first _ (is_sorted by_bytes es) h) f)),
+  p e.0 e.1 (find_first nat_list_cmp_total antisymmetric e.0 e.1 es),
+  each_from_find es (second (below_all by_bytes e.0 es) _ h) (λ q v f. p q v (find_later nat_list_cmp_total antisymmetric e.0 e.1 es q v (first _ (is_sorted by_bytes es) h) f)),
 )
 
 -- what is not cleared was there

@@ -11,7 +11,8 @@ use Rattle.histar_rules.specs.declared.raw.RawCall.TheVariants as calls
 use Rattle.histar_rules.specs.Sound.{root_number}
 use Rattle.histar_syscall.specs.Traced.{Traced, Called}
 use Rattle.histar_calls.specs.Categories.{write_category}
-use Rattle.histar_login.specs.Start.{written_by, boot_category, container, user_table}
+use Rattle.histar_calls.specs.Labelling.{written_by}
+use Rattle.histar_login.specs.Start.{boot_category, container, user_table}
 use Rattle.histar_login.specs.Boot.{boot_thread_number}
 use Rattle.histar_login.specs.Booting.{Part, and_then, next_number, Boots, directory_part}
 use Rattle.histar_login.proofs.Stages.{boots_same}

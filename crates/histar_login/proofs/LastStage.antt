@@ -8,7 +8,8 @@ use Rattle.histar_rules.specs.declared.raw.RawCall.TheVariants as calls
 use Rattle.histar_rules.specs.Sound.{root_number}
 use Rattle.histar_syscall.specs.Traced.{Traced, state, Called}
 use Rattle.histar_syscall.proofs.Runs.{granted_more, made_run}
-use Rattle.histar_login.specs.Start.{written_by, boot_category, own_read_category, container, state_with, of_users, of_directory, start_state}
+use Rattle.histar_calls.specs.Labelling.{written_by}
+use Rattle.histar_login.specs.Start.{boot_category, own_read_category, container, state_with, of_users, of_directory, start_state}
 use Rattle.histar_login.specs.Boot.{boot_calls, boot_thread_number, IsBooted}
 use Rattle.histar_login.specs.Booting.{Part, and_then, nothing_yet, next_number, Boots, BootsOn, IsAnywhere, IsBefore, IsBeforeBoth, two_categories, categories_part, users_part, directory_part, process_part}
 use Rattle.histar_login.proofs.Stages.{boots_same, length-numbered}

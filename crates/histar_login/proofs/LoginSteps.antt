@@ -35,7 +35,7 @@ use Rattle.histar_calls.specs.Follows.{errno_of, or_no_label}
 use Rattle.histar_calls.specs.Walks.{IsTold}
 use Rattle.histar_calls.specs.Replies.{is_no_access, is_no_permission, Replies}
 use Rattle.histar_calls.proofs.Telling.{replies_granted, replies_refused}
-use Rattle.histar_login.specs.Start.{owner_of, cleared_of}
+use Rattle.histar_calls.specs.Labelling.{owner_of, cleared_of}
 use Rattle.histar_login.specs.Login.{gate_errno, password_of, gate_of, entering, label_if, clearance_if, login_calls, reply_if, own_of, most_of, is_password, LoginStops, LoginCompletes, LogsInAs, BecomesUser, EntersGate}
 
 module _ (t : ℕ) where
@@ -112,13 +112,7 @@ two_granted t old new one two granted = (elim granted.1 as (λ (x : Option Denie
   | Some denied ↦ λ called rest. absurd cc
 ]) granted.2 granted.3
 
--- a raw call that was refused changed nothing
-refused_same : (t : ℕ) (old new : Traced) (call : RawCall) (r : RawCall × Denied) → Made old new t (call ∷ []) (Some r) → state new ≡ state old
-refused_same t old new call r made = (elim made.1 as (λ (x : Option Denied). Called old made.0 t call x → GoesOn x call (Made made.0 new t [] (Some r)) made.0 new (Some r) → state new ≡ state old) [
-  | None ↦ λ called rest. absurd cc
-  | Some denied ↦ λ called rest. rest.0.state ∙ called.state
-]) made.2 made.3
-
+-- neither reply of a login tells a refusal by label or by range
 no_access : (right : Bool) → is_no_access (reply_if right) ≡ false
 no_access true = refl
 no_access false = refl
@@ -186,9 +180,6 @@ module _ (users i t : ℕ) (password : List ℕ) (old : Traced) where
       made = made_to_gate new refused.0 refused.1;
       told = refused.2;
     })
-
-    pub gate_keeps : (new : Traced) (errno : Errno) → EntersGate asked new t (entering i own most) (Ok (Some errno)) → state new ≡ state old
-    gate_keeps new errno refused = refused_same t asked new (entering i own most) (entering i own most, refused.0) refused.1 ∙ asks.state
 
     module _ (entered : Traced) (enters : Granted asked entered t (entering i own most ∷ [])) where
       granted_entered : Granted old entered t (OwnLabel ∷ entering i own most ∷ [])

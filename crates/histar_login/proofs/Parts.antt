@@ -17,7 +17,8 @@ use Rattle.histar_rules.specs.Sound.{root_number}
 use Rattle.histar_syscall.specs.Traced.{Traced, state, Called, Answered}
 use Rattle.histar_syscall.proofs.Runs.{granted_none, granted_more}
 use Rattle.histar_container.specs.Kept.{CutsOff}
-use Rattle.histar_login.specs.Start.{state_with, container, written_by, boot_category}
+use Rattle.histar_calls.specs.Labelling.{written_by}
+use Rattle.histar_login.specs.Start.{state_with, container, boot_category}
 use Rattle.histar_login.specs.Boot.{boot_thread_number}
 use Rattle.histar_login.specs.Booting.{Part, nothing_yet, next_number, next_made, table_of, Boots}
 use Rattle.histar_login.proofs.Tables.{changed, changed_behind, with_category_is, added_is}

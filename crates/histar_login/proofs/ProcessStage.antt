@@ -10,7 +10,8 @@ use Rattle.histar_rules.specs.declared.raw.RawCall.{RawCall}
 use Rattle.histar_rules.specs.declared.raw.RawCall.TheVariants as calls
 use Rattle.histar_rules.specs.Sound.{root_number}
 use Rattle.histar_syscall.specs.Traced.{Traced, Called}
-use Rattle.histar_login.specs.Start.{written_by, secret_of, owner_of, cleared_of, own_read_category, own_write_category, container, segment, process_bytes}
+use Rattle.histar_calls.specs.Labelling.{written_by, secret_of, owner_of, cleared_of}
+use Rattle.histar_login.specs.Start.{own_read_category, own_write_category, container, segment, process_bytes}
 use Rattle.histar_login.specs.Boot.{boot_thread_number}
 use Rattle.histar_login.specs.Booting.{Part, and_then, next_number, next_made, Boots, process_part}
 use Rattle.histar_login.proofs.Stages.{boots_same}

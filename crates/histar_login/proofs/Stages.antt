@@ -13,7 +13,8 @@ use Rattle.histar_rules.specs.declared.raw.RawCall.TheVariants as calls
 use Rattle.histar_rules.specs.Sound.{root_number}
 use Rattle.histar_syscall.specs.Traced.{Traced, Called}
 use Rattle.histar_calls.specs.Categories.{read_category, write_category}
-use Rattle.histar_login.specs.Start.{numbered, secret_of, owner_of, cleared_of, of_user, of_users}
+use Rattle.histar_calls.specs.Labelling.{secret_of, owner_of, cleared_of}
+use Rattle.histar_login.specs.Start.{numbered, of_user, of_users}
 use Rattle.histar_login.specs.Boot.{boot_thread_number, category_calls, user_calls}
 use Rattle.histar_login.specs.Booting.{Part, and_then, next_number, Boots, BootsOn, IsAnywhere, IsBefore, two_categories, categories_part, user_part, users_part}
 use Rattle.histar_login.proofs.StartLemmas.{numbered_next, range-suc}

@@ -9,19 +9,8 @@ use Rattle.histar_label.specs.Levels.{Levels, with_level}
 use Rattle.histar_flat.specs.Words.{Name}
 use Rattle.std.specs.Int.{w64, to_be_bytes}
 use Rattle.histar_calls.specs.Categories.{read_category, write_category}
-use Rattle.histar_login.specs.Start.{with_levels, labelled, numbered, user_entry, user_table, entry_of}
-
--- the front of a list with the next item
-take_next : {A : Type 0} (xs : List A) (i : ℕ) (x : A) → i < length xs → x ≡ get_or xs i x → take (i + 1) xs ≡ take i xs ++ x ∷ []
-take_next xs i x lt is = ap (λ k. take k xs) (add-one i) ∙ take-suc xs i x lt ∙ ap (λ y. take i xs ++ y ∷ []) (sym is)
-
-with_levels-more : (L : Levels) (es : List (ℕ × Level)) (e : ℕ × Level) → with_levels L (es ++ e ∷ []) ≡ with_level (with_levels L es) e.0 e.1
-with_levels-more L [] e = refl
-with_levels-more L (x ∷ es) e = with_levels-more (with_level L x.0 x.1) es e
-
--- a label with one exception more
-pub labelled_next : (es : List (ℕ × Level)) (d : Level) (i : ℕ) (e : ℕ × Level) → i < length es → e ≡ get_or es i e → labelled (take (i + 1) es) d ≡ with_level (labelled (take i es) d) e.0 e.1
-labelled_next es d i e lt is = ap (λ (l : List (ℕ × Level)). labelled l d) (take_next es i e lt is) ∙ with_levels-more _ (take i es) e
+use Rattle.histar_calls.proofs.LabellingLemmas.{take_next}
+use Rattle.histar_login.specs.Start.{numbered, user_entry, user_table, entry_of}
 
 -- numbers in a row with the next one
 pub range-suc : (a n : ℕ) → range_with_len a (suc n) ≡ range_with_len a n ++ (a + n) ∷ []

@@ -9,7 +9,8 @@ use Rattle.histar_rules.specs.Sound.{root_number}
 use Rattle.histar_syscall.specs.Traced.{Traced, state}
 use Rattle.histar_syscall.specs.Runs.{Granted}
 use Rattle.histar_calls.specs.Categories.{read_category, write_category}
-use Rattle.histar_login.specs.Start.{numbered, written_by, secret_of, owner_of, cleared_of, boot_category, own_read_category, own_write_category, user_table, process_bytes}
+use Rattle.histar_calls.specs.Labelling.{written_by, secret_of, owner_of, cleared_of}
+use Rattle.histar_login.specs.Start.{numbered, boot_category, own_read_category, own_write_category, user_table, process_bytes}
 
 -- the boot thread, which makes all raw calls of boot
 abbrev pub boot_thread_number : ℕ

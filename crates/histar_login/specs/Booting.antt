@@ -10,7 +10,8 @@ use Rattle.histar_rules.specs.declared.raw.RawCall.{RawCall}
 use Rattle.histar_rules.specs.declared.raw.RawCall.TheVariants.{MakeCategory}
 use Rattle.histar_syscall.specs.Traced.{Traced, state}
 use Rattle.histar_syscall.specs.Runs.{Granted}
-use Rattle.histar_login.specs.Start.{numbered, written_by, boot_category, container, state_with, of_user, of_users, of_directory, of_process}
+use Rattle.histar_calls.specs.Labelling.{written_by}
+use Rattle.histar_login.specs.Start.{numbered, boot_category, container, state_with, of_user, of_users, of_directory, of_process}
 use Rattle.histar_login.specs.Boot.{boot_thread_number, category_calls, user_calls, directory_calls, process_calls}
 
 -- A part of boot: its raw calls, the numbers that the root container links by them, the objects that they make, and how many

@@ -22,7 +22,8 @@ use Rattle.histar_syscall.specs.Runs.{Made, Granted}
 use Rattle.histar_calls.specs.declared.stopping.Stopped.{Stopped}
 use Rattle.histar_calls.specs.Categories.{read_category, write_category}
 use Rattle.histar_calls.specs.Follows.{errno_of, or_no_label}
-use Rattle.histar_login.specs.Start.{labelled, owner_of, cleared_of, own_read_category, own_write_category}
+use Rattle.histar_calls.specs.Labelling.{labelled, owner_of, cleared_of}
+use Rattle.histar_login.specs.Start.{own_read_category, own_write_category}
 
 -- the place of the user with this name
 abbrev pub place_of : List User → Name → Option ℕ

@@ -6,45 +6,19 @@ use Rattle.std.specs.List.{range_with_len}
 use Rattle.std.specs.FinSet as set
 use Rattle.histar_flat.specs.declared.calls.User.{User}
 use Rattle.histar_flat.specs.Words.{Name}
-use Rattle.histar_label.specs.declared.levels.Level.{Level}
-use Rattle.histar_label.specs.declared.levels.Level.TheVariants.{Star, L0, L1, L2, L3}
-use Rattle.histar_label.specs.Levels.{Levels, constant, with_level}
+use Rattle.histar_label.specs.Levels.{Levels}
 use Rattle.histar_object.specs.declared.objects.Entry.TheVariants.{Login}
 use Rattle.histar_object.specs.declared.objects.Kind.TheVariants.{Segment, Container, Thread, Gate}
 use Rattle.histar_object.specs.Objects.{Objects}
 use Rattle.histar_object.specs.State.{State, Found}
 use Rattle.histar_calls.specs.declared.places.Places.{Places}
 use Rattle.histar_calls.specs.Categories.{read_category, write_category}
+use Rattle.histar_calls.specs.Labelling.{written_by, secret_of, owner_of, cleared_of}
 
 -- what f gives for each user with the user's number, one after another, where the first user has the number i
 abbrev pub numbered : {A : Type 0} → (ℕ → User → List A) → ℕ → List User → List A
 numbered f i [] = []
 numbered f i (user ∷ users) = f i user ++ numbered f (i + 1) users
-
--- a label with these levels at these categories in turn, and at all others as before
-abbrev pub with_levels : Levels → List (ℕ × Level) → Levels
-with_levels L [] = L
-with_levels L (e ∷ es) = with_levels (with_level L e.0 e.1) es
-
--- the label `{c:l, .., d}`: these levels at these categories, and d at all others
-abbrev pub labelled : List (ℕ × Level) → Level → Levels
-labelled exceptions default = with_levels (constant default) exceptions
-
--- `{c:0, 1}`: everyone may read it, and the owner of c alone may write it
-abbrev pub written_by : ℕ → Levels
-written_by c = labelled ((c, L0) ∷ []) L1
-
--- `{r:3, w:0, 1}`: the owner of r alone may read it, and the owner of w alone may write it
-abbrev pub secret_of : ℕ → ℕ → Levels
-secret_of r w = labelled ((r, L3) ∷ (w, L0) ∷ []) L1
-
--- `{r:*, w:*, 1}`: it owns r and w
-abbrev pub owner_of : ℕ → ℕ → Levels
-owner_of r w = labelled ((r, Star) ∷ (w, Star) ∷ []) L1
-
--- `{r:3, w:3, 2}`: the clearance of what owns r and w
-abbrev pub cleared_of : ℕ → ℕ → Levels
-cleared_of r w = labelled ((r, L3) ∷ (w, L3) ∷ []) L2
 
 -- the category that the boot thread owned alone, so that nobody owns it now
 abbrev pub boot_category : ℕ

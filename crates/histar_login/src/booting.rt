@@ -4,10 +4,10 @@ ghost use Rattle.histar_rules.specs.Sound.{root_number};
 ghost use Rattle.histar_syscall.specs.Traced.{state};
 ghost use Rattle.histar_login.specs.Boot.{IsBooted, boot_thread_number};
 ghost use Rattle.histar_login.specs.Booting.{BootsOn, Tells, IsAnywhere, IsBefore, IsBeforeBoth, two_categories, categories_part, user_part, users_part, directory_part, process_part};
-ghost use Rattle.histar_login.specs.Start.{labelled, own_read_category, own_write_category, user_entry, user_table, process_bytes, start_state, places_of, thread_number};
+ghost use Rattle.histar_login.specs.Start.{own_read_category, own_write_category, user_entry, user_table, process_bytes, start_state, places_of, thread_number};
 
 use histar_base::Bytes;
-use histar_calls::{Places, Stopped, read_category, write_category};
+use histar_calls::{Places, Stopped, label_of, read_category, write_category};
 use histar_flat::User;
 use histar_label::{Category, Label, LabelStore, Level};
 use histar_object::{Entry, ObjId};
@@ -29,21 +29,6 @@ fn boot_thread() -> ObjId
     ensures { result ≡ boot_thread_number }
 {
     ObjId::new(2)
-}
-
-/// A label with one level for all categories but for a few.
-pub fn label_of(
-    alloc: Global,
-    default: Level,
-    exceptions: &[(Category, Level)],
-) -> Result<Label, AllocError>
-    ensures { IfOk result (λ v. v ≡ labelled exceptions.now default) }
-{
-    let mut label = Label::new(alloc, default);
-    for &(category, level) in exceptions {
-        label = label.with(category, level)?;
-    }
-    Ok(label)
 }
 
 /// The category that process 0 owns to keep its secrets, where there are so many users.

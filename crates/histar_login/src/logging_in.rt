@@ -8,11 +8,11 @@ ghost use Rattle.histar_syscall.specs.Runs.{Granted};
 ghost use Rattle.histar_calls.specs.Categories.{read_category, write_category};
 ghost use Rattle.histar_calls.specs.Replies.{Replies};
 ghost use Rattle.histar_login.specs.Login.{place_of, user_label, user_clearance, gate_of, password_of, entering, label_if, clearance_if, reply_if, LogsIn, LogsInAs, BecomesUser, BecomesUserAt, EntersGate, TakesLabels};
-ghost use Rattle.histar_login.specs.Start.{owner_of, cleared_of};
+ghost use Rattle.histar_calls.specs.Labelling.{owner_of, cleared_of};
 
-use crate::booting::{label_of, own_read_category, own_write_category};
+use crate::booting::{own_read_category, own_write_category};
 use histar_base::Bytes;
-use histar_calls::{Stopped, read_category, told, write_category};
+use histar_calls::{Stopped, label_of, read_category, told, write_category};
 use histar_flat::{Errno, Name, Password, Reply, User};
 use histar_label::{Label, LabelStore, Level};
 use histar_object::ObjId;

@@ -25,6 +25,7 @@ use Rattle.histar_login.specs.Start.{places_of, thread_number}
 use Rattle.histar_simulation.specs.LaysOut.{LaysOut}
 use Rattle.histar_simulation.specs.Lines.{AreRows}
 use Rattle.histar_simulation.proofs.Start.{start_lays_out}
+use Rattle.histar_simulation.proofs.Sessions.{run_after, rows_run}
 use Rattle.histar_simulation.proofs.Chains.{entries_of, chain_run, chain_own, granted_run}
 use Rattle.histar_shell.specs.Answers.{Answered, answers_text, calls_of, line_text}
 use Rattle.histar_shell.specs.Machine.{Running, IsStart}
@@ -122,6 +123,9 @@ module _ (script : Reading) (is_list : IsUserList script.users) (can : AreScript
       let these : AreScriptable (calls_of answered.answers) = subst AreScriptable (sym answered.each) can in
       let session = from_start answered.answers end these answered.session in
       let of_boot = boot_trace script.users start starts.booted in
+      let parts = recorded ∙ session.trace ∙ ap (λ (es : List TraceEntry). es ++ session.entries) of_boot.trace in
+      let rows = subst (λ (calls : List CallLine). AreRows script.users (state start.kernel) (boot script.users) (map asked_by calls) session.entries (state end.kernel)) answered.each
+      (subst (λ (us : List User). AreRows us (state start.kernel) (boot script.users) (map asked_by (calls_of answered.answers)) session.entries (state end.kernel)) starts.users session.rows) in
       record {
         script = script;
         is_read = is_read;
@@ -129,14 +133,16 @@ module _ (script : Reading) (is_list : IsUserList script.users) (can : AreScript
         recorded = record {
           of_boot = of_boot.entries;
           of_lines = session.entries;
-          parts = recorded ∙ session.trace ∙ ap (λ (es : List TraceEntry). es ++ session.entries) of_boot.trace;
+          parts = parts;
           start = state start.kernel;
           boot_run = of_boot.run;
           boot_own = of_boot.own;
           boot_lays_out = subst (λ (s : State). LaysOut script.users s (boot script.users)) (sym starts.state) (start_lays_out script.users is_list.some);
           end = state end.kernel;
-          rows = subst (λ (calls : List CallLine). AreRows script.users (state start.kernel) (boot script.users) (map asked_by calls) session.entries (state end.kernel)) answered.each
-              (subst (λ (us : List User). AreRows us (state start.kernel) (boot script.users) (map asked_by (calls_of answered.answers)) session.entries (state end.kernel)) starts.users session.rows);
+          rows = rows;
+          run = subst (λ (es : List TraceEntry). IsRun empty_state es (state end.kernel)) (sym parts)
+              (run_after empty_state (state start.kernel) (state end.kernel) of_boot.entries session.entries of_boot.run
+              (rows_run script.users (state start.kernel) (boot script.users) (map asked_by script.calls) session.entries (state end.kernel) rows));
         };
       }
 

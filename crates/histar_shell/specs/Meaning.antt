@@ -72,8 +72,8 @@ FollowsMeaning old new line process call result =
 abbrev pub ShowsStart : List User → Running → Type 0
 ShowsStart users m = Shows m (boot users)
 
--- The trace of a run: raw calls of boot, by the boot thread on line 0 from the empty kernel on, which leave a state that lays out the
--- flat start; then the raw calls of the lines, each line the row of its call.
+-- The trace of a run: one run of the labelled kernel from its empty state on. It is raw calls of boot, by the boot thread on line 0,
+-- which leave a state that lays out the flat start; then the raw calls of the lines, each line the row of its call.
 pub record IsMeantTrace (script : Reading) (trace : List TraceEntry) : Type 0 where
   pub of_boot : List TraceEntry
   pub of_lines : List TraceEntry
@@ -84,6 +84,7 @@ pub record IsMeantTrace (script : Reading) (trace : List TraceEntry) : Type 0 wh
   pub boot_lays_out : LaysOut script.users start (boot script.users)
   pub end : State
   pub rows : AreRows script.users start (boot script.users) (map asked_by script.calls) of_lines end
+  pub run : IsRun empty_state trace end
 
 -- The reading is of a script, the text of its meaning was written, and the trace is that of the meaning.
 pub record WritesMeaning (old new : Option (List ℕ)) (read : Result Reading Fault) (trace : List TraceEntry) : Type 0 where

@@ -20,19 +20,19 @@ use Rattle.histar_object.specs.declared.objects.Kind.TheVariants.{Segment, Conta
 use Rattle.histar_object.specs.declared.objects.Object.{Object}
 use Rattle.histar_object.specs.Objects.{Objects, put, changed_at, with_new, linking, holding, is_there, is_container}
 use Rattle.histar_object.specs.State.{State, added, with_bytes}
-use Rattle.histar_container.specs.Tree.{Address, Naming, with_number, IsLaid}
+use Rattle.histar_container.specs.Tree.{Address, Naming, with_number, IsLaid, objects_at}
 use Rattle.histar_container.proofs.Addresses.{same_tells, same_itself, same_other}
 use Rattle.histar_container.proofs.Links.{none_linked}
 use Rattle.histar_container.proofs.TableMoves.{changed_here, changed_other, new_there, new_holder, new_other, put_other, laid_new, laid_changed}
-use Rattle.histar_container.proofs.Trees.{kind_held_links}
+use Rattle.histar_container.proofs.Trees.{laid_itself, kind_held_links}
 use Rattle.histar_login.specs.Boot.{boot_thread_number}
-use Rattle.histar_simulation.specs.Addresses.{Step, same_step, found_at, boot_number}
+use Rattle.histar_simulation.specs.Addresses.{Step, same_step, boot_number}
 use Rattle.histar_simulation.specs.Addresses.Step.{Slash, Listing, Named}
 use Rattle.histar_simulation.specs.Labels.{class_label}
 use Rattle.histar_simulation.specs.Directories.{directory_of}
 use Rattle.histar_simulation.specs.LaysOut.{LaysOut, bare, content_kind, labelled_as, node_object, expected}
 use Rattle.histar_simulation.proofs.Steps.{step_tells}
-use Rattle.histar_simulation.proofs.FoundObjects.{laid_found, bare_held, there_held, bare_linked, bare_container_there, changed_none}
+use Rattle.histar_simulation.proofs.FoundObjects.{bare_held, there_held, bare_linked, bare_container_there, changed_none}
 use Rattle.histar_simulation.proofs.Views.{slash_numbered, listing_numbered}
 use Rattle.histar_simulation.proofs.Leads.{entry_leads}
 use Rattle.histar_simulation.proofs.DirectoryLaws.{len_directory}
@@ -122,18 +122,18 @@ module _ (users : List User) (s : State) (f : Flat) (l : LaysOut users s f) wher
           ∙ container_labelled (class_label users root.class) (l.labelled [] root at_root)
 
       -- the tree of objects with the new file
-      linked_tree : IsLaid same_step linked (s.next_object + 1) (found_at linked naming) naming
-      linked_tree = laid_found linked (s.next_object + 1) _ naming
-          (laid_new same_step step_tells s.objects s.next_object (found_at s.objects l.naming) l.naming l.tree slash_number (Slash ∷ []) (Named m) empty_file (l.tree.addressed (Slash ∷ []) slash_number (slash_numbered users s f l)) free is_holder (λ c. sym (none_linked c)))
+      linked_tree : IsLaid same_step linked (s.next_object + 1) (objects_at linked naming) naming
+      linked_tree = laid_itself same_step linked (s.next_object + 1) _ naming
+          (laid_new same_step step_tells s.objects s.next_object (objects_at s.objects l.naming) l.naming l.tree slash_number (Slash ∷ []) (Named m) empty_file (l.tree.addressed (Slash ∷ []) slash_number (slash_numbered users s f l)) free is_holder (λ c. sym (none_linked c)))
 
       -- the directory segment has its number
       listing_now : naming.number (Listing ∷ Slash ∷ []) ≡ Some listing_number
       listing_now = elsewhere (Listing ∷ Slash ∷ []) (λ e. cc) ∙ (listing_numbered users s f l)
 
       -- and once the directory segment has its entry
-      new_tree : IsLaid same_step objects (s.next_object + 1) (found_at objects naming) naming
-      new_tree = laid_found objects (s.next_object + 1) _ naming
-          (laid_changed same_step step_tells linked (s.next_object + 1) (found_at linked naming) naming linked_tree listing_number (Listing ∷ Slash ∷ []) (holding (spelling grown))
+      new_tree : IsLaid same_step objects (s.next_object + 1) (objects_at objects naming) naming
+      new_tree = laid_itself same_step objects (s.next_object + 1) _ naming
+          (laid_changed same_step step_tells linked (s.next_object + 1) (objects_at linked naming) naming linked_tree listing_number (Listing ∷ Slash ∷ []) (holding (spelling grown))
           (linked_tree.addressed (Listing ∷ Slash ∷ []) listing_number listing_now) (λ o. kind_held_links (spelling grown) o.kind))
 
       -- but for links, what was there stays
@@ -144,7 +144,7 @@ module _ (users : List User) (s : State) (f : Flat) (l : LaysOut users s f) wher
       ]
 
       -- at each other address stands what stood there, but for links
-      found_same : (a : Address Step) → a ≢ file_address → a ≢ Listing ∷ Slash ∷ [] → bare (found_at objects naming a) ≡ bare (found_at s.objects l.naming a)
+      found_same : (a : Address Step) → a ≢ file_address → a ≢ Listing ∷ Slash ∷ [] → bare (objects_at objects naming a) ≡ bare (objects_at s.objects l.naming a)
       found_same a other_file other_listing = ap (λ k. bare (option_and_then objects k)) (elsewhere a other_file) ∙ by (l.naming.number a) refl
         where
           apart : (k : ℕ) → l.naming.number a ≡ Some k → k ≢ listing_number
@@ -155,13 +155,13 @@ module _ (users : List User) (s : State) (f : Flat) (l : LaysOut users s f) wher
           by (Some k) is = ap bare (changed_other linked listing_number (holding (spelling grown)) k (apart k is)) ∙ linked_bare k (old_is_not_next k a is)
 
       -- the directory segment has its new bytes
-      found_listing : bare (found_at objects naming (Listing ∷ Slash ∷ [])) ≡ option_map (holding (spelling grown)) (bare (found_at s.objects l.naming (Listing ∷ Slash ∷ [])))
+      found_listing : bare (objects_at objects naming (Listing ∷ Slash ∷ [])) ≡ option_map (holding (spelling grown)) (bare (objects_at s.objects l.naming (Listing ∷ Slash ∷ [])))
       found_listing =
           ap (λ k. bare (option_and_then objects k)) listing_now ∙ ap bare (changed_here linked listing_number (holding (spelling grown))) ∙ bare_held (spelling grown) (linked listing_number)
           ∙ ap (option_map (holding (spelling grown))) (linked_bare listing_number (old_is_not_next listing_number (Listing ∷ Slash ∷ []) (listing_numbered users s f l)) ∙ ap (λ k. bare (option_and_then s.objects k)) (sym (listing_numbered users s f l)))
 
       -- and the new file is empty
-      found_file : bare (found_at objects naming file_address) ≡ Some empty_file
+      found_file : bare (objects_at objects naming file_address) ≡ Some empty_file
       found_file =
           ap (λ k. bare (option_and_then objects k)) at_file
           ∙ ap bare (changed_other linked listing_number (holding (spelling grown)) s.next_object (λ e. old_is_not_next listing_number (Listing ∷ Slash ∷ []) (listing_numbered users s f l) (sym e)) ∙ new_there s.objects s.next_object slash_number empty_file slash_old)
@@ -188,8 +188,8 @@ module _ (users : List User) (s : State) (f : Flat) (l : LaysOut users s f) wher
       ]
 
       -- what stands at an address is what is asked for there
-      new_objects : (a : Address Step) → bare (found_at objects naming a) ≡ expected users after naming.number a
-      new_objects = by_address (λ a. bare (found_at objects naming a) ≡ expected users after naming.number a)
+      new_objects : (a : Address Step) → bare (objects_at objects naming a) ≡ expected users after naming.number a
+      new_objects = by_address (λ a. bare (objects_at objects naming a) ≡ expected users after naming.number a)
           (found_file ∙ sym asked_file)
           (found_listing ∙ ap (option_map (holding (spelling grown))) (l.objects (Listing ∷ Slash ∷ [])) ∙ sym asked_listing)
           (λ a i j. found_same a i j ∙ l.objects a ∙ sym (asked_same a i j))

@@ -18,9 +18,9 @@ use Rattle.histar_flat.proofs.WordLemmas.{short_name}
 use Rattle.histar_layout.specs.declared.entry.Target.{Target}
 use Rattle.histar_layout.specs.declared.entry.Target.TheVariants as targets
 use Rattle.histar_layout.specs.Directory.{Entries, IsEntry, IsListable, entry_bytes, target_bytes, spelling}
-use Rattle.histar_layout.proofs.MapLemmas.{by_bytes, antisymmetric}
+use Rattle.histar_layout.proofs.MapLemmas.{by_bytes, antisymmetric, len_sorted}
 use Rattle.histar_simulation.specs.Directories.{Numbers, target_for, target_in, directory_of}
-use Rattle.histar_simulation.proofs.MapFacts.{first, second, both, find_first, find_behind, find_below, find_later, names_decide}
+use Rattle.histar_flat.proofs.Finding.{first, second, both, find_first, find_behind, find_below, find_later, names_decide}
 
 module _ (number : Numbers) (d : Path) where
   -- the entries of the directory among some, with where each leads
@@ -158,12 +158,6 @@ module _ (number : Numbers) (d : Path) where
             subst (λ b. AsMany n above there es b) (sym t.0) (length_one n (target_for number (n ∷ above, there)) (n, is_dir there) es some rest)
         | inr t ↦ subst (λ b. AsMany n above there es b) (sym t.0) rest
       ]
-
--- a directory in order has the entries that it was made of
-len_sorted : (es : List (Name × Target)) → T (is_sorted by_bytes es) → map.len (map.from_entries {R = by_bytes} es) ≡ length es
-len_sorted es h =
-    let same : map.from_entries {R = by_bytes} es ≡ map.from_sorted es = map.same_map nat_list_cmp_total antisymmetric _ _ (λ q. map.get-from_entries nat_list_cmp_total es q ∙ sym (map.get-from_sorted by_bytes es q h)) in
-    map.len-entries (map.from_entries es) ∙ ap (λ (dir : Entries). length (map.entries dir)) same ∙ ap length (map.entries-from_sorted by_bytes es h)
 
 -- the entry of a name in a directory is where its path leads
 pub get_directory : (files : Files Node) (number : Numbers) (d : Path) (n : Name) → map.get (directory_of files number d) n ≡ option_and_then (λ (there : Node). target_for number (n ∷ d, there)) (get files (n ∷ d))

@@ -35,6 +35,7 @@ use Rattle.histar_syscall.specs.Runs.{Made, is_label_refusal, is_range_refusal}
 use Rattle.histar_layout.specs.Directory.{Entries, most_entries, spelling}
 use Rattle.histar_layout.specs.declared.entry.Target.{Target}
 use Rattle.histar_layout.specs.declared.entry.Target.TheVariants as targets
+use Rattle.histar_container.specs.Tree.{objects_at}
 use Rattle.histar_container.proofs.Addresses.{or_false, or_true}
 use Rattle.std.specs.Ordering.{nat_cmp, eq_by_cmp}
 use Rattle.std.specs.Cmp.{nat_cmp_total}
@@ -55,7 +56,7 @@ use Rattle.histar_simulation.proofs.Users.{number_range}
 use Rattle.histar_simulation.proofs.DirectoryLaws.{get_directory, len_directory, spelling_fits}
 use Rattle.histar_simulation.proofs.Created.{create_lays_out, create_listable}
 use Rattle.histar_container.proofs.Moves.{next_unused}
-use Rattle.histar_simulation.specs.Addresses.{Step as Place, same_step, found_at, inside_address}
+use Rattle.histar_simulation.specs.Addresses.{Step as Place, same_step, inside_address}
 use Rattle.histar_simulation.specs.Addresses.Step.{Slash, Listing, Runner}
 use Rattle.histar_simulation.proofs.Outcomes.{Ends, reply_is, after_is, answered_by}
 use Rattle.histar_simulation.proofs.Scenes.{Scene, here, holds, root, listed, walk_call, sees_root, walk_granted, ends_unwalked, ends_at_once}
@@ -239,7 +240,7 @@ module _ (users : List User) (old new : Traced) (f : Flat) (scene : Scene users 
               -- an object of boot's is not the next one
               not_next : (a : List Place) (q : ℕ) → scene.lays_out.naming.number a ≡ Some q → q ≢ (state old).next_object
               not_next a q e =
-                  next_unused same_step (state old).objects (state old).next_object (found_at (state old).objects scene.lays_out.naming) scene.lays_out.naming scene.lays_out.tree q a (scene.lays_out.tree.addressed a q e)
+                  next_unused same_step (state old).objects (state old).next_object (objects_at (state old).objects scene.lays_out.naming) scene.lays_out.naming scene.lays_out.tree q a (scene.lays_out.tree.addressed a q e)
 
               module _ (made_it : Traced) (makes : Called asked made_it t make_call None) where
                 made_state : state made_it ≡ added (state old) (4 + 2 * length users) (record { label = file_label mode user; kind = Segment [] })

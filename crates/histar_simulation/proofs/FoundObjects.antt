@@ -7,24 +7,9 @@ use Rattle.histar_object.specs.declared.objects.Kind.TheVariants.{Segment, Conta
 use Rattle.histar_object.specs.declared.objects.Object.{Object}
 use Rattle.histar_object.specs.Objects.{Objects, changed_at, linking, kind_linking, holding, kind_holding, is_there, is_container, kind_is_container}
 use Rattle.histar_object.specs.State.{Found}
-use Rattle.histar_container.specs.Tree.{Address, Naming, wanted, IsLaid}
-use Rattle.histar_simulation.specs.Addresses.{Step, same_step, found_at}
+use Rattle.histar_container.specs.Tree.{Address, Naming, wanted, IsLaid, objects_at}
+use Rattle.histar_simulation.specs.Addresses.{Step, same_step}
 use Rattle.histar_simulation.specs.LaysOut.{bare, kind_bare, labelled_as}
-
--- objects that are laid out in some way are laid out as what stands at their addresses
-pub laid_found : (objects : Objects Levels) (next : ℕ) (wished : Address Step → Found) (naming : Naming Step) → IsLaid same_step objects next wished naming → IsLaid same_step objects next (found_at objects naming) naming
-laid_found objects next wished naming laid = record {
-  as_expected = λ q. by q (naming.address q) refl;
-  numbered = laid.numbered;
-  addressed = laid.addressed;
-  held = laid.held;
-  links = laid.links;
-  unused = laid.unused;
-}
-  where
-    by : (q : ℕ) (a : Option (Address Step)) → naming.address q ≡ a → objects q ≡ wanted (found_at objects naming) a
-    by q None is = laid.as_expected q ∙ ap (wanted wished) is
-    by q (Some a) is = sym (ap (option_and_then objects) (laid.numbered q a is))
 
 -- an object with other bytes, but for its links
 pub bare_held : (bytes : List ℕ) (o : Found) → bare (option_map (holding bytes) o) ≡ option_map (holding bytes) (bare o)
@@ -48,7 +33,7 @@ there_held bytes None = refl
 there_held bytes (Some o) = refl
 
 -- what stands at an address of another number is what stood there
-pub found_other : (naming : Naming Step) (objects new : Objects Levels) (a : Address Step) → ((k : ℕ) → naming.number a ≡ Some k → new k ≡ objects k) → found_at new naming a ≡ found_at objects naming a
+pub found_other : (naming : Naming Step) (objects new : Objects Levels) (a : Address Step) → ((k : ℕ) → naming.number a ≡ Some k → new k ≡ objects k) → objects_at new naming a ≡ objects_at objects naming a
 found_other naming objects new a same = by (naming.number a) refl
   where
     by : (k : Option ℕ) → naming.number a ≡ k → option_and_then new k ≡ option_and_then objects k

@@ -23,10 +23,11 @@ use Rattle.histar_rules.specs.Sound.{root_number}
 use Rattle.histar_syscall.specs.Traced.{Traced, state, Called}
 use Rattle.histar_syscall.specs.Runs.{Made, GoesOn}
 use Rattle.histar_calls.specs.Categories.{read_category, write_category}
-use Rattle.histar_login.specs.Start.{written_by, boot_category, secret_of, owner_of, cleared_of}
+use Rattle.histar_calls.specs.Labelling.{written_by, secret_of, owner_of, cleared_of}
+use Rattle.histar_login.specs.Start.{boot_category}
 use Rattle.histar_simulation.proofs.Owned.{Owns, Clears, among, owns_all, clears_all, seen, secret_seen}
 use Rattle.histar_simulation.proofs.Gates.{either_owns, floor_owns, join_clears, OwnsMore, owns_below, owns_cleared, join_within, clears_within, AreMade, owned_made}
-use Rattle.histar_simulation.proofs.Rights.{rank_picked, written_low}
+use Rattle.histar_simulation.proofs.Rights.{written_low, two_categories, secret_high, secret_low}
 use Rattle.histar_simulation.proofs.Checks.{caller_passes}
 use Rattle.histar_simulation.proofs.Standing.{password_object, gate_object}
 
@@ -56,18 +57,6 @@ neither a b one two i = one i orelse two i
 -- a test that passes doesn't refuse
 passes : (b : Bool) (d : Denied) → b ≡ true → unless b d ≡ None
 passes b d is = ap (λ x. unless x d) is
-
--- `{r:3, w:0, 1}`, where r comes first, at each category
-secret_of_at : (r w c : ℕ) → grades (secret_of r w) c ≡ (if c == w then 1 else (if c == r then 4 else 2))
-secret_of_at r w c =
-    ap rank (level_of-with_level (with_level (constant L1) r L3) w L0 c ∙ ap (λ l. if c == w then L0 else l) (level_of-with_level (constant L1) r L3 c ∙ ap (λ l. if c == r then L3 else l) (level_of-constant L1 c)))
-    ∙ rank_picked (c == w) L0 (if c == r then L3 else L1) ∙ ap (λ m. if c == w then 1 else m) (rank_picked (c == r) L3 L1)
-
-secret_of_high : (i : ℕ) → grades (secret_of (read_category i) (write_category i)) (read_category i) ≡ 4
-secret_of_high i = grind (arith, nat_tests, secret_of_at (read_category i) (write_category i) (read_category i))
-
-secret_of_low : (i c : ℕ) → c ≢ read_category i → grades (secret_of (read_category i) (write_category i)) c ≤ 2
-secret_of_low i c other = grind (arith, nat_tests, secret_of_at (read_category i) (write_category i) c)
 
 -- A thread with a label that owns some categories and a clearance that clears others takes a clearance that clears no more.
 pub set_clearance_granted : (s : State) (t next : ℕ) → s.next_category ≡ next → (own most clearance : Levels) (owned cleared has : ℕ → Bool) → Owns own owned → Clears most cleared → s.objects t ≡ Some (thread_of own most)
@@ -112,7 +101,7 @@ module _ (s : State) (t next : ℕ) (categories : s.next_category ≡ next) (own
     pub read_granted : (i : ℕ) (u : User) → s.objects o ≡ Some (password_object i u) → owned (read_category i) ≡ true → check s t (Read root_number o) ≡ None
     read_granted i u stands is =
         let label = secret_of (read_category i) (write_category i) in
-        let sees : observes (s.objects t) (s.objects o) ≡ true = (λ j. observes (thread j) (stands j)) ∙ secret_seen own owned owns label (read_category i) (secret_of_high i) (secret_of_low i) ∙ is in
+        let sees : observes (s.objects t) (s.objects o) ≡ true = (λ j. observes (thread j) (stands j)) ∙ secret_seen own owned owns label (read_category i) (secret_high (read_category i) (write_category i) (two_categories i)) (secret_low (read_category i) (write_category i)) ∙ is in
         neither _ _ (neither _ _ found (ap (λ (x : Found). unless (is_segment x) BadKind) stands)) (passes (observes (s.objects t) (s.objects o)) Observe sees)
 
     -- a user's gate is entered

@@ -4,7 +4,6 @@ pub mod StartTable
 pub mod StartTree
 pub mod StartFlat
 pub mod Start
-pub mod MapFacts
 pub mod DirectoryLaws
 pub mod AddressPaths
 pub mod FoundObjects
@@ -31,3 +30,4 @@ pub mod FileWrites
 pub mod FileCreates
 pub mod LoginRows
 pub mod Rows
+pub mod Sessions

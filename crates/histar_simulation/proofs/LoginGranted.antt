@@ -25,7 +25,8 @@ use Rattle.histar_syscall.specs.Traced.{Traced, state}
 use Rattle.histar_syscall.specs.Runs.{Made}
 use Rattle.histar_calls.specs.Categories.{read_category, write_category}
 use Rattle.histar_calls.specs.Follows.{or_no_label}
-use Rattle.histar_login.specs.Start.{written_by, boot_category, owner_of, cleared_of, own_read_category, own_write_category, thread_number}
+use Rattle.histar_calls.specs.Labelling.{written_by, owner_of, cleared_of}
+use Rattle.histar_login.specs.Start.{boot_category, own_read_category, own_write_category, thread_number}
 use Rattle.histar_login.specs.Login.{place_of, password_of, gate_of, entering, login_calls, own_of, most_of, is_password, user_label, user_clearance}
 use Rattle.histar_simulation.specs.Labels.{user_number, thread_labels}
 use Rattle.histar_simulation.specs.LaysOut.{LaysOut}

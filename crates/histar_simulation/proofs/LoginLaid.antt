@@ -13,12 +13,13 @@ use Rattle.histar_flat.specs.FlatState.{Flat, with_process}
 use Rattle.histar_label.specs.Levels.{Levels}
 use Rattle.histar_object.specs.Objects.{thread_of, links_in, is_there}
 use Rattle.histar_object.specs.State.{State, Found, with_own}
-use Rattle.histar_container.specs.Tree.{Address, IsLaid, is_child, wanted}
+use Rattle.histar_container.specs.Tree.{Address, IsLaid, is_child, wanted, objects_at}
 use Rattle.histar_container.proofs.Addresses.{not_true, same_tells}
 use Rattle.histar_login.specs.Boot.{boot_thread_number}
-use Rattle.histar_login.specs.Start.{thread_number, owner_of, cleared_of, own_read_category, own_write_category}
+use Rattle.histar_calls.specs.Labelling.{owner_of, cleared_of}
+use Rattle.histar_login.specs.Start.{thread_number, own_read_category, own_write_category}
 use Rattle.histar_login.specs.Login.{user_label, user_clearance}
-use Rattle.histar_simulation.specs.Addresses.{Step, same_step, same_address, found_at, inside_address}
+use Rattle.histar_simulation.specs.Addresses.{Step, same_step, same_address, inside_address}
 use Rattle.histar_simulation.specs.Addresses.Step.{Left, Slash, Listing, Named, Home, Status, Inside, Runner}
 use Rattle.histar_simulation.specs.Labels.{user_number, thread_labels, thread_object}
 use Rattle.histar_simulation.specs.LaysOut.{bare, expected, IsLone, IsLoneProcess, LaysOut}
@@ -56,10 +57,10 @@ module _ (users : List User) (s : State) (f : Flat) (l : LaysOut users s f) (p :
   elsewhere q other = let apart : (q == t) ≡ false = grind (arith, nat_tests, other) in ap (λ b. if b then Some (thread_of label clearance) else s.objects q) apart
 
   -- each object stands where its address is
-  found_by : (q : ℕ) (a : Option (Address Step)) → l.naming.address q ≡ a → after.objects q ≡ wanted (found_at after.objects l.naming) a
+  found_by : (q : ℕ) (a : Option (Address Step)) → l.naming.address q ≡ a → after.objects q ≡ wanted (objects_at after.objects l.naming) a
   found_by q None e =
       elsewhere q (λ same. let both : Some thread_address ≡ None = sym addressed ∙ ap l.naming.address (sym same) ∙ e in cc)
-      ∙ l.tree.as_expected q ∙ ap (wanted (found_at s.objects l.naming)) e
+      ∙ l.tree.as_expected q ∙ ap (wanted (objects_at s.objects l.naming)) e
   found_by q (Some a) e = sym (ap (option_and_then after.objects) (l.tree.numbered q a e))
 
   -- a thread links nothing
@@ -71,7 +72,7 @@ module _ (users : List User) (s : State) (f : Flat) (l : LaysOut users s f) (p :
     | inr other ↦ ap (λ (o : Found). set.contains (links_in o) c) (elsewhere q other.1) ∙ l.tree.links q c a e
   ]
 
-  laid : IsLaid same_step after.objects after.next_object (found_at after.objects l.naming) l.naming
+  laid : IsLaid same_step after.objects after.next_object (objects_at after.objects l.naming) l.naming
   laid = record {
     as_expected = λ q. found_by q (l.naming.address q) refl;
     numbered = l.tree.numbered;
@@ -102,12 +103,12 @@ module _ (users : List User) (s : State) (f : Flat) (l : LaysOut users s f) (p :
   thread_expected : expected users after_flat l.naming.number thread_address ≡ Some (thread_of label clearance)
   thread_expected = ap (option_map (λ (x : Levels × Levels). thread_of x.0 x.1)) labels
 
-  thread_found : found_at after.objects l.naming thread_address ≡ Some (thread_of label clearance)
+  thread_found : objects_at after.objects l.naming thread_address ≡ Some (thread_of label clearance)
   thread_found = ap (option_and_then after.objects) named ∙ at_thread t refl
 
-  objects_are : (a : Address Step) → bare (found_at after.objects l.naming a) ≡ expected users after_flat l.naming.number a
+  objects_are : (a : Address Step) → bare (objects_at after.objects l.naming a) ≡ expected users after_flat l.naming.number a
   objects_are a = elim (same_tells same_step step_tells thread_address a) [
-    | inl e ↦ subst (λ (b : Address Step). bare (found_at after.objects l.naming b) ≡ expected users after_flat l.naming.number b) e.1 (ap bare thread_found ∙ sym thread_expected)
+    | inl e ↦ subst (λ (b : Address Step). bare (objects_at after.objects l.naming b) ≡ expected users after_flat l.naming.number b) e.1 (ap bare thread_found ∙ sym thread_expected)
     | inr e ↦ ap bare (same_found a e.1 (l.naming.number a) refl) ∙ l.objects a ∙ sym (same_expected a e.0)
   ]
 

@@ -8,7 +8,7 @@ use Rattle.histar_label.specs.declared.levels.Level.TheVariants.{Star, L1, L2, L
 use Rattle.histar_label.specs.Level.{rank, raised}
 use Rattle.histar_label.specs.Levels.{Levels, level_of, constant, with_level, level_of-constant, level_of-with_level, grades, raised_grades, is_below, is_below_raised}
 use Rattle.histar_label.proofs.Orders.{is_below-law, is_below_raised-law}
-use Rattle.histar_login.specs.Start.{with_levels}
+use Rattle.histar_calls.specs.Labelling.{with_levels}
 
 -- two tests agree where each passes if the other does
 pub same_truth : (a b : Bool) → (a ≡ true → b ≡ true) → (b ≡ true → a ≡ true) → a ≡ b

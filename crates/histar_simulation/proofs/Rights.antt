@@ -20,7 +20,8 @@ use Rattle.histar_label.proofs.Made.{is_made-constant, is_made-with_level}
 use Rattle.histar_label.proofs.Stars.{has_star-none}
 use Rattle.histar_calls.specs.Categories.{read_category, write_category, file_label, owns, IsUserOf}
 use Rattle.histar_calls.proofs.Owners.{one_user}
-use Rattle.histar_login.specs.Start.{owner_of, cleared_of, own_read_category, own_write_category, written_by}
+use Rattle.histar_calls.specs.Labelling.{owner_of, cleared_of, written_by, secret_of}
+use Rattle.histar_login.specs.Start.{own_read_category, own_write_category}
 use Rattle.histar_login.specs.Login.{user_label, user_clearance}
 use Rattle.histar_simulation.specs.Labels.{user_number, class_label, thread_labels}
 use Rattle.histar_simulation.specs.LaysOut.{IsLone}
@@ -33,42 +34,42 @@ rank_picked true l m = refl
 rank_picked false l m = refl
 
 -- `{w:0, 1}` at each category
-pub written_at : (w c : ℕ) → grades (with_level (constant L1) w L0) c ≡ (if c == w then 1 else 2)
+pub written_at : (w c : ℕ) → grades (written_by w) c ≡ (if c == w then 1 else 2)
 written_at w c =
     ap rank (level_of-with_level (constant L1) w L0 c ∙ ap (λ l. if c == w then L0 else l) (level_of-constant L1 c))
     ∙ rank_picked (c == w) L0 L1
 
 -- `{r:3, w:0, 1}` at each category
-pub secret_at : (r w c : ℕ) → grades (with_level (with_level (constant L1) w L0) r L3) c ≡ (if c == r then 4 else (if c == w then 1 else 2))
+pub secret_at : (r w c : ℕ) → grades (secret_of r w) c ≡ (if c == w then 1 else (if c == r then 4 else 2))
 secret_at r w c =
-    ap rank (level_of-with_level (with_level (constant L1) w L0) r L3 c) ∙ rank_picked (c == r) L3 (level_of (with_level (constant L1) w L0) c)
-    ∙ ap (λ m. if c == r then 4 else m) (written_at w c)
+    ap rank (level_of-with_level (with_level (constant L1) r L3) w L0 c ∙ ap (λ l. if c == w then L0 else l) (level_of-with_level (constant L1) r L3 c ∙ ap (λ l. if c == r then L3 else l) (level_of-constant L1 c)))
+    ∙ rank_picked (c == w) L0 (if c == r then L3 else L1) ∙ ap (λ m. if c == w then 1 else m) (rank_picked (c == r) L3 L1)
 
 -- the levels of `{w:0, 1}`: 0 at w, and 1 elsewhere
-pub written_low : (w c : ℕ) → grades (with_level (constant L1) w L0) c ≤ 2
+pub written_low : (w c : ℕ) → grades (written_by w) c ≤ 2
 written_low w c = grind (arith, nat_tests, written_at w c)
 
-written_here : (w : ℕ) → grades (with_level (constant L1) w L0) w ≡ 1
+written_here : (w : ℕ) → grades (written_by w) w ≡ 1
 written_here w = grind (arith, nat_tests, written_at w w)
 
-written_elsewhere : (w c : ℕ) → c ≢ w → 2 ≤ grades (with_level (constant L1) w L0) c
+written_elsewhere : (w c : ℕ) → c ≢ w → 2 ≤ grades (written_by w) c
 written_elsewhere w c other = grind (arith, nat_tests, written_at w c)
 
 -- the levels of `{r:3, w:0, 1}`: 3 at r, 0 at w, and 1 elsewhere
-secret_high : (r w : ℕ) → grades (with_level (with_level (constant L1) w L0) r L3) r ≡ 4
-secret_high r w = grind (arith, nat_tests, secret_at r w r)
+pub secret_high : (r w : ℕ) → r ≢ w → grades (secret_of r w) r ≡ 4
+secret_high r w apart = grind (arith, nat_tests, secret_at r w r)
 
-secret_here : (r w : ℕ) → r ≢ w → grades (with_level (with_level (constant L1) w L0) r L3) w ≡ 1
-secret_here r w apart = grind (arith, nat_tests, secret_at r w w)
+secret_here : (r w : ℕ) → grades (secret_of r w) w ≡ 1
+secret_here r w = grind (arith, nat_tests, secret_at r w w)
 
-pub secret_low : (r w c : ℕ) → c ≢ r → grades (with_level (with_level (constant L1) w L0) r L3) c ≤ 2
+pub secret_low : (r w c : ℕ) → c ≢ r → grades (secret_of r w) c ≤ 2
 secret_low r w c other = grind (arith, nat_tests, secret_at r w c)
 
-secret_elsewhere : (r w c : ℕ) → c ≢ w → 2 ≤ grades (with_level (with_level (constant L1) w L0) r L3) c
+secret_elsewhere : (r w c : ℕ) → c ≢ w → 2 ≤ grades (secret_of r w) c
 secret_elsewhere r w c other = grind (arith, nat_tests, secret_at r w c)
 
 -- the two categories of a user are two
-two_categories : (user : ℕ) → read_category user ≢ write_category user
+pub two_categories : (user : ℕ) → read_category user ≢ write_category user
 two_categories user same = omega (arith, same)
 
 -- Whose a thread with these labels is: the number of its owner, and the categories that it owns, of which those of users are its
@@ -249,13 +250,13 @@ module _ (users : List User) (no_one : IsNoUser users) (p : Process) (lone : IsL
   observes_written c = seen label mine.owned mine.owning (written_by c) (written_low c)
 
   observes_private : (j : ℕ) → is_below_raised (file_label modes.Private j) label ≡ mine.owned (read_category j)
-  observes_private j = secret_seen label mine.owned mine.owning (file_label modes.Private j) (read_category j) (secret_high (read_category j) (write_category j)) (secret_low (read_category j) (write_category j))
+  observes_private j = secret_seen label mine.owned mine.owning (file_label modes.Private j) (read_category j) (secret_high (read_category j) (write_category j) (two_categories j)) (secret_low (read_category j) (write_category j))
 
   observes_open : is_below_raised (constant L1) label ≡ true
   observes_open = seen label mine.owned mine.owning (constant L1) constant_low
 
   modifies_private : (j : ℕ) → is_below label (file_label modes.Private j) ≡ mine.owned (write_category j)
-  modifies_private j = owner_writes label mine.owned mine.owning (file_label modes.Private j) (write_category j) (secret_here (read_category j) (write_category j) (two_categories j)) (secret_elsewhere (read_category j) (write_category j))
+  modifies_private j = owner_writes label mine.owned mine.owning (file_label modes.Private j) (write_category j) (secret_here (read_category j) (write_category j)) (secret_elsewhere (read_category j) (write_category j))
 
   modifies_readable : (j : ℕ) → is_below label (file_label modes.Readable j) ≡ mine.owned (write_category j)
   modifies_readable j = owner_writes label mine.owned mine.owning (file_label modes.Readable j) (write_category j) (written_here (write_category j)) (written_elsewhere (write_category j))
@@ -321,7 +322,7 @@ module _ (users : List User) (no_one : IsNoUser users) (p : Process) (lone : IsL
   -- the label of a file that a thread makes is below its clearance where it owns the file's categories
   clears_file : (mode : Mode) (j : ℕ) → mine.owned (read_category j) ≡ true → is_below (file_label mode j) clearance ≡ true
   clears_file modes.Private j is =
-      cleared_at clearance mine.owned mine.clearing (file_label modes.Private j) (read_category j) is (omega (arith, secret_high (read_category j) (write_category j)))
+      cleared_at clearance mine.owned mine.clearing (file_label modes.Private j) (read_category j) is (omega (arith, secret_high (read_category j) (write_category j) (two_categories j)))
       (λ c other. omega (arith, secret_low (read_category j) (write_category j) c other))
   clears_file modes.Readable j is = cleared clearance mine.owned mine.clearing (file_label modes.Readable j) (λ c. omega (arith, written_low (write_category j) c))
 
@@ -351,8 +352,8 @@ module _ (users : List User) (no_one : IsNoUser users) (p : Process) (lone : IsL
 -- the label of a user's file names categories that boot made
 pub file_label_known : (n : ℕ) (mode : Mode) (user : ℕ) → user ≤ n → is_made (6 + 2 * n) (file_label mode user) ≡ true
 file_label_known n modes.Private user le =
-    is_made-with_level (6 + 2 * n) (with_level (constant L1) (write_category user) L0) (read_category user) L3 (omega arith) (omega (arith, le))
-    (is_made-with_level (6 + 2 * n) (constant L1) (write_category user) L0 (omega arith) (omega (arith, le)) (is_made-constant (6 + 2 * n) L1))
+    is_made-with_level (6 + 2 * n) (with_level (constant L1) (read_category user) L3) (write_category user) L0 (omega arith) (omega (arith, le))
+    (is_made-with_level (6 + 2 * n) (constant L1) (read_category user) L3 (omega arith) (omega (arith, le)) (is_made-constant (6 + 2 * n) L1))
 file_label_known n modes.Readable user le = is_made-with_level (6 + 2 * n) (constant L1) (write_category user) L0 (omega arith) (omega (arith, le)) (is_made-constant (6 + 2 * n) L1)
 
 -- where the place of a level is above 0, it is not star

@@ -19,7 +19,8 @@ use Rattle.histar_syscall.specs.Traced.{Traced, state}
 use Rattle.histar_calls.specs.declared.stopping.Stopped.{Stopped}
 use Rattle.histar_calls.specs.Categories.{IsUserOf}
 use Rattle.histar_calls.specs.Follows.{ReadsFile, WritesFile, MakesFile, label_of_thread, or_no_label}
-use Rattle.histar_login.specs.Start.{places_of, written_by, own_write_category, process_bytes}
+use Rattle.histar_calls.specs.Labelling.{written_by}
+use Rattle.histar_login.specs.Start.{places_of, own_write_category, process_bytes}
 use Rattle.histar_login.specs.Login.{place_of, LogsIn, LogsInAt, BecomesUserAt}
 use Rattle.histar_simulation.specs.Addresses.{process_address}
 use Rattle.histar_simulation.specs.Addresses.Step.{Status}

@@ -15,7 +15,8 @@ use Rattle.histar_object.specs.Objects.{Numbers, thread_of, links_in, bytes_in}
 use Rattle.histar_object.specs.State.{State, Found}
 use Rattle.histar_rules.specs.Sound.{root_number}
 use Rattle.histar_calls.specs.Categories.{read_category, write_category}
-use Rattle.histar_login.specs.Start.{numbered, of_user, of_directory, of_process, secret_of, owner_of, cleared_of, written_by, boot_category, start_objects, object_at, thread_number}
+use Rattle.histar_calls.specs.Labelling.{secret_of, owner_of, cleared_of, written_by}
+use Rattle.histar_login.specs.Start.{numbered, of_user, of_directory, of_process, boot_category, start_objects, object_at, thread_number}
 use Rattle.histar_login.specs.Login.{password_of, gate_of}
 use Rattle.histar_simulation.specs.Addresses.{is_left, inside_address}
 use Rattle.histar_simulation.specs.Addresses.Step.{Left, Runner}

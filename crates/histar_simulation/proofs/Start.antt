@@ -13,9 +13,9 @@ use Rattle.histar_label.specs.Levels.{Levels}
 use Rattle.histar_object.specs.declared.objects.Kind.TheVariants.{Segment, Container}
 use Rattle.histar_object.specs.Objects.{Objects, is_there}
 use Rattle.histar_object.specs.State.{Found}
-use Rattle.histar_container.specs.Tree.{Address}
+use Rattle.histar_container.specs.Tree.{Address, objects_at}
 use Rattle.histar_login.specs.Start.{start_objects, start_state, object_at}
-use Rattle.histar_simulation.specs.Addresses.{Step, same_address, found_at, if_at, path_at, is_left, process_address, inside_address, boot_number}
+use Rattle.histar_simulation.specs.Addresses.{Step, same_address, if_at, path_at, is_left, process_address, inside_address, boot_number}
 use Rattle.histar_simulation.specs.Addresses.Step.{Left, Slash, Listing, Named, Home, Status, Inside, Runner}
 use Rattle.histar_simulation.specs.Labels.{class_label, thread_labels}
 use Rattle.histar_simulation.specs.LaysOut.{bare, labelled_as, node_object, listing_object, left_by_boot, node_at, listing_at, expected, LaysOut}
@@ -85,7 +85,7 @@ module _ (users : List User) (some_user : 0 < length users) where
   no_listing name (Some d) = ap (listing_object users _) (nothing_named users name d)
 
   -- what stands at each address is what the flat state asks for there
-  start_expected : (a : Address Step) → bare (found_at objects (start_naming (length users)) a) ≡ expected users (boot users) number a
+  start_expected : (a : Address Step) → bare (objects_at objects (start_naming (length users)) a) ≡ expected users (boot users) number a
   start_expected [] = refl
   start_expected (Left q ∷ a) = found_if objects [] a (cond (is_left (length users) q) (Some q) None) (left_by_boot users q) (left_stands q (is_left (length users) q) refl)
   start_expected (Slash ∷ a) = found_if objects [] a (Some (4 + 2 * length users)) _ refl ∙ sym (node_if (same_address [] a))
@@ -106,7 +106,7 @@ module _ (users : List User) (some_user : 0 < length users) where
 
   -- an address has a number exactly where the flat state asks for something
   start_named : (a : Address Step) → is_some (number a) ≡ is_there (expected users (boot users) number a)
-  start_named a = number_there a (number a) refl ∙ sym (bare_there (found_at objects (start_naming (length users)) a)) ∙ ap is_there (start_expected a)
+  start_named a = number_there a (number a) refl ∙ sym (bare_there (objects_at objects (start_naming (length users)) a)) ∙ ap is_there (start_expected a)
 
   -- there is a label for `/`, and nothing else is there
   start_labelled : (q : Path) (node : Node) → get (boot users).files q ≡ Some node → class_label users node.class ≢ None

@@ -14,7 +14,7 @@ use Rattle.histar_flat.proofs.FileLemmas.{get_new, get_other, same_itself}
 use Rattle.histar_layout.specs.Directory.{IsListable, entry_bytes, spelling}
 use Rattle.histar_layout.proofs.MapLemmas.{entries-empty, listable_empty}
 use Rattle.histar_calls.specs.Categories.{write_category}
-use Rattle.histar_login.specs.Start.{written_by}
+use Rattle.histar_calls.specs.Labelling.{written_by}
 use Rattle.histar_simulation.specs.Labels.{user_number, class_label}
 use Rattle.histar_simulation.specs.Directories.{Numbers, directory_of}
 

@@ -10,10 +10,10 @@ use Rattle.histar_flat.specs.declared.calls.User.{User}
 use Rattle.histar_label.specs.Levels.{Levels}
 use Rattle.histar_object.specs.Objects.{Objects, is_there, links_in}
 use Rattle.histar_object.specs.State.{Found}
-use Rattle.histar_container.specs.Tree.{Address, Naming, wanted, same, is_child, IsLaid}
+use Rattle.histar_container.specs.Tree.{Address, Naming, wanted, same, is_child, IsLaid, objects_at}
 use Rattle.histar_container.proofs.Addresses.{or_false, same_itself, same_other}
 use Rattle.histar_login.specs.Start.{start_objects, start_state, object_at}
-use Rattle.histar_simulation.specs.Addresses.{Step, same_step, found_at, process_address, inside_address, boot_number}
+use Rattle.histar_simulation.specs.Addresses.{Step, same_step, process_address, inside_address, boot_number}
 use Rattle.histar_simulation.specs.Addresses.Step.{Left, Slash, Listing, Status, Runner}
 use Rattle.histar_simulation.proofs.Steps.{step_tells}
 use Rattle.histar_simulation.proofs.StartNames.{start_address, Place, on_root, on_left, on_slash, on_listing, on_home, on_inside, on_runner, on_status, IsFree, Seen, placed, unplaced, seen, place_of_address, address_of_place, number_of_place, place_of_number}
@@ -189,10 +189,10 @@ module _ (users : List User) where
   free_none q (inr (inr h)) = none_behind users q h
 
   -- the object at each number is the one at its address
-  start_as_expected : (q : ℕ) → objects q ≡ wanted (found_at objects (start_naming (length users))) (start_address (length users) q)
+  start_as_expected : (q : ℕ) → objects q ≡ wanted (objects_at objects (start_naming (length users))) (start_address (length users) q)
   start_as_expected q = elim (seen (length users) q) [
-    | placed a p e ↦ sym (ap (wanted (found_at objects (start_naming (length users)))) e ∙ ap (option_and_then objects) (number_of_place (length users) q a p))
-    | unplaced f e ↦ free_none q f ∙ sym (ap (wanted (found_at objects (start_naming (length users)))) e)
+    | placed a p e ↦ sym (ap (wanted (objects_at objects (start_naming (length users)))) e ∙ ap (option_and_then objects) (number_of_place (length users) q a p))
+    | unplaced f e ↦ free_none q f ∙ sym (ap (wanted (objects_at objects (start_naming (length users)))) e)
   ]
 
   -- what is equal to an object has its links
@@ -226,7 +226,7 @@ module _ (users : List User) where
   place_there p b (on_status q e) = ap is_there (ap objects e ∙ status_stands users)
 
   -- the objects at the start are laid
-  pub start_laid : IsLaid same_step objects (start_state users).next_object (found_at objects (start_naming (length users))) (start_naming (length users))
+  pub start_laid : IsLaid same_step objects (start_state users).next_object (objects_at objects (start_naming (length users))) (start_naming (length users))
   start_laid = record {
     as_expected = start_as_expected;
     numbered = λ q a h. number_of_place (length users) q a (place_of_address (length users) q a h);

@@ -16,17 +16,17 @@ use Rattle.histar_layout.specs.Directory.{IsListable, spelling}
 use Rattle.histar_layout.proofs.MapLemmas.{antisymmetric}
 use Rattle.histar_object.specs.Objects.{Objects, changed_at, holding, is_there}
 use Rattle.histar_object.specs.State.{State, with_bytes}
-use Rattle.histar_container.specs.Tree.{Address, IsLaid}
+use Rattle.histar_container.specs.Tree.{Address, IsLaid, objects_at}
 use Rattle.histar_container.proofs.Addresses.{same_tells}
 use Rattle.histar_container.proofs.TableMoves.{changed_here, changed_other, laid_changed}
-use Rattle.histar_container.proofs.Trees.{kind_held_links}
+use Rattle.histar_container.proofs.Trees.{laid_itself, kind_held_links}
 use Rattle.histar_login.specs.Boot.{boot_thread_number}
-use Rattle.histar_simulation.specs.Addresses.{Step, same_step, found_at, address_of}
+use Rattle.histar_simulation.specs.Addresses.{Step, same_step, address_of}
 use Rattle.histar_simulation.specs.Labels.{class_label}
 use Rattle.histar_simulation.specs.Directories.{Numbers, target_for, directory_of}
 use Rattle.histar_simulation.specs.LaysOut.{LaysOut, bare, content_kind, labelled_as, node_object, listing_object, listing_at, expected}
 use Rattle.histar_simulation.proofs.Steps.{step_tells}
-use Rattle.histar_simulation.proofs.FoundObjects.{laid_found, bare_held, held_segment, there_held, found_other, changed_none}
+use Rattle.histar_simulation.proofs.FoundObjects.{bare_held, held_segment, there_held, found_other, changed_none}
 use Rattle.histar_simulation.proofs.AddressPaths.{expected_path, same_expected}
 use Rattle.histar_simulation.proofs.DirectoryLaws.{get_directory}
 
@@ -104,19 +104,19 @@ module _ (f : Flat) (q : Path) (entry : Node) (old bytes : List ℕ) (at_path : 
     at_file = l.tree.addressed (address_of q) file numbered
 
     -- at the file's address stands the segment with its new bytes
-    found_here : found_at objects l.naming (address_of q) ≡ option_map (holding bytes) (found_at s.objects l.naming (address_of q))
+    found_here : objects_at objects l.naming (address_of q) ≡ option_map (holding bytes) (objects_at s.objects l.naming (address_of q))
     unfolding objects
     found_here = ap (option_and_then objects) numbered ∙ changed_here s.objects file (holding bytes) ∙ sym (ap (λ k. option_map (holding bytes) (option_and_then s.objects k)) numbered)
 
     -- and at each other address what stood there
-    found_there : (a : Address Step) → a ≢ address_of q → found_at objects l.naming a ≡ found_at s.objects l.naming a
+    found_there : (a : Address Step) → a ≢ address_of q → objects_at objects l.naming a ≡ objects_at s.objects l.naming a
     unfolding objects
     found_there a other = found_other l.naming s.objects objects a (λ k is. changed_other s.objects file (holding bytes) k (λ e. other (same_Some a (address_of q) (sym (l.tree.addressed a k is) ∙ ap l.naming.address e ∙ at_file))))
 
     -- what stands at an address is what is asked for there
-    new_objects : (a : Address Step) → bare (found_at objects l.naming a) ≡ expected users after l.naming.number a
+    new_objects : (a : Address Step) → bare (objects_at objects l.naming a) ≡ expected users after l.naming.number a
     new_objects a = elim (same_tells same_step step_tells a (address_of q)) [
-      | inl e ↦ subst (λ (b : Address Step). bare (found_at objects l.naming b) ≡ expected users after l.naming.number b) (sym e.1)
+      | inl e ↦ subst (λ (b : Address Step). bare (objects_at objects l.naming b) ≡ expected users after l.naming.number b) (sym e.1)
           (ap bare found_here ∙ bare_held bytes _ ∙ ap (option_map (holding bytes)) (l.objects (address_of q)) ∙ sym (new_wish users l.naming.number))
       | inr e ↦ ap bare (found_there a e.1) ∙ l.objects a ∙ sym (same_wish users l.naming.number a e.1)
     ]
@@ -130,10 +130,10 @@ module _ (f : Flat) (q : Path) (entry : Node) (old bytes : List ℕ) (at_path : 
     ]
 
     -- the tree of objects stays
-    new_tree : IsLaid same_step objects s.next_object (found_at objects l.naming) l.naming
+    new_tree : IsLaid same_step objects s.next_object (objects_at objects l.naming) l.naming
     unfolding objects
-    new_tree = laid_found objects s.next_object _ l.naming
-        (laid_changed same_step step_tells s.objects s.next_object (found_at s.objects l.naming) l.naming l.tree file (address_of q) (holding bytes) at_file (λ o. kind_held_links bytes o.kind))
+    new_tree = laid_itself same_step objects s.next_object _ l.naming
+        (laid_changed same_step step_tells s.objects s.next_object (objects_at s.objects l.naming) l.naming l.tree file (address_of q) (holding bytes) at_file (λ o. kind_held_links bytes o.kind))
 
     -- there is a label for each file and directory
     new_labelled : (p : Path) (there : Node) → get after.files p ≡ Some there → class_label users there.class ≢ None

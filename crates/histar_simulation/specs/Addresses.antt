@@ -1,10 +1,8 @@
 -- Where objects stand: the steps that lead from the root container to them, and the numbers that boot gave.
-use Rattle.std.specs.Prelude.{ℕ, ◌+◌, ◌*◌, Bool, ◌&&◌, ◌==◌, nat_le, cond, List, [], ◌∷◌, Option, None, Some, option_map, option_and_then}
+use Rattle.std.specs.Prelude.{ℕ, ◌+◌, ◌*◌, Bool, ◌&&◌, ◌==◌, nat_le, cond, List, [], ◌∷◌, Option, None, Some, option_map}
 use Rattle.histar_flat.specs.Words.{Name, Path}
 use Rattle.histar_flat.specs.PathOrder.{same as same_name}
-use Rattle.histar_container.specs.Tree.{Address, Naming, same}
-use Rattle.histar_object.specs.Objects.{Objects}
-use Rattle.histar_object.specs.declared.objects.Object.{Object}
+use Rattle.histar_container.specs.Tree.{Address, same}
 
 -- a step from a container to an object that it links
 pub data Step : Type 0 where
@@ -43,10 +41,6 @@ same_step x y = (split_step x).0 == (split_step y).0 && same_name (split_step x)
 -- the same address
 abbrev pub same_address : Address Step → Address Step → Bool
 same_address = same same_step
-
--- what stands at an address, where the address has a number
-abbrev pub found_at : {L : Type 0} → Objects L → Naming Step → Address Step → Option (Object L)
-found_at objects naming a = option_and_then objects (naming.number a)
 
 -- where an object of a path stands: `/` is a container in the root container, and an entry stands in its directory
 abbrev pub address_of : Path → Address Step

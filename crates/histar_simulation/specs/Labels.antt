@@ -11,7 +11,8 @@ use Rattle.histar_label.specs.Levels.{Levels, constant}
 use Rattle.histar_object.specs.State.{Found}
 use Rattle.histar_object.specs.Objects.{thread_of}
 use Rattle.histar_calls.specs.Categories.{file_label}
-use Rattle.histar_login.specs.Start.{owner_of, cleared_of, own_read_category, own_write_category}
+use Rattle.histar_calls.specs.Labelling.{owner_of, cleared_of}
+use Rattle.histar_login.specs.Start.{own_read_category, own_write_category}
 use Rattle.histar_login.specs.Login.{place_of, user_label, user_clearance}
 
 -- a user's number, from 1 on in the order of the script

@@ -13,11 +13,12 @@ use Rattle.histar_object.specs.declared.objects.Kind.TheVariants.{Segment, Conta
 use Rattle.histar_object.specs.declared.objects.Object.{Object}
 use Rattle.histar_object.specs.Objects.{is_there}
 use Rattle.histar_object.specs.State.{State, Found}
-use Rattle.histar_container.specs.Tree.{Address, Naming, IsLaid}
+use Rattle.histar_container.specs.Tree.{Address, Naming, IsLaid, objects_at}
 use Rattle.histar_layout.specs.Directory.{IsListable, spelling}
 use Rattle.histar_login.specs.Boot.{boot_thread_number}
-use Rattle.histar_login.specs.Start.{written_by, secret_of, boot_category, own_read_category, own_write_category, process_bytes, start_objects, object_at, segment}
-use Rattle.histar_simulation.specs.Addresses.{Step, same_step, found_at, if_at, path_at, is_left, process_address, inside_address, boot_number}
+use Rattle.histar_calls.specs.Labelling.{written_by, secret_of}
+use Rattle.histar_login.specs.Start.{boot_category, own_read_category, own_write_category, process_bytes, start_objects, object_at, segment}
+use Rattle.histar_simulation.specs.Addresses.{Step, same_step, if_at, path_at, is_left, process_address, inside_address, boot_number}
 use Rattle.histar_simulation.specs.Addresses.Step.{Left, Slash, Listing, Named, Home, Status, Inside, Runner}
 use Rattle.histar_simulation.specs.Labels.{class_label, thread_labels, thread_object}
 use Rattle.histar_simulation.specs.Directories.{Numbers, directory_of}
@@ -102,9 +103,9 @@ IsLoneProcess (Some p) = IsLone p
 pub record LaysOut (users : List User) (s : State) (f : Flat) : Type 0 where
   pub naming : Naming Step
   -- each object stands at an address, and links exactly what stands one step below it
-  pub tree : IsLaid same_step s.objects s.next_object (found_at s.objects naming) naming
+  pub tree : IsLaid same_step s.objects s.next_object (objects_at s.objects naming) naming
   -- what stands at an address is what the flat state asks for there: label, clearance and bytes
-  pub objects : (a : Address Step) → bare (found_at s.objects naming a) ≡ expected users f naming.number a
+  pub objects : (a : Address Step) → bare (objects_at s.objects naming a) ≡ expected users f naming.number a
   -- an address has a number exactly where the flat state asks for something
   pub named : (a : Address Step) → is_some (naming.number a) ≡ is_there (expected users f naming.number a)
   -- what boot made has the numbers that boot gave

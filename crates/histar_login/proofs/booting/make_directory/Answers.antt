@@ -2,7 +2,8 @@ use Rattle.std.proofs.Common.{◌≡◌, ◌+◌, ◌*◌, length, ap, ◌∙◌
 use Rattle.histar_rules.specs.declared.raw.RawCall.TheVariants.{MakeSegment, MakeContainer}
 use Rattle.histar_syscall.specs.Traced.{Traced}
 use Rattle.histar_calls.specs.Categories.{write_category}
-use Rattle.histar_login.specs.Start.{written_by, boot_category}
+use Rattle.histar_calls.specs.Labelling.{written_by}
+use Rattle.histar_login.specs.Start.{boot_category}
 use Rattle.histar_login.specs.Booting.{Part, Boots, IsBefore, and_then, directory_part}
 use Rattle.histar_login.proofs.Parts.{granted_as, answer_as}
 use Rattle.histar_login.proofs.DirectoryStage.{directory_stage}

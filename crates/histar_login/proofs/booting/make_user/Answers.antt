@@ -2,7 +2,7 @@ use Rattle.std.proofs.Common.{◌≡◌, ◌∙◌}
 use Rattle.histar_rules.specs.declared.raw.RawCall.TheVariants.{MakeSegment, MakeGate}
 use Rattle.histar_object.specs.declared.objects.Entry.TheVariants.{Login}
 use Rattle.histar_calls.specs.Categories.{read_category, write_category}
-use Rattle.histar_login.specs.Start.{secret_of, owner_of, cleared_of}
+use Rattle.histar_calls.specs.Labelling.{secret_of, owner_of, cleared_of}
 use Rattle.histar_login.proofs.Parts.{granted_as}
 use Rattle.histar_login.proofs.Stages.{user_boots}
 use Rattle.histar_login.proofs.booting.make_user.Goals as goal

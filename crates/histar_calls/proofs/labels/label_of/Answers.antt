@@ -1,7 +1,7 @@
 use Rattle.std.proofs.Common.{ap, sym, ◌∙◌}
 use Rattle.histar_label.specs.Levels.{Levels, with_level}
-use Rattle.histar_login.proofs.StartLemmas.{labelled_next}
-use Rattle.histar_login.proofs.booting.label_of.Goals as goal
+use Rattle.histar_calls.proofs.LabellingLemmas.{labelled_next}
+use Rattle.histar_calls.proofs.labels.label_of.Goals as goal
 
 pub loop-category-preserved : goal.loop-category-preserved
 loop-category-preserved c =
