@@ -31,3 +31,6 @@ pub mod FileWrites
 pub mod FileCreates
 pub mod LoginRows
 pub mod Rows
+pub mod ReachedObjects
+pub mod OneClass
+pub mod OneFlatState
