@@ -98,7 +98,7 @@ module _ (users : List User) (a b : Name) (labels : Levels × Levels) where
   same_number : (v : IsWhose users a labels.0 labels.1) (w : IsWhose users b labels.0 labels.1) → user_number users b ≡ Some w.who → w.who ≡ v.who
   same_number v w is =
       let range = number_range users b w.who is in
-      let own : v.owned (read_category w.who) ≡ w.owned (read_category w.who) = one_test _ _ (sym (v.owning (read_category w.who)) ∙ w.owning (read_category w.who)) in
+      let own : v.owned (read_category w.who) ≡ w.owned (read_category w.who) = one_test (v.owned (read_category w.who)) (w.owned (read_category w.who)) (sym (v.owning (read_category w.who)) ∙ w.owning (read_category w.who)) in
       let tested : w.who == v.who ≡ w.who == w.who = sym (v.reads w.who range.1 range.0) ∙ own ∙ w.reads w.who range.1 range.0 in
       grind (arith, nat_tests, tested)
 
