@@ -21,12 +21,11 @@ use Rattle.histar_layout.specs.Directory.{Entries, spelling}
 use Rattle.histar_layout.specs.declared.entry.Target.{Target}
 use Rattle.histar_layout.specs.declared.entry.Target.TheVariants as targets
 use Rattle.histar_layout.proofs.DirectoryLemmas.{same_directory}
-use Rattle.histar_login.specs.Start.{thread_number}
 use Rattle.histar_simulation.specs.Addresses.{address_of}
 use Rattle.histar_simulation.specs.Addresses.Step.{Listing, Named}
 use Rattle.histar_simulation.specs.Labels.{class_label}
 use Rattle.histar_simulation.specs.Directories.{Numbers, both_numbers, target_for, directory_of}
-use Rattle.histar_simulation.specs.LaysOut.{LaysOut, IsLone, IsLoneProcess, bare, kind_bare, content_kind, labelled_as, node_object, listing_object}
+use Rattle.histar_simulation.specs.LaysOut.{LaysOut, IsLoneProcess, bare, kind_bare, content_kind, labelled_as, node_object, listing_object}
 use Rattle.histar_simulation.proofs.AddressPaths.{expected_path, expected_listing}
 use Rattle.histar_simulation.proofs.DirectoryLaws.{get_directory}
 use Rattle.histar_simulation.proofs.Leads.{numbered_path, entry_leads}
@@ -38,13 +37,14 @@ use Rattle.histar_simulation.proofs.Views.{at_number, slash_numbered, listing_nu
 
 -- ---- what an object tells of what stands at its path
 
--- the content that an object stands for
+-- the content that a kind stands for
 abbrev content_of_kind : Kind Levels → Content
 content_of_kind (Segment bytes) = File bytes
 content_of_kind (Container links) = Dir
 content_of_kind (Thread clearance) = Dir
 content_of_kind (Gate clearance entry) = Dir
 
+-- the content that an object stands for
 abbrev content_there : Found → Content
 content_there None = Dir
 content_there (Some o) = content_of_kind o.kind
@@ -113,11 +113,13 @@ abbrev second_number : Target → ℕ
 second_number (targets.File file) = 0
 second_number (targets.Directory container listing) = listing
 
+-- a directory's container has the first number of where it leads
 first_of_both : (c k : Option ℕ) (t : Target) → both_numbers c k ≡ Some t → c ≡ Some (first_number t)
 first_of_both None k t e = absurd (none-some t e)
 first_of_both (Some c) None t e = absurd (none-some t e)
 first_of_both (Some c) (Some k) t e = ap (λ (u : Target). Some (first_number u)) (same_Some (targets.Directory c k) t e)
 
+-- and its directory segment has the second
 second_of_both : (c k : Option ℕ) (t : Target) → both_numbers c k ≡ Some t → k ≡ Some (second_number t)
 second_of_both None k t e = absurd (none-some t e)
 second_of_both (Some c) None t e = absurd (none-some t e)
