@@ -184,7 +184,7 @@ pub whose : (users : List User) (name : Name) (label clearance : Levels) → thr
 whose users name label clearance e = whose_named users name (same name nobody) refl label clearance e
 
 -- the test of names, by which they are equal
-equal_names : (a b : Name) → same a b ≡ true → a ≡ b
+pub equal_names : (a b : Name) → same a b ≡ true → a ≡ b
 equal_names a b h = (bytes_eq-Decides a b).0 h
 
 equal_tested : (a b : Name) → a ≡ b → same a b ≡ true

@@ -3,3 +3,4 @@ pub mod Labels
 pub mod Directories
 pub mod LaysOut
 pub mod Lines
+pub mod Laws
