@@ -30,10 +30,7 @@ pub mod FileWrites
 pub mod FileCreates
 pub mod LoginRows
 pub mod Rows
-<<<<<<< HEAD
 pub mod Sessions
-=======
 pub mod ReachedObjects
 pub mod OneClass
 pub mod OneFlatState
->>>>>>> 9eb9b5ca961bedec23c1b6b2d65b4f9703b1c1be
