@@ -12,7 +12,7 @@ use Rattle.histar_flat.specs.declared.calls.UnixCall.{UnixCall}
 use Rattle.histar_flat.specs.declared.calls.UnixCall.TheVariants as calls
 use Rattle.histar_flat.specs.declared.replies.Errno.{Errno}
 use Rattle.histar_flat.specs.declared.replies.Errno.TheVariants.{EACCES, EEXIST, ENOSPC, EPERM}
-use Rattle.histar_flat.specs.declared.replies.Reply.TheVariants.{Done, Refused}
+use Rattle.histar_flat.specs.declared.replies.Reply.TheVariants.{Done}
 use Rattle.histar_flat.specs.Words.{Name, ProcName, is_name}
 use Rattle.histar_flat.specs.PathOrder.{same}
 use Rattle.histar_flat.specs.Files.{get}
@@ -31,22 +31,22 @@ use Rattle.histar_rules.specs.declared.raw.RawCall.{RawCall}
 use Rattle.histar_rules.specs.declared.raw.RawCall.TheVariants as raw
 use Rattle.histar_rules.specs.Rules.{check, has_number, known}
 use Rattle.histar_syscall.specs.Traced.{Traced, state, Called}
-use Rattle.histar_syscall.specs.Runs.{Made, is_label_refusal, is_range_refusal}
+use Rattle.histar_syscall.specs.Runs.{Made}
+use Rattle.histar_syscall.proofs.Runs.{same_kernel}
 use Rattle.histar_layout.specs.Directory.{Entries, most_entries, spelling}
 use Rattle.histar_layout.specs.declared.entry.Target.{Target}
 use Rattle.histar_layout.specs.declared.entry.Target.TheVariants as targets
-use Rattle.histar_container.proofs.Addresses.{or_false, or_true}
+use Rattle.histar_container.proofs.Addresses.{or_true}
 use Rattle.std.specs.Ordering.{nat_cmp, eq_by_cmp}
 use Rattle.std.specs.Cmp.{nat_cmp_total}
 use Rattle.histar_container.proofs.TableMoves.{new_holder, new_other}
 use Rattle.histar_calls.specs.Plans.{Plan, after_walk, make_at, make_file}
 use Rattle.histar_calls.specs.Categories.{IsUserOf, file_label}
-use Rattle.histar_calls.specs.Follows.{answer, told_as, write_errno_of}
-use Rattle.histar_calls.specs.Replies.{is_access, is_permission}
+use Rattle.histar_calls.specs.Follows.{answer, told_as}
 use Rattle.histar_simulation.specs.Labels.{class_label, user_number}
 use Rattle.histar_simulation.specs.Directories.{target_for}
 use Rattle.histar_simulation.specs.LaysOut.{LaysOut}
-use Rattle.histar_simulation.proofs.Chains.{Step, entries_of, chain_run, chain_own, first_granted, first_refused}
+use Rattle.histar_simulation.proofs.Chains.{Chain, all_granted, first_granted}
 use Rattle.histar_simulation.proofs.Checks.{kept_none, caller_passes, making_check, write_check}
 use Rattle.histar_simulation.proofs.Views.{object}
 use Rattle.histar_simulation.proofs.Places.{file_is, directory_leads}
@@ -57,7 +57,8 @@ use Rattle.histar_simulation.proofs.Created.{create_lays_out, create_listable}
 use Rattle.histar_container.proofs.Moves.{next_unused}
 use Rattle.histar_simulation.specs.Addresses.{Step as Place, same_step, found_at, inside_address}
 use Rattle.histar_simulation.specs.Addresses.Step.{Slash, Listing, Runner}
-use Rattle.histar_simulation.proofs.Outcomes.{Ends, reply_is, after_is, answered_by}
+use Rattle.histar_simulation.proofs.Outcomes.{Ends}
+use Rattle.histar_simulation.proofs.Endings.{ends_granted, ends_refused, ends_exhausted}
 use Rattle.histar_simulation.proofs.Scenes.{Scene, here, holds, root, listed, walk_call, sees_root, walk_granted, ends_unwalked, ends_at_once}
 
 -- bytes that a segment can hold fit it
@@ -184,45 +185,23 @@ module _ (users : List User) (old new : Traced) (f : Flat) (scene : Scene users 
               ∙ (λ i. unless ((modifies_root ∙ is_may) i) Modify orelse unless (is_range i) Range orelse unless (is_known i) Range orelse unless (not (file_label_owns_nothing mode user i)) Range orelse unless (is_next i) TooBig)
 
           module _ (made : Made asked new t (make_call ∷ write_call ∷ []) refusal) where
-            -- the kernel refuses to make the segment, for a reason that is told
-            blocked : (denied : Denied) (errno : Errno) → check (state asked) t make_call ≡ Some denied → told_as make_call denied ≡ Some errno → write_errno_of denied ≡ Some errno → refused users f [] me call ≡ Some errno
-                → is_label_refusal (Some denied) ≡ is_access errno → is_range_refusal (Some denied) ≡ is_permission errno → Ends users f call old new t (answer (Some Done) refusal)
+            -- the walk and the label were granted
+            so_far : Chain old t (all_granted (walk_call users old f scene ∷ raw.OwnLabel ∷ [])) asked
             unfolding t
-            blocked denied errno fails told shown is access permission =
-                let last = first_refused t asked new make_call (write_call ∷ []) refusal denied fails made in
-                let stays : state new ≡ state old = last.0.2.state ∙ last.0.1.state ∙ asked_state in
-                let reply = reply_is users f scene.run call (Some errno) is in
-                inl (
-                  ap (answer (Some Done)) last.1 ∙ ap (option_map Refused) told ∙ ap Some (sym reply),
-                  answered_by users f call old new t scene.named ((walk_call users old f scene, None) ∷ (raw.OwnLabel, None) ∷ (make_call, Some denied) ∷ []) (mid, walked, (asked, asks, last.0)) (Refused errno) f
-                      reply (after_is users f scene.run call (Some errno) is)
-                      (or_false (is_label_refusal (Some denied)) ∙ access) (or_false (is_range_refusal (Some denied)) ∙ permission) (tt, (tt, (ap (option_map Refused) shown, tt))) tt (λ b e. absurd cc) (inl (refl, tt)) (λ e. absurd cc)
-                      (subst (λ (s : State). LaysOut users s f) (sym stays) scene.lays_out),
-                )
+            so_far = (mid, walked, (asked, asks, same_kernel asked))
+
+            -- the kernel refuses to make the segment, for a reason that is told
+            blocked : (denied : Denied) (errno : Errno) → check (state asked) t make_call ≡ Some denied → told_as make_call denied ≡ Some errno → refused users f [] me call ≡ Some errno → Ends users f call old new t (answer (Some Done) refusal)
+            unfolding t
+            blocked denied errno fails told is =
+                ends_refused users f scene.run call old new t scene.named (walk_call users old f scene ∷ raw.OwnLabel ∷ []) asked so_far make_call (write_call ∷ []) denied errno fails told is (inl (refl, tt))
+                asked_state scene.lays_out (Some Done) refusal made
 
             -- there is no number for it any more
             exhausted : check (state asked) t make_call ≡ Some TooBig → has_number (state old) ≡ false → Ends users f call old new t (answer (Some Done) refusal)
             unfolding t make_call
             exhausted fails greatest =
-                let last = first_refused t asked new make_call (write_call ∷ []) refusal TooBig fails made in
-                let steps : List Step = (walk_call users old f scene, None) ∷ (raw.OwnLabel, None) ∷ (make_call, Some TooBig) ∷ [] in
-                let part = chain_run t old new steps (mid, walked, (asked, asks, last.0)) in
-                inr (
-                  ap (answer (Some Done)) last.1,
-                  record {
-                    entries = entries_of old.line t steps;
-                    trace = part.trace;
-                    line = part.line;
-                    run = (
-                      state mid,
-                      walked.outcome,
-                      walked.state,
-                      tt,
-                      (state asked, asks.outcome, asks.state, tt, (state last.0.0, last.0.1.outcome, last.0.1.state, (refl, ap has_number asked_state ∙ greatest), last.0.2.state)),
-                    );
-                    own = chain_own t old.line steps;
-                  },
-                )
+                ends_exhausted users f scene.run call old new t scene.named (walk_call users old f scene ∷ raw.OwnLabel ∷ []) asked so_far make_call (write_call ∷ []) fails refl (ap has_number asked_state ∙ greatest) (Some Done) refusal made
 
             -- a file of the user whose process it is, whose label is this one
             module _ (may_make : writes f me [] ≡ true) (class : Class) (class_is : class_made me mode ≡ Some class) (labelled : class_label users class ≡ Some (file_label mode user)) (named : IsTrue (is_name m))
@@ -278,16 +257,10 @@ module _ (users : List User) (old new : Traced) (f : Flat) (scene : Scene users 
                 granted rest =
                     let r = root users old f scene in
                     let last = first_granted t made_it new write_call [] refusal write_checked rest in
-                    let reply = reply_is users f scene.run call None is_refused in
-                    inl (
-                      ap (answer (Some Done)) last.2.1 ∙ ap Some (sym reply),
-                      answered_by users f call old new t scene.named ((walk_call users old f scene, None) ∷ (raw.OwnLabel, None) ∷ (make_call, None) ∷ (write_call, None) ∷ []) (mid, walked, (asked, asks, (made_it, makes, (last.0, last.1, last.2.0)))) Done
-                          (with_node f (m ∷ []) class (File [])) reply
-                          (after_is users f scene.run call None is_refused ∙ ap (λ (c : Option Class). with_node f (m ∷ []) (class_or_open c) (File [])) class_is)
-                          refl refl (tt, (tt, (tt, (tt, tt)))) tt (λ b e. absurd cc) (inl (refl, tt)) (λ e. absurd cc)
-                          (create_lays_out users (state old) f scene.lays_out m class (file_label mode user) r.directory.entry named labelled r.directory.stands r.directory.is_directory free few_entries next_below (state made_it) (state new) made_state
-                          (last.2.0.state ∙ last.1.state)),
-                    )
+                    let laid = create_lays_out users (state old) f scene.lays_out m class (file_label mode user) r.directory.entry named labelled r.directory.stands r.directory.is_directory free few_entries next_below (state made_it) (state new) made_state
+                    (last.2.0.state ∙ last.1.state) in
+                    ends_granted users f scene.run call old new t scene.named (walk_call users old f scene ∷ raw.OwnLabel ∷ make_call ∷ write_call ∷ []) (mid, walked, (asked, asks, (made_it, makes, (last.0, last.1, last.2.0)))) is_refused tt (inl (refl, tt))
+                    (subst (λ (c : Option Class). LaysOut users (state new) (with_node f (m ∷ []) (class_or_open c) (File []))) (sym class_is) laid) (Some Done) refl refusal last.2.1
 
   -- what process 0 makes: nobody makes nothing, and a user makes its own
   class_free : class_made me mode ≡ free_class me mode
@@ -344,7 +317,7 @@ module _ (users : List User) (old new : Traced) (f : Flat) (scene : Scene users 
           (make_checked user owner refusal seen mid walked free room asked asks true false (has_number (state old)) may
           (ap (λ (u : ℕ). is_below scene.label (file_label mode u) && is_below (file_label mode u) scene.clearance) no_user.1 ∙ nobody_makes users scene.no_one me scene.run.lone scene.label scene.clearance scene.labels mode no_user.0) refl
           (is_known (omega (arith, no_user.1))))
-          refl refl (refused_is true None true true false seen free room may (ap has_value (class_of_nobody no_user.0))) refl refl
+          refl (refused_is true None true true false seen free room may (ap has_value (class_of_nobody no_user.0)))
       | inr is_user ↦ by_number may is_user.0 is_user.1 (has_number (state old)) refl
     ]
 
@@ -356,7 +329,7 @@ module _ (users : List User) (old new : Traced) (f : Flat) (scene : Scene users 
         let most : user ≤ length users = owner.known in
         blocked user owner refusal seen mid walked free room asked asks made Modify EACCES
         (make_checked user owner refusal seen mid walked free room asked asks false (is_below scene.label (file_label mode user) && is_below (file_label mode user) scene.clearance) (has_number (state old)) may_not refl refl (is_known most))
-        refl refl (refused_is true None true false (has_value (class_made me mode)) seen free room may_not refl) refl refl
+        refl (refused_is true None true false (has_value (class_made me mode)) seen free room may_not refl)
 
   module _ (user : ℕ) (owner : IsUserOf scene.label (length users) user) (named : IsTrue (is_name m)) (refusal : Option (RawCall × Denied)) where
     -- the plan within `/`

@@ -1,18 +1,17 @@
 -- A write of a file is the row of its call.
 use Rattle.std.proofs.Common.{◌≡◌, ℕ, ◌+◌, ◌*◌, Bool, true, false, List, [], ◌∷◌, length, Option, None, Some, inl, refl, sym, ap, ◌∙◌, subst}
-use Rattle.std.specs.Prelude.{◌&&◌, nat_le, option_map}
-use Rattle.histar_container.proofs.Addresses.{or_false}
+use Rattle.std.specs.Prelude.{◌&&◌, nat_le}
 use Rattle.histar_base.specs.Refusals.{◌orelse◌, unless}
 use Rattle.histar_flat.specs.declared.calls.User.{User}
 use Rattle.histar_flat.specs.declared.calls.UnixCall.{UnixCall}
 use Rattle.histar_flat.specs.declared.calls.UnixCall.TheVariants as calls
 use Rattle.histar_flat.specs.declared.replies.Errno.{Errno}
 use Rattle.histar_flat.specs.declared.replies.Errno.TheVariants.{EACCES, EFBIG}
-use Rattle.histar_flat.specs.declared.replies.Reply.TheVariants.{Done, Refused}
+use Rattle.histar_flat.specs.declared.replies.Reply.TheVariants.{Done}
 use Rattle.histar_flat.specs.Words.{Name}
 use Rattle.histar_flat.specs.Files.{get}
 use Rattle.histar_flat.specs.Classes.{may_write}
-use Rattle.histar_flat.specs.FlatState.{Node, Flat, is_some_and, reads, writes, with_bytes}
+use Rattle.histar_flat.specs.FlatState.{Node, Flat, is_some_and, reads, writes}
 use Rattle.histar_flat.specs.FlatState.Content.{File}
 use Rattle.histar_flat.specs.FlatCalls.{refused}
 use Rattle.histar_label.specs.Levels.{is_below, is_below_raised}
@@ -24,16 +23,16 @@ use Rattle.histar_rules.specs.declared.raw.RawCall.{RawCall}
 use Rattle.histar_rules.specs.declared.raw.RawCall.TheVariants as raw
 use Rattle.histar_rules.specs.Rules.{check}
 use Rattle.histar_syscall.specs.Traced.{Traced, state, Called}
-use Rattle.histar_syscall.specs.Runs.{Made, is_label_refusal, is_range_refusal}
+use Rattle.histar_syscall.specs.Runs.{Made}
+use Rattle.histar_syscall.proofs.Runs.{same_kernel}
 use Rattle.std.specs.FinMap as map
 use Rattle.histar_calls.specs.Plans.{after_walk, at_target, write_segment}
 use Rattle.histar_calls.specs.Follows.{answer, write_errno_of}
-use Rattle.histar_calls.specs.Replies.{is_access, is_permission}
-use Rattle.histar_simulation.specs.LaysOut.{LaysOut}
-use Rattle.histar_simulation.proofs.Chains.{first_granted, first_refused}
+use Rattle.histar_simulation.proofs.Chains.{first_granted}
 use Rattle.histar_simulation.proofs.Checks.{kept_none, write_check}
 use Rattle.histar_simulation.proofs.Places.{IsFileAt}
-use Rattle.histar_simulation.proofs.Outcomes.{Ends, reply_is, after_is, answered_by}
+use Rattle.histar_simulation.proofs.Outcomes.{Ends}
+use Rattle.histar_simulation.proofs.Endings.{ends_granted, ends_refused}
 use Rattle.histar_simulation.proofs.Scenes.{Scene, caller, here, root, listed, walk_call, sees_root, UsesFile, ends_at_file}
 use Rattle.histar_simulation.proofs.Written.{write_lays_out}
 
@@ -68,21 +67,11 @@ module _ (users : List User) (old new : Traced) (f : Flat) (scene : Scene users 
 
     module _ (is_refused : refused users f [] scene.run.process call ≡ later) (refusal : Option (RawCall × Denied)) (made : Made mid new t (write_call ∷ []) refusal) where
       -- a write that the kernel refuses
-      blocked : (denied : Denied) (errno : Errno) → check (state mid) t write_call ≡ Some denied → write_errno_of denied ≡ Some errno → later ≡ Some errno
-          → is_label_refusal (Some denied) ≡ is_access errno → is_range_refusal (Some denied) ≡ is_permission errno → Ends users f call old new t (answer (Some Done) refusal)
+      blocked : (denied : Denied) (errno : Errno) → check (state mid) t write_call ≡ Some denied → write_errno_of denied ≡ Some errno → later ≡ Some errno → Ends users f call old new t (answer (Some Done) refusal)
       unfolding t write_call
-      blocked denied errno fails told is_later access permission =
-          let last = first_refused t mid new write_call [] refusal denied fails made in
-          let stays : state new ≡ state old = last.0.2.state ∙ last.0.1.state ∙ walked.state in
-          let is : refused users f [] scene.run.process call ≡ Some errno = is_refused ∙ is_later in
-          let reply = reply_is users f scene.run call (Some errno) is in
-          inl (
-            ap (answer (Some Done)) last.1 ∙ ap (option_map Refused) told ∙ ap Some (sym reply),
-            answered_by users f call old new t scene.named ((walk_call users old f scene, None) ∷ (write_call, Some denied) ∷ []) (mid, walked, last.0) (Refused errno) f
-                reply (after_is users f scene.run call (Some errno) is)
-                (or_false (is_label_refusal (Some denied)) ∙ access) (or_false (is_range_refusal (Some denied)) ∙ permission) (tt, (ap (option_map Refused) told, tt)) tt (λ b e. absurd cc) (inl (refl, tt)) (λ e. absurd cc)
-                (subst (λ (s : State). LaysOut users s f) (sym stays) scene.lays_out),
-          )
+      blocked denied errno fails told is_later =
+          ends_refused users f scene.run call old new t scene.named (walk_call users old f scene ∷ []) mid (mid, walked, same_kernel mid) write_call [] denied errno fails told
+          (is_refused ∙ is_later) (inl (refl, tt)) walked.state scene.lays_out (Some Done) refusal made
 
       -- a write that is granted
       granted : check (state mid) t write_call ≡ None → later ≡ None → Ends users f call old new t (answer (Some Done) refusal)
@@ -90,15 +79,8 @@ module _ (users : List User) (old new : Traced) (f : Flat) (scene : Scene users 
       granted passes is_later =
           let last = first_granted t mid new write_call [] refusal passes made in
           let writes_it : state new ≡ state_with_bytes (state old) file.number bytes = last.2.0.state ∙ last.1.state ∙ ap (λ (s : State). state_with_bytes s file.number bytes) walked.state in
-          let is : refused users f [] scene.run.process call ≡ None = is_refused ∙ is_later in
-          let reply = reply_is users f scene.run call None is in
-          inl (
-            ap (answer (Some Done)) last.2.1 ∙ ap Some (sym reply),
-            answered_by users f call old new t scene.named ((walk_call users old f scene, None) ∷ (write_call, None) ∷ []) (mid, walked, (last.0, last.1, last.2.0)) Done (with_bytes f (m ∷ []) bytes)
-                reply (after_is users f scene.run call None is)
-                refl refl (tt, (tt, tt)) tt (λ b e. absurd cc) (inl (refl, tt)) (λ e. absurd cc)
-                (write_lays_out users (state old) f scene.lays_out (m ∷ []) there held bytes file.number stands content file.named (state new) writes_it),
-          )
+          ends_granted users f scene.run call old new t scene.named (walk_call users old f scene ∷ write_call ∷ []) (mid, walked, (last.0, last.1, last.2.0)) (is_refused ∙ is_later) tt (inl (refl, tt))
+          (write_lays_out users (state old) f scene.lays_out (m ∷ []) there held bytes file.number stands content file.named (state new) writes_it) (Some Done) refl refusal last.2.1
 
   uses_file : UsesFile users old f scene new call (λ r. refl) m later refl (write_segment (here users old f scene) bytes)
   unfolding t write_call
@@ -107,10 +89,10 @@ module _ (users : List User) (old new : Traced) (f : Flat) (scene : Scene users 
       by : (a b : Bool) → writes f scene.run.process (m ∷ []) ≡ a → nat_le (length bytes) 4096 ≡ b → Ends users f call old new (8 + 2 * length users) (answer (Some Done) refusal)
       by false b is_a is_b =
           blocked seen there held stands content file mid walked is_refused refusal made Modify EACCES
-          (checked seen there held stands content file mid walked ∙ (λ i. unless (is_a i) Modify orelse unless (is_b i) TooBig)) refl (λ i. unless (is_a i) EACCES orelse unless (is_b i) EFBIG) refl refl
+          (checked seen there held stands content file mid walked ∙ (λ i. unless (is_a i) Modify orelse unless (is_b i) TooBig)) refl (λ i. unless (is_a i) EACCES orelse unless (is_b i) EFBIG)
       by true false is_a is_b =
           blocked seen there held stands content file mid walked is_refused refusal made TooBig EFBIG
-          (checked seen there held stands content file mid walked ∙ (λ i. unless (is_a i) Modify orelse unless (is_b i) TooBig)) refl (λ i. unless (is_a i) EACCES orelse unless (is_b i) EFBIG) refl refl
+          (checked seen there held stands content file mid walked ∙ (λ i. unless (is_a i) Modify orelse unless (is_b i) TooBig)) refl (λ i. unless (is_a i) EACCES orelse unless (is_b i) EFBIG)
       by true true is_a is_b =
           granted seen there held stands content file mid walked is_refused refusal made
           (checked seen there held stands content file mid walked ∙ (λ i. unless (is_a i) Modify orelse unless (is_b i) TooBig)) (λ i. unless (is_a i) EACCES orelse unless (is_b i) EFBIG)

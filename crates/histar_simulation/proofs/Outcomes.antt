@@ -1,6 +1,6 @@
 -- How a line ends: it is answered and is the row of its call, or a counter has its greatest value.
 use Rattle.std.proofs.Common.{◌≡◌, ◌≢◌, ℕ, List, [], ◌∷◌, ◌++◌, Option, None, Some, ◌⊎◌, inl, inr, refl, sym, ap, ◌∙◌, subst}
-use Rattle.std.specs.Prelude.{map, option_map}
+use Rattle.std.specs.Prelude.{option_map}
 use Rattle.std.specs.List.{AllByRecursion}
 use Rattle.std.proofs.lemmas.Option.{same_Some}
 use Rattle.histar_flat.specs.declared.calls.User.{User}
@@ -24,7 +24,7 @@ use Rattle.histar_calls.specs.Follows.{told_as, answer, IsUntold, StopsWithin, C
 use Rattle.histar_calls.specs.Replies.{is_no_access, is_no_permission}
 use Rattle.histar_simulation.specs.LaysOut.{LaysOut, IsLone, IsLoneProcess}
 use Rattle.histar_simulation.specs.Lines.{IsThreadOf, IsDenialTold, IsRefusedOnce, EndsWithRead, AreAmong, reads_owed, IsLine, IsRow, IsRunUnlessExhausted}
-use Rattle.histar_simulation.proofs.Chains.{Step, entries_of, Chain, chain_run, chain_own, granted_run, granted_unless}
+use Rattle.histar_simulation.proofs.Chains.{Step, all_granted, entries_of, Chain, chain_run, chain_own, granted_chain, granted_unless}
 
 module _ (users : List User) (f : Flat) (call : UnixCall) where
   -- the line is the row of its call, by the entries that are the new end of the trace
@@ -45,9 +45,8 @@ pub record IsOut (old new : Traced) (t : ℕ) : Type 0 where
 -- where no raw call was refused, none was
 pub granted_out : (old new : Traced) (t : ℕ) (calls : List RawCall) → Made old new t calls None → IsOut old new t
 granted_out old new t calls made =
-    let steps = map (λ (c : RawCall). (c, None)) calls in
-    let granted = granted_run t old new calls made in
-    let chain : Chain old t steps new = subst (λ (s : List Step). Chain old t s new) granted.2 granted.1 in
+    let steps = all_granted calls in
+    let chain = granted_chain t old new calls made in
     let part = chain_run t old new steps chain in
     record {
       entries = entries_of old.line t steps;

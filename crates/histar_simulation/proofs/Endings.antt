@@ -1,0 +1,170 @@
+-- The endings of a call: by what became of its raw calls and what the flat rules refuse, its line is the row of it.
+use Rattle.std.proofs.Common.{◌≡◌, ◌≢◌, ℕ, Bool, false, List, [], ◌∷◌, ◌++◌, Option, None, Some, inl, inr, refl, sym, ap, ◌∙◌, subst}
+use Rattle.std.specs.Prelude.{option_map}
+use Rattle.std.specs.List.{AllByRecursion}
+use Rattle.histar_flat.specs.declared.calls.User.{User}
+use Rattle.histar_flat.specs.declared.calls.UnixCall.{UnixCall}
+use Rattle.histar_flat.specs.declared.replies.Errno.{Errno}
+use Rattle.histar_flat.specs.declared.replies.Reply.{Reply}
+use Rattle.histar_flat.specs.declared.replies.Reply.TheVariants.{Done, Data, Refused, Gone}
+use Rattle.histar_flat.specs.FlatState.{Flat, is_some_and}
+use Rattle.histar_flat.specs.FlatCalls as flat
+use Rattle.histar_flat.specs.FlatCalls.{refused, changed, reply_or, flat_or, reply_to}
+use Rattle.histar_rules.specs.declared.raw.Denied.{Denied}
+use Rattle.histar_rules.specs.declared.raw.Denied.TheVariants.{Observe, TooBig}
+use Rattle.histar_rules.specs.declared.raw.RawCall.{RawCall}
+use Rattle.histar_rules.specs.declared.raw.RawCall.TheVariants.{Write}
+use Rattle.histar_rules.specs.Rules.{check, has_number}
+use Rattle.histar_object.specs.State.{State}
+use Rattle.histar_syscall.specs.declared.trace.TraceEntry.{TraceEntry}
+use Rattle.histar_syscall.specs.Traced.{Traced, state}
+use Rattle.histar_syscall.specs.Runs.{Made, is_label_refusal, is_range_refusal, some_label_refusal, some_range_refusal}
+use Rattle.histar_syscall.proofs.Runs.{entry_of}
+use Rattle.histar_container.proofs.Addresses.{or_false}
+use Rattle.histar_calls.specs.Follows.{answer, told_as, errno_of, write_errno_of}
+use Rattle.histar_calls.specs.Replies.{is_access, is_permission, is_no_access, is_no_permission}
+use Rattle.histar_simulation.specs.LaysOut.{LaysOut}
+use Rattle.histar_simulation.specs.Lines.{IsThreadOf, IsDenialTold, IsRefusedOnce, EndsWithRead, AreAmong, reads_owed}
+use Rattle.histar_simulation.proofs.Chains.{Step, all_granted, entries_of, Chain, chain_run, chain_own, chain_after, exhausted_unless, first_refused}
+use Rattle.histar_simulation.proofs.Outcomes.{IsRunning, IsAnswered, Ends, reply_is, after_is, answered_by}
+
+-- what a reply needs where no raw call was refused: bytes were read last, and an errno is none that a refusal is told as by labels
+abbrev pub IsBacked : State → List TraceEntry → Reply → Type 0
+IsBacked s entries Done = Unit {0}
+IsBacked s entries (Data bytes) = EndsWithRead s entries bytes
+IsBacked s entries (Refused errno) = (is_access errno ≡ false) × (is_permission errno ≡ false)
+IsBacked s entries Gone = ⊥
+
+module _ (s : State) (entries : List TraceEntry) where
+  backed_access : (r : Reply) → IsBacked s entries r → is_no_access r ≡ false
+  backed_access (Refused errno) backed = backed.0
+  backed_access r backed = refl
+
+  backed_permission : (r : Reply) → IsBacked s entries r → is_no_permission r ≡ false
+  backed_permission (Refused errno) backed = backed.1
+  backed_permission r backed = refl
+
+  backed_runs : (r : Reply) → IsBacked s entries r → r ≢ Gone
+  backed_runs Gone backed e = backed
+  backed_runs r backed e = absurd cc
+
+  backed_told : (r : Reply) → IsBacked s entries r → (bytes : List ℕ) → r ≡ Data bytes → EndsWithRead s entries bytes
+  backed_told (Data held) backed bytes e = let same : held ≡ bytes = cc in subst (EndsWithRead s entries) same backed
+  backed_told r backed bytes e = absurd cc
+
+-- a reply that tells a refusal is EACCES exactly where the refusal is by label, and EPERM exactly where it is by range
+told_by : (denied : Denied) → (is_label_refusal (Some denied) ≡ is_some_and (write_errno_of denied) is_access) × (is_range_refusal (Some denied) ≡ is_some_and (write_errno_of denied) is_permission)
+told_by Observe = (refl, refl)
+told_by denied = (refl, refl)
+
+-- what any raw call's refusal is told as, a write's is told as too
+shown_by : (denied : Denied) (errno : Errno) → errno_of denied ≡ Some errno → write_errno_of denied ≡ Some errno
+shown_by TooBig errno told = absurd cc
+shown_by denied errno told = told
+
+told_shown : (call : RawCall) (denied : Denied) (errno : Errno) → told_as call denied ≡ Some errno → write_errno_of denied ≡ Some errno
+told_shown (Write container segment keep bytes) denied errno told = told
+told_shown call denied errno told = shown_by denied errno told
+
+-- the refusals among entries are what a reply tells
+record Agrees (r : Reply) (entries : List TraceEntry) : Type 0 where
+  access : some_label_refusal entries ≡ is_no_access r
+  permission : some_range_refusal entries ≡ is_no_permission r
+  denials : AllByRecursion (λ (e : TraceEntry). IsDenialTold r e.denied) entries
+  once : IsRefusedOnce entries
+
+module _ (line t : ℕ) where
+  -- a granted raw call before them changes nothing
+  after_granted : (r : Reply) (call : RawCall) (entries : List TraceEntry) → Agrees r entries → Agrees r (entry_of line t call None ∷ entries)
+  after_granted r call entries a = record { access = a.access; permission = a.permission; denials = (tt, a.denials); once = a.once }
+
+  -- granted raw calls
+  granted_agree : (r : Reply) → is_no_access r ≡ false → is_no_permission r ≡ false → (calls : List RawCall) → Agrees r (entries_of line t (all_granted calls))
+  granted_agree r no_access no_permission [] = record { access = sym no_access; permission = sym no_permission; denials = tt; once = tt }
+  granted_agree r no_access no_permission (call ∷ calls) = after_granted r call (entries_of line t (all_granted calls)) (granted_agree r no_access no_permission calls)
+
+  -- granted raw calls, and one that was refused
+  refused_agree : (last : RawCall) (denied : Denied) (errno : Errno) → write_errno_of denied ≡ Some errno → (calls : List RawCall) → Agrees (Refused errno) (entries_of line t (all_granted calls ++ (last, Some denied) ∷ []))
+  refused_agree last denied errno told [] = record {
+    access = or_false (is_label_refusal (Some denied)) ∙ (told_by denied).0 ∙ ap (λ (o : Option Errno). is_some_and o is_access) told;
+    permission = or_false (is_range_refusal (Some denied)) ∙ (told_by denied).1 ∙ ap (λ (o : Option Errno). is_some_and o is_permission) told;
+    denials = (ap (option_map Refused) told, tt);
+    once = tt;
+  }
+  refused_agree last denied errno told (call ∷ calls) = after_granted (Refused errno) call (entries_of line t (all_granted calls ++ (last, Some denied) ∷ [])) (refused_agree last denied errno told calls)
+
+module _ (users : List User) (f : Flat) (run : IsRunning f) (call : UnixCall) (old new : Traced) (t : ℕ) (named : IsThreadOf users (state old) [] t) where
+  -- the call is answered so, and its line is the row of it
+  abbrev pub IsRowWith : Reply → Type 0
+  IsRowWith r = (r ≡ reply_to users f [] call) × IsAnswered users f call old new
+
+  -- a call whose refusals agree with what the flat rules say
+  agreed : (steps : List Step) → Chain old t steps new → (refusal : Option Errno) → refused users f [] run.process call ≡ refusal → (r : Reply) → reply_or refusal (flat.answer f [] run.process call) ≡ r
+      → Agrees r (entries_of old.line t steps) → ((bytes : List ℕ) → r ≡ Data bytes → EndsWithRead (state old) (entries_of old.line t steps) bytes) → AreAmong (reads_owed users call r) (entries_of old.line t steps) → r ≢ Gone
+      → LaysOut users (state new) (flat_or refusal f (changed users f [] run.process call)) → IsRowWith r
+  agreed steps chain refusal is r r_is agrees told reads lives lays_out =
+      let reply = reply_is users f run call refusal is ∙ r_is in (
+        sym reply,
+        answered_by users f call old new t named steps chain r (flat_or refusal f (changed users f [] run.process call)) reply (after_is users f run call refusal is)
+            agrees.access agrees.permission agrees.denials agrees.once told reads lives lays_out,
+      )
+
+  -- where every raw call was granted, a call that the flat rules allow is answered what they answer
+  pub granted_row : (calls : List RawCall) → Chain old t (all_granted calls) new → refused users f [] run.process call ≡ None → IsBacked (state old) (entries_of old.line t (all_granted calls)) (flat.answer f [] run.process call)
+      → AreAmong (reads_owed users call (flat.answer f [] run.process call)) (entries_of old.line t (all_granted calls)) → LaysOut users (state new) (changed users f [] run.process call) → IsRowWith (flat.answer f [] run.process call)
+  granted_row calls chain is backed reads lays_out =
+      let r = flat.answer f [] run.process call in
+      let entries = entries_of old.line t (all_granted calls) in
+      agreed (all_granted calls) chain None is r refl (granted_agree old.line t r (backed_access (state old) entries r backed) (backed_permission (state old) entries r backed) calls)
+      (backed_told (state old) entries r backed) reads (backed_runs (state old) entries r backed) lays_out
+
+  -- where every raw call was granted and nothing has changed, a call that the flat rules refuse is answered their errno, if it is neither EACCES nor EPERM
+  pub unchanged_row : (calls : List RawCall) → Chain old t (all_granted calls) new → (errno : Errno) → is_access errno ≡ false → is_permission errno ≡ false → refused users f [] run.process call ≡ Some errno
+      → AreAmong (reads_owed users call (Refused errno)) (entries_of old.line t (all_granted calls)) → state new ≡ state old → LaysOut users (state old) f → IsRowWith (Refused errno)
+  unchanged_row calls chain errno no_access no_permission is reads stays lays_out =
+      agreed (all_granted calls) chain (Some errno) is (Refused errno) refl (granted_agree old.line t (Refused errno) no_access no_permission calls) (λ bytes e. absurd cc) reads (λ e. absurd cc)
+      (subst (λ (s : State). LaysOut users s f) (sym stays) lays_out)
+
+  -- where the last raw call was refused and the others granted, a call that the flat rules refuse as that refusal is told is answered so
+  pub refused_row : (calls : List RawCall) (last : RawCall) (denied : Denied) → Chain old t (all_granted calls ++ (last, Some denied) ∷ []) new → (errno : Errno) → write_errno_of denied ≡ Some errno → refused users f [] run.process call ≡ Some errno
+      → AreAmong (reads_owed users call (Refused errno)) (entries_of old.line t (all_granted calls ++ (last, Some denied) ∷ [])) → state new ≡ state old → LaysOut users (state old) f → IsRowWith (Refused errno)
+  refused_row calls last denied chain errno told is reads stays lays_out =
+      agreed (all_granted calls ++ (last, Some denied) ∷ []) chain (Some errno) is (Refused errno) refl (refused_agree old.line t last denied errno told calls) (λ bytes e. absurd cc) reads (λ e. absurd cc)
+      (subst (λ (s : State). LaysOut users s f) (sym stays) lays_out)
+
+  -- a plan whose raw calls were all granted, and which answers what the flat rules do
+  pub ends_granted : (calls : List RawCall) → Chain old t (all_granted calls) new → refused users f [] run.process call ≡ None → IsBacked (state old) (entries_of old.line t (all_granted calls)) (flat.answer f [] run.process call)
+      → AreAmong (reads_owed users call (flat.answer f [] run.process call)) (entries_of old.line t (all_granted calls)) → LaysOut users (state new) (changed users f [] run.process call)
+      → (reply : Option Reply) → reply ≡ Some (flat.answer f [] run.process call) → (refusal : Option (RawCall × Denied)) → refusal ≡ None → Ends users f call old new t (answer reply refusal)
+  ends_granted calls chain is backed reads lays_out reply answers refusal granted =
+      let row = granted_row calls chain is backed reads lays_out in
+      inl (ap (answer reply) granted ∙ answers ∙ ap Some row.0, row.1)
+
+  module _ (calls : List RawCall) (mid : Traced) (so_far : Chain old t (all_granted calls) mid) (last : RawCall) (more : List RawCall) where
+    -- a plan of which a raw call is refused behind granted ones, as the flat rules refuse the call
+    pub ends_refused : (denied : Denied) (errno : Errno) → check (state mid) t last ≡ Some denied → told_as last denied ≡ Some errno → refused users f [] run.process call ≡ Some errno
+        → AreAmong (reads_owed users call (Refused errno)) (entries_of old.line t (all_granted calls ++ (last, Some denied) ∷ [])) → state mid ≡ state old → LaysOut users (state old) f
+        → (reply : Option Reply) (refusal : Option (RawCall × Denied)) → Made mid new t (last ∷ more) refusal → Ends users f call old new t (answer reply refusal)
+    ends_refused denied errno fails told is reads stays lays_out reply refusal made =
+        let end = first_refused t mid new last more refusal denied fails made in
+        let row = refused_row calls last denied (chain_after t old mid new (all_granted calls) ((last, Some denied) ∷ []) so_far end.0) errno (told_shown last denied errno told) is reads
+        (end.0.2.state ∙ end.0.1.state ∙ stays) lays_out in
+        inl (ap (answer reply) end.1 ∙ ap (option_map Refused) told ∙ ap Some row.0, row.1)
+
+    -- a plan of which a raw call is refused behind granted ones, since the next object has no number
+    pub ends_exhausted : check (state mid) t last ≡ Some TooBig → told_as last TooBig ≡ None → has_number (state mid) ≡ false
+        → (reply : Option Reply) (refusal : Option (RawCall × Denied)) → Made mid new t (last ∷ more) refusal → Ends users f call old new t (answer reply refusal)
+    ends_exhausted fails untold greatest reply refusal made =
+        let end = first_refused t mid new last more refusal TooBig fails made in
+        let steps : List Step = all_granted calls ++ (last, Some TooBig) ∷ [] in
+        let part = chain_run t old new steps (chain_after t old mid new (all_granted calls) ((last, Some TooBig) ∷ []) so_far end.0) in
+        inr (
+          ap (answer reply) end.1 ∙ ap (option_map Refused) untold,
+          record {
+            entries = entries_of old.line t steps;
+            trace = part.trace;
+            line = part.line;
+            run = exhausted_unless t old mid new old.line calls last so_far end.0 greatest;
+            own = chain_own t old.line steps;
+          },
+        )
