@@ -9,20 +9,18 @@ use Rattle.histar_flat.specs.declared.calls.UnixCall.TheVariants as calls
 use Rattle.histar_flat.specs.declared.replies.Errno.{Errno}
 use Rattle.histar_flat.specs.declared.replies.Errno.TheVariants.{ENOENT, EACCES, EAUTH}
 use Rattle.histar_flat.specs.declared.replies.Reply.{Reply}
-use Rattle.histar_flat.specs.declared.replies.Reply.TheVariants.{Done, Refused}
+use Rattle.histar_flat.specs.declared.replies.Reply.TheVariants.{Refused}
 use Rattle.histar_flat.specs.Words.{Name, Password, ProcName}
 use Rattle.histar_flat.specs.PathOrder.{same}
 use Rattle.histar_flat.specs.Classes.{is_free}
-use Rattle.histar_flat.specs.FlatState.{Flat, is_some_and, with_process}
+use Rattle.histar_flat.specs.FlatState.{Flat, is_some_and}
 use Rattle.histar_flat.specs.FlatCalls.{refused, user_named, reply_to}
-use Rattle.histar_object.specs.State.{State}
 use Rattle.histar_rules.specs.declared.raw.Denied.{Denied}
 use Rattle.histar_rules.specs.declared.raw.RawCall.{RawCall}
 use Rattle.histar_syscall.specs.Traced.{Traced, state, IsUnchanged}
 use Rattle.histar_syscall.specs.Runs.{Made}
 use Rattle.histar_login.specs.Login.{place_of, login_calls, reply_if, own_of, most_of, is_password, login_answer, LoginCompletes, LoginStops, BecomesUser}
 use Rattle.histar_simulation.specs.Labels.{user_number}
-use Rattle.histar_simulation.specs.LaysOut.{LaysOut}
 use Rattle.histar_simulation.specs.Lines.{AreAmong, reads_of_login}
 use Rattle.histar_simulation.proofs.Chains.{Chain, all_granted, entries_of, granted_chain}
 use Rattle.histar_simulation.proofs.Users.{place_named, no_place_named}
