@@ -2,6 +2,7 @@
 use Rattle.std.proofs.Common.{◌≡◌, ◌≢◌, ℕ, false, List, [], ◌∷◌, ◌++◌, Option, None, Some, inl, inr, refl, sym, ap, ◌∙◌, subst}
 use Rattle.std.specs.Prelude.{option_map}
 use Rattle.std.specs.List.{AllByRecursion}
+use Rattle.std.proofs.lemmas.List.{map-append}
 use Rattle.histar_flat.specs.declared.calls.User.{User}
 use Rattle.histar_flat.specs.declared.calls.UnixCall.{UnixCall}
 use Rattle.histar_flat.specs.declared.replies.Errno.{Errno}
@@ -10,12 +11,13 @@ use Rattle.histar_flat.specs.declared.replies.Reply.TheVariants.{Done, Data, Ref
 use Rattle.histar_flat.specs.FlatState.{Flat, is_some_and}
 use Rattle.histar_flat.specs.FlatCalls as flat
 use Rattle.histar_flat.specs.FlatCalls.{refused, changed, reply_or, flat_or, reply_to}
+use Rattle.histar_object.specs.Objects.{bytes_in}
+use Rattle.histar_object.specs.State.{State}
 use Rattle.histar_rules.specs.declared.raw.Denied.{Denied}
 use Rattle.histar_rules.specs.declared.raw.Denied.TheVariants.{Observe, TooBig}
 use Rattle.histar_rules.specs.declared.raw.RawCall.{RawCall}
-use Rattle.histar_rules.specs.declared.raw.RawCall.TheVariants.{Write}
+use Rattle.histar_rules.specs.declared.raw.RawCall.TheVariants.{Read, Write}
 use Rattle.histar_rules.specs.Rules.{check, has_number}
-use Rattle.histar_object.specs.State.{State}
 use Rattle.histar_syscall.specs.declared.trace.TraceEntry.{TraceEntry}
 use Rattle.histar_syscall.specs.Traced.{Traced, state}
 use Rattle.histar_syscall.specs.Runs.{Made, is_label_refusal, is_range_refusal, some_label_refusal, some_range_refusal}
@@ -24,11 +26,11 @@ use Rattle.histar_container.proofs.Addresses.{or_false}
 use Rattle.histar_calls.specs.Follows.{answer, told_as, errno_of, write_errno_of}
 use Rattle.histar_calls.specs.Replies.{is_access, is_permission, is_no_access, is_no_permission}
 use Rattle.histar_simulation.specs.LaysOut.{LaysOut}
-use Rattle.histar_simulation.specs.Lines.{IsThreadOf, IsDenialTold, IsRefusedOnce, EndsWithRead, AreAmong, reads_owed}
-use Rattle.histar_simulation.proofs.Chains.{Step, all_granted, entries_of, Chain, chain_run, chain_own, chain_after, exhausted_unless, first_refused}
-use Rattle.histar_simulation.proofs.Outcomes.{IsRunning, IsAnswered, Ends, reply_is, after_is, answered_by}
+use Rattle.histar_simulation.specs.Lines.{IsThreadOf, IsDenialTold, IsRefusedOnce, EndsWithRead, AreAmong, reads_owed, IsLine}
+use Rattle.histar_simulation.proofs.Chains.{Step, all_granted, entries_of, Chain, chain_run, chain_after, exhausted_unless, first_refused}
+use Rattle.histar_simulation.proofs.Outcomes.{IsAnsweredWith, IsRunning, Ends, chain_out, reply_is, after_is}
 
--- what a reply needs where no raw call was refused: bytes were read last, and an errno is none that a refusal is told as by labels
+-- what a reply needs where no raw call was refused: bytes were read last, and an errno is neither EACCES nor EPERM
 abbrev pub IsBacked : State → List TraceEntry → Reply → Type 0
 IsBacked s entries Done = Unit {0}
 IsBacked s entries (Data bytes) = EndsWithRead s entries bytes
@@ -93,25 +95,60 @@ module _ (line t : ℕ) where
   }
   refused_agree last denied errno told (call ∷ calls) = after_granted (Refused errno) call (entries_of line t (all_granted calls ++ (last, Some denied) ∷ [])) (refused_agree last denied errno told calls)
 
-module _ (users : List User) (f : Flat) (run : IsRunning f) (call : UnixCall) (old new : Traced) (t : ℕ) (named : IsThreadOf users (state old) [] t) where
-  -- the call is answered so, and its line is the row of it
-  abbrev pub IsRowWith : Reply → Type 0
-  IsRowWith r = (r ≡ reply_to users f [] call) × IsAnswered users f call old new
+-- granted raw calls, and behind them a read that is granted too: what it tells is what the segment held then
+pub read_last : (old mid : Traced) (t : ℕ) (calls : List RawCall) → Chain old t (all_granted calls) mid → (container segment : ℕ)
+    → EndsWithRead (state old) (entries_of old.line t (all_granted calls ++ (Read container segment, None) ∷ [])) (bytes_in ((state mid).objects segment))
+read_last old mid t calls chain container segment = record {
+  front = entries_of old.line t (all_granted calls);
+  last = entry_of old.line t (Read container segment) None;
+  parts = map-append (λ (s : Step). entry_of old.line t s.0 s.1) (all_granted calls) ((Read container segment, None) ∷ []);
+  before = state mid;
+  run = (chain_run t old mid (all_granted calls) chain).run;
+  granted = refl;
+  answers = refl;
+}
 
-  -- a call whose refusals agree with what the flat rules say
+module _ (users : List User) (f : Flat) (run : IsRunning f) (call : UnixCall) (old new : Traced) (t : ℕ) (named : IsThreadOf users (state old) [] t) where
+  -- each entry is of the line's thread
+  all_own : (line : ℕ) (steps : List Step) → AllByRecursion (λ (e : TraceEntry). (e.line ≡ line) × IsThreadOf users (state old) [] e.thread) (entries_of line t steps)
+  all_own line [] = tt
+  all_own line (s ∷ steps) = ((refl, named), all_own line steps)
+
+  -- a line is the row of its call where its entries agree with the reply of the flat rules, and the state after it lays out the flat state after the call
   agreed : (steps : List Step) → Chain old t steps new → (refusal : Option Errno) → refused users f [] run.process call ≡ refusal → (r : Reply) → reply_or refusal (flat.answer f [] run.process call) ≡ r
       → Agrees r (entries_of old.line t steps) → ((bytes : List ℕ) → r ≡ Data bytes → EndsWithRead (state old) (entries_of old.line t steps) bytes) → AreAmong (reads_owed users call r) (entries_of old.line t steps) → r ≢ Gone
-      → LaysOut users (state new) (flat_or refusal f (changed users f [] run.process call)) → IsRowWith r
+      → LaysOut users (state new) (flat_or refusal f (changed users f [] run.process call)) → IsAnsweredWith users f call old new r
   agreed steps chain refusal is r r_is agrees told reads lives lays_out =
-      let reply = reply_is users f run call refusal is ∙ r_is in (
+      let part = chain_run t old new steps chain in
+      let reply = reply_is users f run call refusal is ∙ r_is in
+      let entries = entries_of old.line t steps in
+      let is_line : IsLine users (state old) old.line [] call r entries (state new) = record {
+        run = part.run;
+        own = all_own old.line steps;
+        access = agrees.access;
+        permission = agrees.permission;
+        denials = agrees.denials;
+        once = agrees.once;
+        told = told;
+        reads = λ answered. reads;
+        gone = λ e. absurd (lives e);
+      } in (
         sym reply,
-        answered_by users f call old new t named steps chain r (flat_or refusal f (changed users f [] run.process call)) reply (after_is users f run call refusal is)
-            agrees.access agrees.permission agrees.denials agrees.once told reads lives lays_out,
+        record {
+          entries = entries;
+          trace = part.trace;
+          line = part.line;
+          row = record {
+            line = subst (λ (x : Reply). IsLine users (state old) old.line [] call x entries (state new)) (sym reply) is_line;
+            lays_out = subst (LaysOut users (state new)) (sym (after_is users f run call refusal is)) lays_out;
+          };
+        },
       )
 
   -- where every raw call was granted, a call that the flat rules allow is answered what they answer
   pub granted_row : (calls : List RawCall) → Chain old t (all_granted calls) new → refused users f [] run.process call ≡ None → IsBacked (state old) (entries_of old.line t (all_granted calls)) (flat.answer f [] run.process call)
-      → AreAmong (reads_owed users call (flat.answer f [] run.process call)) (entries_of old.line t (all_granted calls)) → LaysOut users (state new) (changed users f [] run.process call) → IsRowWith (flat.answer f [] run.process call)
+      → AreAmong (reads_owed users call (flat.answer f [] run.process call)) (entries_of old.line t (all_granted calls)) → LaysOut users (state new) (changed users f [] run.process call)
+      → IsAnsweredWith users f call old new (flat.answer f [] run.process call)
   granted_row calls chain is backed reads lays_out =
       let r = flat.answer f [] run.process call in
       let entries = entries_of old.line t (all_granted calls) in
@@ -119,16 +156,16 @@ module _ (users : List User) (f : Flat) (run : IsRunning f) (call : UnixCall) (o
       (backed_told (state old) entries r backed) reads (backed_runs (state old) entries r backed) lays_out
 
   -- where every raw call was granted and nothing has changed, a call that the flat rules refuse is answered their errno, if it is neither EACCES nor EPERM
-  pub unchanged_row : (calls : List RawCall) → Chain old t (all_granted calls) new → (errno : Errno) → is_access errno ≡ false → is_permission errno ≡ false → refused users f [] run.process call ≡ Some errno
-      → AreAmong (reads_owed users call (Refused errno)) (entries_of old.line t (all_granted calls)) → state new ≡ state old → LaysOut users (state old) f → IsRowWith (Refused errno)
-  unchanged_row calls chain errno no_access no_permission is reads stays lays_out =
+  pub unchanged_row : (calls : List RawCall) → Chain old t (all_granted calls) new → state new ≡ state old → LaysOut users (state old) f → (errno : Errno) → is_access errno ≡ false → is_permission errno ≡ false
+      → refused users f [] run.process call ≡ Some errno → AreAmong (reads_owed users call (Refused errno)) (entries_of old.line t (all_granted calls)) → IsAnsweredWith users f call old new (Refused errno)
+  unchanged_row calls chain stays lays_out errno no_access no_permission is reads =
       agreed (all_granted calls) chain (Some errno) is (Refused errno) refl (granted_agree old.line t (Refused errno) no_access no_permission calls) (λ bytes e. absurd cc) reads (λ e. absurd cc)
       (subst (λ (s : State). LaysOut users s f) (sym stays) lays_out)
 
-  -- where the last raw call was refused and the others granted, a call that the flat rules refuse as that refusal is told is answered so
-  pub refused_row : (calls : List RawCall) (last : RawCall) (denied : Denied) → Chain old t (all_granted calls ++ (last, Some denied) ∷ []) new → (errno : Errno) → write_errno_of denied ≡ Some errno → refused users f [] run.process call ≡ Some errno
-      → AreAmong (reads_owed users call (Refused errno)) (entries_of old.line t (all_granted calls ++ (last, Some denied) ∷ [])) → state new ≡ state old → LaysOut users (state old) f → IsRowWith (Refused errno)
-  refused_row calls last denied chain errno told is reads stays lays_out =
+  -- where the last raw call was refused, the others granted and nothing has changed, a call that the flat rules refuse as that refusal is told is answered so
+  pub refused_row : (calls : List RawCall) (last : RawCall) (denied : Denied) → Chain old t (all_granted calls ++ (last, Some denied) ∷ []) new → state new ≡ state old → LaysOut users (state old) f → (errno : Errno) → write_errno_of denied ≡ Some errno
+      → refused users f [] run.process call ≡ Some errno → AreAmong (reads_owed users call (Refused errno)) (entries_of old.line t (all_granted calls ++ (last, Some denied) ∷ [])) → IsAnsweredWith users f call old new (Refused errno)
+  refused_row calls last denied chain stays lays_out errno told is reads =
       agreed (all_granted calls ++ (last, Some denied) ∷ []) chain (Some errno) is (Refused errno) refl (refused_agree old.line t last denied errno told calls) (λ bytes e. absurd cc) reads (λ e. absurd cc)
       (subst (λ (s : State). LaysOut users s f) (sym stays) lays_out)
 
@@ -140,31 +177,23 @@ module _ (users : List User) (f : Flat) (run : IsRunning f) (call : UnixCall) (o
       let row = granted_row calls chain is backed reads lays_out in
       inl (ap (answer reply) granted ∙ answers ∙ ap Some row.0, row.1)
 
-  module _ (calls : List RawCall) (mid : Traced) (so_far : Chain old t (all_granted calls) mid) (last : RawCall) (more : List RawCall) where
-    -- a plan of which a raw call is refused behind granted ones, as the flat rules refuse the call
-    pub ends_refused : (denied : Denied) (errno : Errno) → check (state mid) t last ≡ Some denied → told_as last denied ≡ Some errno → refused users f [] run.process call ≡ Some errno
-        → AreAmong (reads_owed users call (Refused errno)) (entries_of old.line t (all_granted calls ++ (last, Some denied) ∷ [])) → state mid ≡ state old → LaysOut users (state old) f
-        → (reply : Option Reply) (refusal : Option (RawCall × Denied)) → Made mid new t (last ∷ more) refusal → Ends users f call old new t (answer reply refusal)
-    ends_refused denied errno fails told is reads stays lays_out reply refusal made =
-        let end = first_refused t mid new last more refusal denied fails made in
-        let row = refused_row calls last denied (chain_after t old mid new (all_granted calls) ((last, Some denied) ∷ []) so_far end.0) errno (told_shown last denied errno told) is reads
-        (end.0.2.state ∙ end.0.1.state ∙ stays) lays_out in
+  -- a plan of which these raw calls were granted
+  module _ (calls : List RawCall) (mid : Traced) (so_far : Chain old t (all_granted calls) mid) where
+    -- they changed nothing, and the next is refused, as the flat rules refuse the call
+    pub ends_refused : state mid ≡ state old → LaysOut users (state old) f → (next : RawCall) (denied : Denied) → check (state mid) t next ≡ Some denied → (errno : Errno) → told_as next denied ≡ Some errno → refused users f [] run.process call ≡ Some errno
+        → AreAmong (reads_owed users call (Refused errno)) (entries_of old.line t (all_granted calls ++ (next, Some denied) ∷ []))
+        → (reply : Option Reply) (more : List RawCall) (refusal : Option (RawCall × Denied)) → Made mid new t (next ∷ more) refusal → Ends users f call old new t (answer reply refusal)
+    ends_refused stays lays_out next denied fails errno told is reads reply more refusal made =
+        let end = first_refused t mid new next more refusal denied fails made in
+        let chain = chain_after t old mid new (all_granted calls) ((next, Some denied) ∷ []) so_far end.0 in
+        let row = refused_row calls next denied chain (end.0.2.state ∙ end.0.1.state ∙ stays) lays_out errno (told_shown next denied errno told) is reads in
         inl (ap (answer reply) end.1 ∙ ap (option_map Refused) told ∙ ap Some row.0, row.1)
 
-    -- a plan of which a raw call is refused behind granted ones, since the next object has no number
-    pub ends_exhausted : check (state mid) t last ≡ Some TooBig → told_as last TooBig ≡ None → has_number (state mid) ≡ false
-        → (reply : Option Reply) (refusal : Option (RawCall × Denied)) → Made mid new t (last ∷ more) refusal → Ends users f call old new t (answer reply refusal)
-    ends_exhausted fails untold greatest reply refusal made =
-        let end = first_refused t mid new last more refusal TooBig fails made in
-        let steps : List Step = all_granted calls ++ (last, Some TooBig) ∷ [] in
-        let part = chain_run t old new steps (chain_after t old mid new (all_granted calls) ((last, Some TooBig) ∷ []) so_far end.0) in
-        inr (
-          ap (answer reply) end.1 ∙ ap (option_map Refused) untold,
-          record {
-            entries = entries_of old.line t steps;
-            trace = part.trace;
-            line = part.line;
-            run = exhausted_unless t old mid new old.line calls last so_far end.0 greatest;
-            own = chain_own t old.line steps;
-          },
-        )
+    -- the next is refused since the next object has no number, which is not told
+    pub ends_exhausted : (next : RawCall) → check (state mid) t next ≡ Some TooBig → told_as next TooBig ≡ None → has_number (state mid) ≡ false
+        → (reply : Option Reply) (more : List RawCall) (refusal : Option (RawCall × Denied)) → Made mid new t (next ∷ more) refusal → Ends users f call old new t (answer reply refusal)
+    ends_exhausted next fails untold greatest reply more refusal made =
+        let end = first_refused t mid new next more refusal TooBig fails made in
+        let steps : List Step = all_granted calls ++ (next, Some TooBig) ∷ [] in
+        let chain = chain_after t old mid new (all_granted calls) ((next, Some TooBig) ∷ []) so_far end.0 in
+        inr (ap (answer reply) end.1 ∙ ap (option_map Refused) untold, chain_out old new t steps chain (exhausted_unless t old mid new old.line calls next so_far end.0 greatest))

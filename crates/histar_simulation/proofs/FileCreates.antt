@@ -194,14 +194,14 @@ module _ (users : List User) (old new : Traced) (f : Flat) (scene : Scene users 
             blocked : (denied : Denied) (errno : Errno) → check (state asked) t make_call ≡ Some denied → told_as make_call denied ≡ Some errno → refused users f [] me call ≡ Some errno → Ends users f call old new t (answer (Some Done) refusal)
             unfolding t
             blocked denied errno fails told is =
-                ends_refused users f scene.run call old new t scene.named (walk_call users old f scene ∷ raw.OwnLabel ∷ []) asked so_far make_call (write_call ∷ []) denied errno fails told is (inl (refl, tt))
-                asked_state scene.lays_out (Some Done) refusal made
+                ends_refused users f scene.run call old new t scene.named (walk_call users old f scene ∷ raw.OwnLabel ∷ []) asked so_far asked_state scene.lays_out make_call denied fails errno told is (inl (refl, tt))
+                (Some Done) (write_call ∷ []) refusal made
 
             -- there is no number for it any more
             exhausted : check (state asked) t make_call ≡ Some TooBig → has_number (state old) ≡ false → Ends users f call old new t (answer (Some Done) refusal)
             unfolding t make_call
             exhausted fails greatest =
-                ends_exhausted users f scene.run call old new t scene.named (walk_call users old f scene ∷ raw.OwnLabel ∷ []) asked so_far make_call (write_call ∷ []) fails refl (ap has_number asked_state ∙ greatest) (Some Done) refusal made
+                ends_exhausted users f scene.run call old new t scene.named (walk_call users old f scene ∷ raw.OwnLabel ∷ []) asked so_far make_call fails refl (ap has_number asked_state ∙ greatest) (Some Done) (write_call ∷ []) refusal made
 
             -- a file of the user whose process it is, whose label is this one
             module _ (may_make : writes f me [] ≡ true) (class : Class) (class_is : class_made me mode ≡ Some class) (labelled : class_label users class ≡ Some (file_label mode user)) (named : IsTrue (is_name m))

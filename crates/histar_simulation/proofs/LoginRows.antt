@@ -14,7 +14,7 @@ use Rattle.histar_flat.specs.Words.{Name, Password, ProcName}
 use Rattle.histar_flat.specs.PathOrder.{same}
 use Rattle.histar_flat.specs.Classes.{is_free}
 use Rattle.histar_flat.specs.FlatState.{Flat, is_some_and}
-use Rattle.histar_flat.specs.FlatCalls.{refused, user_named, reply_to}
+use Rattle.histar_flat.specs.FlatCalls.{refused, user_named}
 use Rattle.histar_rules.specs.declared.raw.Denied.{Denied}
 use Rattle.histar_rules.specs.declared.raw.RawCall.{RawCall}
 use Rattle.histar_syscall.specs.Traced.{Traced, state, IsUnchanged}
@@ -26,7 +26,7 @@ use Rattle.histar_simulation.proofs.Chains.{Chain, all_granted, entries_of, gran
 use Rattle.histar_simulation.proofs.Users.{place_named, no_place_named}
 use Rattle.histar_simulation.proofs.LoginGranted.{password_agrees, login_is_granted}
 use Rattle.histar_simulation.proofs.LoginLaid.{login_lays_out}
-use Rattle.histar_simulation.proofs.Outcomes.{IsAnswered, IsOut, granted_out}
+use Rattle.histar_simulation.proofs.Outcomes.{IsAnsweredWith, IsOut, granted_out}
 use Rattle.histar_simulation.proofs.Endings.{granted_row, unchanged_row}
 use Rattle.histar_simulation.proofs.Scenes.{Scene}
 
@@ -45,10 +45,10 @@ module _ (users : List User) (old new : Traced) (f : Flat) (scene : Scene users 
       is_free_path = ap (λ (chain : List ProcName). elim chain as (λ _. Bool) [ [] ↦ true | job ∷ jobs ↦ false ]) scene.run.lone.free
 
   -- no user has the name: no raw call is made
-  pub unknown_user : place_of users name ≡ None → IsUnchanged old new → (Refused ENOENT ≡ reply_to users f [] call) × IsAnswered users f call old new
+  pub unknown_user : place_of users name ≡ None → IsUnchanged old new → IsAnsweredWith users f call old new (Refused ENOENT)
   unknown_user no_place same_kernel =
-      unchanged_row users f scene.run call old new (8 + 2 * length users) scene.named [] same_kernel ENOENT refl refl (refused_is None false (no_place_named users name no_place) refl)
-      (subst (λ (place : Option ℕ). AreAmong (reads_of_login place false) []) (sym no_place) tt) same_kernel.state scene.lays_out
+      unchanged_row users f scene.run call old new (8 + 2 * length users) scene.named [] same_kernel same_kernel.state scene.lays_out ENOENT refl refl (refused_is None false (no_place_named users name no_place) refl)
+      (subst (λ (place : Option ℕ). AreAmong (reads_of_login place false) []) (sym no_place) tt)
 
   -- a user has the name
   module _ (place : ℕ) (place_is : place_of users name ≡ Some place) where
@@ -79,15 +79,15 @@ module _ (users : List User) (old new : Traced) (f : Flat) (scene : Scene users 
       owed : AreAmong (reads_of_login (place_of users name) true) (entries_of old.line (8 + 2 * length users) (all_granted raw_calls))
       owed = subst (λ (o : Option ℕ). AreAmong (reads_of_login o true) (entries_of old.line (8 + 2 * length users) (all_granted raw_calls))) (sym place_is) (inr (inr (inl (refl, tt))))
 
-      answered : (b : Bool) → right ≡ b → BecomesUser (length users) (place + 1) (8 + 2 * length users) (state old) (state new) (reply_if b) → (reply_if b ≡ reply_to users f [] call) × IsAnswered users f call old new
+      answered : (b : Bool) → right ≡ b → BecomesUser (length users) (place + 1) (8 + 2 * length users) (state old) (state new) (reply_if b) → IsAnsweredWith users f call old new (reply_if b)
       answered true is becomes =
           granted_row users f scene.run call old new (8 + 2 * length users) scene.named raw_calls chain (refused_by true is) tt owed
           (login_lays_out users scene.no_one (state old) f scene.lays_out scene.run.process scene.run.stands name (place + 1) numbered (state new) becomes)
-      answered false is becomes = unchanged_row users f scene.run call old new (8 + 2 * length users) scene.named raw_calls chain EAUTH refl refl (refused_by false is) owed becomes scene.lays_out
+      answered false is becomes = unchanged_row users f scene.run call old new (8 + 2 * length users) scene.named raw_calls chain becomes scene.lays_out EAUTH refl refl (refused_by false is) owed
 
     -- a login as this user that was answered
     pub login_row : (reply : Reply) → LoginCompletes old new (8 + 2 * length users) raw_calls (reply_if right) reply → BecomesUser (length users) (place + 1) (8 + 2 * length users) (state old) (state new) reply
-        → (reply ≡ reply_to users f [] call) × IsAnswered users f call old new
+        → IsAnsweredWith users f call old new reply
     login_row reply c becomes =
         let no_refusal = none_refused raw_calls [] c.refusal (sym (append-nil raw_calls)) c.made in
         let same : reply_if right ≡ reply = same_Some (reply_if right) reply (ap (login_answer (reply_if right)) (sym no_refusal) ∙ c.answers) in

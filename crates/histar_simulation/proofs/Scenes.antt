@@ -106,16 +106,16 @@ module _ (users : List User) (old : Traced) (f : Flat) (scene : Scene users (sta
     pub ends_unwalked : (plan : Plan) (refusal : Option (RawCall × Denied)) → refused users f [] scene.run.process call ≡ Some EACCES → reads f scene.run.process [] ≡ false
         → Made old new caller (after_walk here plan).calls refusal → Ends users f call old new caller (answer (after_walk here plan).reply refusal)
     ends_unwalked plan refusal is_refused unseen made =
-        ends_refused users f scene.run call old new caller scene.named [] old (same_kernel old) walk_call plan.calls Observe EACCES (walk_refused unseen) refl is_refused
-        (subst (λ (calls : List RawCall). AreAmong calls (entries_of old.line caller ((walk_call, Some Observe) ∷ []))) (sym (owed (Refused EACCES))) (inl (refl, tt))) refl scene.lays_out plan.reply refusal made
+        ends_refused users f scene.run call old new caller scene.named [] old (same_kernel old) refl scene.lays_out walk_call Observe (walk_refused unseen) EACCES refl is_refused
+        (subst (λ (calls : List RawCall). AreAmong calls (entries_of old.line caller ((walk_call, Some Observe) ∷ []))) (sym (owed (Refused EACCES))) (inl (refl, tt))) plan.reply plan.calls refusal made
 
     -- a call that is refused after its walk, which no raw call tells
     pub ends_at_once : (errno : Errno) → is_access errno ≡ false → is_permission errno ≡ false → refused users f [] scene.run.process call ≡ Some errno → (mid : Traced) → Called old mid caller walk_call None
         → (plan : Plan) (refusal : Option (RawCall × Denied)) → plan ≡ answering (Refused errno) → Made mid new caller plan.calls refusal → Ends users f call old new caller (answer plan.reply refusal)
     ends_at_once errno no_access no_permission is_refused mid walked plan refusal same made =
         let end = subst (λ (q : Plan). Made mid new caller q.calls refusal) same made in
-        let row = unchanged_row users f scene.run call old new caller scene.named (walk_call ∷ []) (mid, walked, end.0) errno no_access no_permission is_refused
-        (subst (λ (calls : List RawCall). AreAmong calls (entries_of old.line caller ((walk_call, None) ∷ []))) (sym (owed (Refused errno))) (inl (refl, tt))) (end.0.state ∙ walked.state) scene.lays_out in
+        let row = unchanged_row users f scene.run call old new caller scene.named (walk_call ∷ []) (mid, walked, end.0) (end.0.state ∙ walked.state) scene.lays_out errno no_access no_permission is_refused
+        (subst (λ (calls : List RawCall). AreAmong calls (entries_of old.line caller ((walk_call, None) ∷ []))) (sym (owed (Refused errno))) (inl (refl, tt))) in
         inl ((λ i. answer (same i).reply (end.1 i)) ∙ ap Some row.0, row.1)
 
     -- what the flat rules refuse on the way to a file
