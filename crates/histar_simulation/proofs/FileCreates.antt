@@ -121,17 +121,17 @@ module _ (users : List User) (old new : Traced) (f : Flat) (scene : Scene users 
   full_test false e = grind (arith, nat_tests, as_many, few, e)
 
   module _ (user : ℕ) (owner : IsUserOf scene.label (length users) user) (refusal : Option (RawCall × Denied)) where
-    t : ℕ
+    abbrev t : ℕ
     t = 8 + 2 * length users
 
     -- the raw calls that make the file
-    make_call : RawCall
+    abbrev make_call : RawCall
     make_call = raw.MakeSegment (4 + 2 * length users) (file_label mode user) []
 
-    grown : Entries
+    abbrev grown : Entries
     grown = map.insert (listed users old f scene) m (targets.File (state old).next_object)
 
-    write_call : RawCall
+    abbrev write_call : RawCall
     write_call = raw.Write (4 + 2 * length users) (5 + 2 * length users) 0 (spelling grown)
 
     -- the plan once the directory was read
@@ -145,7 +145,6 @@ module _ (users : List User) (old new : Traced) (f : Flat) (scene : Scene users 
     module _ (seen : reads f me [] ≡ true) (mid : Traced) (walked : Called old mid t (walk_call users old f scene) None) where
       -- something stands there
       standing : (there : Node) → get f.files (m ∷ []) ≡ Some there → Made mid new t inner.calls refusal → Ends users f call old new t (answer inner.reply refusal)
-      unfolding t
       standing there stands made =
           let target = leads m there stands in
           ends_at_once users old f scene new call (λ r. refl) EEXIST refl refl
@@ -155,7 +154,6 @@ module _ (users : List User) (old new : Traced) (f : Flat) (scene : Scene users 
       module _ (free : get f.files (m ∷ []) ≡ None) where
         -- the directory is full
         full : roomy ≡ false → Made mid new t inner.calls refusal → Ends users f call old new t (answer inner.reply refusal)
-        unfolding t
         full no_room made =
             ends_at_once users old f scene new call (λ r. refl) ENOSPC refl refl
             (refused_is true None false (writes f me []) (has_value (class_made me mode)) seen free no_room refl refl)
@@ -177,7 +175,6 @@ module _ (users : List User) (old new : Traced) (f : Flat) (scene : Scene users 
 
           make_checked : (may_make in_range has_next : Bool) → writes f me [] ≡ may_make → (is_below scene.label (file_label mode user) && is_below (file_label mode user) scene.clearance) ≡ in_range → has_number (state old) ≡ has_next
               → known (state old) (file_label mode user) ≡ true → check (state asked) t make_call ≡ tests may_make in_range has_next
-          unfolding t make_call
           make_checked may_make in_range has_next is_may is_range is_next is_known =
               let r = root users old f scene in
               ap (λ (s : State). check s (8 + 2 * length users) (raw.MakeSegment (4 + 2 * length users) (file_label mode user) [])) asked_state
@@ -187,19 +184,16 @@ module _ (users : List User) (old new : Traced) (f : Flat) (scene : Scene users 
           module _ (made : Made asked new t (make_call ∷ write_call ∷ []) refusal) where
             -- the walk and the label were granted
             so_far : Chain old t (all_granted (walk_call users old f scene ∷ raw.OwnLabel ∷ [])) asked
-            unfolding t
             so_far = (mid, walked, (asked, asks, same_kernel asked))
 
             -- the kernel refuses to make the segment, for a reason that is told
             blocked : (denied : Denied) (errno : Errno) → check (state asked) t make_call ≡ Some denied → told_as make_call denied ≡ Some errno → refused users f [] me call ≡ Some errno → Ends users f call old new t (answer (Some Done) refusal)
-            unfolding t
             blocked denied errno fails told is =
                 ends_refused users f scene.run call old new t scene.named (walk_call users old f scene ∷ raw.OwnLabel ∷ []) asked so_far asked_state scene.lays_out make_call denied fails errno told is (inl (refl, tt))
                 (Some Done) (write_call ∷ []) refusal made
 
             -- there is no number for it any more
             exhausted : check (state asked) t make_call ≡ Some TooBig → has_number (state old) ≡ false → Ends users f call old new t (answer (Some Done) refusal)
-            unfolding t make_call
             exhausted fails greatest =
                 ends_exhausted users f scene.run call old new t scene.named (walk_call users old f scene ∷ raw.OwnLabel ∷ []) asked so_far make_call fails refl (ap has_number asked_state ∙ greatest) (Some Done) (write_call ∷ []) refusal made
 
@@ -222,7 +216,6 @@ module _ (users : List User) (old new : Traced) (f : Flat) (scene : Scene users 
 
               module _ (made_it : Traced) (makes : Called asked made_it t make_call None) where
                 made_state : state made_it ≡ added (state old) (4 + 2 * length users) (record { label = file_label mode user; kind = Segment [] })
-                unfolding make_call
                 made_state = makes.state ∙ ap (λ (s : State). added s (4 + 2 * length users) (record { label = file_label mode user; kind = Segment [] })) asked_state
 
                 -- what stands elsewhere stays
@@ -236,7 +229,6 @@ module _ (users : List User) (old new : Traced) (f : Flat) (scene : Scene users 
                     ∙ ap (option_map (linking (state old).next_object)) (root users old f scene).container
 
                 write_checked : check (state made_it) t write_call ≡ None
-                unfolding t write_call grown
                 write_checked =
                     let r = root users old f scene in
                     let fits : length (spelling (map.insert (listed users old f scene) m (targets.File (state old).next_object))) ≤ 4096 =
@@ -253,7 +245,6 @@ module _ (users : List User) (old new : Traced) (f : Flat) (scene : Scene users 
 
                 -- the file is made, and `/` has its entry
                 granted : Made made_it new t (write_call ∷ []) refusal → Ends users f call old new t (answer (Some Done) refusal)
-                unfolding t write_call grown
                 granted rest =
                     let r = root users old f scene in
                     let last = first_granted t made_it new write_call [] refusal write_checked rest in
@@ -297,7 +288,6 @@ module _ (users : List User) (old new : Traced) (f : Flat) (scene : Scene users 
     is_known most = ap (λ (next : ℕ). is_made next (file_label mode user)) scene.lays_out.categories ∙ file_label_known (length users) mode user most
 
     by_number : writes f me [] ≡ true → same me.user nobody ≡ false → user_number users me.user ≡ Some user → (b : Bool) → has_number (state old) ≡ b → Ends users f call old new (8 + 2 * length users) (answer (Some Done) refusal)
-    unfolding t make_call
     by_number may is e false greatest =
         let range = number_range users me.user user e in
         exhausted user owner refusal seen mid walked free room asked asks made
@@ -310,7 +300,6 @@ module _ (users : List User) (old new : Traced) (f : Flat) (scene : Scene users 
         granted user owner refusal seen mid walked free room asked asks made may (user_class mode me.user) (class_of_user is) (label_of_user user e) named in_range (is_known range.1) next first.0 first.1 first.2
 
     by_owner : writes f me [] ≡ true → Ends users f call old new (8 + 2 * length users) (answer (Some Done) refusal)
-    unfolding t make_call
     by_owner may = elim (owner_is users scene.no_one me scene.run.lone scene.label scene.clearance scene.labels user owner) [
       | inl no_user ↦
           blocked user owner refusal seen mid walked free room asked asks made Range EPERM
@@ -323,7 +312,6 @@ module _ (users : List User) (old new : Traced) (f : Flat) (scene : Scene users 
 
     -- a create once the directory has room
     makes : (b : Bool) → writes f me [] ≡ b → Ends users f call old new (8 + 2 * length users) (answer (Some Done) refusal)
-    unfolding t make_call
     makes true may = by_owner may
     makes false may_not =
         let most : user ≤ length users = owner.known in
@@ -338,7 +326,6 @@ module _ (users : List User) (old new : Traced) (f : Flat) (scene : Scene users 
 
     module _ (seen : reads f me [] ≡ true) (mid : Traced) (walked : Called old mid (8 + 2 * length users) (walk_call users old f scene) None) (made : Made mid new (8 + 2 * length users) within.calls refusal) where
       by_room : get f.files (m ∷ []) ≡ None → (b : Bool) → roomy ≡ b → Ends users f call old new (8 + 2 * length users) (answer within.reply refusal)
-      unfolding t make_call write_call grown
       by_room free false no_room = full user owner refusal seen mid walked free no_room made
       by_room free true room =
           let same = inner_at user owner refusal None false (entry_at None free) (full_test true room) in
@@ -349,7 +336,6 @@ module _ (users : List User) (old new : Traced) (f : Flat) (scene : Scene users 
           (makes user owner refusal seen mid walked free room asks.0 asks.1 named asks.2 (writes f me []) refl)
 
       by_standing : (o : Option Node) → get f.files (m ∷ []) ≡ o → Ends users f call old new (8 + 2 * length users) (answer within.reply refusal)
-      unfolding t
       by_standing None free = by_room free roomy refl
       by_standing (Some there) stands = standing user owner refusal seen mid walked there stands made
 
