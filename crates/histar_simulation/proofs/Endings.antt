@@ -38,13 +38,9 @@ IsBacked s entries (Refused errno) = (is_access errno ≡ false) × (is_permissi
 IsBacked s entries Gone = ⊥
 
 module _ (s : State) (entries : List TraceEntry) where
-  backed_access : (r : Reply) → IsBacked s entries r → is_no_access r ≡ false
-  backed_access (Refused errno) backed = backed.0
-  backed_access r backed = refl
-
-  backed_permission : (r : Reply) → IsBacked s entries r → is_no_permission r ≡ false
-  backed_permission (Refused errno) backed = backed.1
-  backed_permission r backed = refl
+  backed_plain : (r : Reply) → IsBacked s entries r → (is_no_access r ≡ false) × (is_no_permission r ≡ false)
+  backed_plain (Refused errno) backed = backed
+  backed_plain r backed = (refl, refl)
 
   backed_runs : (r : Reply) → IsBacked s entries r → r ≢ Gone
   backed_runs Gone backed e = backed
@@ -81,9 +77,9 @@ module _ (line t : ℕ) where
   after_granted r call entries a = record { access = a.access; permission = a.permission; denials = (tt, a.denials); once = a.once }
 
   -- granted raw calls
-  granted_agree : (r : Reply) → is_no_access r ≡ false → is_no_permission r ≡ false → (calls : List RawCall) → Agrees r (entries_of line t (all_granted calls))
-  granted_agree r no_access no_permission [] = record { access = sym no_access; permission = sym no_permission; denials = tt; once = tt }
-  granted_agree r no_access no_permission (call ∷ calls) = after_granted r call (entries_of line t (all_granted calls)) (granted_agree r no_access no_permission calls)
+  granted_agree : (r : Reply) → (is_no_access r ≡ false) × (is_no_permission r ≡ false) → (calls : List RawCall) → Agrees r (entries_of line t (all_granted calls))
+  granted_agree r plain [] = record { access = sym plain.0; permission = sym plain.1; denials = tt; once = tt }
+  granted_agree r plain (call ∷ calls) = after_granted r call (entries_of line t (all_granted calls)) (granted_agree r plain calls)
 
   -- granted raw calls, and one that was refused
   refused_agree : (last : RawCall) (denied : Denied) (errno : Errno) → write_errno_of denied ≡ Some errno → (calls : List RawCall) → Agrees (Refused errno) (entries_of line t (all_granted calls ++ (last, Some denied) ∷ []))
@@ -145,43 +141,48 @@ module _ (users : List User) (f : Flat) (run : IsRunning f) (call : UnixCall) (o
         },
       )
 
+  -- the reads that the call cannot do without, so answered, are among these raw calls
+  abbrev pub HasReads : List Step → Reply → Type 0
+  HasReads steps r = AreAmong (reads_owed users call r) (entries_of old.line t steps)
+
+  -- what the flat rules answer if they allow the call
+  abbrev pub allowed : Reply
+  allowed = flat.answer f [] run.process call
+
   -- where every raw call was granted, a call that the flat rules allow is answered what they answer
-  pub granted_row : (calls : List RawCall) → Chain old t (all_granted calls) new → refused users f [] run.process call ≡ None → IsBacked (state old) (entries_of old.line t (all_granted calls)) (flat.answer f [] run.process call)
-      → AreAmong (reads_owed users call (flat.answer f [] run.process call)) (entries_of old.line t (all_granted calls)) → LaysOut users (state new) (changed users f [] run.process call)
-      → IsAnsweredWith users f call old new (flat.answer f [] run.process call)
+  pub granted_row : (calls : List RawCall) → Chain old t (all_granted calls) new → refused users f [] run.process call ≡ None → IsBacked (state old) (entries_of old.line t (all_granted calls)) allowed → HasReads (all_granted calls) allowed
+      → LaysOut users (state new) (changed users f [] run.process call) → IsAnsweredWith users f call old new allowed
   granted_row calls chain is backed reads lays_out =
-      let r = flat.answer f [] run.process call in
       let entries = entries_of old.line t (all_granted calls) in
-      agreed (all_granted calls) chain None is r refl (granted_agree old.line t r (backed_access (state old) entries r backed) (backed_permission (state old) entries r backed) calls)
-      (backed_told (state old) entries r backed) reads (backed_runs (state old) entries r backed) lays_out
+      agreed (all_granted calls) chain None is allowed refl (granted_agree old.line t allowed (backed_plain (state old) entries allowed backed) calls)
+      (backed_told (state old) entries allowed backed) reads (backed_runs (state old) entries allowed backed) lays_out
 
   -- where every raw call was granted and nothing has changed, a call that the flat rules refuse is answered their errno, if it is neither EACCES nor EPERM
-  pub unchanged_row : (calls : List RawCall) → Chain old t (all_granted calls) new → state new ≡ state old → LaysOut users (state old) f → (errno : Errno) → is_access errno ≡ false → is_permission errno ≡ false
-      → refused users f [] run.process call ≡ Some errno → AreAmong (reads_owed users call (Refused errno)) (entries_of old.line t (all_granted calls)) → IsAnsweredWith users f call old new (Refused errno)
+  pub unchanged_row : (calls : List RawCall) → Chain old t (all_granted calls) new → state new ≡ state old → LaysOut users (state old) f
+      → (errno : Errno) → is_access errno ≡ false → is_permission errno ≡ false → refused users f [] run.process call ≡ Some errno → HasReads (all_granted calls) (Refused errno) → IsAnsweredWith users f call old new (Refused errno)
   unchanged_row calls chain stays lays_out errno no_access no_permission is reads =
-      agreed (all_granted calls) chain (Some errno) is (Refused errno) refl (granted_agree old.line t (Refused errno) no_access no_permission calls) (λ bytes e. absurd cc) reads (λ e. absurd cc)
+      agreed (all_granted calls) chain (Some errno) is (Refused errno) refl (granted_agree old.line t (Refused errno) (no_access, no_permission) calls) (λ bytes e. absurd cc) reads (λ e. absurd cc)
       (subst (λ (s : State). LaysOut users s f) (sym stays) lays_out)
 
   -- where the last raw call was refused, the others granted and nothing has changed, a call that the flat rules refuse as that refusal is told is answered so
-  pub refused_row : (calls : List RawCall) (last : RawCall) (denied : Denied) → Chain old t (all_granted calls ++ (last, Some denied) ∷ []) new → state new ≡ state old → LaysOut users (state old) f → (errno : Errno) → write_errno_of denied ≡ Some errno
-      → refused users f [] run.process call ≡ Some errno → AreAmong (reads_owed users call (Refused errno)) (entries_of old.line t (all_granted calls ++ (last, Some denied) ∷ [])) → IsAnsweredWith users f call old new (Refused errno)
+  pub refused_row : (calls : List RawCall) (last : RawCall) (denied : Denied) → Chain old t (all_granted calls ++ (last, Some denied) ∷ []) new → state new ≡ state old → LaysOut users (state old) f
+      → (errno : Errno) → write_errno_of denied ≡ Some errno → refused users f [] run.process call ≡ Some errno → HasReads (all_granted calls ++ (last, Some denied) ∷ []) (Refused errno) → IsAnsweredWith users f call old new (Refused errno)
   refused_row calls last denied chain stays lays_out errno told is reads =
       agreed (all_granted calls ++ (last, Some denied) ∷ []) chain (Some errno) is (Refused errno) refl (refused_agree old.line t last denied errno told calls) (λ bytes e. absurd cc) reads (λ e. absurd cc)
       (subst (λ (s : State). LaysOut users s f) (sym stays) lays_out)
 
-  -- a plan whose raw calls were all granted, and which answers what the flat rules do
-  pub ends_granted : (calls : List RawCall) → Chain old t (all_granted calls) new → refused users f [] run.process call ≡ None → IsBacked (state old) (entries_of old.line t (all_granted calls)) (flat.answer f [] run.process call)
-      → AreAmong (reads_owed users call (flat.answer f [] run.process call)) (entries_of old.line t (all_granted calls)) → LaysOut users (state new) (changed users f [] run.process call)
-      → (reply : Option Reply) → reply ≡ Some (flat.answer f [] run.process call) → (refusal : Option (RawCall × Denied)) → refusal ≡ None → Ends users f call old new t (answer reply refusal)
+  -- a plan whose raw calls were all granted ends so, where it answers what the flat rules do
+  pub ends_granted : (calls : List RawCall) → Chain old t (all_granted calls) new → refused users f [] run.process call ≡ None → IsBacked (state old) (entries_of old.line t (all_granted calls)) allowed → HasReads (all_granted calls) allowed
+      → LaysOut users (state new) (changed users f [] run.process call) → (reply : Option Reply) → reply ≡ Some allowed → (refusal : Option (RawCall × Denied)) → refusal ≡ None → Ends users f call old new t (answer reply refusal)
   ends_granted calls chain is backed reads lays_out reply answers refusal granted =
       let row = granted_row calls chain is backed reads lays_out in
       inl (ap (answer reply) granted ∙ answers ∙ ap Some row.0, row.1)
 
   -- a plan of which these raw calls were granted
   module _ (calls : List RawCall) (mid : Traced) (so_far : Chain old t (all_granted calls) mid) where
-    -- they changed nothing, and the next is refused, as the flat rules refuse the call
-    pub ends_refused : state mid ≡ state old → LaysOut users (state old) f → (next : RawCall) (denied : Denied) → check (state mid) t next ≡ Some denied → (errno : Errno) → told_as next denied ≡ Some errno → refused users f [] run.process call ≡ Some errno
-        → AreAmong (reads_owed users call (Refused errno)) (entries_of old.line t (all_granted calls ++ (next, Some denied) ∷ []))
+    -- ends at the next, where that is refused, nothing has changed, and the flat rules refuse the call as that refusal is told
+    pub ends_refused : state mid ≡ state old → LaysOut users (state old) f → (next : RawCall) (denied : Denied) → check (state mid) t next ≡ Some denied
+        → (errno : Errno) → told_as next denied ≡ Some errno → refused users f [] run.process call ≡ Some errno → HasReads (all_granted calls ++ (next, Some denied) ∷ []) (Refused errno)
         → (reply : Option Reply) (more : List RawCall) (refusal : Option (RawCall × Denied)) → Made mid new t (next ∷ more) refusal → Ends users f call old new t (answer reply refusal)
     ends_refused stays lays_out next denied fails errno told is reads reply more refusal made =
         let end = first_refused t mid new next more refusal denied fails made in
@@ -189,7 +190,7 @@ module _ (users : List User) (f : Flat) (run : IsRunning f) (call : UnixCall) (o
         let row = refused_row calls next denied chain (end.0.2.state ∙ end.0.1.state ∙ stays) lays_out errno (told_shown next denied errno told) is reads in
         inl (ap (answer reply) end.1 ∙ ap (option_map Refused) told ∙ ap Some row.0, row.1)
 
-    -- the next is refused since the next object has no number, which is not told
+    -- ends at the next without an answer, where that is refused since the next object has no number
     pub ends_exhausted : (next : RawCall) → check (state mid) t next ≡ Some TooBig → told_as next TooBig ≡ None → has_number (state mid) ≡ false
         → (reply : Option Reply) (more : List RawCall) (refusal : Option (RawCall × Denied)) → Made mid new t (next ∷ more) refusal → Ends users f call old new t (answer reply refusal)
     ends_exhausted next fails untold greatest reply more refusal made =

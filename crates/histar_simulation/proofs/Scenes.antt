@@ -102,20 +102,24 @@ module _ (users : List User) (old : Traced) (f : Flat) (scene : Scene users (sta
   walk_refused unseen = read_blocked (state old) caller scene.label scene.clearance scene.thread (4 + 2 * length users) root.directory.label root.links root.container (sees_root ∙ unseen) (5 + 2 * length users)
 
   module _ (new : Traced) (call : UnixCall) (owed : (r : Reply) → reads_owed users call r ≡ walk_call ∷ []) where
+    -- the walk is what it owes
+    has_walk : (outcome : Option Denied) (r : Reply) → AreAmong (reads_owed users call r) (entries_of old.line caller ((walk_call, outcome) ∷ []))
+    has_walk outcome r = subst (λ (calls : List RawCall). AreAmong calls (entries_of old.line caller ((walk_call, outcome) ∷ []))) (sym (owed r)) (inl (refl, tt))
+
     -- a call whose walk is refused is answered EACCES
     pub ends_unwalked : (plan : Plan) (refusal : Option (RawCall × Denied)) → refused users f [] scene.run.process call ≡ Some EACCES → reads f scene.run.process [] ≡ false
         → Made old new caller (after_walk here plan).calls refusal → Ends users f call old new caller (answer (after_walk here plan).reply refusal)
     ends_unwalked plan refusal is_refused unseen made =
-        ends_refused users f scene.run call old new caller scene.named [] old (same_kernel old) refl scene.lays_out walk_call Observe (walk_refused unseen) EACCES refl is_refused
-        (subst (λ (calls : List RawCall). AreAmong calls (entries_of old.line caller ((walk_call, Some Observe) ∷ []))) (sym (owed (Refused EACCES))) (inl (refl, tt))) plan.reply plan.calls refusal made
+        ends_refused users f scene.run call old new caller scene.named [] old (same_kernel old) refl scene.lays_out walk_call Observe (walk_refused unseen)
+        EACCES refl is_refused (has_walk (Some Observe) (Refused EACCES)) plan.reply plan.calls refusal made
 
     -- a call that is refused after its walk, which no raw call tells
     pub ends_at_once : (errno : Errno) → is_access errno ≡ false → is_permission errno ≡ false → refused users f [] scene.run.process call ≡ Some errno → (mid : Traced) → Called old mid caller walk_call None
         → (plan : Plan) (refusal : Option (RawCall × Denied)) → plan ≡ answering (Refused errno) → Made mid new caller plan.calls refusal → Ends users f call old new caller (answer plan.reply refusal)
     ends_at_once errno no_access no_permission is_refused mid walked plan refusal same made =
         let end = subst (λ (q : Plan). Made mid new caller q.calls refusal) same made in
-        let row = unchanged_row users f scene.run call old new caller scene.named (walk_call ∷ []) (mid, walked, end.0) (end.0.state ∙ walked.state) scene.lays_out errno no_access no_permission is_refused
-        (subst (λ (calls : List RawCall). AreAmong calls (entries_of old.line caller ((walk_call, None) ∷ []))) (sym (owed (Refused errno))) (inl (refl, tt))) in
+        let row = unchanged_row users f scene.run call old new caller scene.named (walk_call ∷ []) (mid, walked, end.0) (end.0.state ∙ walked.state) scene.lays_out
+        errno no_access no_permission is_refused (has_walk None (Refused errno)) in
         inl ((λ i. answer (same i).reply (end.1 i)) ∙ ap Some row.0, row.1)
 
     -- what the flat rules refuse on the way to a file
