@@ -82,6 +82,13 @@ module _ (users : List User) (old new : Traced) (f : Flat) (scene : Scene users 
   abbrev me : Process
   me = scene.run.process
 
+  -- the thread, and its read of the directory segment
+  abbrev t : ℕ
+  t = 8 + 2 * length users
+
+  abbrev walk : RawCall
+  walk = walk_call users old f scene
+
   abbrev roomy : Bool
   roomy = nat_lt (length (entries_in f [])) 64
 
@@ -121,9 +128,6 @@ module _ (users : List User) (old new : Traced) (f : Flat) (scene : Scene users 
   full_test false e = grind (arith, nat_tests, as_many, few, e)
 
   module _ (user : ℕ) (owner : IsUserOf scene.label (length users) user) (refusal : Option (RawCall × Denied)) where
-    abbrev t : ℕ
-    t = 8 + 2 * length users
-
     -- the raw calls that make the file
     abbrev make_call : RawCall
     make_call = raw.MakeSegment (4 + 2 * length users) (file_label mode user) []
@@ -142,7 +146,7 @@ module _ (users : List User) (old new : Traced) (f : Flat) (scene : Scene users 
         → inner ≡ make_at target full (make_file (here users old f scene) (state old) (listed users old f scene) m mode user)
     inner_at target full is_target is_full = λ i. make_at (is_target i) (is_full i) (make_file (here users old f scene) (state old) (listed users old f scene) m mode user)
 
-    module _ (seen : reads f me [] ≡ true) (mid : Traced) (walked : Called old mid t (walk_call users old f scene) None) where
+    module _ (seen : reads f me [] ≡ true) (mid : Traced) (walked : Called old mid t walk None) where
       -- something stands there
       standing : (there : Node) → get f.files (m ∷ []) ≡ Some there → Made mid new t inner.calls refusal → Ends users f call old new t (answer inner.reply refusal)
       standing there stands made =
@@ -177,25 +181,25 @@ module _ (users : List User) (old new : Traced) (f : Flat) (scene : Scene users 
               → known (state old) (file_label mode user) ≡ true → check (state asked) t make_call ≡ tests may_make in_range has_next
           make_checked may_make in_range has_next is_may is_range is_next is_known =
               let r = root users old f scene in
-              ap (λ (s : State). check s (8 + 2 * length users) (raw.MakeSegment (4 + 2 * length users) (file_label mode user) [])) asked_state
-              ∙ making_check (state old) (8 + 2 * length users) scene.label scene.clearance scene.thread (4 + 2 * length users) r.directory.label r.links r.container (sees_root users old f scene ∙ seen) (file_label mode user) []
+              ap (λ (s : State). check s t make_call) asked_state
+              ∙ making_check (state old) t scene.label scene.clearance scene.thread (4 + 2 * length users) r.directory.label r.links r.container (sees_root users old f scene ∙ seen) (file_label mode user) []
               ∙ (λ i. unless ((modifies_root ∙ is_may) i) Modify orelse unless (is_range i) Range orelse unless (is_known i) Range orelse unless (not (file_label_owns_nothing mode user i)) Range orelse unless (is_next i) TooBig)
 
           module _ (made : Made asked new t (make_call ∷ write_call ∷ []) refusal) where
             -- the walk and the label were granted
-            so_far : Chain old t (all_granted (walk_call users old f scene ∷ raw.OwnLabel ∷ [])) asked
+            so_far : Chain old t (all_granted (walk ∷ raw.OwnLabel ∷ [])) asked
             so_far = (mid, walked, (asked, asks, same_kernel asked))
 
             -- the kernel refuses to make the segment, for a reason that is told
             blocked : (denied : Denied) (errno : Errno) → check (state asked) t make_call ≡ Some denied → told_as make_call denied ≡ Some errno → refused users f [] me call ≡ Some errno → Ends users f call old new t (answer (Some Done) refusal)
             blocked denied errno fails told is =
-                ends_refused users f scene.run call old new t scene.named (walk_call users old f scene ∷ raw.OwnLabel ∷ []) asked so_far asked_state scene.lays_out make_call denied fails errno told is (inl (refl, tt))
+                ends_refused users f scene.run call old new t scene.named (walk ∷ raw.OwnLabel ∷ []) asked so_far asked_state scene.lays_out make_call denied fails errno told is (inl (refl, tt))
                 (Some Done) (write_call ∷ []) refusal made
 
             -- there is no number for it any more
             exhausted : check (state asked) t make_call ≡ Some TooBig → has_number (state old) ≡ false → Ends users f call old new t (answer (Some Done) refusal)
             exhausted fails greatest =
-                ends_exhausted users f scene.run call old new t scene.named (walk_call users old f scene ∷ raw.OwnLabel ∷ []) asked so_far make_call fails refl (ap has_number asked_state ∙ greatest) (Some Done) (write_call ∷ []) refusal made
+                ends_exhausted users f scene.run call old new t scene.named (walk ∷ raw.OwnLabel ∷ []) asked so_far make_call fails refl (ap has_number asked_state ∙ greatest) (Some Done) (write_call ∷ []) refusal made
 
             -- a file of the user whose process it is, whose label is this one
             module _ (may_make : writes f me [] ≡ true) (class : Class) (class_is : class_made me mode ≡ Some class) (labelled : class_label users class ≡ Some (file_label mode user)) (named : IsTrue (is_name m))
@@ -233,8 +237,8 @@ module _ (users : List User) (old new : Traced) (f : Flat) (scene : Scene users 
                     let r = root users old f scene in
                     let fits : length (spelling (map.insert (listed users old f scene) m (targets.File (state old).next_object))) ≤ 4096 =
                     spelling_fits _ (create_listable users (state old) f scene.lays_out m class (file_label mode user) r.directory.entry named labelled r.directory.stands r.directory.is_directory free few_entries next_below) in
-                    write_check (state made_it) (8 + 2 * length users) scene.label scene.clearance
-                    (stays_at (8 + 2 * length users) (not_next (Runner ∷ inside_address) (8 + 2 * length users) (scene.lays_out.as_booted (Runner ∷ inside_address) (8 + 2 * length users) refl)) (λ e. omega (arith, e)) ∙ scene.thread)
+                    write_check (state made_it) t scene.label scene.clearance
+                    (stays_at t (not_next (Runner ∷ inside_address) t (scene.lays_out.as_booted (Runner ∷ inside_address) t refl)) (λ e. omega (arith, e)) ∙ scene.thread)
                     (4 + 2 * length users) r.directory.label (set.insert r.links (state old).next_object) holder (sees_root users old f scene ∙ seen) (5 + 2 * length users)
                     (set.contains-insert nat_cmp_total r.links (state old).next_object (5 + 2 * length users) ∙ ap (λ (b : Bool). eq_by_cmp nat_cmp (5 + 2 * length users) (state old).next_object || b) r.linked ∙ or_true _)
                     r.directory.label (spelling (listed users old f scene))
@@ -250,7 +254,7 @@ module _ (users : List User) (old new : Traced) (f : Flat) (scene : Scene users 
                     let last = first_granted t made_it new write_call [] refusal write_checked rest in
                     let laid = create_lays_out users (state old) f scene.lays_out m class (file_label mode user) r.directory.entry named labelled r.directory.stands r.directory.is_directory free few_entries next_below (state made_it) (state new) made_state
                     (last.2.0.state ∙ last.1.state) in
-                    ends_granted users f scene.run call old new t scene.named (walk_call users old f scene ∷ raw.OwnLabel ∷ make_call ∷ write_call ∷ []) (mid, walked, (asked, asks, (made_it, makes, (last.0, last.1, last.2.0)))) is_refused tt (inl (refl, tt))
+                    ends_granted users f scene.run call old new t scene.named (walk ∷ raw.OwnLabel ∷ make_call ∷ write_call ∷ []) (mid, walked, (asked, asks, (made_it, makes, (last.0, last.1, last.2.0)))) is_refused tt (inl (refl, tt))
                     (subst (λ (c : Option Class). LaysOut users (state new) (with_node f (m ∷ []) (class_or_open c) (File []))) (sym class_is) laid) (Some Done) refl refusal last.2.1
 
   -- what process 0 makes: nobody makes nothing, and a user makes its own
@@ -281,13 +285,13 @@ module _ (users : List User) (old new : Traced) (f : Flat) (scene : Scene users 
       by modes.Private = ap (option_map (file_label modes.Private)) e
       by modes.Readable = ap (option_map (file_label modes.Readable)) e
 
-  module _ (user : ℕ) (owner : IsUserOf scene.label (length users) user) (refusal : Option (RawCall × Denied)) (seen : reads f me [] ≡ true) (mid : Traced) (walked : Called old mid (8 + 2 * length users) (walk_call users old f scene) None)
-      (free : get f.files (m ∷ []) ≡ None) (room : roomy ≡ true) (asked : Traced) (asks : Called mid asked (8 + 2 * length users) raw.OwnLabel None) (named : IsTrue (is_name m))
-      (made : Made asked new (8 + 2 * length users) (make_call user owner refusal ∷ write_call user owner refusal ∷ []) refusal) where
+  module _ (user : ℕ) (owner : IsUserOf scene.label (length users) user) (refusal : Option (RawCall × Denied)) (seen : reads f me [] ≡ true) (mid : Traced) (walked : Called old mid t walk None)
+      (free : get f.files (m ∷ []) ≡ None) (room : roomy ≡ true) (asked : Traced) (asks : Called mid asked t raw.OwnLabel None) (named : IsTrue (is_name m))
+      (made : Made asked new t (make_call user owner refusal ∷ write_call user owner refusal ∷ []) refusal) where
     is_known : user ≤ length users → known (state old) (file_label mode user) ≡ true
     is_known most = ap (λ (next : ℕ). is_made next (file_label mode user)) scene.lays_out.categories ∙ file_label_known (length users) mode user most
 
-    by_number : writes f me [] ≡ true → same me.user nobody ≡ false → user_number users me.user ≡ Some user → (b : Bool) → has_number (state old) ≡ b → Ends users f call old new (8 + 2 * length users) (answer (Some Done) refusal)
+    by_number : writes f me [] ≡ true → same me.user nobody ≡ false → user_number users me.user ≡ Some user → (b : Bool) → has_number (state old) ≡ b → Ends users f call old new t (answer (Some Done) refusal)
     by_number may is e false greatest =
         let range = number_range users me.user user e in
         exhausted user owner refusal seen mid walked free room asked asks made
@@ -295,11 +299,11 @@ module _ (users : List User) (old new : Traced) (f : Flat) (scene : Scene users 
     by_number may is e true next =
         let range = number_range users me.user user e in
         let in_range = user_makes users scene.no_one me scene.run.lone scene.label scene.clearance scene.labels mode user is e in
-        let first = first_granted (8 + 2 * length users) asked new (make_call user owner refusal) (write_call user owner refusal ∷ []) refusal
+        let first = first_granted t asked new (make_call user owner refusal) (write_call user owner refusal ∷ []) refusal
         (make_checked user owner refusal seen mid walked free room asked asks true true true may in_range next (is_known range.1)) made in
         granted user owner refusal seen mid walked free room asked asks made may (user_class mode me.user) (class_of_user is) (label_of_user user e) named in_range (is_known range.1) next first.0 first.1 first.2
 
-    by_owner : writes f me [] ≡ true → Ends users f call old new (8 + 2 * length users) (answer (Some Done) refusal)
+    by_owner : writes f me [] ≡ true → Ends users f call old new t (answer (Some Done) refusal)
     by_owner may = elim (owner_is users scene.no_one me scene.run.lone scene.label scene.clearance scene.labels user owner) [
       | inl no_user ↦
           blocked user owner refusal seen mid walked free room asked asks made Range EPERM
@@ -311,7 +315,7 @@ module _ (users : List User) (old new : Traced) (f : Flat) (scene : Scene users 
     ]
 
     -- a create once the directory has room
-    makes : (b : Bool) → writes f me [] ≡ b → Ends users f call old new (8 + 2 * length users) (answer (Some Done) refusal)
+    makes : (b : Bool) → writes f me [] ≡ b → Ends users f call old new t (answer (Some Done) refusal)
     makes true may = by_owner may
     makes false may_not =
         let most : user ≤ length users = owner.known in
@@ -324,18 +328,18 @@ module _ (users : List User) (old new : Traced) (f : Flat) (scene : Scene users 
     abbrev pub within : Plan
     within = make_at (map.get (listed users old f scene) m) (map.len (listed users old f scene) == most_entries) (make_file (here users old f scene) (state old) (listed users old f scene) m mode user)
 
-    module _ (seen : reads f me [] ≡ true) (mid : Traced) (walked : Called old mid (8 + 2 * length users) (walk_call users old f scene) None) (made : Made mid new (8 + 2 * length users) within.calls refusal) where
-      by_room : get f.files (m ∷ []) ≡ None → (b : Bool) → roomy ≡ b → Ends users f call old new (8 + 2 * length users) (answer within.reply refusal)
+    module _ (seen : reads f me [] ≡ true) (mid : Traced) (walked : Called old mid t walk None) (made : Made mid new t within.calls refusal) where
+      by_room : get f.files (m ∷ []) ≡ None → (b : Bool) → roomy ≡ b → Ends users f call old new t (answer within.reply refusal)
       by_room free false no_room = full user owner refusal seen mid walked free no_room made
       by_room free true room =
           let same = inner_at user owner refusal None false (entry_at None free) (full_test true room) in
-          let made_here = subst (λ (plan : Plan). Made mid new (8 + 2 * length users) plan.calls refusal) same made in
-          let asks = first_granted (8 + 2 * length users) mid new raw.OwnLabel (make_call user owner refusal ∷ write_call user owner refusal ∷ []) refusal
-          (ap (λ (s : State). check s (8 + 2 * length users) raw.OwnLabel) walked.state ∙ caller_passes (state old) (8 + 2 * length users) scene.label scene.clearance scene.thread) made_here in
-          subst (λ (plan : Plan). Ends users f call old new (8 + 2 * length users) (answer plan.reply refusal)) (sym same)
+          let made_here = subst (λ (plan : Plan). Made mid new t plan.calls refusal) same made in
+          let asks = first_granted t mid new raw.OwnLabel (make_call user owner refusal ∷ write_call user owner refusal ∷ []) refusal
+          (ap (λ (s : State). check s t raw.OwnLabel) walked.state ∙ caller_passes (state old) t scene.label scene.clearance scene.thread) made_here in
+          subst (λ (plan : Plan). Ends users f call old new t (answer plan.reply refusal)) (sym same)
           (makes user owner refusal seen mid walked free room asks.0 asks.1 named asks.2 (writes f me []) refl)
 
-      by_standing : (o : Option Node) → get f.files (m ∷ []) ≡ o → Ends users f call old new (8 + 2 * length users) (answer within.reply refusal)
+      by_standing : (o : Option Node) → get f.files (m ∷ []) ≡ o → Ends users f call old new t (answer within.reply refusal)
       by_standing None free = by_room free roomy refl
       by_standing (Some there) stands = standing user owner refusal seen mid walked there stands made
 
@@ -343,10 +347,10 @@ module _ (users : List User) (old new : Traced) (f : Flat) (scene : Scene users 
     pub create_ends : Made old new (8 + 2 * length users) (after_walk (here users old f scene) within).calls refusal → Ends users f call old new (8 + 2 * length users) (answer (after_walk (here users old f scene) within).reply refusal)
     create_ends made = by_seen (reads f me []) refl
       where
-        by_seen : (b : Bool) → reads f me [] ≡ b → Ends users f call old new (8 + 2 * length users) (answer within.reply refusal)
+        by_seen : (b : Bool) → reads f me [] ≡ b → Ends users f call old new t (answer within.reply refusal)
         by_seen false unseen =
             ends_unwalked users old f scene new call (λ r. refl) within refusal
             (refused_is false (get f.files (m ∷ [])) roomy (writes f me []) (has_value (class_made me mode)) unseen refl refl refl refl) unseen made
         by_seen true seen =
-            let first = first_granted (8 + 2 * length users) old new (walk_call users old f scene) within.calls refusal (walk_granted users old f scene seen) made in
+            let first = first_granted t old new walk within.calls refusal (walk_granted users old f scene seen) made in
             by_standing seen first.0 first.1 first.2 (get f.files (m ∷ [])) refl
