@@ -64,24 +64,24 @@ told_shown : (call : RawCall) (denied : Denied) (errno : Errno) → told_as call
 told_shown (Write container segment keep bytes) denied errno told = told
 told_shown call denied errno told = shown_by denied errno told
 
--- the refusals among entries are what a reply tells
-record Agrees (r : Reply) (entries : List TraceEntry) : Type 0 where
-  access : some_label_refusal entries ≡ is_no_access r
-  permission : some_range_refusal entries ≡ is_no_permission r
-  denials : AllByRecursion (λ (e : TraceEntry). IsDenialTold r e.denied) entries
-  once : IsRefusedOnce entries
+-- the refusals among these entries are what the reply tells
+pub record Agrees (r : Reply) (entries : List TraceEntry) : Type 0 where
+  pub access : some_label_refusal entries ≡ is_no_access r
+  pub permission : some_range_refusal entries ≡ is_no_permission r
+  pub denials : AllByRecursion (λ (e : TraceEntry). IsDenialTold r e.denied) entries
+  pub once : IsRefusedOnce entries
 
 module _ (line t : ℕ) where
-  -- a granted raw call before them changes nothing
+  -- a granted raw call more before them changes nothing
   after_granted : (r : Reply) (call : RawCall) (entries : List TraceEntry) → Agrees r entries → Agrees r (entry_of line t call None ∷ entries)
   after_granted r call entries a = record { access = a.access; permission = a.permission; denials = (tt, a.denials); once = a.once }
 
-  -- granted raw calls
+  -- granted raw calls agree with a reply that is neither EACCES nor EPERM
   granted_agree : (r : Reply) → (is_no_access r ≡ false) × (is_no_permission r ≡ false) → (calls : List RawCall) → Agrees r (entries_of line t (all_granted calls))
   granted_agree r plain [] = record { access = sym plain.0; permission = sym plain.1; denials = tt; once = tt }
   granted_agree r plain (call ∷ calls) = after_granted r call (entries_of line t (all_granted calls)) (granted_agree r plain calls)
 
-  -- granted raw calls, and one that was refused
+  -- granted raw calls and behind them one that was refused agree with what that refusal is told as
   refused_agree : (last : RawCall) (denied : Denied) (errno : Errno) → write_errno_of denied ≡ Some errno → (calls : List RawCall) → Agrees (Refused errno) (entries_of line t (all_granted calls ++ (last, Some denied) ∷ []))
   refused_agree last denied errno told [] = record {
     access = or_false (is_label_refusal (Some denied)) ∙ (told_by denied).0 ∙ ap (λ (o : Option Errno). is_some_and o is_access) told;
@@ -105,16 +105,24 @@ read_last old mid t calls chain container segment = record {
 }
 
 module _ (users : List User) (f : Flat) (run : IsRunning f) (call : UnixCall) (old new : Traced) (t : ℕ) (named : IsThreadOf users (state old) [] t) where
+  -- the reads that the call cannot do without, where it is answered so, are among these raw calls
+  abbrev pub HasReads : List Step → Reply → Type 0
+  HasReads steps r = AreAmong (reads_owed users call r) (entries_of old.line t steps)
+
+  -- what the flat rules answer where they allow the call
+  abbrev pub allowed : Reply
+  allowed = flat.answer f [] run.process call
+
   -- each entry is of the line's thread
   all_own : (line : ℕ) (steps : List Step) → AllByRecursion (λ (e : TraceEntry). (e.line ≡ line) × IsThreadOf users (state old) [] e.thread) (entries_of line t steps)
   all_own line [] = tt
   all_own line (s ∷ steps) = ((refl, named), all_own line steps)
 
-  -- a line is the row of its call where its entries agree with the reply of the flat rules, and the state after it lays out the flat state after the call
-  agreed : (steps : List Step) → Chain old t steps new → (refusal : Option Errno) → refused users f [] run.process call ≡ refusal → (r : Reply) → reply_or refusal (flat.answer f [] run.process call) ≡ r
-      → Agrees r (entries_of old.line t steps) → ((bytes : List ℕ) → r ≡ Data bytes → EndsWithRead (state old) (entries_of old.line t steps) bytes) → AreAmong (reads_owed users call r) (entries_of old.line t steps) → r ≢ Gone
+  -- where the raw calls agree with the reply of the flat rules, and the state lays out the flat state after the call, a call is answered so
+  pub agreed_row : (steps : List Step) → Chain old t steps new → (refusal : Option Errno) → refused users f [] run.process call ≡ refusal → (r : Reply) → reply_or refusal allowed ≡ r
+      → Agrees r (entries_of old.line t steps) → ((bytes : List ℕ) → r ≡ Data bytes → EndsWithRead (state old) (entries_of old.line t steps) bytes) → HasReads steps r → r ≢ Gone
       → LaysOut users (state new) (flat_or refusal f (changed users f [] run.process call)) → IsAnsweredWith users f call old new r
-  agreed steps chain refusal is r r_is agrees told reads lives lays_out =
+  agreed_row steps chain refusal is r r_is agrees told reads lives lays_out =
       let part = chain_run t old new steps chain in
       let reply = reply_is users f run call refusal is ∙ r_is in
       let entries = entries_of old.line t steps in
@@ -141,34 +149,26 @@ module _ (users : List User) (f : Flat) (run : IsRunning f) (call : UnixCall) (o
         },
       )
 
-  -- the reads that the call cannot do without, so answered, are among these raw calls
-  abbrev pub HasReads : List Step → Reply → Type 0
-  HasReads steps r = AreAmong (reads_owed users call r) (entries_of old.line t steps)
-
-  -- what the flat rules answer if they allow the call
-  abbrev pub allowed : Reply
-  allowed = flat.answer f [] run.process call
-
   -- where every raw call was granted, a call that the flat rules allow is answered what they answer
   pub granted_row : (calls : List RawCall) → Chain old t (all_granted calls) new → refused users f [] run.process call ≡ None → IsBacked (state old) (entries_of old.line t (all_granted calls)) allowed → HasReads (all_granted calls) allowed
       → LaysOut users (state new) (changed users f [] run.process call) → IsAnsweredWith users f call old new allowed
   granted_row calls chain is backed reads lays_out =
       let entries = entries_of old.line t (all_granted calls) in
-      agreed (all_granted calls) chain None is allowed refl (granted_agree old.line t allowed (backed_plain (state old) entries allowed backed) calls)
+      agreed_row (all_granted calls) chain None is allowed refl (granted_agree old.line t allowed (backed_plain (state old) entries allowed backed) calls)
       (backed_told (state old) entries allowed backed) reads (backed_runs (state old) entries allowed backed) lays_out
 
   -- where every raw call was granted and nothing has changed, a call that the flat rules refuse is answered their errno, if it is neither EACCES nor EPERM
   pub unchanged_row : (calls : List RawCall) → Chain old t (all_granted calls) new → state new ≡ state old → LaysOut users (state old) f
       → (errno : Errno) → is_access errno ≡ false → is_permission errno ≡ false → refused users f [] run.process call ≡ Some errno → HasReads (all_granted calls) (Refused errno) → IsAnsweredWith users f call old new (Refused errno)
   unchanged_row calls chain stays lays_out errno no_access no_permission is reads =
-      agreed (all_granted calls) chain (Some errno) is (Refused errno) refl (granted_agree old.line t (Refused errno) (no_access, no_permission) calls) (λ bytes e. absurd cc) reads (λ e. absurd cc)
+      agreed_row (all_granted calls) chain (Some errno) is (Refused errno) refl (granted_agree old.line t (Refused errno) (no_access, no_permission) calls) (λ bytes e. absurd cc) reads (λ e. absurd cc)
       (subst (λ (s : State). LaysOut users s f) (sym stays) lays_out)
 
   -- where the last raw call was refused, the others granted and nothing has changed, a call that the flat rules refuse as that refusal is told is answered so
   pub refused_row : (calls : List RawCall) (last : RawCall) (denied : Denied) → Chain old t (all_granted calls ++ (last, Some denied) ∷ []) new → state new ≡ state old → LaysOut users (state old) f
       → (errno : Errno) → write_errno_of denied ≡ Some errno → refused users f [] run.process call ≡ Some errno → HasReads (all_granted calls ++ (last, Some denied) ∷ []) (Refused errno) → IsAnsweredWith users f call old new (Refused errno)
   refused_row calls last denied chain stays lays_out errno told is reads =
-      agreed (all_granted calls ++ (last, Some denied) ∷ []) chain (Some errno) is (Refused errno) refl (refused_agree old.line t last denied errno told calls) (λ bytes e. absurd cc) reads (λ e. absurd cc)
+      agreed_row (all_granted calls ++ (last, Some denied) ∷ []) chain (Some errno) is (Refused errno) refl (refused_agree old.line t last denied errno told calls) (λ bytes e. absurd cc) reads (λ e. absurd cc)
       (subst (λ (s : State). LaysOut users s f) (sym stays) lays_out)
 
   -- a plan whose raw calls were all granted ends so, where it answers what the flat rules do
