@@ -60,21 +60,23 @@ module _ (s : State) (t : ℕ) (label clearance : Levels) (thread : s.objects t 
           orelse unless (fits_segment (length bytes)) TooBig
           orelse unless (has_number s) TooBig)
 
-      module _ (o : ℕ) (linked : set.contains links o ≡ true) (below : Levels) (held : List ℕ) (segment : s.objects o ≡ object below (Segment held)) where
-        link_passes : no_link s t d o ≡ None
+      module _ (o : ℕ) (linked : set.contains links o ≡ true) where
+        -- what the container links is found
+        pub link_passes : no_link s t d o ≡ None
         link_passes = ap (λ (c : Option Denied). c orelse unless (set.contains (links_in (s.objects d)) o) NoEntry) container_passes
             ∙ (λ i. unless (set.contains (links_in (holder i)) o) NoEntry)
             ∙ ap (λ (b : Bool). unless b NoEntry) linked
 
-        segment_passes : no_segment s t d o ≡ None
-        segment_passes = ap (λ (c : Option Denied). c orelse unless (is_segment (s.objects o)) BadKind) link_passes ∙ (λ i. unless (is_segment (segment i)) BadKind)
+        module _ (below : Levels) (held : List ℕ) (segment : s.objects o ≡ object below (Segment held)) where
+          segment_passes : no_segment s t d o ≡ None
+          segment_passes = ap (λ (c : Option Denied). c orelse unless (is_segment (s.objects o)) BadKind) link_passes ∙ (λ i. unless (is_segment (segment i)) BadKind)
 
-        -- a segment is read unless it may not be observed
-        pub read_check : check s t (Read d o) ≡ unless (is_below_raised below label) Observe
-        read_check = ap (λ (c : Option Denied). c orelse unless (observes (s.objects t) (s.objects o)) Observe) segment_passes ∙ (λ i. unless (observes (thread i) (segment i)) Observe)
+          -- a segment is read unless it may not be observed
+          pub read_check : check s t (Read d o) ≡ unless (is_below_raised below label) Observe
+          read_check = ap (λ (c : Option Denied). c orelse unless (observes (s.objects t) (s.objects o)) Observe) segment_passes ∙ (λ i. unless (observes (thread i) (segment i)) Observe)
 
-        -- and written unless it may not be modified, or would hold too many bytes
-        pub write_check : (keep : ℕ) (bytes : List ℕ) → check s t (Write d o keep bytes) ≡ (unless (is_below label below && is_below_raised below label) Modify orelse unless (fits_segment (min keep (length held) + length bytes)) TooBig)
-        write_check keep bytes =
-            ap (λ (c : Option Denied). c orelse unless (modifies (s.objects t) (s.objects o)) Modify orelse unless (fits_segment (min keep (length (bytes_in (s.objects o))) + length bytes)) TooBig) segment_passes
-            ∙ (λ i. unless (modifies (thread i) (segment i)) Modify orelse unless (fits_segment (min keep (length (bytes_in (segment i))) + length bytes)) TooBig)
+          -- and written unless it may not be modified, or would hold too many bytes
+          pub write_check : (keep : ℕ) (bytes : List ℕ) → check s t (Write d o keep bytes) ≡ (unless (is_below label below && is_below_raised below label) Modify orelse unless (fits_segment (min keep (length held) + length bytes)) TooBig)
+          write_check keep bytes =
+              ap (λ (c : Option Denied). c orelse unless (modifies (s.objects t) (s.objects o)) Modify orelse unless (fits_segment (min keep (length (bytes_in (s.objects o))) + length bytes)) TooBig) segment_passes
+              ∙ (λ i. unless (modifies (thread i) (segment i)) Modify orelse unless (fits_segment (min keep (length (bytes_in (segment i))) + length bytes)) TooBig)

@@ -12,7 +12,7 @@ use Rattle.histar_flat.specs.declared.calls.UnixCall.{UnixCall}
 use Rattle.histar_flat.specs.declared.calls.UnixCall.TheVariants as calls
 use Rattle.histar_flat.specs.declared.replies.Errno.{Errno}
 use Rattle.histar_flat.specs.declared.replies.Errno.TheVariants.{EACCES, EEXIST, ENOSPC, EPERM}
-use Rattle.histar_flat.specs.declared.replies.Reply.TheVariants.{Done, Refused}
+use Rattle.histar_flat.specs.declared.replies.Reply.TheVariants.{Done}
 use Rattle.histar_flat.specs.Words.{Name, ProcName, is_name}
 use Rattle.histar_flat.specs.PathOrder.{same}
 use Rattle.histar_flat.specs.Files.{get}
@@ -31,23 +31,23 @@ use Rattle.histar_rules.specs.declared.raw.RawCall.{RawCall}
 use Rattle.histar_rules.specs.declared.raw.RawCall.TheVariants as raw
 use Rattle.histar_rules.specs.Rules.{check, has_number, known}
 use Rattle.histar_syscall.specs.Traced.{Traced, state, Called}
-use Rattle.histar_syscall.specs.Runs.{Made, is_label_refusal, is_range_refusal}
+use Rattle.histar_syscall.specs.Runs.{Made}
+use Rattle.histar_syscall.proofs.Runs.{same_kernel}
 use Rattle.histar_layout.specs.Directory.{Entries, most_entries, spelling}
 use Rattle.histar_layout.specs.declared.entry.Target.{Target}
 use Rattle.histar_layout.specs.declared.entry.Target.TheVariants as targets
 use Rattle.histar_container.specs.Tree.{objects_at}
-use Rattle.histar_container.proofs.Addresses.{or_false, or_true}
+use Rattle.histar_container.proofs.Addresses.{or_true}
 use Rattle.std.specs.Ordering.{nat_cmp, eq_by_cmp}
 use Rattle.std.specs.Cmp.{nat_cmp_total}
 use Rattle.histar_container.proofs.TableMoves.{new_holder, new_other}
 use Rattle.histar_calls.specs.Plans.{Plan, after_walk, make_at, make_file}
 use Rattle.histar_calls.specs.Categories.{IsUserOf, file_label}
-use Rattle.histar_calls.specs.Follows.{answer, told_as, write_errno_of}
-use Rattle.histar_calls.specs.Replies.{is_access, is_permission}
+use Rattle.histar_calls.specs.Follows.{answer, told_as}
 use Rattle.histar_simulation.specs.Labels.{class_label, user_number}
 use Rattle.histar_simulation.specs.Directories.{target_for}
 use Rattle.histar_simulation.specs.LaysOut.{LaysOut}
-use Rattle.histar_simulation.proofs.Chains.{Step, entries_of, chain_run, chain_own, first_granted, first_refused}
+use Rattle.histar_simulation.proofs.Chains.{Chain, all_granted, first_granted}
 use Rattle.histar_simulation.proofs.Checks.{kept_none, caller_passes, making_check, write_check}
 use Rattle.histar_simulation.proofs.Views.{object}
 use Rattle.histar_simulation.proofs.Places.{file_is, directory_leads}
@@ -58,7 +58,8 @@ use Rattle.histar_simulation.proofs.Created.{create_lays_out, create_listable}
 use Rattle.histar_container.proofs.Moves.{next_unused}
 use Rattle.histar_simulation.specs.Addresses.{Step as Place, same_step, inside_address}
 use Rattle.histar_simulation.specs.Addresses.Step.{Slash, Listing, Runner}
-use Rattle.histar_simulation.proofs.Outcomes.{Ends, reply_is, after_is, answered_by}
+use Rattle.histar_simulation.proofs.Outcomes.{Ends}
+use Rattle.histar_simulation.proofs.Endings.{ends_granted, ends_refused, ends_exhausted}
 use Rattle.histar_simulation.proofs.Scenes.{Scene, here, holds, root, listed, walk_call, sees_root, walk_granted, ends_unwalked, ends_at_once}
 
 -- bytes that a segment can hold fit it
@@ -81,6 +82,13 @@ module _ (users : List User) (old new : Traced) (f : Flat) (scene : Scene users 
 
   abbrev me : Process
   me = scene.run.process
+
+  -- the thread, and its read of the directory segment
+  abbrev t : ℕ
+  t = 8 + 2 * length users
+
+  abbrev walk : RawCall
+  walk = walk_call users old f scene
 
   abbrev roomy : Bool
   roomy = nat_lt (length (entries_in f [])) 64
@@ -121,17 +129,14 @@ module _ (users : List User) (old new : Traced) (f : Flat) (scene : Scene users 
   full_test false e = grind (arith, nat_tests, as_many, few, e)
 
   module _ (user : ℕ) (owner : IsUserOf scene.label (length users) user) (refusal : Option (RawCall × Denied)) where
-    t : ℕ
-    t = 8 + 2 * length users
-
     -- the raw calls that make the file
-    make_call : RawCall
+    abbrev make_call : RawCall
     make_call = raw.MakeSegment (4 + 2 * length users) (file_label mode user) []
 
-    grown : Entries
+    abbrev grown : Entries
     grown = map.insert (listed users old f scene) m (targets.File (state old).next_object)
 
-    write_call : RawCall
+    abbrev write_call : RawCall
     write_call = raw.Write (4 + 2 * length users) (5 + 2 * length users) 0 (spelling grown)
 
     -- the plan once the directory was read
@@ -142,10 +147,9 @@ module _ (users : List User) (old new : Traced) (f : Flat) (scene : Scene users 
         → inner ≡ make_at target full (make_file (here users old f scene) (state old) (listed users old f scene) m mode user)
     inner_at target full is_target is_full = λ i. make_at (is_target i) (is_full i) (make_file (here users old f scene) (state old) (listed users old f scene) m mode user)
 
-    module _ (seen : reads f me [] ≡ true) (mid : Traced) (walked : Called old mid t (walk_call users old f scene) None) where
+    module _ (seen : reads f me [] ≡ true) (mid : Traced) (walked : Called old mid t walk None) where
       -- something stands there
       standing : (there : Node) → get f.files (m ∷ []) ≡ Some there → Made mid new t inner.calls refusal → Ends users f call old new t (answer inner.reply refusal)
-      unfolding t
       standing there stands made =
           let target = leads m there stands in
           ends_at_once users old f scene new call (λ r. refl) EEXIST refl refl
@@ -155,7 +159,6 @@ module _ (users : List User) (old new : Traced) (f : Flat) (scene : Scene users 
       module _ (free : get f.files (m ∷ []) ≡ None) where
         -- the directory is full
         full : roomy ≡ false → Made mid new t inner.calls refusal → Ends users f call old new t (answer inner.reply refusal)
-        unfolding t
         full no_room made =
             ends_at_once users old f scene new call (λ r. refl) ENOSPC refl refl
             (refused_is true None false (writes f me []) (has_value (class_made me mode)) seen free no_room refl refl)
@@ -177,53 +180,27 @@ module _ (users : List User) (old new : Traced) (f : Flat) (scene : Scene users 
 
           make_checked : (may_make in_range has_next : Bool) → writes f me [] ≡ may_make → (is_below scene.label (file_label mode user) && is_below (file_label mode user) scene.clearance) ≡ in_range → has_number (state old) ≡ has_next
               → known (state old) (file_label mode user) ≡ true → check (state asked) t make_call ≡ tests may_make in_range has_next
-          unfolding t make_call
           make_checked may_make in_range has_next is_may is_range is_next is_known =
               let r = root users old f scene in
-              ap (λ (s : State). check s (8 + 2 * length users) (raw.MakeSegment (4 + 2 * length users) (file_label mode user) [])) asked_state
-              ∙ making_check (state old) (8 + 2 * length users) scene.label scene.clearance scene.thread (4 + 2 * length users) r.directory.label r.links r.container (sees_root users old f scene ∙ seen) (file_label mode user) []
+              ap (λ (s : State). check s t make_call) asked_state
+              ∙ making_check (state old) t scene.label scene.clearance scene.thread (4 + 2 * length users) r.directory.label r.links r.container (sees_root users old f scene ∙ seen) (file_label mode user) []
               ∙ (λ i. unless ((modifies_root ∙ is_may) i) Modify orelse unless (is_range i) Range orelse unless (is_known i) Range orelse unless (not (file_label_owns_nothing mode user i)) Range orelse unless (is_next i) TooBig)
 
           module _ (made : Made asked new t (make_call ∷ write_call ∷ []) refusal) where
+            -- the walk and the label were granted
+            so_far : Chain old t (all_granted (walk ∷ raw.OwnLabel ∷ [])) asked
+            so_far = (mid, walked, (asked, asks, same_kernel asked))
+
             -- the kernel refuses to make the segment, for a reason that is told
-            blocked : (denied : Denied) (errno : Errno) → check (state asked) t make_call ≡ Some denied → told_as make_call denied ≡ Some errno → write_errno_of denied ≡ Some errno → refused users f [] me call ≡ Some errno
-                → is_label_refusal (Some denied) ≡ is_access errno → is_range_refusal (Some denied) ≡ is_permission errno → Ends users f call old new t (answer (Some Done) refusal)
-            unfolding t
-            blocked denied errno fails told shown is access permission =
-                let last = first_refused t asked new make_call (write_call ∷ []) refusal denied fails made in
-                let stays : state new ≡ state old = last.0.2.state ∙ last.0.1.state ∙ asked_state in
-                let reply = reply_is users f scene.run call (Some errno) is in
-                inl (
-                  ap (answer (Some Done)) last.1 ∙ ap (option_map Refused) told ∙ ap Some (sym reply),
-                  answered_by users f call old new t scene.named ((walk_call users old f scene, None) ∷ (raw.OwnLabel, None) ∷ (make_call, Some denied) ∷ []) (mid, walked, (asked, asks, last.0)) (Refused errno) f
-                      reply (after_is users f scene.run call (Some errno) is)
-                      (or_false (is_label_refusal (Some denied)) ∙ access) (or_false (is_range_refusal (Some denied)) ∙ permission) (tt, (tt, (ap (option_map Refused) shown, tt))) tt (λ b e. absurd cc) (inl (refl, tt)) (λ e. absurd cc)
-                      (subst (λ (s : State). LaysOut users s f) (sym stays) scene.lays_out),
-                )
+            blocked : (denied : Denied) (errno : Errno) → check (state asked) t make_call ≡ Some denied → told_as make_call denied ≡ Some errno → refused users f [] me call ≡ Some errno → Ends users f call old new t (answer (Some Done) refusal)
+            blocked denied errno fails told is =
+                ends_refused users f scene.run call old new t scene.named (walk ∷ raw.OwnLabel ∷ []) asked so_far asked_state scene.lays_out make_call denied fails errno told is (inl (refl, tt))
+                (Some Done) (write_call ∷ []) refusal made
 
             -- there is no number for it any more
             exhausted : check (state asked) t make_call ≡ Some TooBig → has_number (state old) ≡ false → Ends users f call old new t (answer (Some Done) refusal)
-            unfolding t make_call
             exhausted fails greatest =
-                let last = first_refused t asked new make_call (write_call ∷ []) refusal TooBig fails made in
-                let steps : List Step = (walk_call users old f scene, None) ∷ (raw.OwnLabel, None) ∷ (make_call, Some TooBig) ∷ [] in
-                let part = chain_run t old new steps (mid, walked, (asked, asks, last.0)) in
-                inr (
-                  ap (answer (Some Done)) last.1,
-                  record {
-                    entries = entries_of old.line t steps;
-                    trace = part.trace;
-                    line = part.line;
-                    run = (
-                      state mid,
-                      walked.outcome,
-                      walked.state,
-                      tt,
-                      (state asked, asks.outcome, asks.state, tt, (state last.0.0, last.0.1.outcome, last.0.1.state, (refl, ap has_number asked_state ∙ greatest), last.0.2.state)),
-                    );
-                    own = chain_own t old.line steps;
-                  },
-                )
+                ends_exhausted users f scene.run call old new t scene.named (walk ∷ raw.OwnLabel ∷ []) asked so_far make_call fails refl (ap has_number asked_state ∙ greatest) (Some Done) (write_call ∷ []) refusal made
 
             -- a file of the user whose process it is, whose label is this one
             module _ (may_make : writes f me [] ≡ true) (class : Class) (class_is : class_made me mode ≡ Some class) (labelled : class_label users class ≡ Some (file_label mode user)) (named : IsTrue (is_name m))
@@ -244,7 +221,6 @@ module _ (users : List User) (old new : Traced) (f : Flat) (scene : Scene users 
 
               module _ (made_it : Traced) (makes : Called asked made_it t make_call None) where
                 made_state : state made_it ≡ added (state old) (4 + 2 * length users) (record { label = file_label mode user; kind = Segment [] })
-                unfolding make_call
                 made_state = makes.state ∙ ap (λ (s : State). added s (4 + 2 * length users) (record { label = file_label mode user; kind = Segment [] })) asked_state
 
                 -- what stands elsewhere stays
@@ -258,13 +234,12 @@ module _ (users : List User) (old new : Traced) (f : Flat) (scene : Scene users 
                     ∙ ap (option_map (linking (state old).next_object)) (root users old f scene).container
 
                 write_checked : check (state made_it) t write_call ≡ None
-                unfolding t write_call grown
                 write_checked =
                     let r = root users old f scene in
                     let fits : length (spelling (map.insert (listed users old f scene) m (targets.File (state old).next_object))) ≤ 4096 =
                     spelling_fits _ (create_listable users (state old) f scene.lays_out m class (file_label mode user) r.directory.entry named labelled r.directory.stands r.directory.is_directory free few_entries next_below) in
-                    write_check (state made_it) (8 + 2 * length users) scene.label scene.clearance
-                    (stays_at (8 + 2 * length users) (not_next (Runner ∷ inside_address) (8 + 2 * length users) (scene.lays_out.as_booted (Runner ∷ inside_address) (8 + 2 * length users) refl)) (λ e. omega (arith, e)) ∙ scene.thread)
+                    write_check (state made_it) t scene.label scene.clearance
+                    (stays_at t (not_next (Runner ∷ inside_address) t (scene.lays_out.as_booted (Runner ∷ inside_address) t refl)) (λ e. omega (arith, e)) ∙ scene.thread)
                     (4 + 2 * length users) r.directory.label (set.insert r.links (state old).next_object) holder (sees_root users old f scene ∙ seen) (5 + 2 * length users)
                     (set.contains-insert nat_cmp_total r.links (state old).next_object (5 + 2 * length users) ∙ ap (λ (b : Bool). eq_by_cmp nat_cmp (5 + 2 * length users) (state old).next_object || b) r.linked ∙ or_true _)
                     r.directory.label (spelling (listed users old f scene))
@@ -275,20 +250,13 @@ module _ (users : List User) (old new : Traced) (f : Flat) (scene : Scene users 
 
                 -- the file is made, and `/` has its entry
                 granted : Made made_it new t (write_call ∷ []) refusal → Ends users f call old new t (answer (Some Done) refusal)
-                unfolding t write_call grown
                 granted rest =
                     let r = root users old f scene in
                     let last = first_granted t made_it new write_call [] refusal write_checked rest in
-                    let reply = reply_is users f scene.run call None is_refused in
-                    inl (
-                      ap (answer (Some Done)) last.2.1 ∙ ap Some (sym reply),
-                      answered_by users f call old new t scene.named ((walk_call users old f scene, None) ∷ (raw.OwnLabel, None) ∷ (make_call, None) ∷ (write_call, None) ∷ []) (mid, walked, (asked, asks, (made_it, makes, (last.0, last.1, last.2.0)))) Done
-                          (with_node f (m ∷ []) class (File [])) reply
-                          (after_is users f scene.run call None is_refused ∙ ap (λ (c : Option Class). with_node f (m ∷ []) (class_or_open c) (File [])) class_is)
-                          refl refl (tt, (tt, (tt, (tt, tt)))) tt (λ b e. absurd cc) (inl (refl, tt)) (λ e. absurd cc)
-                          (create_lays_out users (state old) f scene.lays_out m class (file_label mode user) r.directory.entry named labelled r.directory.stands r.directory.is_directory free few_entries next_below (state made_it) (state new) made_state
-                          (last.2.0.state ∙ last.1.state)),
-                    )
+                    let laid = create_lays_out users (state old) f scene.lays_out m class (file_label mode user) r.directory.entry named labelled r.directory.stands r.directory.is_directory free few_entries next_below (state made_it) (state new) made_state
+                    (last.2.0.state ∙ last.1.state) in
+                    ends_granted users f scene.run call old new t scene.named (walk ∷ raw.OwnLabel ∷ make_call ∷ write_call ∷ []) (mid, walked, (asked, asks, (made_it, makes, (last.0, last.1, last.2.0)))) is_refused tt (inl (refl, tt))
+                    (subst (λ (c : Option Class). LaysOut users (state new) (with_node f (m ∷ []) (class_or_open c) (File []))) (sym class_is) laid) (Some Done) refl refusal last.2.1
 
   -- what process 0 makes: nobody makes nothing, and a user makes its own
   class_free : class_made me mode ≡ free_class me mode
@@ -318,14 +286,13 @@ module _ (users : List User) (old new : Traced) (f : Flat) (scene : Scene users 
       by modes.Private = ap (option_map (file_label modes.Private)) e
       by modes.Readable = ap (option_map (file_label modes.Readable)) e
 
-  module _ (user : ℕ) (owner : IsUserOf scene.label (length users) user) (refusal : Option (RawCall × Denied)) (seen : reads f me [] ≡ true) (mid : Traced) (walked : Called old mid (8 + 2 * length users) (walk_call users old f scene) None)
-      (free : get f.files (m ∷ []) ≡ None) (room : roomy ≡ true) (asked : Traced) (asks : Called mid asked (8 + 2 * length users) raw.OwnLabel None) (named : IsTrue (is_name m))
-      (made : Made asked new (8 + 2 * length users) (make_call user owner refusal ∷ write_call user owner refusal ∷ []) refusal) where
+  module _ (user : ℕ) (owner : IsUserOf scene.label (length users) user) (refusal : Option (RawCall × Denied)) (seen : reads f me [] ≡ true) (mid : Traced) (walked : Called old mid t walk None)
+      (free : get f.files (m ∷ []) ≡ None) (room : roomy ≡ true) (asked : Traced) (asks : Called mid asked t raw.OwnLabel None) (named : IsTrue (is_name m))
+      (made : Made asked new t (make_call user owner refusal ∷ write_call user owner refusal ∷ []) refusal) where
     is_known : user ≤ length users → known (state old) (file_label mode user) ≡ true
     is_known most = ap (λ (next : ℕ). is_made next (file_label mode user)) scene.lays_out.categories ∙ file_label_known (length users) mode user most
 
-    by_number : writes f me [] ≡ true → same me.user nobody ≡ false → user_number users me.user ≡ Some user → (b : Bool) → has_number (state old) ≡ b → Ends users f call old new (8 + 2 * length users) (answer (Some Done) refusal)
-    unfolding t make_call
+    by_number : writes f me [] ≡ true → same me.user nobody ≡ false → user_number users me.user ≡ Some user → (b : Bool) → has_number (state old) ≡ b → Ends users f call old new t (answer (Some Done) refusal)
     by_number may is e false greatest =
         let range = number_range users me.user user e in
         exhausted user owner refusal seen mid walked free room asked asks made
@@ -333,51 +300,47 @@ module _ (users : List User) (old new : Traced) (f : Flat) (scene : Scene users 
     by_number may is e true next =
         let range = number_range users me.user user e in
         let in_range = user_makes users scene.no_one me scene.run.lone scene.label scene.clearance scene.labels mode user is e in
-        let first = first_granted (8 + 2 * length users) asked new (make_call user owner refusal) (write_call user owner refusal ∷ []) refusal
+        let first = first_granted t asked new (make_call user owner refusal) (write_call user owner refusal ∷ []) refusal
         (make_checked user owner refusal seen mid walked free room asked asks true true true may in_range next (is_known range.1)) made in
         granted user owner refusal seen mid walked free room asked asks made may (user_class mode me.user) (class_of_user is) (label_of_user user e) named in_range (is_known range.1) next first.0 first.1 first.2
 
-    by_owner : writes f me [] ≡ true → Ends users f call old new (8 + 2 * length users) (answer (Some Done) refusal)
-    unfolding t make_call
+    by_owner : writes f me [] ≡ true → Ends users f call old new t (answer (Some Done) refusal)
     by_owner may = elim (owner_is users scene.no_one me scene.run.lone scene.label scene.clearance scene.labels user owner) [
       | inl no_user ↦
           blocked user owner refusal seen mid walked free room asked asks made Range EPERM
           (make_checked user owner refusal seen mid walked free room asked asks true false (has_number (state old)) may
           (ap (λ (u : ℕ). is_below scene.label (file_label mode u) && is_below (file_label mode u) scene.clearance) no_user.1 ∙ nobody_makes users scene.no_one me scene.run.lone scene.label scene.clearance scene.labels mode no_user.0) refl
           (is_known (omega (arith, no_user.1))))
-          refl refl (refused_is true None true true false seen free room may (ap has_value (class_of_nobody no_user.0))) refl refl
+          refl (refused_is true None true true false seen free room may (ap has_value (class_of_nobody no_user.0)))
       | inr is_user ↦ by_number may is_user.0 is_user.1 (has_number (state old)) refl
     ]
 
     -- a create once the directory has room
-    makes : (b : Bool) → writes f me [] ≡ b → Ends users f call old new (8 + 2 * length users) (answer (Some Done) refusal)
-    unfolding t make_call
+    makes : (b : Bool) → writes f me [] ≡ b → Ends users f call old new t (answer (Some Done) refusal)
     makes true may = by_owner may
     makes false may_not =
         let most : user ≤ length users = owner.known in
         blocked user owner refusal seen mid walked free room asked asks made Modify EACCES
         (make_checked user owner refusal seen mid walked free room asked asks false (is_below scene.label (file_label mode user) && is_below (file_label mode user) scene.clearance) (has_number (state old)) may_not refl refl (is_known most))
-        refl refl (refused_is true None true false (has_value (class_made me mode)) seen free room may_not refl) refl refl
+        refl (refused_is true None true false (has_value (class_made me mode)) seen free room may_not refl)
 
   module _ (user : ℕ) (owner : IsUserOf scene.label (length users) user) (named : IsTrue (is_name m)) (refusal : Option (RawCall × Denied)) where
     -- the plan within `/`
     abbrev pub within : Plan
     within = make_at (map.get (listed users old f scene) m) (map.len (listed users old f scene) == most_entries) (make_file (here users old f scene) (state old) (listed users old f scene) m mode user)
 
-    module _ (seen : reads f me [] ≡ true) (mid : Traced) (walked : Called old mid (8 + 2 * length users) (walk_call users old f scene) None) (made : Made mid new (8 + 2 * length users) within.calls refusal) where
-      by_room : get f.files (m ∷ []) ≡ None → (b : Bool) → roomy ≡ b → Ends users f call old new (8 + 2 * length users) (answer within.reply refusal)
-      unfolding t make_call write_call grown
+    module _ (seen : reads f me [] ≡ true) (mid : Traced) (walked : Called old mid t walk None) (made : Made mid new t within.calls refusal) where
+      by_room : get f.files (m ∷ []) ≡ None → (b : Bool) → roomy ≡ b → Ends users f call old new t (answer within.reply refusal)
       by_room free false no_room = full user owner refusal seen mid walked free no_room made
       by_room free true room =
           let same = inner_at user owner refusal None false (entry_at None free) (full_test true room) in
-          let made_here = subst (λ (plan : Plan). Made mid new (8 + 2 * length users) plan.calls refusal) same made in
-          let asks = first_granted (8 + 2 * length users) mid new raw.OwnLabel (make_call user owner refusal ∷ write_call user owner refusal ∷ []) refusal
-          (ap (λ (s : State). check s (8 + 2 * length users) raw.OwnLabel) walked.state ∙ caller_passes (state old) (8 + 2 * length users) scene.label scene.clearance scene.thread) made_here in
-          subst (λ (plan : Plan). Ends users f call old new (8 + 2 * length users) (answer plan.reply refusal)) (sym same)
+          let made_here = subst (λ (plan : Plan). Made mid new t plan.calls refusal) same made in
+          let asks = first_granted t mid new raw.OwnLabel (make_call user owner refusal ∷ write_call user owner refusal ∷ []) refusal
+          (ap (λ (s : State). check s t raw.OwnLabel) walked.state ∙ caller_passes (state old) t scene.label scene.clearance scene.thread) made_here in
+          subst (λ (plan : Plan). Ends users f call old new t (answer plan.reply refusal)) (sym same)
           (makes user owner refusal seen mid walked free room asks.0 asks.1 named asks.2 (writes f me []) refl)
 
-      by_standing : (o : Option Node) → get f.files (m ∷ []) ≡ o → Ends users f call old new (8 + 2 * length users) (answer within.reply refusal)
-      unfolding t
+      by_standing : (o : Option Node) → get f.files (m ∷ []) ≡ o → Ends users f call old new t (answer within.reply refusal)
       by_standing None free = by_room free roomy refl
       by_standing (Some there) stands = standing user owner refusal seen mid walked there stands made
 
@@ -385,10 +348,10 @@ module _ (users : List User) (old new : Traced) (f : Flat) (scene : Scene users 
     pub create_ends : Made old new (8 + 2 * length users) (after_walk (here users old f scene) within).calls refusal → Ends users f call old new (8 + 2 * length users) (answer (after_walk (here users old f scene) within).reply refusal)
     create_ends made = by_seen (reads f me []) refl
       where
-        by_seen : (b : Bool) → reads f me [] ≡ b → Ends users f call old new (8 + 2 * length users) (answer within.reply refusal)
+        by_seen : (b : Bool) → reads f me [] ≡ b → Ends users f call old new t (answer within.reply refusal)
         by_seen false unseen =
             ends_unwalked users old f scene new call (λ r. refl) within refusal
             (refused_is false (get f.files (m ∷ [])) roomy (writes f me []) (has_value (class_made me mode)) unseen refl refl refl refl) unseen made
         by_seen true seen =
-            let first = first_granted (8 + 2 * length users) old new (walk_call users old f scene) within.calls refusal (walk_granted users old f scene seen) made in
+            let first = first_granted t old new walk within.calls refusal (walk_granted users old f scene seen) made in
             by_standing seen first.0 first.1 first.2 (get f.files (m ∷ [])) refl

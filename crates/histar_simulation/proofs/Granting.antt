@@ -7,15 +7,15 @@ use Rattle.histar_base.specs.Refusals.{unless, ◌orelse◌}
 use Rattle.histar_flat.specs.declared.calls.User.{User}
 use Rattle.histar_label.specs.declared.levels.Level.TheVariants.{Star, L0, L1, L2, L3}
 use Rattle.histar_label.specs.Level.{rank}
-use Rattle.histar_label.specs.Levels.{Levels, constant, with_level, level_of-constant, level_of-with_level, grades, is_below, is_below_join_raised, is_made}
+use Rattle.histar_label.specs.Levels.{Levels, constant, with_level, level_of-constant, level_of-with_level, grades, is_below, is_below_raised, is_below_join_raised, is_made}
 use Rattle.histar_label.specs.Floors.{join_of, floor_of}
 use Rattle.histar_label.proofs.Orders.{is_below-refl}
 use Rattle.histar_object.specs.declared.objects.Kind.TheVariants.{Container}
-use Rattle.histar_object.specs.Objects.{Numbers, thread_of, links_in, is_there, is_container, is_thread, is_segment, is_gate}
+use Rattle.histar_object.specs.Objects.{Numbers, thread_of, links_in, is_thread, is_gate}
 use Rattle.histar_object.specs.Rights.{is_let_in, is_under, in_gate, may_clear}
-use Rattle.histar_object.specs.State.{State, Found, observes, in_range}
+use Rattle.histar_object.specs.State.{State, Found, in_range}
 use Rattle.histar_rules.specs.declared.raw.Denied.{Denied}
-use Rattle.histar_rules.specs.declared.raw.Denied.TheVariants.{Observe, Range, Gate, NoEntry, NoThread, BadKind}
+use Rattle.histar_rules.specs.declared.raw.Denied.TheVariants.{Observe, Range, Gate, NoThread, BadKind}
 use Rattle.histar_rules.specs.declared.raw.RawCall.{RawCall}
 use Rattle.histar_rules.specs.declared.raw.RawCall.TheVariants.{OwnLabel, SetLabel, SetClearance, Enter, Read}
 use Rattle.histar_rules.specs.Rules.{check, Changes, no_link, known}
@@ -28,7 +28,7 @@ use Rattle.histar_login.specs.Start.{boot_category}
 use Rattle.histar_simulation.proofs.Owned.{Owns, Clears, among, owns_all, clears_all, seen, secret_seen}
 use Rattle.histar_simulation.proofs.Gates.{either_owns, floor_owns, join_clears, OwnsMore, owns_below, owns_cleared, join_within, clears_within, AreMade, owned_made}
 use Rattle.histar_simulation.proofs.Rights.{written_low, two_categories, secret_high, secret_low}
-use Rattle.histar_simulation.proofs.Checks.{caller_passes}
+use Rattle.histar_simulation.proofs.Checks.{caller_passes, link_passes, read_check}
 use Rattle.histar_simulation.proofs.Standing.{password_object, gate_object}
 
 -- these raw calls are granted, each in whatever state those before it leave
@@ -89,20 +89,23 @@ module _ (s : State) (t next : ℕ) (categories : s.next_category ≡ next) (own
       neither _ _ (caller_passes s t own most thread) (neither _ _ (passes (in_range (s.objects t) label) Range range) (passes (known s label) Range (label_known label has is made_too)))
 
   module _ (links : Numbers) (root : s.objects root_number ≡ Some (record { label = written_by boot_category; kind = Container links })) (o : ℕ) (linked : set.contains (links_in (s.objects root_number)) o ≡ true) where
+    -- the thread sees the root container
+    sees_root : is_below_raised (written_by boot_category) own ≡ true
+    sees_root = seen own owned owns (written_by boot_category) (written_low boot_category)
+
+    among_links : set.contains links o ≡ true
+    among_links = ap (λ (x : Found). set.contains (links_in x) o) (sym root) ∙ linked
+
     -- what the root container links is found
     found : no_link s t root_number o ≡ None
-    found =
-        let sees : observes (s.objects t) (s.objects root_number) ≡ true = (λ i. observes (thread i) (root i)) ∙ seen own owned owns (written_by boot_category) (written_low boot_category) in
-        neither _ _ (neither _ _ (caller_passes s t own most thread) (neither _ _ (ap (λ (x : Found). unless (is_there x) NoEntry) root)
-        (neither _ _ (ap (λ (x : Found). unless (is_container x) BadKind) root) (passes (observes (s.objects t) (s.objects root_number)) Observe sees))))
-        (passes (set.contains (links_in (s.objects root_number)) o) NoEntry linked)
+    found = link_passes s t own most thread root_number (written_by boot_category) links root sees_root o among_links
 
     -- a user's password is read by a thread that owns the user's category
     pub read_granted : (i : ℕ) (u : User) → s.objects o ≡ Some (password_object i u) → owned (read_category i) ≡ true → check s t (Read root_number o) ≡ None
     read_granted i u stands is =
         let label = secret_of (read_category i) (write_category i) in
-        let sees : observes (s.objects t) (s.objects o) ≡ true = (λ j. observes (thread j) (stands j)) ∙ secret_seen own owned owns label (read_category i) (secret_high (read_category i) (write_category i) (two_categories i)) (secret_low (read_category i) (write_category i)) ∙ is in
-        neither _ _ (neither _ _ found (ap (λ (x : Found). unless (is_segment x) BadKind) stands)) (passes (observes (s.objects t) (s.objects o)) Observe sees)
+        let sees : is_below_raised label own ≡ true = secret_seen own owned owns label (read_category i) (secret_high (read_category i) (write_category i) (two_categories i)) (secret_low (read_category i) (write_category i)) ∙ is in
+        read_check s t own most thread root_number (written_by boot_category) links root sees_root o among_links label u.password stands ∙ ap (λ b. unless b Observe) sees
 
     -- a user's gate is entered
     module _ (i : ℕ) (stands : s.objects o ≡ Some (gate_object i)) (gate_made : AreMade next (among (read_category i ∷ write_category i ∷ []))) where

@@ -24,6 +24,7 @@ pub mod Views
 pub mod Checks
 pub mod Places
 pub mod Outcomes
+pub mod Endings
 pub mod Scenes
 pub mod FileReads
 pub mod FileWrites

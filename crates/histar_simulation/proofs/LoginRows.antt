@@ -1,6 +1,6 @@
 -- A login is the row of its call.
 use Rattle.std.proofs.Common.{◌≡◌, ℕ, ◌+◌, ◌*◌, Bool, true, false, List, [], ◌∷◌, ◌++◌, length, Option, None, Some, inl, inr, refl, sym, ap, ◌∙◌, subst, append-nil}
-use Rattle.std.specs.Prelude.{map, option_map, is_some as has_value, slice_get}
+use Rattle.std.specs.Prelude.{option_map, is_some as has_value, slice_get}
 use Rattle.histar_base.specs.Refusals.{◌orelse◌, unless}
 use Rattle.std.proofs.lemmas.Option.{same_Some}
 use Rattle.histar_flat.specs.declared.calls.User.{User}
@@ -9,26 +9,25 @@ use Rattle.histar_flat.specs.declared.calls.UnixCall.TheVariants as calls
 use Rattle.histar_flat.specs.declared.replies.Errno.{Errno}
 use Rattle.histar_flat.specs.declared.replies.Errno.TheVariants.{ENOENT, EACCES, EAUTH}
 use Rattle.histar_flat.specs.declared.replies.Reply.{Reply}
-use Rattle.histar_flat.specs.declared.replies.Reply.TheVariants.{Done, Refused}
+use Rattle.histar_flat.specs.declared.replies.Reply.TheVariants.{Refused}
 use Rattle.histar_flat.specs.Words.{Name, Password, ProcName}
 use Rattle.histar_flat.specs.PathOrder.{same}
 use Rattle.histar_flat.specs.Classes.{is_free}
-use Rattle.histar_flat.specs.FlatState.{Flat, is_some_and, with_process}
-use Rattle.histar_flat.specs.FlatCalls.{refused, user_named, reply_to}
-use Rattle.histar_object.specs.State.{State}
+use Rattle.histar_flat.specs.FlatState.{Flat, is_some_and}
+use Rattle.histar_flat.specs.FlatCalls.{refused, user_named}
 use Rattle.histar_rules.specs.declared.raw.Denied.{Denied}
 use Rattle.histar_rules.specs.declared.raw.RawCall.{RawCall}
 use Rattle.histar_syscall.specs.Traced.{Traced, state, IsUnchanged}
 use Rattle.histar_syscall.specs.Runs.{Made}
 use Rattle.histar_login.specs.Login.{place_of, login_calls, reply_if, own_of, most_of, is_password, login_answer, LoginCompletes, LoginStops, BecomesUser}
 use Rattle.histar_simulation.specs.Labels.{user_number}
-use Rattle.histar_simulation.specs.LaysOut.{LaysOut}
 use Rattle.histar_simulation.specs.Lines.{AreAmong, reads_of_login}
-use Rattle.histar_simulation.proofs.Chains.{Step, Chain, entries_of, granted_run}
+use Rattle.histar_simulation.proofs.Chains.{Chain, all_granted, entries_of, granted_chain}
 use Rattle.histar_simulation.proofs.Users.{place_named, no_place_named}
 use Rattle.histar_simulation.proofs.LoginGranted.{password_agrees, login_is_granted}
 use Rattle.histar_simulation.proofs.LoginLaid.{login_lays_out}
-use Rattle.histar_simulation.proofs.Outcomes.{IsAnswered, IsOut, granted_out, reply_is, after_is, answered_by}
+use Rattle.histar_simulation.proofs.Outcomes.{IsAnsweredWith, IsOut, granted_out}
+use Rattle.histar_simulation.proofs.Endings.{granted_row, unchanged_row}
 use Rattle.histar_simulation.proofs.Scenes.{Scene}
 
 module _ (users : List User) (old new : Traced) (f : Flat) (scene : Scene users (state old) f) (name : Name) (password : Password) where
@@ -46,16 +45,10 @@ module _ (users : List User) (old new : Traced) (f : Flat) (scene : Scene users 
       is_free_path = ap (λ (chain : List ProcName). elim chain as (λ _. Bool) [ [] ↦ true | job ∷ jobs ↦ false ]) scene.run.lone.free
 
   -- no user has the name: no raw call is made
-  pub unknown_user : place_of users name ≡ None → IsUnchanged old new → IsAnswered users f call old new
+  pub unknown_user : place_of users name ≡ None → IsUnchanged old new → IsAnsweredWith users f call old new (Refused ENOENT)
   unknown_user no_place same_kernel =
-      let is = refused_is None false (no_place_named users name no_place) refl in
-      answered_by users f call old new (8 + 2 * length users) scene.named [] same_kernel (Refused ENOENT) f (reply_is users f scene.run call (Some ENOENT) is) (after_is users f scene.run call (Some ENOENT) is)
-      refl refl tt tt (λ b e. absurd cc) (subst (λ (place : Option ℕ). AreAmong (reads_of_login place false) []) (sym no_place) tt) (λ e. absurd cc)
-      (subst (λ (s : State). LaysOut users s f) (sym same_kernel.state) scene.lays_out)
-
-  -- and so it is answered
-  pub unknown_reply : place_of users name ≡ None → Refused ENOENT ≡ reply_to users f [] call
-  unknown_reply no_place = sym (reply_is users f scene.run call (Some ENOENT) (refused_is None false (no_place_named users name no_place) refl))
+      unchanged_row users f scene.run call old new (8 + 2 * length users) scene.named [] same_kernel same_kernel.state scene.lays_out ENOENT refl refl (refused_is None false (no_place_named users name no_place) refl)
+      (subst (λ (place : Option ℕ). AreAmong (reads_of_login place false) []) (sym no_place) tt)
 
   -- a user has the name
   module _ (place : ℕ) (place_is : place_of users name ≡ Some place) where
@@ -80,34 +73,21 @@ module _ (users : List User) (old new : Traced) (f : Flat) (scene : Scene users 
 
     -- the state after a login with this outcome lays out the flat state after it
     module _ (made : Made old new (8 + 2 * length users) raw_calls None) where
-      chain : Chain old (8 + 2 * length users) (map (λ (c : RawCall). (c, None)) raw_calls) new
-      chain = let granted = granted_run (8 + 2 * length users) old new raw_calls made in subst (λ (s : List Step). Chain old (8 + 2 * length users) s new) granted.2 granted.1
+      chain : Chain old (8 + 2 * length users) (all_granted raw_calls) new
+      chain = granted_chain (8 + 2 * length users) old new raw_calls made
 
-      owed : (compared : Bool) → compared ≡ true → AreAmong (reads_of_login (place_of users name) compared) (entries_of old.line (8 + 2 * length users) (map (λ (c : RawCall). (c, None)) raw_calls))
-      owed compared is = subst (λ (b : Bool). AreAmong (reads_of_login (place_of users name) b) (entries_of old.line (8 + 2 * length users) (map (λ (c : RawCall). (c, None)) raw_calls))) (sym is)
-          (subst (λ (o : Option ℕ). AreAmong (reads_of_login o true) (entries_of old.line (8 + 2 * length users) (map (λ (c : RawCall). (c, None)) raw_calls))) (sym place_is) (inr (inr (inl (refl, tt)))))
+      owed : AreAmong (reads_of_login (place_of users name) true) (entries_of old.line (8 + 2 * length users) (all_granted raw_calls))
+      owed = subst (λ (o : Option ℕ). AreAmong (reads_of_login o true) (entries_of old.line (8 + 2 * length users) (all_granted raw_calls))) (sym place_is) (inr (inr (inl (refl, tt))))
 
-      answered : (b : Bool) → right ≡ b → BecomesUser (length users) (place + 1) (8 + 2 * length users) (state old) (state new) (reply_if b) → (reply_if b ≡ reply_to users f [] call) × IsAnswered users f call old new
+      answered : (b : Bool) → right ≡ b → BecomesUser (length users) (place + 1) (8 + 2 * length users) (state old) (state new) (reply_if b) → IsAnsweredWith users f call old new (reply_if b)
       answered true is becomes =
-          let refusal = refused_by true is in
-          let reply = reply_is users f scene.run call None refusal in (
-            sym reply,
-            answered_by users f call old new (8 + 2 * length users) scene.named (map (λ (c : RawCall). (c, None)) raw_calls) chain Done (with_process f [] (record scene.run.process { user = name; held = [] })) reply
-                (after_is users f scene.run call None refusal) refl refl (tt, (tt, (tt, (tt, (tt, tt))))) tt (λ b e. absurd cc) (owed true refl) (λ e. absurd cc)
-                (login_lays_out users scene.no_one (state old) f scene.lays_out scene.run.process scene.run.stands name (place + 1) numbered (state new) becomes),
-          )
-      answered false is becomes =
-          let refusal = refused_by false is in
-          let reply = reply_is users f scene.run call (Some EAUTH) refusal in (
-            sym reply,
-            answered_by users f call old new (8 + 2 * length users) scene.named (map (λ (c : RawCall). (c, None)) raw_calls) chain (Refused EAUTH) f reply
-                (after_is users f scene.run call (Some EAUTH) refusal) refl refl (tt, (tt, (tt, (tt, (tt, tt))))) tt (λ b e. absurd cc) (owed true refl) (λ e. absurd cc)
-                (subst (λ (s : State). LaysOut users s f) (sym becomes) scene.lays_out),
-          )
+          granted_row users f scene.run call old new (8 + 2 * length users) scene.named raw_calls chain (refused_by true is) tt owed
+          (login_lays_out users scene.no_one (state old) f scene.lays_out scene.run.process scene.run.stands name (place + 1) numbered (state new) becomes)
+      answered false is becomes = unchanged_row users f scene.run call old new (8 + 2 * length users) scene.named raw_calls chain becomes scene.lays_out EAUTH refl refl (refused_by false is) owed
 
     -- a login as this user that was answered
     pub login_row : (reply : Reply) → LoginCompletes old new (8 + 2 * length users) raw_calls (reply_if right) reply → BecomesUser (length users) (place + 1) (8 + 2 * length users) (state old) (state new) reply
-        → (reply ≡ reply_to users f [] call) × IsAnswered users f call old new
+        → IsAnsweredWith users f call old new reply
     login_row reply c becomes =
         let no_refusal = none_refused raw_calls [] c.refusal (sym (append-nil raw_calls)) c.made in
         let same : reply_if right ≡ reply = same_Some (reply_if right) reply (ap (login_answer (reply_if right)) (sym no_refusal) ∙ c.answers) in

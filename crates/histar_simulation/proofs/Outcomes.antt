@@ -1,13 +1,13 @@
 -- How a line ends: it is answered and is the row of its call, or a counter has its greatest value.
-use Rattle.std.proofs.Common.{◌≡◌, ◌≢◌, ℕ, List, [], ◌∷◌, ◌++◌, Option, None, Some, ◌⊎◌, inl, inr, refl, sym, ap, ◌∙◌, subst}
-use Rattle.std.specs.Prelude.{map, option_map}
+use Rattle.std.proofs.Common.{◌≡◌, ℕ, List, [], ◌++◌, Option, None, Some, ◌⊎◌, inl, inr, refl, sym, ap, ◌∙◌, subst}
+use Rattle.std.specs.Prelude.{option_map}
 use Rattle.std.specs.List.{AllByRecursion}
 use Rattle.std.proofs.lemmas.Option.{same_Some}
 use Rattle.histar_flat.specs.declared.calls.User.{User}
 use Rattle.histar_flat.specs.declared.calls.UnixCall.{UnixCall}
 use Rattle.histar_flat.specs.declared.replies.Errno.{Errno}
 use Rattle.histar_flat.specs.declared.replies.Reply.{Reply}
-use Rattle.histar_flat.specs.declared.replies.Reply.TheVariants.{Data, Refused, Gone}
+use Rattle.histar_flat.specs.declared.replies.Reply.TheVariants.{Refused}
 use Rattle.histar_flat.specs.Classes.{Process}
 use Rattle.histar_flat.specs.FlatState.{Flat}
 use Rattle.histar_flat.specs.FlatCalls as flat
@@ -17,14 +17,13 @@ use Rattle.histar_rules.specs.declared.raw.RawCall.{RawCall}
 use Rattle.histar_object.specs.State.{State}
 use Rattle.histar_syscall.specs.declared.trace.TraceEntry.{TraceEntry}
 use Rattle.histar_syscall.specs.Traced.{Traced, state}
-use Rattle.histar_syscall.specs.Runs.{IsBy, Made, some_label_refusal, some_range_refusal}
+use Rattle.histar_syscall.specs.Runs.{IsBy, Made}
 use Rattle.histar_syscall.proofs.Runs.{made_longer}
 use Rattle.histar_calls.specs.Plans.{Plan}
 use Rattle.histar_calls.specs.Follows.{told_as, answer, IsUntold, StopsWithin, Completes}
-use Rattle.histar_calls.specs.Replies.{is_no_access, is_no_permission}
 use Rattle.histar_simulation.specs.LaysOut.{LaysOut, IsLone, IsLoneProcess}
-use Rattle.histar_simulation.specs.Lines.{IsThreadOf, IsDenialTold, IsRefusedOnce, EndsWithRead, AreAmong, reads_owed, IsLine, IsRow, IsRunUnlessExhausted}
-use Rattle.histar_simulation.proofs.Chains.{Step, entries_of, Chain, chain_run, chain_own, granted_run, granted_unless}
+use Rattle.histar_simulation.specs.Lines.{IsRow, IsRunUnlessExhausted}
+use Rattle.histar_simulation.proofs.Chains.{Step, all_granted, entries_of, Chain, chain_run, chain_own, granted_chain, granted_unless}
 
 module _ (users : List User) (f : Flat) (call : UnixCall) where
   -- the line is the row of its call, by the entries that are the new end of the trace
@@ -34,6 +33,10 @@ module _ (users : List User) (f : Flat) (call : UnixCall) where
     pub line : new.line ≡ old.line
     pub row : IsRow users (state old) f (record { line = old.line; process = []; call = call }) entries (state new)
 
+  -- and it is answered so
+  abbrev pub IsAnsweredWith : Traced → Traced → Reply → Type 0
+  IsAnsweredWith old new reply = (reply ≡ reply_to users f [] call) × IsAnswered old new
+
 -- the raw calls that were made are a run of the kernel, of which none was refused but where a counter has its greatest value
 pub record IsOut (old new : Traced) (t : ℕ) : Type 0 where
   pub entries : List TraceEntry
@@ -42,20 +45,21 @@ pub record IsOut (old new : Traced) (t : ℕ) : Type 0 where
   pub run : IsRunUnlessExhausted (state old) entries (state new)
   pub own : AllByRecursion (IsBy old.line t) entries
 
--- where no raw call was refused, none was
-pub granted_out : (old new : Traced) (t : ℕ) (calls : List RawCall) → Made old new t calls None → IsOut old new t
-granted_out old new t calls made =
-    let steps = map (λ (c : RawCall). (c, None)) calls in
-    let granted = granted_run t old new calls made in
-    let chain : Chain old t steps new = subst (λ (s : List Step). Chain old t s new) granted.2 granted.1 in
+-- a chain that was refused nowhere else
+pub chain_out : (old new : Traced) (t : ℕ) (steps : List Step) → Chain old t steps new → IsRunUnlessExhausted (state old) (entries_of old.line t steps) (state new) → IsOut old new t
+chain_out old new t steps chain run =
     let part = chain_run t old new steps chain in
     record {
       entries = entries_of old.line t steps;
       trace = part.trace;
       line = part.line;
-      run = granted_unless t old new old.line calls chain;
+      run = run;
       own = chain_own t old.line steps;
     }
+
+-- where no raw call was refused, none was
+pub granted_out : (old new : Traced) (t : ℕ) (calls : List RawCall) → Made old new t calls None → IsOut old new t
+granted_out old new t calls made = let chain = granted_chain t old new calls made in chain_out old new t (all_granted calls) chain (granted_unless t old new old.line calls chain)
 
 -- a process that is there, alone
 pub record IsRunning (f : Flat) : Type 0 where
@@ -83,49 +87,13 @@ module _ (users : List User) (f : Flat) (run : IsRunning f) (call : UnixCall) wh
   pub after_is : (refusal : Option Errno) → refused users f [] run.process call ≡ refusal → flat_after users f [] call ≡ flat_or refusal f (changed users f [] run.process call)
   after_is refusal e = ap (λ (r : Option Process). flat_by users f [] r call) runs ∙ ap (λ (r : Option Errno). flat_or r f (changed users f [] run.process call)) e
 
-module _ (users : List User) (f : Flat) (call : UnixCall) (old new : Traced) (t : ℕ) (named : IsThreadOf users (state old) [] t) where
-  -- each entry is of the line's thread
-  all_own : (line : ℕ) (steps : List Step) → AllByRecursion (λ (e : TraceEntry). (e.line ≡ line) × IsThreadOf users (state old) [] e.thread) (entries_of line t steps)
-  all_own line [] = tt
-  all_own line (s ∷ steps) = ((refl, named), all_own line steps)
-
-  -- a line is the row of its call where its raw calls went so, and the state after it lays out the flat state after the call
-  pub answered_by : (steps : List Step) → Chain old t steps new → (r : Reply) (g : Flat) → reply_to users f [] call ≡ r → flat_after users f [] call ≡ g
-      → some_label_refusal (entries_of old.line t steps) ≡ is_no_access r → some_range_refusal (entries_of old.line t steps) ≡ is_no_permission r
-      → AllByRecursion (λ (e : TraceEntry). IsDenialTold r e.denied) (entries_of old.line t steps)
-      → IsRefusedOnce (entries_of old.line t steps) → ((bytes : List ℕ) → r ≡ Data bytes → EndsWithRead (state old) (entries_of old.line t steps) bytes)
-      → AreAmong (reads_owed users call r) (entries_of old.line t steps) → r ≢ Gone → LaysOut users (state new) g → IsAnswered users f call old new
-  answered_by steps chain r g reply after access permission denials once told reads runs lays_out =
-      let part = chain_run t old new steps chain in
-      let entries = entries_of old.line t steps in
-      let is_line : IsLine users (state old) old.line [] call r entries (state new) = record {
-        run = part.run;
-        own = all_own old.line steps;
-        access = access;
-        permission = permission;
-        denials = denials;
-        once = once;
-        told = told;
-        reads = λ answered. reads;
-        gone = λ e. absurd (runs e);
-      } in
-      record {
-        entries = entries;
-        trace = part.trace;
-        line = part.line;
-        row = record {
-          line = subst (λ (x : Reply). IsLine users (state old) old.line [] call x entries (state new)) (sym reply) is_line;
-          lays_out = subst (LaysOut users (state new)) (sym after) lays_out;
-        };
-      }
-
 -- how a plan that was followed so far has ended
 abbrev pub Ends : (users : List User) (f : Flat) (call : UnixCall) (old new : Traced) (t : ℕ) (told : Option Reply) → Type 0
 Ends users f call old new t told = ((told ≡ Some (reply_to users f [] call)) × IsAnswered users f call old new) ⊎ ((told ≡ None) × IsOut old new t)
 
 module _ (users : List User) (f : Flat) (call : UnixCall) (old new : Traced) (t : ℕ) (plan : Plan) (ends : (refusal : Option (RawCall × Denied)) → Made old new t plan.calls refusal → Ends users f call old new t (answer plan.reply refusal)) where
   -- a plan that was followed to its answer is the row of the call
-  pub completed : (r : Reply) → Completes old new t plan r → (r ≡ reply_to users f [] call) × IsAnswered users f call old new
+  pub completed : (r : Reply) → Completes old new t plan r → IsAnsweredWith users f call old new r
   completed r c = elim (ends c.refusal c.made) [
     | inl a ↦ (same_Some r (reply_to users f [] call) (sym c.answers ∙ a.0), a.1)
     | inr o ↦ let k : None ≡ Some r = sym o.0 ∙ c.answers in absurd cc

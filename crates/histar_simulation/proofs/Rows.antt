@@ -34,7 +34,7 @@ use Rattle.histar_simulation.proofs.Scenes.{Scene, holds, listed}
 use Rattle.histar_simulation.proofs.FileReads.{read_ends}
 use Rattle.histar_simulation.proofs.FileWrites.{write_ends}
 use Rattle.histar_simulation.proofs.FileCreates.{create_ends}
-use Rattle.histar_simulation.proofs.LoginRows.{unknown_user, unknown_reply, login_row, login_out}
+use Rattle.histar_simulation.proofs.LoginRows.{unknown_user, login_row, login_out}
 
 -- the scene of a call, at a state that lays out a flat state
 pub scene_of : (users : List User) → IsNoUser users → (s : State) (f : Flat) → LaysOut users s f → Scene users s f
@@ -107,7 +107,9 @@ module _ (users : List User) (no_one : IsNoUser users) (old new : Traced) (f : F
 
       by : (place : Option ℕ) → place_of users name ≡ place → (r : Result Reply Stopped) → LogsInAt place (length users) old new (8 + 2 * length users) password r
           → IfOk r (BecomesUserAt place (length users) (8 + 2 * length users) (state old) (state new)) → IsRowOf users f (calls.Login name password) old new r
-      by None is (Ok reply) logs becomes = (same_reply reply (Refused ENOENT) logs.0 ∙ unknown_reply users old new f scene name password is, unknown_user users old new f scene name password is logs.1)
+      by None is (Ok reply) logs becomes =
+          let row = unknown_user users old new f scene name password is logs.1 in
+          (same_reply reply (Refused ENOENT) logs.0 ∙ row.0, row.1)
       by None is (Err stops) logs becomes = absurd cc
       by (Some place) is (Ok reply) logs becomes = login_row users old new f scene name password place is reply logs becomes
       by (Some place) is (Err stops) logs becomes = login_out users old new f scene name password place is logs

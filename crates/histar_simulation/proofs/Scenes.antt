@@ -26,6 +26,7 @@ use Rattle.histar_rules.specs.declared.raw.RawCall.TheVariants.{Read}
 use Rattle.histar_rules.specs.Rules.{check}
 use Rattle.histar_syscall.specs.Traced.{Traced, state, Called}
 use Rattle.histar_syscall.specs.Runs.{Made}
+use Rattle.histar_syscall.proofs.Runs.{same_kernel}
 use Rattle.histar_layout.specs.Directory.{Entries, IsDirectory, spelling}
 use Rattle.histar_layout.specs.declared.entry.Target.{Target}
 use Rattle.histar_layout.specs.declared.entry.Target.TheVariants as targets
@@ -38,13 +39,14 @@ use Rattle.histar_simulation.specs.Labels.{class_label, thread_labels}
 use Rattle.histar_simulation.specs.Directories.{target_for, directory_of}
 use Rattle.histar_simulation.specs.LaysOut.{LaysOut}
 use Rattle.histar_simulation.specs.Lines.{IsThreadOf, AreAmong, reads_owed}
-use Rattle.histar_simulation.proofs.Chains.{entries_of, first_granted, first_refused}
+use Rattle.histar_simulation.proofs.Chains.{entries_of, first_granted}
 use Rattle.histar_simulation.proofs.Views.{object}
 use Rattle.histar_simulation.proofs.Checks.{read_blocked, read_check}
 use Rattle.histar_simulation.proofs.Places.{IsRoot, root_is, IsFileAt, file_is, directory_leads}
 use Rattle.histar_simulation.proofs.Users.{IsNoUser}
 use Rattle.histar_simulation.proofs.DirectoryLaws.{get_directory}
-use Rattle.histar_simulation.proofs.Outcomes.{IsRunning, Ends, reply_is, after_is, answered_by}
+use Rattle.histar_simulation.proofs.Outcomes.{IsRunning, Ends}
+use Rattle.histar_simulation.proofs.Endings.{unchanged_row, ends_refused}
 
 -- A state lays out a flat state, process 0 runs, its thread has this label and this clearance, and labels let it observe and
 -- modify what its process may read and write.
@@ -100,35 +102,25 @@ module _ (users : List User) (old : Traced) (f : Flat) (scene : Scene users (sta
   walk_refused unseen = read_blocked (state old) caller scene.label scene.clearance scene.thread (4 + 2 * length users) root.directory.label root.links root.container (sees_root ∙ unseen) (5 + 2 * length users)
 
   module _ (new : Traced) (call : UnixCall) (owed : (r : Reply) → reads_owed users call r ≡ walk_call ∷ []) where
+    -- the walk is what it owes
+    has_walk : (outcome : Option Denied) (r : Reply) → AreAmong (reads_owed users call r) (entries_of old.line caller ((walk_call, outcome) ∷ []))
+    has_walk outcome r = subst (λ (calls : List RawCall). AreAmong calls (entries_of old.line caller ((walk_call, outcome) ∷ []))) (sym (owed r)) (inl (refl, tt))
+
     -- a call whose walk is refused is answered EACCES
     pub ends_unwalked : (plan : Plan) (refusal : Option (RawCall × Denied)) → refused users f [] scene.run.process call ≡ Some EACCES → reads f scene.run.process [] ≡ false
         → Made old new caller (after_walk here plan).calls refusal → Ends users f call old new caller (answer (after_walk here plan).reply refusal)
     ends_unwalked plan refusal is_refused unseen made =
-        let first = first_refused caller old new walk_call plan.calls refusal Observe (walk_refused unseen) made in
-        let chain = first.0 in
-        let same : state new ≡ state old = chain.2.state ∙ chain.1.state in
-        inl (
-          ap (answer plan.reply) first.1 ∙ ap Some (sym (reply_is users f scene.run call (Some EACCES) is_refused)),
-          answered_by users f call old new caller scene.named ((walk_call, Some Observe) ∷ []) chain (Refused EACCES) f
-              (reply_is users f scene.run call (Some EACCES) is_refused) (after_is users f scene.run call (Some EACCES) is_refused)
-              refl refl (refl, tt) tt (λ bytes e. absurd cc) (subst (λ (calls : List RawCall). AreAmong calls (entries_of old.line caller ((walk_call, Some Observe) ∷ []))) (sym (owed (Refused EACCES))) (inl (refl, tt))) (λ e. absurd cc)
-              (subst (λ (s : State). LaysOut users s f) (sym same) scene.lays_out),
-        )
+        ends_refused users f scene.run call old new caller scene.named [] old (same_kernel old) refl scene.lays_out walk_call Observe (walk_refused unseen)
+        EACCES refl is_refused (has_walk (Some Observe) (Refused EACCES)) plan.reply plan.calls refusal made
 
     -- a call that is refused after its walk, which no raw call tells
     pub ends_at_once : (errno : Errno) → is_access errno ≡ false → is_permission errno ≡ false → refused users f [] scene.run.process call ≡ Some errno → (mid : Traced) → Called old mid caller walk_call None
         → (plan : Plan) (refusal : Option (RawCall × Denied)) → plan ≡ answering (Refused errno) → Made mid new caller plan.calls refusal → Ends users f call old new caller (answer plan.reply refusal)
     ends_at_once errno no_access no_permission is_refused mid walked plan refusal same made =
         let end = subst (λ (q : Plan). Made mid new caller q.calls refusal) same made in
-        let stays : state new ≡ state old = end.0.state ∙ walked.state in
-        let told : answer plan.reply refusal ≡ Some (Refused errno) = λ i. answer (same i).reply (end.1 i) in
-        inl (
-          told ∙ ap Some (sym (reply_is users f scene.run call (Some errno) is_refused)),
-          answered_by users f call old new caller scene.named ((walk_call, None) ∷ []) (mid, walked, end.0) (Refused errno) f
-              (reply_is users f scene.run call (Some errno) is_refused) (after_is users f scene.run call (Some errno) is_refused)
-              (sym no_access) (sym no_permission) (tt, tt) tt (λ bytes e. absurd cc) (subst (λ (calls : List RawCall). AreAmong calls (entries_of old.line caller ((walk_call, None) ∷ []))) (sym (owed (Refused errno))) (inl (refl, tt))) (λ e. absurd cc)
-              (subst (λ (s : State). LaysOut users s f) (sym stays) scene.lays_out),
-        )
+        let row = unchanged_row users f scene.run call old new caller scene.named (walk_call ∷ []) (mid, walked, end.0) (end.0.state ∙ walked.state) scene.lays_out
+        errno no_access no_permission is_refused (has_walk None (Refused errno)) in
+        inl ((λ i. answer (same i).reply (end.1 i)) ∙ ap Some row.0, row.1)
 
     -- what the flat rules refuse on the way to a file
     abbrev way : Bool → Option Node → Option Errno
