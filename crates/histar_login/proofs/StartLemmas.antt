@@ -1,11 +1,8 @@
 -- One turn of each loop of boot.
-use Rattle.std.proofs.Common.{◌≡◌, ℕ, zero, suc, ◌+◌, ◌*◌, ◌<◌, List, [], ◌∷◌, ◌++◌, length, get_or, take, refl, sym, ap, ◌∙◌, arith, add-one, add-zero, append-nil, append_assoc, codes}
-use Rattle.std.proofs.Math.Seq.{take-suc}
+use Rattle.std.proofs.Common.{◌≡◌, ℕ, zero, suc, ◌+◌, ◌*◌, ◌<◌, List, [], ◌∷◌, ◌++◌, length, get_or, take, sym, ap, ◌∙◌, arith, add-zero, append-nil, append_assoc, codes}
 use Rattle.std.specs.List.{range_with_len}
 use Rattle.std.proofs.lemmas.List.{length-take-le}
 use Rattle.histar_flat.specs.declared.calls.User.{User}
-use Rattle.histar_label.specs.declared.levels.Level.{Level}
-use Rattle.histar_label.specs.Levels.{Levels, with_level}
 use Rattle.histar_flat.specs.Words.{Name}
 use Rattle.std.specs.Int.{w64, to_be_bytes}
 use Rattle.histar_calls.specs.Categories.{read_category, write_category}

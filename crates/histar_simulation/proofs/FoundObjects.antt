@@ -1,14 +1,14 @@
 -- What stands at the addresses of a naming, and what a change of an object leaves there.
 use Rattle.std.specs.Prelude.{◌≡◌, ◌≢◌, ℕ, true, List, Option, Some, None, option_map, option_and_then, refl}
-use Rattle.std.proofs.Common.{Bool, false, ◌==◌, if◌then◌else◌, ap, sym, ◌∙◌}
+use Rattle.std.proofs.Common.{Bool, false, ◌==◌, if◌then◌else◌, ap}
 use Rattle.histar_label.specs.Levels.{Levels}
 use Rattle.histar_object.specs.declared.objects.Kind.{Kind}
 use Rattle.histar_object.specs.declared.objects.Kind.TheVariants.{Segment, Container, Thread, Gate}
 use Rattle.histar_object.specs.declared.objects.Object.{Object}
 use Rattle.histar_object.specs.Objects.{Objects, changed_at, linking, kind_linking, holding, kind_holding, is_there, is_container, kind_is_container}
 use Rattle.histar_object.specs.State.{Found}
-use Rattle.histar_container.specs.Tree.{Address, Naming, wanted, IsLaid, objects_at}
-use Rattle.histar_simulation.specs.Addresses.{Step, same_step}
+use Rattle.histar_container.specs.Tree.{Address, Naming, objects_at}
+use Rattle.histar_simulation.specs.Addresses.{Step}
 use Rattle.histar_simulation.specs.LaysOut.{bare, kind_bare, labelled_as}
 
 -- an object with other bytes, but for its links

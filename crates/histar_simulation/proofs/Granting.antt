@@ -1,13 +1,11 @@
 -- Raw calls of a login that no check refuses.
-use Rattle.std.proofs.Common.{◌≡◌, ◌≢◌, ℕ, ◌<◌, ◌≤◌, ◌==◌, Bool, true, false, ◌&&◌, ◌||◌, List, [], ◌∷◌, ◌++◌, Option, None, Some, arith, refl, sym, ap, ◌∙◌, subst, if◌then◌else◌}
+use Rattle.std.proofs.Common.{◌≡◌, ℕ, ◌<◌, Bool, true, false, ◌&&◌, ◌||◌, List, [], ◌∷◌, ◌++◌, Option, None, Some, refl, sym, ap, ◌∙◌, subst}
 use Rattle.std.specs.FinSet as set
-use Rattle.std.proofs.lemmas.Bool.Decides.{nat_tests}
 use Rattle.std.proofs.lemmas.Bool.{and_from}
 use Rattle.histar_base.specs.Refusals.{unless, ◌orelse◌}
 use Rattle.histar_flat.specs.declared.calls.User.{User}
-use Rattle.histar_label.specs.declared.levels.Level.TheVariants.{Star, L0, L1, L2, L3}
-use Rattle.histar_label.specs.Level.{rank}
-use Rattle.histar_label.specs.Levels.{Levels, constant, with_level, level_of-constant, level_of-with_level, grades, is_below, is_below_raised, is_below_join_raised, is_made}
+use Rattle.histar_label.specs.declared.levels.Level.TheVariants.{Star, L1, L2, L3}
+use Rattle.histar_label.specs.Levels.{Levels, is_below, is_below_raised, is_below_join_raised, is_made}
 use Rattle.histar_label.specs.Floors.{join_of, floor_of}
 use Rattle.histar_label.proofs.Orders.{is_below-refl}
 use Rattle.histar_object.specs.declared.objects.Kind.TheVariants.{Container}
