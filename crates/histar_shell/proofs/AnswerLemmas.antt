@@ -9,15 +9,26 @@ use Rattle.histar_calls.specs.declared.stopping.Stopped.{Stopped}
 use Rattle.histar_flat.specs.declared.replies.Reply.{Reply}
 use Rattle.histar_script.specs.declared.fault.Fault.{Fault}
 use Rattle.histar_script.specs.declared.items.CallLine.{CallLine}
+use Rattle.histar_devices.specs.Writing.{AppendsFront}
+use Rattle.histar_devices.proofs.WritingLemmas.{sent_none}
 use Rattle.histar_shell.specs.Answers.{Answered, answer_text, answers_text, calls_of, line_text}
 use Rattle.histar_shell.specs.Machine.{Running, AnswersLine}
 use Rattle.histar_shell.specs.Session.{Session, AnswersCall, AnswersCalls, BeginsAnswer, BeginsAnswers}
-use Rattle.histar_shell.specs.Writing.{AppendsFront}
-use Rattle.histar_shell.proofs.WritingLemmas.{sent_none, front_after}
 
 -- a whole text is a beginning of itself
 whole_front : (a b : Option (List ℕ)) (text : List ℕ) → Appends a b text → AppendsFront a b text
 whole_front a b text whole = ([], record { front = text; parts = sym (append-nil text); appended = whole })
+
+-- a whole text, and then a beginning of the next one
+front_after : (a b c : Option (List ℕ)) (text next rest : List ℕ) → Appends a b text → AppendsFront b c next → AppendsFront a c (text ++ (next ++ rest))
+front_after a b c text next rest whole begun = (
+  begun.0 ++ rest,
+  record {
+    front = text ++ begun.1.front;
+    parts = ap (λ (l : List ℕ). text ++ (l ++ rest)) begun.1.parts ∙ simp append_assoc;
+    appended = Appends-trans a b c text begun.1.front whole begun.1.appended;
+  },
+)
 
 -- one more call line of a session
 session_more : (first mid last : Running) (answers : List Answered) (a : Answered) → Session first answers mid → AnswersLine mid last a.call.line a.call.process a.call.call (Ok a.reply) → Session first (answers ++ a ∷ []) last

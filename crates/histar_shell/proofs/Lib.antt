@@ -1,7 +1,5 @@
 pub mod AnswerLemmas
-pub mod InputLemmas
 pub mod RunLemmas
-pub mod WritingLemmas
 pub mod Lines
 pub mod Users
 pub mod LineMeanings

@@ -9,8 +9,9 @@ use Rattle.histar_script.specs.declared.fault.Fault.TheVariants.{BadScript, TooL
 use Rattle.histar_script.specs.Script.{Reading}
 use Rattle.histar_script.specs.Outcome.{Gives}
 use Rattle.histar_script.specs.Reading.{script_of}
-use Rattle.histar_shell.specs.Input.{TakesAll, TakesSome}
-use Rattle.histar_shell.specs.Outcome.{IsInputFault, IsOutputFault, IsFaultAt, TakesAtFault, AnswersScript, BeginsScript, WritesAtFault}
+use Rattle.histar_devices.specs.Input.{TakesAll, TakesSome}
+use Rattle.histar_devices.specs.DeviceFaults.{IsInputFault}
+use Rattle.histar_shell.specs.Outcome.{IsOutputFault, IsFaultAt, TakesAtFault, AnswersScript, BeginsScript, WritesAtFault}
 use Rattle.histar_shell.specs.Machine.{Running, IsStart}
 use Rattle.histar_shell.specs.Session.{AnswersCalls, BeginsAnswers}
 use Rattle.histar_syscall.specs.declared.trace.TraceEntry.{TraceEntry}

@@ -27,10 +27,10 @@ use Rattle.histar_simulation.specs.Lines.{AreRows}
 use Rattle.histar_simulation.proofs.Start.{start_lays_out}
 use Rattle.histar_simulation.proofs.Sessions.{run_after, rows_run}
 use Rattle.histar_simulation.proofs.Chains.{entries_of, chain_run, chain_own, granted_run}
+use Rattle.histar_devices.specs.Writing.{AppendsFront}
 use Rattle.histar_shell.specs.Answers.{Answered, answers_text, calls_of, line_text}
 use Rattle.histar_shell.specs.Machine.{Running, IsStart}
 use Rattle.histar_shell.specs.Session.{Session, AnswersCalls, BeginsAnswers}
-use Rattle.histar_shell.specs.Writing.{AppendsFront}
 use Rattle.histar_shell.specs.Outcome.{BeginsScript, WritesAtFault, WritesAnswers}
 use Rattle.histar_shell.specs.Meaning.{asked_by, meaning_text, Shows, AnswersAsMeant, WritesMeaning, BeginsMeaning, WritesMeaningAtFault, RunsAsMeant}
 use Rattle.histar_shell.proofs.Users.{AreScriptable, script_says}

@@ -1,8 +1,5 @@
 pub mod Answers
-pub mod Device
-pub mod Input
 pub mod Outcome
-pub mod Writing
 pub mod Machine
 pub mod Session
 pub mod Meaning

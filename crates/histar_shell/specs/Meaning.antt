@@ -22,9 +22,9 @@ use Rattle.histar_login.specs.Boot.{boot_thread_number}
 use Rattle.histar_login.specs.Start.{places_of, thread_number}
 use Rattle.histar_simulation.specs.LaysOut.{LaysOut}
 use Rattle.histar_simulation.specs.Lines.{IsScriptable, IsRow, AreRows, IsRunUnlessExhausted}
+use Rattle.histar_devices.specs.Writing.{AppendsFront}
 use Rattle.histar_shell.specs.Answers.{line_text}
 use Rattle.histar_shell.specs.Machine.{Running}
-use Rattle.histar_shell.specs.Writing.{AppendsFront}
 
 -- a call line, as the flat meaning is asked it
 abbrev pub asked_by : CallLine → Asked

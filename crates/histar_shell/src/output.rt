@@ -1,37 +1,11 @@
 //! Printing replies.
-ghost use Rattle.std.specs.Prelude.{◌≡◌, ◌++◌, IfOk, IfErr, OnOk, OnErr};
-ghost use Rattle.std.specs.Io.KnownBytes.{Appends};
+ghost use Rattle.std.specs.Prelude.{◌≡◌, ◌++◌, IfOk, OnOk};
 ghost use Rattle.histar_flat.specs.Texts.{reply_text};
 ghost use Rattle.histar_shell.specs.Answers.{line_text};
-ghost use Rattle.histar_shell.specs.Device.{CountsFailure};
-ghost use Rattle.histar_shell.specs.Outcome.{is_write_failed};
-ghost use Rattle.histar_shell.specs.Writing.{AppendsFront};
 
-use crate::device::Sink;
 use histar_flat::Reply;
-use histar_script::Fault;
 use itoa::Buffer;
 use std::alloc::{AllocError, Global};
-
-/// Hands all of the bytes to a sink, which may take them in any pieces.
-///
-/// The first `Err`, and the first 0 for bytes that were handed over, ends the writing.
-pub fn write_bytes<W: Sink>(writer: &mut W, bytes: &[u8]) -> Result<(), Fault>
-    ensures ok { OnOk result (Appends (W.written writer.old) (W.written writer.new) bytes.now) }
-    ensures err { OnErr result (AppendsFront (W.written writer.old) (W.written writer.new) bytes.now) }
-    ensures faults { IfErr result (λ fault. fault ≡ Fault.WriteFailed) }
-    ensures count { CountsFailure (W.failures writer.old) (W.failures writer.new) (is_write_failed result) }
-{
-    let mut rest = bytes;
-    'rest: while !rest.is_empty() {
-        match writer.give(rest) {
-            Ok(0) => return Err(Fault::WriteFailed),
-            Ok(n) => rest = &rest[n..],
-            Err(_) => return Err(Fault::WriteFailed),
-        }
-    }
-    Ok(())
-}
 
 /// Adds the text of a reply.
 fn push_reply(line: &mut Vec<u8>, reply: &Reply) -> Result<(), AllocError>

@@ -1,15 +1,15 @@
 //! A run, from bytes to bytes.
 ghost use Rattle.std.specs.Prelude.{◌≡◌, IfErr, IfSome, OnOk, OnErr};
 ghost use Rattle.histar_script.specs.Reading.{script_of};
+ghost use Rattle.histar_devices.specs.Device.{CountsFailure};
+ghost use Rattle.histar_devices.specs.DeviceFaults.{is_read_failed, is_write_failed};
 ghost use Rattle.histar_shell.specs.Session.{AnswersCall, AnswersCalls, BeginsAnswer, BeginsAnswers};
-ghost use Rattle.histar_shell.specs.Device.{CountsFailure};
 ghost use Rattle.histar_shell.specs.Meaning.{RunsAsMeant};
-ghost use Rattle.histar_shell.specs.Outcome.{AgreesWith, IsOutputFault, TakesInput, WritesAnswers, WritesNothing, is_read_failed, is_write_failed};
+ghost use Rattle.histar_shell.specs.Outcome.{AgreesWith, IsOutputFault, TakesInput, WritesAnswers, WritesNothing};
 
-use crate::device::{Sink, Source};
-use crate::input::read_input;
 use crate::machine::{Machine, Trace};
-use crate::output::{reply_line, write_bytes};
+use crate::output::reply_line;
+use histar_devices::{Sink, Source, read_input, write_bytes};
 use histar_label::{LabelStore, PlainStore};
 use histar_script::{CallLine, Fault, read_script};
 use std::alloc::Global;

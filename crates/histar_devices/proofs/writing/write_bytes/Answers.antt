@@ -1,6 +1,6 @@
 use Rattle.std.proofs.Common.{◌≡◌, refl, length, rules}
-use Rattle.histar_shell.proofs.WritingLemmas.{sent_none, sent_more, sent_kept, sent_all}
-use Rattle.histar_shell.proofs.output.write_bytes.Goals as goal
+use Rattle.histar_devices.proofs.WritingLemmas.{sent_none, sent_more, sent_kept, sent_all}
+use Rattle.histar_devices.proofs.writing.write_bytes.Goals as goal
 
 pub rest-init : goal.rest-init
 rest-init g c = record { sent = sent_none _ _; count = refl }

@@ -1,8 +1,8 @@
 //! Reading the whole of a source.
 ghost use Rattle.std.specs.Prelude.{IfOk, IfErr, OnErr};
-ghost use Rattle.histar_shell.specs.Device.{CountsFailure};
-ghost use Rattle.histar_shell.specs.Input.{TakesAll, TakesSome};
-ghost use Rattle.histar_shell.specs.Outcome.{IsInputFault, is_read_failed};
+ghost use Rattle.histar_devices.specs.Device.{CountsFailure};
+ghost use Rattle.histar_devices.specs.Input.{TakesAll, TakesSome};
+ghost use Rattle.histar_devices.specs.DeviceFaults.{IsInputFault, is_read_failed};
 
 use crate::device::Source;
 use histar_script::Fault;

@@ -1,6 +1,6 @@
 use Rattle.std.proofs.Common.{◌≡◌, length}
-use Rattle.histar_shell.specs.Writing.{AppendsUpTo}
-use Rattle.histar_shell.proofs.output.write_bytes.Given as goal
+use Rattle.histar_devices.specs.Writing.{AppendsUpTo}
+use Rattle.histar_devices.proofs.writing.write_bytes.Given as goal
 
 abbrev pub invariant-rest : goal.invariant-rest
 invariant-rest g l = record {

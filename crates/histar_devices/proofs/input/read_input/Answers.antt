@@ -1,8 +1,8 @@
 use Rattle.std.proofs.Common.{◌+◌, ◌≤◌, length, take, rules}
 use Rattle.std.proofs.lemmas.List.{length-take}
 use Rattle.std.proofs.lemmas.Result.{err_from_is_err_and}
-use Rattle.histar_shell.proofs.InputLemmas.{takes_piece}
-use Rattle.histar_shell.proofs.input.read_input.Goals as goal
+use Rattle.histar_devices.proofs.InputLemmas.{takes_piece}
+use Rattle.histar_devices.proofs.input.read_input.Goals as goal
 
 pub returns-in_err-extend_from_slice-in-Ok-clause-err : goal.returns-in_err-extend_from_slice-in-Ok-clause-err
 returns-in_err-extend_from_slice-in-Ok-clause-err g c =

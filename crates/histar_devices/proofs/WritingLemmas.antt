@@ -3,7 +3,7 @@ use Rattle.std.proofs.Common.{◌≡◌, ℕ, ◌-◌, List, [], ◌++◌, lengt
 use Rattle.std.proofs.lemmas.List.{take_rest, nil_from_length}
 use Rattle.std.specs.Io.KnownBytes.{Appends, Keeps}
 use Rattle.std.proofs.KnownBytes.{Appends-nil, Appends-trans, Appends-kept}
-use Rattle.histar_shell.specs.Writing.{AppendsUpTo, AppendsFront}
+use Rattle.histar_devices.specs.Writing.{AppendsUpTo}
 
 -- before the first write the whole text is left
 pub sent_none : (a : Option (List ℕ)) (text : List ℕ) → AppendsUpTo a a text text
@@ -25,14 +25,3 @@ sent_kept a b c text rest sent keeps = record { front = sent.front; parts = sent
 pub sent_all : (a b : Option (List ℕ)) (text rest : List ℕ) → AppendsUpTo a b text rest → length rest ≡ 0 → Appends a b text
 sent_all a b text rest sent none =
     subst (Appends a b) (sym (sent.parts ∙ ap (λ (l : List ℕ). sent.front ++ l) (nil_from_length rest none) ∙ append-nil sent.front)) sent.appended
-
--- a whole text, and then a beginning of the next one
-pub front_after : (a b c : Option (List ℕ)) (text next rest : List ℕ) → Appends a b text → AppendsFront b c next → AppendsFront a c (text ++ (next ++ rest))
-front_after a b c text next rest whole begun = (
-  begun.0 ++ rest,
-  record {
-    front = text ++ begun.1.front;
-    parts = ap (λ (l : List ℕ). text ++ (l ++ rest)) begun.1.parts ∙ simp append_assoc;
-    appended = Appends-trans a b c text begun.1.front whole begun.1.appended;
-  },
-)

@@ -2,7 +2,7 @@
 ghost use Rattle.std.specs.Prelude.{◌≡◌, ℕ, List, Option, is_err};
 ghost use Rattle.std.specs.Io.{ReadsAtMost, WritesAtMost};
 ghost use Rattle.std.specs.Io.KnownBytes.{ReadConsumes, WriteAppends};
-ghost use Rattle.histar_shell.specs.Device.{CountsFailure, has_failed_write};
+ghost use Rattle.histar_devices.specs.Device.{CountsFailure, has_failed_write};
 
 use std::io;
 use std::io::{Read, Write};

@@ -1,0 +1,4 @@
+pub mod Device
+pub mod DeviceFaults
+pub mod Input
+pub mod Writing

@@ -1,0 +1,11 @@
+//! Where a run reads and writes: sources and sinks that count their failed calls, the whole of a
+//! source read, and bytes handed to a sink until it fails.
+#![tactic(auto)]
+
+mod device;
+mod input;
+mod writing;
+
+pub use device::{Counted, Sink, Source};
+pub use input::read_input;
+pub use writing::write_bytes;
