@@ -10,8 +10,3 @@ mod session;
 pub use device::{Counted, Sink, Source};
 pub use machine::{Machine, Trace};
 pub use session::{Options, run};
-
-#[cfg(test)]
-mod boot_tests;
-#[cfg(test)]
-mod tests;
