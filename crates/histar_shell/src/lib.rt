@@ -8,8 +8,3 @@ mod session;
 pub use histar_devices::{Counted, Sink, Source};
 pub use machine::{Machine, Trace};
 pub use session::{Options, run};
-
-#[cfg(test)]
-mod boot_tests;
-#[cfg(test)]
-mod tests;

@@ -12,14 +12,3 @@ pub use calling::{Answer, run_raw};
 pub use histar_rules::{Denied, RawCall, Refusal};
 pub use kernel::Kernel;
 pub use trace::TraceEntry;
-
-#[cfg(test)]
-mod gates_session_tests;
-#[cfg(test)]
-mod labels_session_tests;
-#[cfg(test)]
-mod open_session_tests;
-#[cfg(test)]
-mod segments_session_tests;
-#[cfg(test)]
-mod session_tests;

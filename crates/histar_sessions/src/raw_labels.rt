@@ -1,6 +1,6 @@
 //! A session on the labels of threads, and on the making of threads, containers and gates: each way in
 //! which a label is chosen, and each refusal.
-use crate::session_tests::{
+use crate::raw_sessions::{
     Asked, BAD_KIND, CLEARED_2, Expected, GUARDED, MODIFY, NO_ENTRY, NO_THREAD, NOTHING, OBSERVE,
     OWNS_2, PLAIN, RANGE, Row, SECRET, TAINTED, Told, UNMADE, UNMADE_CLEARANCE, session,
 };

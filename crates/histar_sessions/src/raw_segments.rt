@@ -1,5 +1,5 @@
 //! A session on segments: each way in which they are read, written and made, and each refusal.
-use crate::session_tests::{
+use crate::raw_sessions::{
     Asked, BAD_KIND, CLEARED_2, Expected, GUARDED, MODIFY, NO_ENTRY, NO_THREAD, NOTHING, OBSERVE,
     OWNS_2, PLAIN, RANGE, Row, SECRET, TAINTED, TOO_BIG, Told, UNMADE, session,
 };

@@ -1,6 +1,6 @@
 //! A session on gates, on the labels of objects, and on taking objects away: each way, and each
 //! refusal.
-use crate::session_tests::{
+use crate::raw_sessions::{
     Asked, BAD_KIND, CLEARED_2, Expected, GATE, MODIFY, NO_ENTRY, NO_THREAD, NOTHING, OBSERVE,
     OWNS_2, PLAIN, RANGE, Row, SECRET, TAINTED, Told, UNMADE, UNMADE_CLEARANCE, session,
 };

@@ -1,10 +1,10 @@
 //! Sessions of raw calls against tables that were written by hand from the rules of labels: a thread
 //! may observe what is below its own label with star read as above 3, and may modify what its label is
 //! below too.
-use crate::{Answer, Denied, Kernel, RawCall, Refusal, TraceEntry, run_raw};
 use histar_base::Bytes;
 use histar_label::{Category, Label, LabelStore, Level, OutOfMemory};
 use histar_object::{Entry, ObjId};
+use histar_syscall::{Answer, Denied, Kernel, RawCall, Refusal, TraceEntry, run_raw};
 use std::alloc::Global;
 use std::process::Abort;
 

@@ -1,6 +1,6 @@
 //! Runs over readers and writers that move few bytes a call, or fail.
-use crate::{Counted, Options, run};
 use histar_script::Fault;
+use histar_shell::{Counted, Options, run};
 use std::alloc::{AllocError, Global};
 use std::io;
 use std::io::{ErrorKind, Read, Write};

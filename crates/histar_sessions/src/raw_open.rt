@@ -1,6 +1,6 @@
 //! A session in which a secret is opened by a gate, and one in which a tainted thread ends with its
 //! container.
-use crate::session_tests::{
+use crate::raw_sessions::{
     Asked, CLEARED_2, Expected, MODIFY, NO_ENTRY, NO_THREAD, OBSERVE, OWNS_2, PLAIN, RANGE, Row,
     SECRET, TAINTED, Told, UNMADE, session,
 };

@@ -1,8 +1,8 @@
 //! The raw calls that boot a machine with one user, against a list that was written by hand.
-use crate::{Counted, Options, run};
 use histar_base::Bytes;
 use histar_label::{Label, Level};
 use histar_object::Entry;
+use histar_shell::{Counted, Options, run};
 use histar_syscall::RawCall;
 use std::alloc::{AllocError, Global};
 use std::test::Fail;

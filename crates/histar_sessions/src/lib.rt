@@ -1,0 +1,18 @@
+//! Sessions that cross crates: lists of raw calls on a kernel, call by call, and whole runs between a
+//! source and a sink. There is nothing to run here but tests.
+#![tactic(auto)]
+
+#[cfg(test)]
+mod boot;
+#[cfg(test)]
+mod raw_gates;
+#[cfg(test)]
+mod raw_labels;
+#[cfg(test)]
+mod raw_open;
+#[cfg(test)]
+mod raw_segments;
+#[cfg(test)]
+mod raw_sessions;
+#[cfg(test)]
+mod runs;
