@@ -1,5 +1,5 @@
 -- The objects of the empty kernel.
-use Rattle.std.proofs.Common.{◌≡◌, ℕ, ◌==◌, Bool, true, false, Option, None, Some, refl, sym, ap, ◌∙◌, if◌then◌else◌}
+use Rattle.std.proofs.Common.{◌≡◌, ◌==◌, Bool, true, false, None, Some, refl, ap, ◌∙◌, if◌then◌else◌}
 use Rattle.std.specs.Prelude.{option_map}
 use Rattle.std.specs.FinSet as set
 use Rattle.histar_label.specs.declared.levels.Level.TheVariants.{Star, L0, L1, L2, L3}

@@ -1,5 +1,5 @@
 -- What a raw call leaves in the kernel.
-use Rattle.std.proofs.Common.{◌≡◌, ℕ, true, Option, None, Some, refl, ◌∙◌, sym, subst, Result, Ok, Err, List}
+use Rattle.std.proofs.Common.{◌≡◌, ℕ, true, None, Some, refl, sym, subst, Result, Ok, Err, List}
 use Rattle.std.specs.Prelude.{not}
 use Rattle.std.specs.FinSet as set
 use mathlib.Core.Bool.{false≢true}
@@ -10,7 +10,6 @@ use Rattle.histar_object.specs.State.{State, Found}
 use Rattle.histar_container.specs.Tree.{AreTree}
 use Rattle.histar_container.proofs.Trees.{linked_there}
 use Rattle.histar_container.specs.Kept.{Kept, state_of}
-use Rattle.histar_rules.specs.declared.raw.Denied.{Denied}
 use Rattle.histar_rules.specs.declared.raw.RawCall.{RawCall}
 use Rattle.histar_rules.specs.declared.raw.Refusal.{Refusal}
 use Rattle.histar_rules.specs.declared.raw.Refusal.TheVariants as refusals

@@ -9,7 +9,7 @@ use Rattle.histar_rules.specs.declared.raw.RawCall.{RawCall}
 use Rattle.histar_syscall.specs.declared.trace.TraceEntry.{TraceEntry}
 use Rattle.histar_rules.specs.Rules.{check, Leaves}
 use Rattle.histar_syscall.specs.Traced.{Traced, state, Called, IsUnchanged}
-use Rattle.histar_syscall.specs.Runs.{IsBy, IsRun, Ran, GoesOn, Made, Granted}
+use Rattle.histar_syscall.specs.Runs.{IsBy, Ran, GoesOn, Made, Granted}
 
 -- the entry of a raw call
 abbrev pub entry_of : ℕ → ℕ → RawCall → Option Denied → TraceEntry

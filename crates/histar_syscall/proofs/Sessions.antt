@@ -1,11 +1,11 @@
 -- How raw calls of several threads are put together.
-use Rattle.std.proofs.Common.{◌≡◌, ℕ, ◌+◌, ◌<◌, ◌≤◌, Result, Ok, Err, OnErr, List, [], ◌∷◌, ◌++◌, length, take, get_or, refl, sym, ap, ◌∙◌, subst, add-one}
+use Rattle.std.proofs.Common.{◌≡◌, ℕ, ◌+◌, ◌<◌, ◌≤◌, Result, Ok, Err, OnErr, List, [], ◌∷◌, ◌++◌, length, take, get_or, sym, ap, ◌∙◌, subst, add-one}
 use Rattle.std.proofs.Math.Seq.{take-suc}
 use Rattle.histar_container.proofs.Removals.{take_all}
 use Rattle.histar_rules.specs.declared.raw.RawCall.{RawCall}
 use Rattle.histar_syscall.specs.Runs.{IsMade, MadeAll}
 use Rattle.histar_syscall.specs.Traced.{Traced, IsUnchanged}
-use Rattle.histar_syscall.proofs.Runs.{same_kernel, still_same, call_before, call_after}
+use Rattle.histar_syscall.proofs.Runs.{same_kernel, still_same, call_after}
 
 -- no call leaves the kernel as it is
 pub all_none : (k : Traced) → MadeAll k [] k
