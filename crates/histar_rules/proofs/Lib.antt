@@ -2,3 +2,6 @@ pub mod Passing
 pub mod Labelled
 pub mod Shapes
 pub mod Sound
+pub mod Tainted
+pub mod TaintedMoves
+pub mod TaintedCalls

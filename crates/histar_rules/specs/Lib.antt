@@ -1,5 +1,6 @@
 pub mod Rules
 pub mod Sound
+pub mod Visible
 pub use Rattle.histar_object.specs.Objects
 pub use Rattle.histar_object.specs.Rights
 pub use Rattle.histar_object.specs.State

@@ -2,3 +2,5 @@ pub mod Rooms
 pub mod Runs
 pub mod Sessions
 pub mod Beginnings
+pub mod Confined
+pub mod OneEnd

@@ -33,8 +33,8 @@ all_next old mid new calls i asked within is all made =
 pub all_made : (old new : Traced) (calls : List (ℕ × RawCall)) (i : ℕ) → length calls ≤ i → MadeAll old (take i calls) new → MadeAll old calls new
 all_made old new calls i behind all = subst (λ (front : List (ℕ × RawCall)). MadeAll old front new) (take_all calls i behind) all
 
--- where memory ran out, the calls up to a place were made
-pub stopped_at : {A E : Type 0} (r : Result A E) (old mid new : Traced) (calls : List (ℕ × RawCall)) (i : ℕ) → i ≤ length calls → MadeAll old (take i calls) mid → IsUnchanged mid new
-    → OnErr r ((made : ℕ) × (made ≤ length calls) × MadeAll old (take made calls) new)
+-- where memory ran out, the calls up to a place were made, and the one at it was not
+pub stopped_at : {A E : Type 0} (r : Result A E) (old mid new : Traced) (calls : List (ℕ × RawCall)) (i : ℕ) → i < length calls → MadeAll old (take i calls) mid → IsUnchanged mid new
+    → OnErr r ((made : ℕ) × (made < length calls) × MadeAll old (take made calls) new)
 stopped_at (Ok a) old mid new calls i within all same = tt
 stopped_at (Err e) old mid new calls i within all same = (i, within, all_unchanged old mid new (take i calls) all same)

@@ -1,4 +1,5 @@
 pub mod Answers
+pub mod Laws
 pub mod Runs
 pub mod Traced
 pub use Rattle.histar_object.specs.Objects
@@ -8,3 +9,4 @@ pub use Rattle.histar_container.specs.Kept
 pub use Rattle.histar_container.specs.Tree
 pub use Rattle.histar_rules.specs.Rules
 pub use Rattle.histar_rules.specs.Sound
+pub use Rattle.histar_rules.specs.Visible

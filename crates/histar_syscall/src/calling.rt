@@ -1,5 +1,6 @@
 //! Raw calls as data: one call of any kind, and a session of many.
-ghost use Rattle.std.specs.Prelude.{◌≡◌, ℕ, ◌≤◌, Some, OnOk, OnErr, length, take};
+ghost use Rattle.std.specs.Prelude.{◌≡◌, ℕ, ◌<◌, Some, OnOk, OnErr, length, take};
+ghost use Rattle.histar_rules.specs.Visible.{visible, AreConfined};
 ghost use Rattle.histar_syscall.specs.Answers.{answer};
 ghost use Rattle.histar_syscall.specs.Runs.{IsMade, MadeAll};
 ghost use Rattle.histar_syscall.specs.Traced.{Answered, IsUnchanged, state};
@@ -83,15 +84,20 @@ impl<S: LabelStore + Drop> Kernel<S> {
 }
 
 /// Makes raw calls one after another, each by its thread, whether or not the ones before were refused.
-/// What came of them stands in the kernel's trace. Where memory runs out the calls so far stand.
+/// What came of them stands in the kernel's trace. Where memory runs out the calls so far stand, and
+/// the others, at least one, were not made. Calls of threads that a category confines leave all that is
+/// visible without its taint.
 pub fn run_raw<S: LabelStore + Drop>(
     kernel: &mut Kernel<S>,
     alloc: Global,
     calls: &[(ObjId, RawCall)],
 ) -> Result<(), OutOfMemory>
     ensures all { OnOk result (MadeAll kernel.old calls.now kernel.new) }
-    ensures beginning { OnErr result ((made : ℕ) × (made ≤ length calls.now) × MadeAll kernel.old (take made calls.now) kernel.new) }
+    ensures beginning { OnErr result ((made : ℕ) × (made < length calls.now) × MadeAll kernel.old (take made calls.now) kernel.new) }
+    ensures confined { (v : ℕ) → AreConfined (state kernel.old) v calls.now → visible (state kernel.new) v ≡ visible (state kernel.old) v }
 {
+    // Its contract says that the kernel is sound.
+    let _ = kernel.objects();
     for asked in calls {
         make(kernel, alloc, asked.0, &asked.1)?;
     }

@@ -4,6 +4,7 @@
 mod calling;
 mod containers;
 mod kernel;
+pub mod run_laws;
 mod segments;
 mod starting;
 mod trace;
