@@ -11,7 +11,7 @@ use std::alloc::{AllocError, AllocFailed, Global};
 #[derive(Clone, Copy, Debug, PartialEq, Eq)]
 pub enum Denied {
     /// The thread may not observe the container or the object.
-    Observe = 1,
+    Observe,
     /// The thread may not modify the container or the object.
     Modify,
     /// A label that was handed in lies outside its range, names a category that was never made, or
