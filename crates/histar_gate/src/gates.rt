@@ -1,45 +1,41 @@
 //! The making of gates, and entering them.
-ghost use Rattle.std.specs.Prelude.{◌≡◌, Some, IfOk};
+ghost use Rattle.std.specs.Prelude.{◌≡◌, Some};
 ghost use Rattle.histar_container.specs.Kept.{state_of};
 ghost use Rattle.histar_object.specs.Objects.{objects_of, entry_there};
-ghost use Rattle.histar_rules.specs.Rules.{check, Decides, IsNextNumber};
+ghost use Rattle.histar_rules.specs.Rules.{check, Tells, TellsUnlessExhausted, Decides, IsNextNumber};
 ghost use Rattle.histar_rules.specs.declared.raw.RawCall.TheVariants as calls;
 
 use crate::openings::{in_gate, is_let_in, is_under};
 use histar_container::LabelledObjects;
-use histar_label::{Label, LabelStore, OutOfMemory};
+use histar_label::{Label, LabelStore};
 use histar_object::{Entry, Kind, ObjId};
-use histar_rules::{Denied, Refusal, refuses_gate, refuses_making};
+use histar_rules::{Denied, Refusal, check_gate, check_making, require};
 use histar_thread::in_span;
 
 /// The checks of the making of a gate.
-fn refuses_make_gate<S: LabelStore + Drop>(
+fn check_make_gate<S: LabelStore + Drop>(
     objects: &mut LabelledObjects<S>,
     thread: ObjId,
     container: ObjId,
     label: &Label,
     clearance: &Label,
     entry: Entry,
-) -> Option<Denied>
-    ensures answer { result ≡ check (state_of objects.old) thread (calls.MakeGate container label.now clearance.now entry) }
+) -> Result<(), Denied>
+    ensures answer { Tells (check (state_of objects.old) thread (calls.MakeGate container label.now clearance.now entry)) result }
     ensures unchanged { objects.new ≡ objects.old }
 {
-    if let Some(denied) = refuses_making(objects, thread, container) {
-        return Some(denied);
-    }
-    if !in_span(objects, thread, label, clearance) {
-        return Some(Denied::Range);
-    }
-    if !label.names_only_made(objects.next_category()) {
-        return Some(Denied::Range);
-    }
-    if !clearance.names_only_made(objects.next_category()) {
-        return Some(Denied::Range);
-    }
-    if objects.next_object().number() >= u64::MAX {
-        return Some(Denied::TooBig);
-    }
-    None
+    check_making(objects, thread, container)?;
+    require(in_span(objects, thread, label, clearance), Denied::Range)?;
+    require(
+        label.names_only_made(objects.next_category()),
+        Denied::Range,
+    )?;
+    require(
+        clearance.names_only_made(objects.next_category()),
+        Denied::Range,
+    )?;
+    require(objects.next_object().number() < u64::MAX, Denied::TooBig)?;
+    Ok(())
 }
 
 /// Makes a gate in a container, and answers its number. The gate gives its label to who enters it, so
@@ -54,9 +50,7 @@ pub fn make_gate<S: LabelStore + Drop>(
 ) -> Result<ObjId, Refusal>
     ensures { Decides (state_of objects.old) (state_of objects.new) thread (calls.MakeGate container label.now clearance.now entry) result (IsNextNumber objects.old) }
 {
-    if let Some(denied) = refuses_make_gate(objects, thread, container, label, clearance, entry) {
-        return Err(Refusal::Denied(denied));
-    }
+    check_make_gate(objects, thread, container, label, clearance, entry)?;
     let number = objects.next_object();
     let most = clearance.copy()?;
     objects.add(container, label.copy()?, Kind::Gate(most, entry))?;
@@ -64,7 +58,7 @@ pub fn make_gate<S: LabelStore + Drop>(
 }
 
 /// The checks of entering a gate, the labels that were handed in last. They want memory.
-fn refuses_enter<S: LabelStore + Drop>(
+fn check_enter<S: LabelStore + Drop>(
     objects: &mut LabelledObjects<S>,
     thread: ObjId,
     container: ObjId,
@@ -72,32 +66,30 @@ fn refuses_enter<S: LabelStore + Drop>(
     wanted: &Label,
     clearance: &Label,
     shown: &Label,
-) -> Result<Option<Denied>, OutOfMemory>
-    ensures answer { IfOk result (λ denied. denied ≡ check (state_of objects.old) thread (calls.Enter container gate wanted.now clearance.now shown.now)) }
+) -> Result<(), Refusal>
+    ensures answer { TellsUnlessExhausted (check (state_of objects.old) thread (calls.Enter container gate wanted.now clearance.now shown.now)) result }
     ensures unchanged { objects.new ≡ objects.old }
 {
-    if let Some(denied) = refuses_gate(objects, thread, container, gate) {
-        return Ok(Some(denied));
-    }
-    if !is_let_in(objects, thread, gate) {
-        return Ok(Some(Denied::Gate));
-    }
-    if !is_under(objects, thread, shown) {
-        return Ok(Some(Denied::Gate));
-    }
-    if !in_gate(objects, thread, gate, wanted, clearance)? {
-        return Ok(Some(Denied::Range));
-    }
-    if !wanted.names_only_made(objects.next_category()) {
-        return Ok(Some(Denied::Range));
-    }
-    if !clearance.names_only_made(objects.next_category()) {
-        return Ok(Some(Denied::Range));
-    }
-    if !shown.names_only_made(objects.next_category()) {
-        return Ok(Some(Denied::Range));
-    }
-    Ok(None)
+    check_gate(objects, thread, container, gate)?;
+    require(is_let_in(objects, thread, gate), Denied::Gate)?;
+    require(is_under(objects, thread, shown), Denied::Gate)?;
+    require(
+        in_gate(objects, thread, gate, wanted, clearance)?,
+        Denied::Range,
+    )?;
+    require(
+        wanted.names_only_made(objects.next_category()),
+        Denied::Range,
+    )?;
+    require(
+        clearance.names_only_made(objects.next_category()),
+        Denied::Range,
+    )?;
+    require(
+        shown.names_only_made(objects.next_category()),
+        Denied::Range,
+    )?;
+    Ok(())
 }
 
 /// Enters a gate: the thread gets the label and the clearance that it wants, within what the gate and
@@ -114,11 +106,7 @@ pub fn enter<S: LabelStore + Drop>(
 ) -> Result<Entry, Refusal>
     ensures { Decides (state_of objects.old) (state_of objects.new) thread (calls.Enter container gate wanted.now clearance.now shown.now) result (λ entry. Some entry ≡ entry_there (objects_of objects.old.objects gate)) }
 {
-    if let Some(denied) = refuses_enter(
-        objects, thread, container, gate, wanted, clearance, shown,
-    )? {
-        return Err(Refusal::Denied(denied));
-    }
+    check_enter(objects, thread, container, gate, wanted, clearance, shown)?;
     let Some(entry) = objects.entry(gate) else {
         unreachable!()
     };

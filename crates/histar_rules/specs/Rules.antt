@@ -1,5 +1,5 @@
 -- The rules of the kernel: of each raw call the first failing check, and what it leaves where none fails.
-use Rattle.std.specs.Prelude.{◌≡◌, ℕ, ◌+◌, ◌<◌, Bool, not, ◌++◌, Option, None, Some, length, take, min, nat_lt, nat_le, Result, Ok, Err}
+use Rattle.std.specs.Prelude.{◌≡◌, ℕ, ◌+◌, ◌<◌, Bool, not, ◌++◌, Option, None, Some, length, take, min, nat_lt, nat_le, Result, Ok, Err, ⊤}
 use Rattle.std.specs.FinSet as set
 use Rattle.histar_base.specs.Refusals.{unless, ◌orelse◌}
 use Rattle.histar_label.specs.Levels.{Levels, is_made, has_star}
@@ -123,6 +123,17 @@ check s t (Unlink d o) =
 check s t (LabelOf d o) =
     no_link s t d o
     orelse unless (not (is_thread (s.objects o))) BadKind
+
+-- a check tells the first of its tests that fails, or that none does
+abbrev pub Tells : {A : Type 0} → Option Denied → Result A Denied → Type 0
+Tells failing (Ok _) = failing ≡ None
+Tells failing (Err denied) = failing ≡ Some denied
+
+-- a check that wants memory tells so too, unless memory ran out
+abbrev pub TellsUnlessExhausted : {A : Type 0} → Option Denied → Result A Refusal → Type 0
+TellsUnlessExhausted failing (Ok _) = failing ≡ None
+TellsUnlessExhausted failing (Err (refusals.Denied denied)) = failing ≡ Some denied
+TellsUnlessExhausted failing (Err refusals.OutOfMemory) = ⊤
 
 -- What a raw call that passes its checks leaves. A new object gets the next number, and the container links it; an object
 -- that is taken away goes with all that is reached from it by links.

@@ -1,108 +1,87 @@
-//! The checks that raw calls have in common, in their order: the first failing one answers.
+//! The checks that raw calls have in common, in their order: the first failing test answers.
 ghost use Rattle.std.specs.Prelude.{◌≡◌};
+ghost use Rattle.histar_base.specs.Refusals.{unless};
 ghost use Rattle.histar_container.specs.Kept.{state_of};
-ghost use Rattle.histar_rules.specs.Rules.{no_container, no_making, no_link, no_segment, no_gate};
+ghost use Rattle.histar_rules.specs.Rules.{no_container, no_making, no_link, no_segment, no_gate, Tells};
 
 use crate::raw::Denied;
 use histar_container::LabelledObjects;
 use histar_label::LabelStore;
 use histar_object::ObjId;
 
+/// A test that must hold: where it fails, the call is denied so.
+pub fn require(test: bool, denied: Denied) -> Result<(), Denied>
+    ensures { Tells (unless test denied) result }
+{
+    if test { Ok(()) } else { Err(denied) }
+}
+
 /// The checks of every call that names a container.
-pub fn refuses_container<S: LabelStore + Drop>(
+pub fn check_container<S: LabelStore + Drop>(
     objects: &mut LabelledObjects<S>,
     thread: ObjId,
     container: ObjId,
-) -> Option<Denied>
-    ensures answer { result ≡ no_container (state_of objects.old) thread container }
+) -> Result<(), Denied>
+    ensures answer { Tells (no_container (state_of objects.old) thread container) result }
     ensures unchanged { objects.new ≡ objects.old }
 {
-    if !objects.is_thread(thread) {
-        return Some(Denied::NoThread);
-    }
-    if !objects.is_there(container) {
-        return Some(Denied::NoEntry);
-    }
-    if !objects.is_container(container) {
-        return Some(Denied::BadKind);
-    }
-    if !objects.observes(thread, container) {
-        return Some(Denied::Observe);
-    }
-    None
+    require(objects.is_thread(thread), Denied::NoThread)?;
+    require(objects.is_there(container), Denied::NoEntry)?;
+    require(objects.is_container(container), Denied::BadKind)?;
+    require(objects.observes(thread, container), Denied::Observe)
 }
 
 /// The checks of every call that makes an object in a container, before those of its labels.
-pub fn refuses_making<S: LabelStore + Drop>(
+pub fn check_making<S: LabelStore + Drop>(
     objects: &mut LabelledObjects<S>,
     thread: ObjId,
     container: ObjId,
-) -> Option<Denied>
-    ensures answer { result ≡ no_making (state_of objects.old) thread container }
+) -> Result<(), Denied>
+    ensures answer { Tells (no_making (state_of objects.old) thread container) result }
     ensures unchanged { objects.new ≡ objects.old }
 {
-    if let Some(denied) = refuses_container(objects, thread, container) {
-        return Some(denied);
-    }
-    if !objects.modifies(thread, container) {
-        return Some(Denied::Modify);
-    }
-    None
+    check_container(objects, thread, container)?;
+    require(objects.modifies(thread, container), Denied::Modify)
 }
 
 /// The checks of every call that names an object in a container.
-pub fn refuses_link<S: LabelStore + Drop>(
+pub fn check_link<S: LabelStore + Drop>(
     objects: &mut LabelledObjects<S>,
     thread: ObjId,
     container: ObjId,
     object: ObjId,
-) -> Option<Denied>
-    ensures answer { result ≡ no_link (state_of objects.old) thread container object }
+) -> Result<(), Denied>
+    ensures answer { Tells (no_link (state_of objects.old) thread container object) result }
     ensures unchanged { objects.new ≡ objects.old }
 {
-    if let Some(denied) = refuses_container(objects, thread, container) {
-        return Some(denied);
-    }
-    if !objects.is_linked(container, object) {
-        return Some(Denied::NoEntry);
-    }
-    None
+    check_container(objects, thread, container)?;
+    require(objects.is_linked(container, object), Denied::NoEntry)
 }
 
 /// The checks of every call that names a segment in a container.
-pub fn refuses_segment<S: LabelStore + Drop>(
+pub fn check_segment<S: LabelStore + Drop>(
     objects: &mut LabelledObjects<S>,
     thread: ObjId,
     container: ObjId,
     segment: ObjId,
-) -> Option<Denied>
-    ensures answer { result ≡ no_segment (state_of objects.old) thread container segment }
+) -> Result<(), Denied>
+    ensures answer { Tells (no_segment (state_of objects.old) thread container segment) result }
     ensures unchanged { objects.new ≡ objects.old }
 {
-    if let Some(denied) = refuses_link(objects, thread, container, segment) {
-        return Some(denied);
-    }
-    if !objects.is_segment(segment) {
-        return Some(Denied::BadKind);
-    }
-    None
+    check_link(objects, thread, container, segment)?;
+    require(objects.is_segment(segment), Denied::BadKind)
 }
 
 /// The checks of every call that names a gate in a container.
-pub fn refuses_gate<S: LabelStore + Drop>(
+pub fn check_gate<S: LabelStore + Drop>(
     objects: &mut LabelledObjects<S>,
     thread: ObjId,
     container: ObjId,
     gate: ObjId,
-) -> Option<Denied>
-    ensures answer { result ≡ no_gate (state_of objects.old) thread container gate }
+) -> Result<(), Denied>
+    ensures answer { Tells (no_gate (state_of objects.old) thread container gate) result }
     ensures unchanged { objects.new ≡ objects.old }
 {
-    if let Some(denied) = refuses_link(objects, thread, container, gate) {
-        return Some(denied);
-    }
-    if !objects.is_gate(gate) {
-        return Some(Denied::BadKind);
-    }
-    None
+    check_link(objects, thread, container, gate)?;
+    require(objects.is_gate(gate), Denied::BadKind)
 }

@@ -5,5 +5,5 @@
 mod checks;
 mod raw;
 
-pub use checks::{refuses_container, refuses_gate, refuses_link, refuses_making, refuses_segment};
+pub use checks::{check_container, check_gate, check_link, check_making, check_segment, require};
 pub use raw::{Denied, RawCall, Refusal};

@@ -120,6 +120,17 @@ pub enum Refusal {
     OutOfMemory,
 }
 
+impl From<Denied> for Refusal {
+    ghost use Rattle.std.specs.Prelude.{◌≡◌};
+    ghost use Rattle.histar_rules.specs.declared.raw.Refusal.TheVariants as refusals;
+
+    ghost from_gives = { λ denied e. e ≡ refusals.Denied denied };
+
+    fn from(denied: Denied) -> Self {
+        Refusal::Denied(denied)
+    }
+}
+
 impl From<AllocError> for Refusal {
     ghost use Rattle.std.specs.Prelude.{◌≡◌};
     ghost use Rattle.histar_rules.specs.declared.raw.Refusal.TheVariants.{OutOfMemory};

@@ -1,51 +1,53 @@
 //! The raw calls on segments.
 ghost use Rattle.std.specs.Prelude.{◌≡◌, ◌+◌, ◌++◌, IfOk, length, min, take};
 ghost use Rattle.std.specs.Option.{option_copied};
+ghost use Rattle.histar_base.specs.Refusals.{unless, ◌orelse◌};
 ghost use Rattle.histar_object.specs.Objects.{objects_of, bytes_in, or_no_bytes};
 ghost use Rattle.histar_container.specs.Kept.{state_of};
-ghost use Rattle.histar_rules.specs.Rules.{check, fits_segment, Decides, IsNextNumber};
+ghost use Rattle.histar_rules.specs.Rules.{check, Tells, fits_segment, has_number, Decides, IsNextNumber};
+ghost use Rattle.histar_rules.specs.declared.raw.Denied.TheVariants.{TooBig};
 ghost use Rattle.histar_rules.specs.declared.raw.RawCall.TheVariants as calls;
 
 use histar_base::Bytes;
 use histar_container::LabelledObjects;
 use histar_label::{Label, LabelStore};
 use histar_object::{Kind, ObjId};
-use histar_rules::{Denied, Refusal, refuses_making, refuses_segment};
+use histar_rules::{Denied, Refusal, check_making, check_segment, require};
 use std::alloc::{AllocError, Global};
 
 /// The most bytes that a segment holds.
 const MOST_BYTES: usize = 4096;
 
+/// The last checks of the making of a segment: its size, and the counter of objects.
+fn check_sizes<S: LabelStore + Drop>(
+    objects: &LabelledObjects<S>,
+    bytes: &Bytes,
+) -> Result<(), Denied>
+    ensures { Tells (unless (fits_segment (length bytes.now)) TooBig orelse unless (has_number (state_of objects.now)) TooBig) result }
+{
+    require(bytes.len() <= MOST_BYTES, Denied::TooBig)?;
+    require(objects.next_object().number() < u64::MAX, Denied::TooBig)
+}
+
 /// The checks of the making of a segment.
-fn refuses_make_segment<S: LabelStore + Drop>(
+fn check_make_segment<S: LabelStore + Drop>(
     objects: &mut LabelledObjects<S>,
     thread: ObjId,
     container: ObjId,
     label: &Label,
     bytes: &Bytes,
-) -> Option<Denied>
-    ensures answer { result ≡ check (state_of objects.old) thread (calls.MakeSegment container label.now bytes.now) }
+) -> Result<(), Denied>
+    ensures answer { Tells (check (state_of objects.old) thread (calls.MakeSegment container label.now bytes.now)) result }
     ensures unchanged { objects.new ≡ objects.old }
 {
-    if let Some(denied) = refuses_making(objects, thread, container) {
-        return Some(denied);
-    }
-    if !objects.in_range(thread, label) {
-        return Some(Denied::Range);
-    }
-    if !label.names_only_made(objects.next_category()) {
-        return Some(Denied::Range);
-    }
-    if label.has_star() {
-        return Some(Denied::Range);
-    }
-    if bytes.len() > MOST_BYTES {
-        return Some(Denied::TooBig);
-    }
-    if objects.next_object().number() >= u64::MAX {
-        return Some(Denied::TooBig);
-    }
-    None
+    check_making(objects, thread, container)?;
+    require(objects.in_range(thread, label), Denied::Range)?;
+    require(
+        label.names_only_made(objects.next_category()),
+        Denied::Range,
+    )?;
+    require(!label.has_star(), Denied::Range)?;
+    check_sizes(objects, bytes)
 }
 
 /// Makes a segment in a container, and answers its number.
@@ -59,9 +61,7 @@ pub fn make_segment<S: LabelStore + Drop>(
 ) -> Result<ObjId, Refusal>
     ensures { Decides (state_of objects.old) (state_of objects.new) thread (calls.MakeSegment container label.now bytes.now) result (IsNextNumber objects.old) }
 {
-    if let Some(denied) = refuses_make_segment(objects, thread, container, label, bytes) {
-        return Err(Refusal::Denied(denied));
-    }
+    check_make_segment(objects, thread, container, label, bytes)?;
     let number = objects.next_object();
     let content = bytes.copy(alloc)?;
     objects.add(container, label.copy()?, Kind::Segment(content))?;
@@ -69,22 +69,17 @@ pub fn make_segment<S: LabelStore + Drop>(
 }
 
 /// The checks of a read.
-fn refuses_read<S: LabelStore + Drop>(
+fn check_read<S: LabelStore + Drop>(
     objects: &mut LabelledObjects<S>,
     thread: ObjId,
     container: ObjId,
     segment: ObjId,
-) -> Option<Denied>
-    ensures answer { result ≡ check (state_of objects.old) thread (calls.Read container segment) }
+) -> Result<(), Denied>
+    ensures answer { Tells (check (state_of objects.old) thread (calls.Read container segment)) result }
     ensures unchanged { objects.new ≡ objects.old }
 {
-    if let Some(denied) = refuses_segment(objects, thread, container, segment) {
-        return Some(denied);
-    }
-    if !objects.observes(thread, segment) {
-        return Some(Denied::Observe);
-    }
-    None
+    check_segment(objects, thread, container, segment)?;
+    require(objects.observes(thread, segment), Denied::Observe)
 }
 
 /// The call of a read, whose bytes are looked up after it.
@@ -96,9 +91,7 @@ pub fn may_read<S: LabelStore + Drop>(
 ) -> Result<(), Refusal>
     ensures { Decides (state_of objects.old) (state_of objects.new) thread (calls.Read container segment) result (λ _. Unit {0}) }
 {
-    if let Some(denied) = refuses_read(objects, thread, container, segment) {
-        return Err(Refusal::Denied(denied));
-    }
+    check_read(objects, thread, container, segment)?;
     Ok(())
 }
 
@@ -112,9 +105,7 @@ pub fn read<S: LabelStore + Drop>(
 ) -> Result<Bytes, Refusal>
     ensures { Decides (state_of objects.old) (state_of objects.new) thread (calls.Read container segment) result (λ bytes. bytes ≡ bytes_in (objects_of objects.old.objects segment)) }
 {
-    if let Some(denied) = refuses_read(objects, thread, container, segment) {
-        return Err(Refusal::Denied(denied));
-    }
+    check_read(objects, thread, container, segment)?;
     Ok(copied(alloc, objects.bytes(segment))?)
 }
 
@@ -145,27 +136,20 @@ fn fits<S: LabelStore + Drop>(
 }
 
 /// The checks of a write.
-fn refuses_write<S: LabelStore + Drop>(
+fn check_write<S: LabelStore + Drop>(
     objects: &mut LabelledObjects<S>,
     thread: ObjId,
     container: ObjId,
     segment: ObjId,
     keep: u32,
     bytes: &Bytes,
-) -> Option<Denied>
-    ensures answer { result ≡ check (state_of objects.old) thread (calls.Write container segment keep bytes.now) }
+) -> Result<(), Denied>
+    ensures answer { Tells (check (state_of objects.old) thread (calls.Write container segment keep bytes.now)) result }
     ensures unchanged { objects.new ≡ objects.old }
 {
-    if let Some(denied) = refuses_segment(objects, thread, container, segment) {
-        return Some(denied);
-    }
-    if !objects.modifies(thread, segment) {
-        return Some(Denied::Modify);
-    }
-    if !fits(objects, segment, keep, bytes) {
-        return Some(Denied::TooBig);
-    }
-    None
+    check_segment(objects, thread, container, segment)?;
+    require(objects.modifies(thread, segment), Denied::Modify)?;
+    require(fits(objects, segment, keep, bytes), Denied::TooBig)
 }
 
 /// Keeps at most so many bytes of a segment that the container links, and puts these behind them.
@@ -180,9 +164,7 @@ pub fn write<S: LabelStore + Drop>(
 ) -> Result<(), Refusal>
     ensures { Decides (state_of objects.old) (state_of objects.new) thread (calls.Write container segment keep bytes.now) result (λ _. Unit {0}) }
 {
-    if let Some(denied) = refuses_write(objects, thread, container, segment, keep, bytes) {
-        return Err(Refusal::Denied(denied));
-    }
+    check_write(objects, thread, container, segment, keep, bytes)?;
     let content = spliced(alloc, objects.bytes(segment), keep, bytes)?;
     objects.set_bytes(segment, content);
     Ok(())

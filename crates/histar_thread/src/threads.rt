@@ -1,29 +1,24 @@
 //! The calls of a thread on itself, and the making of threads.
 ghost use Rattle.std.specs.Prelude.{◌≡◌, ◌<◌};
 ghost use Rattle.histar_container.specs.Kept.{state_of};
-ghost use Rattle.histar_rules.specs.Rules.{check, Decides, IsNextNumber};
+ghost use Rattle.histar_rules.specs.Rules.{check, Tells, Decides, IsNextNumber};
 ghost use Rattle.histar_rules.specs.declared.raw.RawCall.TheVariants as calls;
 
 use crate::ranges::{in_span, may_clear};
 use histar_container::LabelledObjects;
 use histar_label::{Category, Label, LabelStore, Level};
 use histar_object::{Kind, ObjId};
-use histar_rules::{Denied, Refusal, refuses_making};
+use histar_rules::{Denied, Refusal, check_making, require};
 
 /// The checks of the making of a category.
-fn refuses_make_category<S: LabelStore + Drop>(
+fn check_make_category<S: LabelStore + Drop>(
     objects: &LabelledObjects<S>,
     thread: ObjId,
-) -> Option<Denied>
-    ensures { result ≡ check (state_of objects.now) thread calls.MakeCategory }
+) -> Result<(), Denied>
+    ensures { Tells (check (state_of objects.now) thread calls.MakeCategory) result }
 {
-    if !objects.is_thread(thread) {
-        return Some(Denied::NoThread);
-    }
-    if objects.next_category() >= u64::MAX {
-        return Some(Denied::TooBig);
-    }
-    None
+    require(objects.is_thread(thread), Denied::NoThread)?;
+    require(objects.next_category() < u64::MAX, Denied::TooBig)
 }
 
 /// Makes a category. The thread owns it from then on, and may give anyone level 3 there.
@@ -33,9 +28,7 @@ pub fn make_category<S: LabelStore + Drop>(
 ) -> Result<Category, Refusal>
     ensures { Decides (state_of objects.old) (state_of objects.new) thread calls.MakeCategory result (λ category. category ≡ objects.old.next_category) }
 {
-    if let Some(denied) = refuses_make_category(objects, thread) {
-        return Err(Refusal::Denied(denied));
-    }
+    check_make_category(objects, thread)?;
     let category = Category::new(objects.next_category());
     let Some(label) = objects.label(thread) else {
         unreachable!()
@@ -51,23 +44,19 @@ pub fn make_category<S: LabelStore + Drop>(
 }
 
 /// The checks of a new label for the thread itself.
-fn refuses_set_label<S: LabelStore + Drop>(
+fn check_set_label<S: LabelStore + Drop>(
     objects: &LabelledObjects<S>,
     thread: ObjId,
     label: &Label,
-) -> Option<Denied>
-    ensures { result ≡ check (state_of objects.now) thread (calls.SetLabel label.now) }
+) -> Result<(), Denied>
+    ensures { Tells (check (state_of objects.now) thread (calls.SetLabel label.now)) result }
 {
-    if !objects.is_thread(thread) {
-        return Some(Denied::NoThread);
-    }
-    if !objects.in_range(thread, label) {
-        return Some(Denied::Range);
-    }
-    if !label.names_only_made(objects.next_category()) {
-        return Some(Denied::Range);
-    }
-    None
+    require(objects.is_thread(thread), Denied::NoThread)?;
+    require(objects.in_range(thread, label), Denied::Range)?;
+    require(
+        label.names_only_made(objects.next_category()),
+        Denied::Range,
+    )
 }
 
 /// Gives the thread another label, which lies between its own label and its clearance: it may give
@@ -79,9 +68,7 @@ pub fn set_label<S: LabelStore + Drop>(
 ) -> Result<(), Refusal>
     ensures { Decides (state_of objects.old) (state_of objects.new) thread (calls.SetLabel label.now) result (λ _. Unit {0}) }
 {
-    if let Some(denied) = refuses_set_label(objects, thread, label) {
-        return Err(Refusal::Denied(denied));
-    }
+    check_set_label(objects, thread, label)?;
     let Some(clearance) = objects.clearance(thread) else {
         unreachable!()
     };
@@ -91,23 +78,19 @@ pub fn set_label<S: LabelStore + Drop>(
 }
 
 /// The checks of a new clearance for the thread itself.
-fn refuses_set_clearance<S: LabelStore + Drop>(
+fn check_set_clearance<S: LabelStore + Drop>(
     objects: &LabelledObjects<S>,
     thread: ObjId,
     clearance: &Label,
-) -> Option<Denied>
-    ensures { result ≡ check (state_of objects.now) thread (calls.SetClearance clearance.now) }
+) -> Result<(), Denied>
+    ensures { Tells (check (state_of objects.now) thread (calls.SetClearance clearance.now)) result }
 {
-    if !objects.is_thread(thread) {
-        return Some(Denied::NoThread);
-    }
-    if !may_clear(objects, thread, clearance) {
-        return Some(Denied::Range);
-    }
-    if !clearance.names_only_made(objects.next_category()) {
-        return Some(Denied::Range);
-    }
-    None
+    require(objects.is_thread(thread), Denied::NoThread)?;
+    require(may_clear(objects, thread, clearance), Denied::Range)?;
+    require(
+        clearance.names_only_made(objects.next_category()),
+        Denied::Range,
+    )
 }
 
 /// Gives the thread another clearance, which is above its own label, and above its old clearance only
@@ -119,9 +102,7 @@ pub fn set_clearance<S: LabelStore + Drop>(
 ) -> Result<(), Refusal>
     ensures { Decides (state_of objects.old) (state_of objects.new) thread (calls.SetClearance clearance.now) result (λ _. Unit {0}) }
 {
-    if let Some(denied) = refuses_set_clearance(objects, thread, clearance) {
-        return Err(Refusal::Denied(denied));
-    }
+    check_set_clearance(objects, thread, clearance)?;
     let Some(label) = objects.label(thread) else {
         unreachable!()
     };
@@ -131,32 +112,28 @@ pub fn set_clearance<S: LabelStore + Drop>(
 }
 
 /// The checks of the making of a thread.
-fn refuses_make_thread<S: LabelStore + Drop>(
+fn check_make_thread<S: LabelStore + Drop>(
     objects: &mut LabelledObjects<S>,
     thread: ObjId,
     container: ObjId,
     label: &Label,
     clearance: &Label,
-) -> Option<Denied>
-    ensures answer { result ≡ check (state_of objects.old) thread (calls.MakeThread container label.now clearance.now) }
+) -> Result<(), Denied>
+    ensures answer { Tells (check (state_of objects.old) thread (calls.MakeThread container label.now clearance.now)) result }
     ensures unchanged { objects.new ≡ objects.old }
 {
-    if let Some(denied) = refuses_making(objects, thread, container) {
-        return Some(denied);
-    }
-    if !in_span(objects, thread, label, clearance) {
-        return Some(Denied::Range);
-    }
-    if !label.names_only_made(objects.next_category()) {
-        return Some(Denied::Range);
-    }
-    if !clearance.names_only_made(objects.next_category()) {
-        return Some(Denied::Range);
-    }
-    if objects.next_object().number() >= u64::MAX {
-        return Some(Denied::TooBig);
-    }
-    None
+    check_making(objects, thread, container)?;
+    require(in_span(objects, thread, label, clearance), Denied::Range)?;
+    require(
+        label.names_only_made(objects.next_category()),
+        Denied::Range,
+    )?;
+    require(
+        clearance.names_only_made(objects.next_category()),
+        Denied::Range,
+    )?;
+    require(objects.next_object().number() < u64::MAX, Denied::TooBig)?;
+    Ok(())
 }
 
 /// Makes a thread in a container, and answers its number. The new thread owns no more than its maker,
@@ -170,9 +147,7 @@ pub fn make_thread<S: LabelStore + Drop>(
 ) -> Result<ObjId, Refusal>
     ensures { Decides (state_of objects.old) (state_of objects.new) thread (calls.MakeThread container label.now clearance.now) result (IsNextNumber objects.old) }
 {
-    if let Some(denied) = refuses_make_thread(objects, thread, container, label, clearance) {
-        return Err(Refusal::Denied(denied));
-    }
+    check_make_thread(objects, thread, container, label, clearance)?;
     let number = objects.next_object();
     let most = clearance.copy()?;
     objects.add(container, label.copy()?, Kind::Thread(most))?;

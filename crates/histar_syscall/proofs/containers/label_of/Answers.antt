@@ -7,5 +7,5 @@ use Rattle.histar_syscall.proofs.containers.label_of.Goals as goal
 
 pub unreachable-requires : goal.unreachable-requires
 unreachable-requires g c =
-    label_told (state_of c.args.objects.now) c.args.thread c.args.container c.args.object c.requires (sym c.refuses_label.ensures.answer ∙ c.in_default.is)
-    (ap (λ (k : Kept). label_there (objects_of k.objects c.args.object)) (sym c.refuses_label.ensures.unchanged) ∙ sym c.label.ensures ∙ ap option_copied c.in_default-label.is)
+    label_told (state_of c.args.objects.now) c.args.thread c.args.container c.args.object c.requires c.in_ok-check_label.ensures.answer
+    (ap (λ (k : Kept). label_there (objects_of k.objects c.args.object)) (sym c.in_ok-check_label.ensures.unchanged) ∙ sym c.label.ensures ∙ ap option_copied c.in_default.is)
