@@ -6,8 +6,8 @@ use crate::raw_sessions::{
 use histar_label::PlainStore;
 use std::test::Fail;
 
-/// The hidden container 3, the confined thread 4 in it, the open segment 5, a gate 6 that gives nothing,
-/// and in the hidden container the plain segment 7.
+/// The tainted container 3, the confined thread 4 in it, the open segment 5, a gate 6 that gives nothing,
+/// and in the tainted container the plain segment 7.
 const MADE: [Row; 6] = [
     (1, 2, Asked::MakeCategory, Expected::Category(2)),
     (1, 2, Asked::MakeContainer(1, SECRET), Expected::Object(3)),
@@ -88,7 +88,7 @@ const AFTER: [Row; 3] = [
 ];
 
 #[test]
-fn confined_threads_change_what_is_hidden_alone(rt: HostRuntime) -> Result<(), Fail> {
+fn confined_threads_change_what_is_tainted_alone(rt: HostRuntime) -> Result<(), Fail> {
     let mut rows = Vec::from_slice(rt.alloc(), &MADE)?;
     rows.extend_from_slice(&CONFINED)?;
     rows.extend_from_slice(&AFTER)?;
