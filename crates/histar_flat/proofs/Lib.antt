@@ -3,12 +3,4 @@ pub mod WordLemmas
 pub mod Refusals
 pub mod Finding
 pub mod FileLemmas
-pub mod Laws
-pub mod FirstProcess
-pub mod PrivateFiles
 pub mod Entries
-pub mod Alike
-pub mod Secrecy
-pub mod Writing
-pub mod Worked
-pub mod WorkedRights

@@ -1,10 +1,9 @@
 //! Words, calls and replies of the Unix library, as a user of it writes and reads them.
 //!
-//! What calls mean is `specs/Meaning.antt`, and [`flat_laws`] says what this meaning amounts to.
+//! What calls mean is `specs/Meaning.antt`.
 #![tactic(auto)]
 
 mod calls;
-pub mod flat_laws;
 mod names;
 mod paths;
 mod processes;

@@ -97,8 +97,6 @@ impl Model for Listing {
     ghost Value = { List (List ℕ × Bool) };
 
     ghost view = { λ l. l.entries.items };
-
-    ghost inverse = { λ entries. record { entries = record { items = entries } } };
 }
 
 impl Listing {
