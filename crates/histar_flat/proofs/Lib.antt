@@ -4,3 +4,15 @@ pub mod Refusals
 pub mod Finding
 pub mod FileLemmas
 pub mod Entries
+pub mod Under
+pub mod Renaming
+pub mod Changes
+pub mod Trees
+pub mod Laws
+pub mod PrivateFiles
+pub mod Alike
+pub mod Writing
+pub mod Secrecy
+pub mod GivenNames
+pub mod Jobs
+pub mod FirstProcess

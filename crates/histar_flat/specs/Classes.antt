@@ -1,6 +1,6 @@
 -- Processes and classes of files: who may read and write what, and what a process makes.
 use Rattle.std.specs.Prelude.{ℕ, Bool, true, false, ◌||◌, ◌&&◌, List, [], ◌∷◌, Option, None, Some, codes, if◌then◌else◌}
-use Rattle.std.specs.List.{list_any, list_all}
+use Rattle.std.specs.List.{list_all}
 use Rattle.histar_flat.specs.declared.calls.Mode.{Mode}
 use Rattle.histar_flat.specs.declared.calls.Mode.TheVariants as modes
 use Rattle.histar_flat.specs.declared.replies.FileMode.{FileMode}
@@ -92,3 +92,8 @@ class_mode (Readable owner) = file_modes.Readable
 class_mode Open = file_modes.Open
 class_mode (Scratch owner jobs) = file_modes.Scratch
 class_mode (Grouped group) = file_modes.Group group
+
+-- what is of the class is of this job
+abbrev pub carries : ProcName → Class → Bool
+carries job (Scratch owner jobs) = has jobs job
+carries job _ = false

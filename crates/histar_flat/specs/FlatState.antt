@@ -1,5 +1,5 @@
 -- The flat state: a map from paths to files and directories, and a map from names to processes; what is there, and the walk.
-use Rattle.std.specs.Prelude.{Bool, true, false, not, cond, List, [], ◌∷◌, map, ℕ, ◌+◌, ◌&&◌, nat_le, Option, None, Some}
+use Rattle.std.specs.Prelude.{◌≡◌, Bool, true, false, not, cond, List, [], ◌∷◌, map, ℕ, ◌+◌, ◌&&◌, nat_le, Option, None, Some}
 use Rattle.std.specs.List.{filter_map}
 use Rattle.histar_base.specs.Refusals.{◌orelse◌, unless}
 use Rattle.histar_flat.specs.declared.replies.Errno.{Errno}
@@ -46,6 +46,11 @@ is_dir_at f q = is_some_and (get f.files q) is_dir
 -- a file stands at the path
 abbrev pub is_file_at : Flat → Path → Bool
 is_file_at f q = is_some_and (get f.files q) (λ n. not (is_dir n))
+
+-- the paths are a tree: `/` is a directory, and what lies in something lies in a directory
+pub record IsTree (f : Flat) : Type 0 where
+  pub root : is_dir_at f [] ≡ true
+  pub below : (n : Name) (d : Path) → is_there f (n ∷ d) ≡ true → is_dir_at f d ≡ true
 
 -- the process may read what stands at the path
 abbrev pub reads : Session → Flat → Process → Path → Bool

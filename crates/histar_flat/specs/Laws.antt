@@ -1,5 +1,6 @@
--- What the meaning amounts to: calls that are refused, the private files of others, what is written, and the replies of a script.
-use Rattle.std.specs.Prelude.{◌≡◌, ◌≢◌, ℕ, Bool, true, false, not, List, map, Some}
+-- What the meaning amounts to: calls that are refused, the private files of others, what is written, the replies of a script, names
+-- and jobs.
+use Rattle.std.specs.Prelude.{◌≡◌, ◌≢◌, ℕ, Bool, true, false, not, List, [], map, None, Some}
 use Rattle.std.specs.List.{list_all}
 use Rattle.histar_flat.specs.declared.calls.CallLine.{CallLine}
 use Rattle.histar_flat.specs.declared.calls.UnixCall.{UnixCall}
@@ -8,13 +9,14 @@ use Rattle.histar_flat.specs.declared.replies.Errno.{Errno}
 use Rattle.histar_flat.specs.declared.replies.Reply.TheVariants.{Done, Data, Refused}
 use Rattle.histar_flat.specs.Words.{Name, Path, ProcName}
 use Rattle.histar_flat.specs.PathOrder.{same, under_path}
-use Rattle.histar_flat.specs.Sessions.{Session}
+use Rattle.histar_flat.specs.Sessions.{Session, user_named}
 use Rattle.histar_flat.specs.Files.{get}
+use Rattle.histar_flat.specs.Classes.{Process, nobody, knows, carries}
 use Rattle.histar_flat.specs.Classes.Class.{Private}
-use Rattle.histar_flat.specs.FlatState.{Flat, Node, is_some_and, with_bytes}
+use Rattle.histar_flat.specs.FlatState.{Flat, Node, IsTree, is_some_and, with_bytes, is_given}
 use Rattle.histar_flat.specs.FlatState.Content.{File}
-use Rattle.histar_flat.specs.FlatCalls.{running, reply_to, flat_after}
-use Rattle.histar_flat.specs.Meaning.{Answered, answered_from, meaning}
+use Rattle.histar_flat.specs.FlatCalls.{next_child, running, reply_to, flat_after}
+use Rattle.histar_flat.specs.Meaning.{Answered, boot, answered_from, flat_end, meaning}
 
 -- a private file of this owner with these bytes
 abbrev pub private_file : Name → List ℕ → Node
@@ -49,10 +51,10 @@ takes_away (Rmtree r) q = under_path r q
 takes_away (Rename r name) q = under_path r q
 takes_away _ q = false
 
--- A call of a process that is not the owner's leaves a private file as it is, unless it takes it away or renames it: it stands at its
--- path, is private, and has its bytes.
+-- In a tree a call of a process that is not the owner's leaves a private file as it is, unless it takes it away or renames it: it
+-- stands at its path, is private, and has its bytes.
 abbrev pub PrivateFilesStay : Type 0
-PrivateFilesStay = (f : Flat) (q : Path) (owner : Name) (bytes : List ℕ) → get f.files q ≡ Some (private_file owner bytes)
+PrivateFilesStay = (f : Flat) → IsTree f → (q : Path) (owner : Name) (bytes : List ℕ) → get f.files q ≡ Some (private_file owner bytes)
     → (session : Session) (me : ProcName) (call : UnixCall) → runs_for f me owner ≡ false → takes_away call q ≡ false
     → get (flat_after session f me call).files q ≡ Some (private_file owner bytes)
 
@@ -74,3 +76,32 @@ WritesAreReadBack = (session : Session) (f : Flat) (me : ProcName) (q : Path) (b
 -- the replies of a script are one a call line, in the order of the lines
 abbrev pub OneReplyALine : Type 0
 OneReplyALine = (session : Session) (calls : List CallLine) → map (λ (a : Answered). a.call) (meaning session calls) ≡ calls
+
+-- in each state that calls lead to the paths are a tree
+abbrev pub PathsAreATree : Type 0
+PathsAreATree = (session : Session) (calls : List CallLine) → IsTree (flat_end session (boot session) calls)
+
+-- each process that is there, each job that such a process knows, and each job that a class carries has a name that was given
+pub record NamesAreGiven (f : Flat) : Type 0 where
+  pub of_processes : (q : ProcName) (p : Process) → f.processes q ≡ Some p → is_given f.processes q ≡ true
+  pub of_known_jobs : (q : ProcName) (p : Process) (job : ProcName) → f.processes q ≡ Some p → knows p job ≡ true → is_given f.processes job ≡ true
+  pub of_carried_jobs : (q : Path) (n : Node) (job : ProcName) → get f.files q ≡ Some n → carries job n.class ≡ true → is_given f.processes job ≡ true
+
+-- Names are given once: in each state that calls lead to, all names that are there were given; the name of a next child was not; and
+-- a name that was given stays so.
+pub record NamesAreGivenOnce : Type 0 where
+  pub old : (session : Session) (calls : List CallLine) → NamesAreGiven (flat_end session (boot session) calls)
+  pub new : (f : Flat) (me : ProcName) (p : Process) → f.processes me ≡ Some p → is_given f.processes (next_child me p) ≡ false
+  pub stay : (session : Session) (f : Flat) (me : ProcName) (call : UnixCall) (name : ProcName) → is_given f.processes name ≡ true → is_given (flat_after session f me call).processes name ≡ true
+
+-- the process is in no job and holds none
+pub record HasNoJob (p : Process) : Type 0 where
+  pub in_none : p.chain ≡ []
+  pub holds_none : p.held ≡ []
+
+-- who is nobody, and who is no declared user, has no job, in each state that calls lead to
+pub record NobodyHasAJob : Type 0 where
+  pub nobodys : (session : Session) (calls : List CallLine) (me : ProcName) (p : Process) → (flat_end session (boot session) calls).processes me ≡ Some p
+      → p.user ≡ nobody → HasNoJob p
+  pub strangers : (session : Session) (calls : List CallLine) (me : ProcName) (p : Process) → (flat_end session (boot session) calls).processes me ≡ Some p
+      → user_named session.users p.user ≡ None → HasNoJob p

@@ -1,9 +1,10 @@
 //! Words, calls and replies of the Unix library, as a user of it writes and reads them.
 //!
-//! What calls mean is `specs/Meaning.antt`.
+//! What calls mean is `specs/Meaning.antt`, and [`flat_laws`] says what this meaning amounts to.
 #![tactic(auto)]
 
 mod calls;
+pub mod flat_laws;
 mod names;
 mod paths;
 mod processes;

@@ -1,0 +1,92 @@
+-- A private file and the processes of others: one call.
+use Rattle.std.specs.Prelude.{◌≡◌, ◌≢◌, ℕ, true, false, not, ◌&&◌, cond, List, ◌∷◌, length, nat_le, Option, Some, None, refl}
+use Rattle.std.proofs.Common.{ap, sym, ◌∙◌, inl, inr}
+use Rattle.std.proofs.lemmas.Bool.{true≢false}
+use Rattle.histar_base.specs.Refusals.{◌orelse◌, unless}
+use Rattle.histar_flat.specs.declared.calls.UnixCall.{UnixCall}
+use Rattle.histar_flat.specs.declared.calls.UnixCall.TheVariants.{Read, Write}
+use Rattle.histar_flat.specs.declared.replies.Errno.{Errno}
+use Rattle.histar_flat.specs.declared.replies.Errno.TheVariants.{EACCES, EFBIG}
+use Rattle.histar_flat.specs.declared.replies.Reply.TheVariants.{Data}
+use Rattle.histar_flat.specs.Words.{Name, Path, ProcName}
+use Rattle.histar_flat.specs.PathOrder.{same, under_path}
+use Rattle.histar_flat.specs.Sessions.{Session}
+use Rattle.histar_flat.specs.Files.{get}
+use Rattle.histar_flat.specs.Classes.{Process, is_free, may_read, may_write}
+use Rattle.histar_flat.specs.FlatState.{Flat, IsTree, is_some_and, reads, writes, moved}
+use Rattle.histar_flat.specs.FlatCalls.{most_bytes, no_file, refused, answer, reply_or, running, reply_by, reply_to, flat_after}
+use Rattle.histar_flat.specs.Laws.{private_file, runs_for, takes_away}
+use Rattle.histar_flat.proofs.FileLemmas.{get_other, get-keep}
+use Rattle.histar_flat.proofs.Refusals.{passes_first, passes_later, passed}
+use Rattle.histar_flat.proofs.Under.{true_or_false}
+use Rattle.histar_flat.proofs.Renaming.{stays, get_renamed}
+use Rattle.histar_flat.proofs.Changes.{EachChange, by_line}
+use Rattle.histar_flat.proofs.Trees.{nothing_below}
+
+-- what is read may be read
+pub read_is_readable : (session : Session) (f : Flat) (me : ProcName) (p : Process) (r : Path) → refused session f me p (Read r) ≡ None → reads session f p r ≡ true
+read_is_readable session f me p r h = passed (reads session f p r) EACCES (passes_later (no_file session f p r) (unless (reads session f p r) EACCES) h)
+
+-- what is written may be written
+pub written_is_writable : (session : Session) (f : Flat) (me : ProcName) (p : Process) (r : Path) (bytes : List ℕ) → refused session f me p (Write r bytes) ≡ None → writes session f p r ≡ true
+written_is_writable session f me p r bytes h =
+    let short = unless (nat_le (length bytes) most_bytes) EFBIG in
+    passed (writes session f p r) EACCES (passes_first (unless (writes session f p r) EACCES) short (passes_later (no_file session f p r) (unless (writes session f p r) EACCES orelse short) h))
+
+module _ (f : Flat) (q : Path) (owner : Name) (bytes : List ℕ) (h : get f.files q ≡ Some (private_file owner bytes)) where
+  -- where nothing stands is elsewhere
+  elsewhere : (r : Path) → get f.files r ≡ None → q ≢ r
+  elsewhere r free e = let gone : Some (private_file owner bytes) ≡ None = sym h ∙ ap (get f.files) e ∙ free in absurd (cc)
+
+  module _ (session : Session) where
+    -- another user's process may not read it
+    private_is_unread : (p : Process) → same p.user owner ≡ false → reads session f p q ≡ false
+    private_is_unread p other = ap (λ o. is_some_and o (λ n. may_read session p n.class)) h ∙ other
+
+    -- nor write it
+    private_is_unwritten : (p : Process) → same p.user owner ≡ false → writes session f p q ≡ false
+    private_is_unwritten p other = ap (λ o. is_some_and o (λ n. may_write session p n.class)) h ∙ ap (λ b. b && is_free p) other
+
+    -- so what it writes is elsewhere
+    written_elsewhere : (p : Process) (r : Path) → same p.user owner ≡ false → writes session f p r ≡ true → q ≢ r
+    written_elsewhere p r other w e = true≢false (sym w ∙ ap (writes session f p) (sym e) ∙ private_is_unwritten p other)
+
+    private_changes : IsTree f → (me : ProcName) (p : Process) (call : UnixCall) → same p.user owner ≡ false → takes_away call q ≡ false
+        → EachChange session f me p call (λ g. get g.files q ≡ Some (private_file owner bytes))
+    private_changes tree me p call other kept = record {
+      stays = h;
+      makes = λ n d x walked free w own. get_other f.files (n ∷ d) x q (elsewhere (n ∷ d) free) ∙ h;
+      overwrites = λ n d new file w. get_other f.files (n ∷ d) _ q (written_elsewhere p (n ∷ d) other w) ∙ h;
+      cuts = λ n d away w. get-keep f.files (λ t. not (under_path (n ∷ d) t)) q ∙ ap (λ b. cond (not b) (get f.files q) None) (sym (away q) ∙ kept) ∙ h;
+      renames = λ n k d away apart free w.
+          let below : under_path (k ∷ d) q ≡ false = elim (true_or_false (under_path (k ∷ d) q)) [
+            | inl u ↦ absurd (elsewhere q (nothing_below f tree (k ∷ d) free q u) refl)
+            | inr u ↦ u
+          ] in
+          get_renamed n k d apart f.files (nothing_below f tree (k ∷ d) free) q
+          ∙ ap (λ b. cond b None (get f.files (moved (k ∷ d) (n ∷ d) q))) (sym (away q) ∙ kept)
+          ∙ ap (get f.files) (stays (k ∷ d) (n ∷ d) q below) ∙ h;
+      spawns = λ is. h;
+      exits = λ n is. h;
+      logs_in = λ name password is known free. h;
+      kills = λ n. h;
+      wraps = λ n d is walked free w named. get_other f.files (n ∷ d) _ q (elsewhere (n ∷ d) free) ∙ h;
+    }
+
+  -- In a tree a call of a process that is not the owner's leaves a private file as it is, unless it takes it away or renames it.
+  pub private_file_stays : IsTree f → (session : Session) (me : ProcName) (call : UnixCall) → runs_for f me owner ≡ false → takes_away call q ≡ false → get (flat_after session f me call).files q ≡ Some (private_file owner bytes)
+  private_file_stays tree session me call other kept =
+      by_line session f me call (λ g. get g.files q ≡ Some (private_file owner bytes)) h
+      (λ p runs. private_changes session tree me p call (sym (ap (λ r. is_some_and r (λ p. same p.user owner)) runs) ∙ other) kept)
+
+  -- A process that is not the owner's is never answered the bytes of a private file.
+  pub private_file_is_untold : (session : Session) (me : ProcName) (told : List ℕ) → runs_for f me owner ≡ false → reply_to session f me (Read q) ≢ Data told
+  private_file_is_untold session me told other = by (running f me) other
+    where
+      first : (p : Process) → same p.user owner ≡ false → (refusal : Option Errno) → refused session f me p (Read q) ≡ refusal → reply_or refusal (answer f me p (Read q)) ≢ Data told
+      first p i None e = absurd (true≢false (sym (read_is_readable session f me p q e) ∙ private_is_unread session p i))
+      first p i (Some d) e = λ k. cc
+
+      by : (r : Option Process) → is_some_and r (λ p. same p.user owner) ≡ false → reply_by session f me r (Read q) ≢ Data told
+      by None i = λ k. cc
+      by (Some p) i = first p i (refused session f me p (Read q)) refl

@@ -1,0 +1,5 @@
+use Rattle.histar_flat.proofs.Writing.{written_is_read}
+use Rattle.histar_flat.proofs.flat_laws.what_is_written_is_read_back.Goals as goal
+
+pub returns : goal.returns
+returns c = written_is_read

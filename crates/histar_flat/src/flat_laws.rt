@@ -1,0 +1,53 @@
+//! What the meaning of calls amounts to. Each law is the contract of a function that does nothing.
+ghost use Rattle.histar_flat.specs.Laws.{RefusalsChangeNothing, WritesAreReadBack, OneReplyALine};
+ghost use Rattle.histar_flat.specs.Laws.{PrivateFilesStay, PrivateFilesAreUntold};
+ghost use Rattle.histar_flat.specs.Laws.{PrivateBytesAreUntold};
+ghost use Rattle.histar_flat.specs.Laws.{PathsAreATree, NamesAreGivenOnce, NobodyHasAJob};
+
+/// A call that is refused changes nothing.
+pub fn a_refused_call_changes_nothing()
+    ensures { RefusalsChangeNothing }
+{}
+
+/// A call of a process that is not the owner's leaves a private file as it is, unless it takes it
+/// away or renames it: it stands at its path, is private, and has its bytes.
+pub fn a_private_file_stays_with_others()
+    ensures { PrivateFilesStay }
+{}
+
+/// A process that is not the owner's and reads a private file is answered no bytes.
+pub fn a_private_file_is_untold_to_others()
+    ensures { PrivateFilesAreUntold }
+{}
+
+/// While no process is the owner's, and none logs in as the owner, no reply depends on the bytes of
+/// a private file.
+pub fn private_bytes_are_untold()
+    ensures { PrivateBytesAreUntold }
+{}
+
+/// A process that has written bytes to a file, and reads the file next, is answered these bytes.
+pub fn what_is_written_is_read_back()
+    ensures { WritesAreReadBack }
+{}
+
+/// The replies of a script are one a call line, in the order of the lines.
+pub fn one_reply_a_line()
+    ensures { OneReplyALine }
+{}
+
+/// In each state that calls lead to, what lies in something lies in a directory.
+pub fn paths_are_a_tree()
+    ensures { PathsAreATree }
+{}
+
+/// Names of processes are given once: all that are there were given, the name of a next child was
+/// not, and a name that was given stays so.
+pub fn names_are_given_once()
+    ensures { NamesAreGivenOnce }
+{}
+
+/// Who is nobody, or no declared user, is in no job and holds none.
+pub fn nobody_has_a_job()
+    ensures { NobodyHasAJob }
+{}
