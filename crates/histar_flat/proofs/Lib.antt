@@ -16,3 +16,8 @@ pub mod Secrecy
 pub mod GivenNames
 pub mod Jobs
 pub mod FirstProcess
+pub mod WorkedScripts
+pub mod Worked
+pub mod WorkedRights
+pub mod WorkedFiles
+pub mod WorkedJobs
