@@ -15,6 +15,10 @@ pub record Session : Type 0 where
   pub users : List User
   pub groups : List Group
 
+-- these users, in no group
+abbrev pub session_of : List User → Session
+session_of users = record { users = users; groups = [] }
+
 -- the list of names has this one
 abbrev pub has : List (List ℕ) → List ℕ → Bool
 has names name = list_any (same name) names

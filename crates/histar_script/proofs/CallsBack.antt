@@ -7,11 +7,11 @@ use Rattle.histar_flat.specs.declared.calls.User.{User}
 use Rattle.histar_flat.specs.declared.calls.UnixCall.{UnixCall}
 use Rattle.histar_flat.specs.declared.calls.UnixCall.TheVariants.{Create, Write, Read, Login}
 use Rattle.histar_flat.specs.Words.{Path, is_name, is_user_name, is_password, is_path, name_of, user_name_of, password_of, path_of}
-use Rattle.histar_flat.specs.Modes.{mode_of}
+use Rattle.histar_flat.specs.Modes.{mode_of, is_line_mode}
 use Rattle.histar_flat.specs.Texts.{path_text, mode_text}
 use Rattle.histar_script.specs.Lines.{split_word, ◌space◌}
 use Rattle.histar_script.specs.Reading.{◌>>=◌, user_of, create_of, write_of, read_of, login_of, call_named, call_of}
-use Rattle.histar_script.specs.Grammar.{IsCallText, is_line_mode}
+use Rattle.histar_script.specs.Grammar.{IsCallText}
 use Rattle.histar_script.proofs.Chains.{bind_some, chosen}
 use Rattle.histar_script.proofs.WordsBack.{split_name, split_path, user_name_is_name, parted, same_bytes, path_takes, path_again, mode_takes, mode_again}
 

@@ -9,10 +9,9 @@ use Rattle.std.proofs.lemmas.Bool.{false≢true, eqb-true, and_parts}
 use Rattle.histar_flat.specs.declared.calls.Mode.{Mode}
 use Rattle.histar_flat.specs.declared.calls.Mode.TheVariants.{Private, Readable, Open, Group}
 use Rattle.histar_flat.specs.Words.{Path, ProcName, is_name, is_name_byte, is_dots, is_user_name, begins_with_letter, is_path, is_process, name_of, path_of, process_of}
-use Rattle.histar_flat.specs.Modes.{mode_of}
+use Rattle.histar_flat.specs.Modes.{mode_of, is_line_mode}
 use Rattle.histar_flat.specs.Texts.{path_text, process_text, mode_text}
 use Rattle.histar_script.specs.Lines.{split_word, ◌space◌}
-use Rattle.histar_script.specs.Grammar.{is_line_mode}
 use Rattle.histar_script.proofs.Chains.{chosen, mapped}
 
 -- ---- parting at the first space

@@ -1,11 +1,10 @@
 -- The grammar: what a line says, which script a text is, and which line is bad.
-use Rattle.std.specs.Prelude.{◌≡◌, ◌≢◌, ℕ, ◌+◌, ◌-◌, ◌<◌, ◌≤◌, ◌⊎◌, Bool, true, false, IsTrue, All, List, [], ◌∷◌, ◌++◌, length, take, codes}
+use Rattle.std.specs.Prelude.{◌≡◌, ◌≢◌, ℕ, ◌+◌, ◌-◌, ◌<◌, ◌≤◌, ◌⊎◌, IsTrue, All, List, [], ◌∷◌, ◌++◌, length, take, codes}
 use Rattle.histar_flat.specs.declared.calls.User.{User}
-use Rattle.histar_flat.specs.declared.calls.Mode.{Mode}
-use Rattle.histar_flat.specs.declared.calls.Mode.TheVariants.{Private, Readable, Open, Group}
 use Rattle.histar_flat.specs.declared.calls.UnixCall.{UnixCall}
 use Rattle.histar_flat.specs.declared.calls.UnixCall.TheVariants.{Create, Write, Read, Login}
 use Rattle.histar_flat.specs.Words.{is_name, is_user_name, is_password, is_path, is_process}
+use Rattle.histar_flat.specs.Modes.{is_line_mode}
 use Rattle.histar_flat.specs.Texts.{path_text, process_text, mode_text}
 use Rattle.histar_script.specs.declared.items.Item.{Item}
 use Rattle.histar_script.specs.declared.items.Item.TheVariants as items
@@ -17,13 +16,6 @@ pub record IsUserText (text : List ℕ) (u : User) : Type 0 where
   pub spelled : text ≡ codes "user" space u.name space u.password
   pub name : IsTrue (is_user_name u.name)
   pub password : IsTrue (is_password u.password)
-
--- the modes that a line can name
-abbrev pub is_line_mode : Mode → Bool
-is_line_mode Private = true
-is_line_mode Readable = true
-is_line_mode Open = false
-is_line_mode (Group name) = false
 
 -- `create PATH MODE`, `write PATH BYTES` with any bytes, `read PATH`, or `login NAME PASSWORD` with any name; no other call has a line
 abbrev pub IsCallText : List ℕ → UnixCall → Type 0
