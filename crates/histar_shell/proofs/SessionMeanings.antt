@@ -163,7 +163,7 @@ module _ (script : Reading) (is_list : IsUserList script.users) (can : AreScript
       let rest_text = answers_text (answered_from (session_of script.users) (flat_end (session_of script.users) (boot (session_of script.users)) asked) more) in
       let whole : meaning_text script ≡ answers_text begun.answers ++ rest_text =
       ap (λ (calls : List CallLine). answers_text (meaning (session_of script.users) calls)) begun.parts
-          ∙ ap answers_text (replies_go_on (session_of script.users) (boot (session_of script.users)) asked more)
+      ∙ ap answers_text (replies_go_on (session_of script.users) (boot (session_of script.users)) asked more)
       ∙ flat_map-append answer_text (meaning (session_of script.users) asked) (answered_from (session_of script.users) (flat_end (session_of script.users) (boot (session_of script.users)) asked) more)
       ∙ ap (λ (t : List ℕ). t ++ rest_text) (sym text) in
       record { script = script; is_read = is_read; written = subst (AppendsFront old new) (sym whole) (longer_front old new (answers_text begun.answers) rest_text begun.written) }
