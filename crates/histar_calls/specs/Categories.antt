@@ -1,9 +1,10 @@
 -- The categories of users, the user of a thread, and the labels of files.
 use Rattle.std.specs.Prelude.{◌≡◌, ℕ, ◌+◌, ◌*◌, ◌<◌, ◌≤◌, Bool, true, false}
 use Rattle.histar_flat.specs.declared.calls.Mode.{Mode}
-use Rattle.histar_flat.specs.declared.calls.Mode.TheVariants.{Private, Readable}
+use Rattle.histar_flat.specs.declared.calls.Mode.TheVariants.{Private, Readable, Open, Group}
 use Rattle.histar_label.specs.Level.{is_star}
-use Rattle.histar_label.specs.Levels.{Levels, level_of}
+use Rattle.histar_label.specs.declared.levels.Level.TheVariants.{L1}
+use Rattle.histar_label.specs.Levels.{Levels, constant, level_of}
 use Rattle.histar_calls.specs.Labelling.{written_by, secret_of}
 
 -- boot makes two categories for nobody, who is number 0, and two for each user in turn; this is the first of them
@@ -25,7 +26,10 @@ pub record IsUserOf (own : Levels) (users user : ℕ) : Type 0 where
   pub nobody : user ≡ 0 → (other : ℕ) → 0 < other → other ≤ users → owns own other ≡ false
   pub known : user ≤ users
 
--- the label of a user's file: everyone may read a readable one, and its owner alone a private one; its owner alone writes it
+-- The label of a file that a user makes: everyone may read a readable one, and its owner alone a private one, and its owner alone
+-- writes both; everyone may read and write an open one; a mode that names no group has the categories of nobody.
 abbrev pub file_label : Mode → ℕ → Levels
 file_label Readable user = written_by (write_category user)
 file_label Private user = secret_of (read_category user) (write_category user)
+file_label Open user = constant L1
+file_label (Group name) user = secret_of (read_category 0) (write_category 0)

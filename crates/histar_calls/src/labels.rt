@@ -8,6 +8,9 @@ use histar_flat::Mode;
 use histar_label::{Category, Label, Level};
 use std::alloc::{AllocError, Global};
 
+/// The number of nobody, whose categories no thread owns.
+const NOBODY: u8 = 0;
+
 /// A label with one level for all categories but for a few.
 pub fn label_of(
     alloc: Global,
@@ -46,5 +49,11 @@ pub fn label_made(alloc: Global, own: &Label, users: u8, mode: Mode) -> Result<L
     match mode {
         Mode::Readable => label_of(alloc, Level::L1, &[(write, Level::L0)]),
         Mode::Private => label_of(alloc, Level::L1, &[(read, Level::L3), (write, Level::L0)]),
+        Mode::Open => label_of(alloc, Level::L1, &[]),
+        Mode::Group(_) => label_of(
+            alloc,
+            Level::L1,
+            &[(read_category(NOBODY), Level::L3), (write_category(NOBODY), Level::L0)],
+        ),
     }
 }

@@ -1,18 +1,21 @@
--- Refusals depend on what files and directories show beside their bytes alone.
-use Rattle.std.specs.Prelude.{◌≡◌, Bool, true, not, List, ◌∷◌, [], length, nat_lt, nat_le, Option, Some, None, is_some, option_map, refl}
-use Rattle.std.proofs.Common.{ap}
+-- What refusals and answers depend on: what files and directories show, the processes, and bytes that may be read or written.
+use Rattle.std.specs.Prelude.{◌≡◌, Bool, true, false, not, ◌∷◌, [], ◌++◌, ◌==◌, length, nat_lt, nat_le, Option, Some, None, is_some, option_map, refl}
+use Rattle.std.proofs.Common.{ap, ◌∙◌}
 use Rattle.histar_base.specs.Refusals.{◌orelse◌, unless}
-use Rattle.histar_flat.specs.declared.calls.User.{User}
 use Rattle.histar_flat.specs.declared.calls.UnixCall.{UnixCall}
-use Rattle.histar_flat.specs.declared.calls.UnixCall.TheVariants.{Create, Read, Write, Login}
-use Rattle.histar_flat.specs.declared.replies.Errno.TheVariants.{ENOENT, ENOTDIR, EISDIR, EEXIST, EACCES, EPERM, ENOSPC, EFBIG}
+use Rattle.histar_flat.specs.declared.calls.UnixCall.TheVariants.{Create, Mkdir, Read, Write, Append, List as ListCall, Stat, Unlink, Rmdir, Rmtree, Rename, Spawn, Exit, Status, Kill, Whoami, Login, Wrap}
+use Rattle.histar_flat.specs.declared.replies.Errno.{Errno}
+use Rattle.histar_flat.specs.declared.replies.Errno.TheVariants.{ENOENT, ENOTDIR, EISDIR, EEXIST, EACCES, EPERM, ENOTEMPTY, EBUSY, ENOSPC, EFBIG, ESRCH}
+use Rattle.histar_flat.specs.declared.replies.Reply.TheVariants.{Data, Entries, Stats}
 use Rattle.histar_flat.specs.Words.{Path, ProcName}
-use Rattle.histar_flat.specs.PathOrder.{parent}
+use Rattle.histar_flat.specs.PathOrder.{same, parent}
+use Rattle.histar_flat.specs.Sessions.{Session}
 use Rattle.histar_flat.specs.Files.{get}
-use Rattle.histar_flat.specs.Classes.{Class, Process, may_read, may_write, class_made}
-use Rattle.histar_flat.specs.FlatState.{Flat, Node, is_some_and, is_there, is_dir_at, is_file_at, reads, writes, into, walk}
-use Rattle.histar_flat.specs.FlatCalls.{is_below_root, no_room, no_file, refused}
+use Rattle.histar_flat.specs.Classes.{Class, Process, nobody, sees, may_read, may_write, class_made, class_owner, class_mode}
+use Rattle.histar_flat.specs.FlatState.{Flat, Node, is_some_and, is_there, is_dir_at, is_file_at, reads, writes, bytes_at, entries_in, into, walk}
+use Rattle.histar_flat.specs.FlatCalls.{most_entries, most_bytes, is_below_root, no_room, no_file, no_entry, no_child, not_found, is_child, refused, life_reply, stat_reply, answer}
 use Rattle.histar_flat.proofs.Entries.{shown, same_entries_shown}
+use Rattle.histar_flat.proofs.Refusals.{one_passes}
 
 -- two states that show the same at each path, whatever bytes their files hold
 abbrev pub ShowAlike : Flat → Flat → Type 0
@@ -25,7 +28,21 @@ test_alike test None (Some n) h = absurd (cc)
 test_alike test (Some m) None h = absurd (cc)
 test_alike test (Some m) (Some n) h = let e : shown m ≡ shown n = cc in ap test e
 
-module _ (f g : Flat) (alike : ShowAlike f g) where
+-- what is told of a file or a directory
+stat_alike : (a b : Option Node) → option_map shown a ≡ option_map shown b → stat_reply a ≡ stat_reply b
+stat_alike None None h = refl
+stat_alike None (Some n) h = absurd (cc)
+stat_alike (Some m) None h = absurd (cc)
+stat_alike (Some m) (Some n) h =
+    let e : shown m ≡ shown n = cc in
+    ap (λ (s : Class × Bool). Stats (record { is_directory = s.1; owner = class_owner s.0; mode = class_mode s.0 })) e
+
+-- what comes later counts only where a test passes
+guarded : (b : Bool) (e : Errno) (x y : Option Errno) → (b ≡ true → x ≡ y) → (unless b e orelse x) ≡ (unless b e orelse y)
+guarded true e x y h = h refl
+guarded false e x y h = refl
+
+module _ (session : Session) (f g : Flat) (alike : ShowAlike f g) where
   there_alike : (r : Path) → is_there f r ≡ is_there g r
   there_alike r = test_alike (λ s. true) (get f.files r) (get g.files r) (alike r)
 
@@ -35,31 +52,78 @@ module _ (f g : Flat) (alike : ShowAlike f g) where
   file_alike : (r : Path) → is_file_at f r ≡ is_file_at g r
   file_alike r = test_alike (λ s. not s.1) (get f.files r) (get g.files r) (alike r)
 
-  pub reads_alike : (p : Process) (r : Path) → reads f p r ≡ reads g p r
-  reads_alike p r = test_alike (λ s. may_read p s.0) (get f.files r) (get g.files r) (alike r)
+  pub reads_alike : (p : Process) (r : Path) → reads session f p r ≡ reads session g p r
+  reads_alike p r = test_alike (λ s. may_read session p s.0) (get f.files r) (get g.files r) (alike r)
 
-  writes_alike : (p : Process) (r : Path) → writes f p r ≡ writes g p r
-  writes_alike p r = test_alike (λ s. may_write p s.0) (get f.files r) (get g.files r) (alike r)
+  pub writes_alike : (p : Process) (r : Path) → writes session f p r ≡ writes session g p r
+  writes_alike p r = test_alike (λ s. may_write session p s.0) (get f.files r) (get g.files r) (alike r)
 
-  into_alike : (p : Process) (d : Path) → into f p d ≡ into g p d
+  into_alike : (p : Process) (d : Path) → into session f p d ≡ into session g p d
   into_alike p [] = λ i. unless (reads_alike p [] i) EACCES
   into_alike p (n ∷ d) = λ i. into_alike p d i orelse unless (there_alike (n ∷ d) i) ENOENT orelse unless (dir_alike (n ∷ d) i) ENOTDIR orelse unless (reads_alike p (n ∷ d) i) EACCES
 
-  walk_alike : (p : Process) (r : Path) → walk f p r ≡ walk g p r
+  walk_alike : (p : Process) (r : Path) → walk session f p r ≡ walk session g p r
   walk_alike p [] = refl
   walk_alike p (n ∷ d) = into_alike p d
 
-  room_alike : (p : Process) (r : Path) → no_room f p r ≡ no_room g p r
-  room_alike p r =
-      let entries = same_entries_shown f g (parent r) alike in
-      λ i. unless (is_below_root r) EEXIST orelse walk_alike p r i orelse unless (not (there_alike r i)) EEXIST orelse unless (nat_lt (length (entries i)) 64) ENOSPC orelse unless (writes_alike p (parent r) i) EACCES
+  entries_alike : (d : Path) → entries_in f d ≡ entries_in g d
+  entries_alike d = same_entries_shown f g d alike
 
-  pub file_reached_alike : (p : Process) (r : Path) → no_file f p r ≡ no_file g p r
+  room_alike : (p : Process) (r : Path) → no_room session f p r ≡ no_room session g p r
+  room_alike p r = λ i. unless (is_below_root r) EEXIST orelse walk_alike p r i orelse unless (not (there_alike r i)) EEXIST orelse unless (nat_lt (length (entries_alike (parent r) i)) most_entries) ENOSPC orelse unless (writes_alike p (parent r) i) EACCES
+
+  pub file_reached_alike : (p : Process) (r : Path) → no_file session f p r ≡ no_file session g p r
   file_reached_alike p r = λ i. unless (is_below_root r) EISDIR orelse walk_alike p r i orelse unless (there_alike r i) ENOENT orelse unless (file_alike r i) EISDIR
 
-  -- Each call has the same refusal: no refusal depends on the bytes that files hold.
-  pub refused_alike : (users : List User) (me : ProcName) (p : Process) (call : UnixCall) → refused users f me p call ≡ refused users g me p call
-  refused_alike users me p (Create r mode) = λ i. room_alike p r i orelse unless (is_some (class_made p mode)) EPERM
-  refused_alike users me p (Read r) = λ i. file_reached_alike p r i orelse unless (reads_alike p r i) EACCES
-  refused_alike users me p (Write r bytes) = λ i. file_reached_alike p r i orelse unless (writes_alike p r i) EACCES orelse unless (nat_le (length bytes) 4096) EFBIG
-  refused_alike users me p (Login name password) = refl
+  entry_reached_alike : (p : Process) (r : Path) → no_entry session f p r ≡ no_entry session g p r
+  entry_reached_alike p r = λ i. unless (is_below_root r) EBUSY orelse walk_alike p r i orelse unless (there_alike r i) ENOENT
+
+  module _ (processes : f.processes ≡ g.processes) (me : ProcName) (p : Process) where
+    found_alike : (q : ProcName) → not_found f p q ≡ not_found g p q
+    found_alike [] = refl
+    found_alike (n ∷ above) = λ i. found_alike above i orelse unless (is_some (processes i (n ∷ above))) ESRCH orelse unless (is_some_and (processes i (n ∷ above)) (sees p)) EACCES
+
+    -- Each call has the same refusal, where bytes that the process may write are the same.
+    pub refused_alike : ((r : Path) → writes session f p r ≡ true → bytes_at f r ≡ bytes_at g r) → (call : UnixCall) → refused session f me p call ≡ refused session g me p call
+    refused_alike same_bytes (Create r mode) = λ i. room_alike p r i orelse unless (is_some (class_made session p mode)) EPERM
+    refused_alike same_bytes (Mkdir r mode) = λ i. room_alike p r i orelse unless (is_some (class_made session p mode)) EPERM
+    refused_alike same_bytes (Read r) = λ i. file_reached_alike p r i orelse unless (reads_alike p r i) EACCES
+    refused_alike same_bytes (Write r bytes) = λ i. file_reached_alike p r i orelse unless (writes_alike p r i) EACCES orelse unless (nat_le (length bytes) most_bytes) EFBIG
+    refused_alike same_bytes (Append r bytes) =
+        ap (λ x. no_file session f p r orelse x) (guarded (writes session f p r) EACCES (unless (nat_le (length (bytes_at f r ++ bytes)) most_bytes) EFBIG) (unless (nat_le (length (bytes_at g r ++ bytes)) most_bytes) EFBIG)
+        (λ w. ap (λ b. unless (nat_le (length (b ++ bytes)) most_bytes) EFBIG) (same_bytes r w)))
+        ∙ (λ i. file_reached_alike p r i orelse unless (writes_alike p r i) EACCES orelse unless (nat_le (length (bytes_at g r ++ bytes)) most_bytes) EFBIG)
+    refused_alike same_bytes (ListCall r) = λ i. walk_alike p r i orelse unless (there_alike r i) ENOENT orelse unless (dir_alike r i) ENOTDIR orelse unless (reads_alike p r i) EACCES
+    refused_alike same_bytes (Stat r) = λ i. walk_alike p r i orelse unless (there_alike r i) ENOENT
+    refused_alike same_bytes (Unlink r) = λ i. entry_reached_alike p r i orelse unless (file_alike r i) EISDIR orelse unless (writes_alike p (parent r) i) EACCES
+    refused_alike same_bytes (Rmdir r) = λ i. entry_reached_alike p r i orelse unless (dir_alike r i) ENOTDIR orelse unless (reads_alike p r i) EACCES orelse unless (length (entries_alike r i) == 0) ENOTEMPTY orelse unless (writes_alike p (parent r) i) EACCES
+    refused_alike same_bytes (Rmtree r) = λ i. entry_reached_alike p r i orelse unless (writes_alike p (parent r) i) EACCES
+    refused_alike same_bytes (Rename r name) = λ i. entry_reached_alike p r i orelse unless (not (there_alike (name ∷ parent r) i)) EEXIST orelse unless (writes_alike p (parent r) i) EACCES
+    refused_alike same_bytes Spawn = refl
+    refused_alike same_bytes (Exit n) = refl
+    refused_alike same_bytes (Status name) = found_alike name
+    refused_alike same_bytes (Kill name) = λ i. found_alike name i orelse unless (is_child me name) EACCES
+    refused_alike same_bytes Whoami = refl
+    refused_alike same_bytes (Login name password) = refl
+    refused_alike same_bytes (Wrap r) = λ i. no_child me p orelse room_alike p r i orelse unless (not (same p.user nobody)) EPERM
+
+    -- Each call that is not refused has the same answer, where bytes that the process may read are the same.
+    pub answer_alike : ((r : Path) → reads session f p r ≡ true → bytes_at f r ≡ bytes_at g r) → (call : UnixCall) → refused session f me p call ≡ None → answer f me p call ≡ answer g me p call
+    answer_alike same_bytes (Create r mode) h = refl
+    answer_alike same_bytes (Mkdir r mode) h = refl
+    answer_alike same_bytes (Read r) h = ap Data (same_bytes r (one_passes (no_file session f p r) (reads session f p r) EACCES h).1)
+    answer_alike same_bytes (Write r bytes) h = refl
+    answer_alike same_bytes (Append r bytes) h = refl
+    answer_alike same_bytes (ListCall r) h = ap Entries (entries_alike r)
+    answer_alike same_bytes (Stat r) h = stat_alike (get f.files r) (get g.files r) (alike r)
+    answer_alike same_bytes (Unlink r) h = refl
+    answer_alike same_bytes (Rmdir r) h = refl
+    answer_alike same_bytes (Rmtree r) h = refl
+    answer_alike same_bytes (Rename r name) h = refl
+    answer_alike same_bytes Spawn h = refl
+    answer_alike same_bytes (Exit n) h = refl
+    answer_alike same_bytes (Status name) h = λ i. life_reply (processes i name)
+    answer_alike same_bytes (Kill name) h = refl
+    answer_alike same_bytes Whoami h = refl
+    answer_alike same_bytes (Login name password) h = refl
+    answer_alike same_bytes (Wrap r) h = refl

@@ -1,17 +1,17 @@
 -- What a map of paths answers after a change.
-use Rattle.std.specs.Prelude.{◌≡◌, ◌≢◌, Bool, true, false, cond, ℕ, List, Some, refl}
+use Rattle.std.specs.Prelude.{◌≡◌, ◌≢◌, Bool, true, false, cond, ℕ, List, Some, None, refl}
 use Rattle.std.proofs.Common.{◌⊎◌, ap, inl, inr, sym, ◌∙◌}
 use Rattle.std.specs.declared.cmp.Ordering.{Ordering}
 use Rattle.std.specs.declared.cmp.Ordering.TheVariants.{Less, Equal, Greater}
 use Rattle.std.specs.Ordering.{eq_by_cmp, is_eq}
 use Rattle.std.specs.Cmp.{tied_itself}
 use Rattle.std.specs.Cmp.Lexicographic.{pointwise_decides, bytes_decides}
-use Rattle.std.specs.FinMap.Entries.{find-put}
+use Rattle.std.specs.FinMap.Entries.{find-put, find-where_key, same_entries}
 use Rattle.std.proofs.lemmas.Bool.{true≢false}
 use Rattle.histar_flat.specs.Words.{Name, Path}
 use Rattle.histar_flat.specs.PathOrder.{path_cmp, same, same_path}
 use Rattle.histar_flat.specs.PathOrderLaws.{path_cmp_total, path_cmp_exact}
-use Rattle.histar_flat.specs.Files.{Files, get, insert}
+use Rattle.histar_flat.specs.Files.{Files, get, insert, keep}
 
 -- what a test has found: it is true at equal things, or false at different ones
 abbrev pub Found : {A : Type 0} → Bool → A → A → Type 0
@@ -39,7 +39,7 @@ is_equal Equal h = refl
 is_equal Greater h = absurd (true≢false (sym h))
 
 -- two paths tie where they are the same
-ties : (q r : Path) → eq_by_cmp path_cmp q r ≡ same_path q r
+pub ties : (q r : Path) → eq_by_cmp path_cmp q r ≡ same_path q r
 ties q r = elim (same_path_found q r) [
   | inl e ↦ ap (λ x. is_eq (path_cmp q x)) (sym e.1) ∙ ap is_eq (tied_itself path_cmp_total q) ∙ sym e.0
   | inr n ↦ by n.1 (eq_by_cmp path_cmp q r) refl ∙ sym n.0
@@ -64,3 +64,11 @@ module _ {X : Type 0} where
   -- the changed path has the new value
   pub get_new : (m : Files X) (k : Path) (x : X) → get (insert m k x) k ≡ Some x
   get_new m k x = get-insert m k x k ∙ ap (λ b. cond b (Some x) (get m k)) ((pointwise_decides bytes_decides k k).1 refl)
+
+  -- what stands at a path that passes the test is left
+  pub get-keep : (m : Files X) (test : Path → Bool) (q : Path) → get (keep m test) q ≡ cond (test q) (get m q) None
+  get-keep m test q = find-where_key path_cmp test q (λ x e. ap test (sym (path_cmp_exact q x e))) m.entries
+
+  -- maps with the same at each path have the same entries
+  pub same_lists : (m n : Files X) → ((q : Path) → get m q ≡ get n q) → m.entries ≡ n.entries
+  same_lists m n h = same_entries path_cmp path_cmp_total path_cmp_exact m.entries n.entries m.sorted n.sorted h

@@ -1,17 +1,32 @@
--- While no call makes a process, process 0 is the only one: it runs, in no job, and all others are gone.
-use Rattle.std.specs.Prelude.{◌≡◌, ℕ, List, [], ◌∷◌, Option, Some, None, refl}
+-- While no call makes a process or ends the first one, process 0 is the only one: it runs, in no job, and all others are gone.
+use Rattle.std.specs.Prelude.{◌≡◌, ℕ, Bool, true, false, cond, List, [], ◌∷◌, Option, Some, None, refl}
+use Rattle.std.specs.List.{list_all}
 use Rattle.std.proofs.Common.{ap, sym, ◌∙◌, subst}
-use Rattle.histar_flat.specs.declared.calls.User.{User}
+use Rattle.std.proofs.lemmas.Bool.{true≢false, and_parts}
+use Rattle.histar_flat.specs.declared.calls.CallLine.{CallLine}
 use Rattle.histar_flat.specs.declared.calls.UnixCall.{UnixCall}
-use Rattle.histar_flat.specs.declared.calls.UnixCall.TheVariants.{Create, Read, Write, Login}
-use Rattle.histar_flat.specs.declared.replies.Errno.{Errno}
+use Rattle.histar_flat.specs.declared.calls.UnixCall.TheVariants.{Spawn, Exit, Wrap}
 use Rattle.histar_flat.specs.declared.replies.Reply.TheVariants.{Gone}
 use Rattle.histar_flat.specs.Words.{ProcName}
+use Rattle.histar_flat.specs.PathOrder.{under_process}
+use Rattle.histar_flat.specs.Sessions.{Session}
 use Rattle.histar_flat.specs.Classes.{Process}
 use Rattle.histar_flat.specs.FlatState.{Flat}
-use Rattle.histar_flat.specs.FlatCalls.{refused, changed, if_running, flat_or, running, flat_by, reply_to, flat_after}
-use Rattle.histar_flat.specs.Meaning.{Asked, boot, first_process, flat_end}
+use Rattle.histar_flat.specs.FlatCalls.{if_running, running, reply_to, flat_after}
+use Rattle.histar_flat.specs.Meaning.{boot, first_process, flat_end}
 use Rattle.histar_flat.proofs.Laws.{not_running_is_gone}
+use Rattle.histar_flat.proofs.Changes.{EachChange, by_line}
+
+-- a call that neither makes a process nor ends the one that makes it
+abbrev pub keeps_processes : UnixCall → Bool
+keeps_processes Spawn = false
+keeps_processes (Exit n) = false
+keeps_processes (Wrap q) = false
+keeps_processes _ = true
+
+-- all calls of a script are such
+abbrev pub all_keep_processes : List CallLine → Bool
+all_keep_processes calls = list_all (λ (c : CallLine). keeps_processes c.call) calls
 
 -- a process that runs, in no job
 pub record IsPlain (p : Process) : Type 0 where
@@ -26,8 +41,8 @@ pub record IsAlone (f : Flat) : Type 0 where
   pub others : (n : ℕ) (q : ProcName) → f.processes (n ∷ q) ≡ None
 
 -- so it is at the start
-pub alone_at_start : (users : List User) → IsAlone (boot users)
-alone_at_start users = record {
+pub alone_at_start : (session : Session) → IsAlone (boot session)
+alone_at_start session = record {
   first = first_process;
   is_first = refl;
   plain = record { free = refl; runs = refl };
@@ -42,32 +57,47 @@ first_runs f h = ap if_running h.is_first ∙ ap (λ (x : Option ℕ). elim x [ 
 pub others_are_still : (f : Flat) → IsAlone f → (n : ℕ) (q : ProcName) → running f (n ∷ q) ≡ None
 others_are_still f h n q = ap if_running (h.others n q)
 
-module _ (users : List User) where
-  changed_alone : (f : Flat) → IsAlone f → (p : Process) (call : UnixCall) → IsPlain p → IsAlone (changed users f [] p call)
-  changed_alone f h p (Create q mode) plain = record { first = h.first; is_first = h.is_first; plain = h.plain; others = h.others }
-  changed_alone f h p (Read q) plain = h
-  changed_alone f h p (Write q bytes) plain = record { first = h.first; is_first = h.is_first; plain = h.plain; others = h.others }
-  changed_alone f h p (Login name password) plain = record {
-    first = record p { user = name; held = [] };
-    is_first = refl;
-    plain = record { free = plain.free; runs = plain.runs };
-    others = h.others;
+module _ (session : Session) where
+  alone_changes : (f : Flat) → IsAlone f → (p : Process) (call : UnixCall) → IsPlain p → keeps_processes call ≡ true → EachChange session f [] p call IsAlone
+  alone_changes f h p call plain keeps = record {
+    stays = h;
+    makes = λ n d x walked free w own. record { first = h.first; is_first = h.is_first; plain = h.plain; others = h.others };
+    overwrites = λ n d bytes file w. record { first = h.first; is_first = h.is_first; plain = h.plain; others = h.others };
+    cuts = λ n d takes w. record { first = h.first; is_first = h.is_first; plain = h.plain; others = h.others };
+    renames = λ n k d takes apart free w. record { first = h.first; is_first = h.is_first; plain = h.plain; others = h.others };
+    spawns = λ is. absurd (true≢false (sym keeps ∙ ap keeps_processes is));
+    exits = λ n is. absurd (true≢false (sym keeps ∙ ap keeps_processes is));
+    logs_in = λ name password is known free. record {
+      first = record p { user = name; held = [] };
+      is_first = refl;
+      plain = record { free = plain.free; runs = plain.runs };
+      others = h.others;
+    };
+    kills = λ n. record { first = h.first; is_first = h.is_first; plain = h.plain; others = λ m q. gone (under_process (n ∷ []) (m ∷ q)) (f.processes (m ∷ q)) (h.others m q) };
+    wraps = λ n d is walked free w named. absurd (true≢false (sym keeps ∙ ap keeps_processes is));
   }
-
-  -- a call keeps it so
-  pub alone_after : (f : Flat) → IsAlone f → (me : ProcName) (call : UnixCall) → IsAlone (flat_after users f me call)
-  alone_after f h (n ∷ q) call = subst IsAlone (sym (not_running_is_gone users f (n ∷ q) call (others_are_still f h n q)).1) h
-  alone_after f h [] call = subst (λ r. IsAlone (flat_by users f [] r call)) (sym (first_runs f h)) (by (refused users f [] h.first call))
     where
-      by : (refusal : Option Errno) → IsAlone (flat_or refusal f (changed users f [] h.first call))
-      by None = changed_alone f h h.first call h.plain
-      by (Some d) = h
+      gone : (b : Bool) (o : Option Process) → o ≡ None → cond b None o ≡ None
+      gone true o e = refl
+      gone false o e = e
 
-  -- and so do all calls of a script
-  pub alone_at_end : (f : Flat) → IsAlone f → (asked : List Asked) → IsAlone (flat_end users f asked)
-  alone_at_end f h [] = h
-  alone_at_end f h (a ∷ asked) = alone_at_end (flat_after users f a.process a.call) (alone_after f h a.process a.call) asked
+  -- such a call keeps it so
+  pub alone_after : (f : Flat) → IsAlone f → (me : ProcName) (call : UnixCall) → keeps_processes call ≡ true → IsAlone (flat_after session f me call)
+  alone_after f h (n ∷ q) call keeps = subst IsAlone (sym (not_running_is_gone session f (n ∷ q) call (others_are_still f h n q)).1) h
+  alone_after f h [] call keeps = by_line session f [] call IsAlone h (λ p runs.
+      let found : Some h.first ≡ Some p = sym (first_runs f h) ∙ runs in
+      let one : h.first ≡ p = cc in
+      alone_changes f h p call (subst IsPlain one h.plain) keeps)
 
-  -- In a script the lines of all processes but 0 are answered `gone`.
-  pub others_are_gone : (asked : List Asked) (n : ℕ) (q : ProcName) (call : UnixCall) → reply_to users (flat_end users (boot users) asked) (n ∷ q) call ≡ Gone
-  others_are_gone asked n q call = (not_running_is_gone users (flat_end users (boot users) asked) (n ∷ q) call (others_are_still (flat_end users (boot users) asked) (alone_at_end (boot users) (alone_at_start users) asked) n q)).0
+  -- and so do all calls of a script of such calls
+  pub alone_at_end : (f : Flat) → IsAlone f → (calls : List CallLine) → all_keep_processes calls ≡ true → IsAlone (flat_end session f calls)
+  alone_at_end f h [] keep = h
+  alone_at_end f h (c ∷ calls) keep =
+      let parts = and_parts (keeps_processes c.call) (all_keep_processes calls) keep in
+      alone_at_end (flat_after session f c.process c.call) (alone_after f h c.process c.call parts.0) calls parts.1
+
+  -- In a script of such calls the lines of all processes but 0 are answered `gone`.
+  pub others_are_gone : (calls : List CallLine) → all_keep_processes calls ≡ true → (n : ℕ) (q : ProcName) (call : UnixCall) → reply_to session (flat_end session (boot session) calls) (n ∷ q) call ≡ Gone
+  others_are_gone calls keep n q call =
+      (not_running_is_gone session (flat_end session (boot session) calls) (n ∷ q) call
+      (others_are_still (flat_end session (boot session) calls) (alone_at_end (boot session) (alone_at_start session) calls keep) n q)).0

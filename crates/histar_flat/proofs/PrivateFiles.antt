@@ -1,99 +1,92 @@
 -- A private file and the processes of others: one call.
-use Rattle.std.specs.Prelude.{◌≡◌, ◌≢◌, ℕ, true, false, not, ◌&&◌, List, length, nat_lt, nat_le, Option, Some, None, is_some, refl}
-use Rattle.std.proofs.Common.{ap, sym, ◌∙◌}
-use Rattle.std.proofs.lemmas.Bool.{true≢false, not-true}
+use Rattle.std.specs.Prelude.{◌≡◌, ◌≢◌, ℕ, true, false, not, ◌&&◌, cond, List, ◌∷◌, length, nat_le, Option, Some, None, refl}
+use Rattle.std.proofs.Common.{ap, sym, ◌∙◌, inl, inr}
+use Rattle.std.proofs.lemmas.Bool.{true≢false}
 use Rattle.histar_base.specs.Refusals.{◌orelse◌, unless}
-use Rattle.histar_flat.specs.declared.calls.User.{User}
-use Rattle.histar_flat.specs.declared.calls.Mode.{Mode}
 use Rattle.histar_flat.specs.declared.calls.UnixCall.{UnixCall}
-use Rattle.histar_flat.specs.declared.calls.UnixCall.TheVariants.{Create, Read, Write, Login}
+use Rattle.histar_flat.specs.declared.calls.UnixCall.TheVariants.{Read, Write}
 use Rattle.histar_flat.specs.declared.replies.Errno.{Errno}
-use Rattle.histar_flat.specs.declared.replies.Errno.TheVariants.{EEXIST, EACCES, EPERM, ENOSPC, EFBIG}
+use Rattle.histar_flat.specs.declared.replies.Errno.TheVariants.{EACCES, EFBIG}
 use Rattle.histar_flat.specs.declared.replies.Reply.TheVariants.{Data}
 use Rattle.histar_flat.specs.Words.{Name, Path, ProcName}
-use Rattle.histar_flat.specs.PathOrder.{same, parent}
+use Rattle.histar_flat.specs.PathOrder.{same, under_path}
+use Rattle.histar_flat.specs.Sessions.{Session}
 use Rattle.histar_flat.specs.Files.{get}
-use Rattle.histar_flat.specs.Classes.{Process, is_free, may_read, may_write, class_made}
-use Rattle.histar_flat.specs.FlatState.{Flat, is_some_and, is_there, reads, writes, entries_in, walk}
-use Rattle.histar_flat.specs.FlatCalls.{is_below_root, no_room, no_file, refused, changed, answer, reply_or, flat_or, running, reply_by, flat_by, reply_to, flat_after}
-use Rattle.histar_flat.specs.Laws.{private_file, runs_for}
+use Rattle.histar_flat.specs.Classes.{Process, is_free, may_read, may_write}
+use Rattle.histar_flat.specs.FlatState.{Flat, IsTree, is_some_and, reads, writes, moved}
+use Rattle.histar_flat.specs.FlatCalls.{most_bytes, no_file, refused, answer, reply_or, running, reply_by, reply_to, flat_after}
+use Rattle.histar_flat.specs.Laws.{private_file, runs_for, takes_away}
+use Rattle.histar_flat.proofs.FileLemmas.{get_other, get-keep}
 use Rattle.histar_flat.proofs.Refusals.{passes_first, passes_later, passed}
-use Rattle.histar_flat.proofs.FileLemmas.{get_other}
-
--- a file is made only where nothing stands
-pub made_where_nothing_is : (users : List User) (f : Flat) (me : ProcName) (p : Process) (r : Path) (mode : Mode) → refused users f me p (Create r mode) ≡ None → is_there f r ≡ false
-made_where_nothing_is users f me p r mode h =
-    let room = passes_first (no_room f p r) (unless (is_some (class_made p mode)) EPERM) h in
-    let writable = unless (writes f p (parent r)) EACCES in
-    let few = unless (nat_lt (length (entries_in f (parent r))) 64) ENOSPC orelse writable in
-    let free = unless (not (is_there f r)) EEXIST in
-    let walked = passes_later (unless (is_below_root r) EEXIST) (walk f p r orelse free orelse few) room in
-    not-true (is_there f r) (passed (not (is_there f r)) EEXIST (passes_first free few (passes_later (walk f p r) (free orelse few) walked)))
+use Rattle.histar_flat.proofs.Under.{true_or_false}
+use Rattle.histar_flat.proofs.Renaming.{stays, get_renamed}
+use Rattle.histar_flat.proofs.Changes.{EachChange, by_line}
+use Rattle.histar_flat.proofs.Trees.{nothing_below}
 
 -- what is read may be read
-pub read_is_readable : (users : List User) (f : Flat) (me : ProcName) (p : Process) (r : Path) → refused users f me p (Read r) ≡ None → reads f p r ≡ true
-read_is_readable users f me p r h = passed (reads f p r) EACCES (passes_later (no_file f p r) (unless (reads f p r) EACCES) h)
+pub read_is_readable : (session : Session) (f : Flat) (me : ProcName) (p : Process) (r : Path) → refused session f me p (Read r) ≡ None → reads session f p r ≡ true
+read_is_readable session f me p r h = passed (reads session f p r) EACCES (passes_later (no_file session f p r) (unless (reads session f p r) EACCES) h)
 
 -- what is written may be written
-pub written_is_writable : (users : List User) (f : Flat) (me : ProcName) (p : Process) (r : Path) (bytes : List ℕ) → refused users f me p (Write r bytes) ≡ None → writes f p r ≡ true
-written_is_writable users f me p r bytes h =
-    let short = unless (nat_le (length bytes) 4096) EFBIG in
-    passed (writes f p r) EACCES (passes_first (unless (writes f p r) EACCES) short (passes_later (no_file f p r) (unless (writes f p r) EACCES orelse short) h))
+pub written_is_writable : (session : Session) (f : Flat) (me : ProcName) (p : Process) (r : Path) (bytes : List ℕ) → refused session f me p (Write r bytes) ≡ None → writes session f p r ≡ true
+written_is_writable session f me p r bytes h =
+    let short = unless (nat_le (length bytes) most_bytes) EFBIG in
+    passed (writes session f p r) EACCES (passes_first (unless (writes session f p r) EACCES) short (passes_later (no_file session f p r) (unless (writes session f p r) EACCES orelse short) h))
 
 module _ (f : Flat) (q : Path) (owner : Name) (bytes : List ℕ) (h : get f.files q ≡ Some (private_file owner bytes)) where
-  -- the file is there
-  pub private_is_there : is_there f q ≡ true
-  private_is_there = ap (λ o. is_some_and o (λ n. true)) h
+  -- where nothing stands is elsewhere
+  elsewhere : (r : Path) → get f.files r ≡ None → q ≢ r
+  elsewhere r free e = let gone : Some (private_file owner bytes) ≡ None = sym h ∙ ap (get f.files) e ∙ free in absurd (cc)
 
-  -- another user's process may not read it
-  pub private_is_unread : (p : Process) → same p.user owner ≡ false → reads f p q ≡ false
-  private_is_unread p i = ap (λ o. is_some_and o (λ n. may_read p n.class)) h ∙ i
+  module _ (session : Session) where
+    -- another user's process may not read it
+    private_is_unread : (p : Process) → same p.user owner ≡ false → reads session f p q ≡ false
+    private_is_unread p other = ap (λ o. is_some_and o (λ n. may_read session p n.class)) h ∙ other
 
-  -- nor write it
-  pub private_is_unwritten : (p : Process) → same p.user owner ≡ false → writes f p q ≡ false
-  private_is_unwritten p i = ap (λ o. is_some_and o (λ n. may_write p n.class)) h ∙ ap (λ b. b && is_free p) i
+    -- nor write it
+    private_is_unwritten : (p : Process) → same p.user owner ≡ false → writes session f p q ≡ false
+    private_is_unwritten p other = ap (λ o. is_some_and o (λ n. may_write session p n.class)) h ∙ ap (λ b. b && is_free p) other
 
-  -- so no process makes a file there
-  pub made_elsewhere : (users : List User) (me : ProcName) (p : Process) (r : Path) (mode : Mode) → refused users f me p (Create r mode) ≡ None → q ≢ r
-  made_elsewhere users me p r mode e same_place =
-      true≢false (sym private_is_there ∙ ap (is_there f) same_place ∙ made_where_nothing_is users f me p r mode e)
+    -- so what it writes is elsewhere
+    written_elsewhere : (p : Process) (r : Path) → same p.user owner ≡ false → writes session f p r ≡ true → q ≢ r
+    written_elsewhere p r other w e = true≢false (sym w ∙ ap (writes session f p) (sym e) ∙ private_is_unwritten p other)
 
-  -- another user's process reads elsewhere
-  pub read_elsewhere : (users : List User) (me : ProcName) (p : Process) (r : Path) → same p.user owner ≡ false → refused users f me p (Read r) ≡ None → q ≢ r
-  read_elsewhere users me p r i e same_place =
-      true≢false (sym (read_is_readable users f me p r e) ∙ ap (reads f p) (sym same_place) ∙ private_is_unread p i)
+    private_changes : IsTree f → (me : ProcName) (p : Process) (call : UnixCall) → same p.user owner ≡ false → takes_away call q ≡ false
+        → EachChange session f me p call (λ g. get g.files q ≡ Some (private_file owner bytes))
+    private_changes tree me p call other kept = record {
+      stays = h;
+      makes = λ n d x walked free w own. get_other f.files (n ∷ d) x q (elsewhere (n ∷ d) free) ∙ h;
+      overwrites = λ n d new file w. get_other f.files (n ∷ d) _ q (written_elsewhere p (n ∷ d) other w) ∙ h;
+      cuts = λ n d away w. get-keep f.files (λ t. not (under_path (n ∷ d) t)) q ∙ ap (λ b. cond (not b) (get f.files q) None) (sym (away q) ∙ kept) ∙ h;
+      renames = λ n k d away apart free w.
+          let below : under_path (k ∷ d) q ≡ false = elim (true_or_false (under_path (k ∷ d) q)) [
+            | inl u ↦ absurd (elsewhere q (nothing_below f tree (k ∷ d) free q u) refl)
+            | inr u ↦ u
+          ] in
+          get_renamed n k d apart f.files (nothing_below f tree (k ∷ d) free) q
+          ∙ ap (λ b. cond b None (get f.files (moved (k ∷ d) (n ∷ d) q))) (sym (away q) ∙ kept)
+          ∙ ap (get f.files) (stays (k ∷ d) (n ∷ d) q below) ∙ h;
+      spawns = λ is. h;
+      exits = λ n is. h;
+      logs_in = λ name password is known free. h;
+      kills = λ n. h;
+      wraps = λ n d is walked free w named. get_other f.files (n ∷ d) _ q (elsewhere (n ∷ d) free) ∙ h;
+    }
 
-  -- and writes elsewhere
-  pub written_elsewhere : (users : List User) (me : ProcName) (p : Process) (r : Path) (new : List ℕ) → same p.user owner ≡ false → refused users f me p (Write r new) ≡ None → q ≢ r
-  written_elsewhere users me p r new i e same_place =
-      true≢false (sym (written_is_writable users f me p r new e) ∙ ap (writes f p) (sym same_place) ∙ private_is_unwritten p i)
-
-  changes_elsewhere : (users : List User) (me : ProcName) (p : Process) (call : UnixCall) → same p.user owner ≡ false → refused users f me p call ≡ None → get (changed users f me p call).files q ≡ Some (private_file owner bytes)
-  changes_elsewhere users me p (Create r mode) i e = get_other f.files r _ q (made_elsewhere users me p r mode e) ∙ h
-  changes_elsewhere users me p (Read r) i e = h
-  changes_elsewhere users me p (Write r new) i e = get_other f.files r _ q (written_elsewhere users me p r new i e) ∙ h
-  changes_elsewhere users me p (Login name password) i e = h
-
-  -- A call of a process that is not the owner's, so of another user's or of nobody's, leaves a private file as it is.
-  pub private_file_stays : (users : List User) (me : ProcName) (call : UnixCall) → runs_for f me owner ≡ false → get (flat_after users f me call).files q ≡ Some (private_file owner bytes)
-  private_file_stays users me call other = by (running f me) other
-    where
-      first : (p : Process) → same p.user owner ≡ false → (refusal : Option Errno) → refused users f me p call ≡ refusal → get (flat_or refusal f (changed users f me p call)).files q ≡ Some (private_file owner bytes)
-      first p i None e = changes_elsewhere users me p call i e
-      first p i (Some d) e = h
-
-      by : (r : Option Process) → is_some_and r (λ p. same p.user owner) ≡ false → get (flat_by users f me r call).files q ≡ Some (private_file owner bytes)
-      by None i = h
-      by (Some p) i = first p i (refused users f me p call) refl
+  -- In a tree a call of a process that is not the owner's leaves a private file as it is, unless it takes it away or renames it.
+  pub private_file_stays : IsTree f → (session : Session) (me : ProcName) (call : UnixCall) → runs_for f me owner ≡ false → takes_away call q ≡ false → get (flat_after session f me call).files q ≡ Some (private_file owner bytes)
+  private_file_stays tree session me call other kept =
+      by_line session f me call (λ g. get g.files q ≡ Some (private_file owner bytes)) h
+      (λ p runs. private_changes session tree me p call (sym (ap (λ r. is_some_and r (λ p. same p.user owner)) runs) ∙ other) kept)
 
   -- A process that is not the owner's is never answered the bytes of a private file.
-  pub private_file_is_untold : (users : List User) (me : ProcName) (told : List ℕ) → runs_for f me owner ≡ false → reply_to users f me (Read q) ≢ Data told
-  private_file_is_untold users me told other = by (running f me) other
+  pub private_file_is_untold : (session : Session) (me : ProcName) (told : List ℕ) → runs_for f me owner ≡ false → reply_to session f me (Read q) ≢ Data told
+  private_file_is_untold session me told other = by (running f me) other
     where
-      first : (p : Process) → same p.user owner ≡ false → (refusal : Option Errno) → refused users f me p (Read q) ≡ refusal → reply_or refusal (answer f me p (Read q)) ≢ Data told
-      first p i None e = absurd (read_elsewhere users me p q i e refl)
+      first : (p : Process) → same p.user owner ≡ false → (refusal : Option Errno) → refused session f me p (Read q) ≡ refusal → reply_or refusal (answer f me p (Read q)) ≢ Data told
+      first p i None e = absurd (true≢false (sym (read_is_readable session f me p q e) ∙ private_is_unread session p i))
       first p i (Some d) e = λ k. cc
 
-      by : (r : Option Process) → is_some_and r (λ p. same p.user owner) ≡ false → reply_by users f me r (Read q) ≢ Data told
+      by : (r : Option Process) → is_some_and r (λ p. same p.user owner) ≡ false → reply_by session f me r (Read q) ≢ Data told
       by None i = λ k. cc
-      by (Some p) i = first p i (refused users f me p (Read q)) refl
+      by (Some p) i = first p i (refused session f me p (Read q)) refl

@@ -22,3 +22,19 @@ module _ {E : Type 0} where
   pub stopped : (b : Bool) (e : E) (later : Option E) → b ≡ false → (unless b e orelse later) ≡ Some e
   stopped true e later h = absurd (cc)
   stopped false e later h = refl
+
+  -- where one test and what comes before it refuse nothing, the test has passed
+  pub one_passes : (a : Option E) (x : Bool) (e : E) → (a orelse unless x e) ≡ None → (a ≡ None) × (x ≡ true)
+  one_passes a x e h = (passes_first a (unless x e) h, passed x e (passes_later a (unless x e) h))
+
+  -- so have two tests
+  pub two_pass : (a : Option E) (x y : Bool) (d e : E) → (a orelse unless x d orelse unless y e) ≡ None → (a ≡ None) × (x ≡ true) × (y ≡ true)
+  two_pass a x y d e h =
+      let rest = one_passes (unless x d) y e (passes_later a (unless x d orelse unless y e) h) in
+      (passes_first a (unless x d orelse unless y e) h, passed x d rest.0, rest.1)
+
+  -- and so have three
+  pub three_pass : (a : Option E) (x y z : Bool) (c d e : E) → (a orelse unless x c orelse unless y d orelse unless z e) ≡ None → (a ≡ None) × (x ≡ true) × (y ≡ true) × (z ≡ true)
+  three_pass a x y z c d e h =
+      let rest = two_pass (unless x c) y z d e (passes_later a (unless x c orelse unless y d orelse unless z e) h) in
+      (passes_first a (unless x c orelse unless y d orelse unless z e) h, passed x c rest.0, rest.1, rest.2)

@@ -1,113 +1,225 @@
 -- No reply to others tells what a private file holds: a whole run.
-use Rattle.std.specs.Prelude.{◌≡◌, ◌≢◌, ℕ, Bool, true, false, not, cond, List, [], ◌∷◌, ◌++◌, Option, Some, None, option_map, refl}
+use Rattle.std.specs.Prelude.{◌≡◌, ◌+◌, ℕ, Bool, true, false, not, cond, List, [], ◌∷◌, ◌++◌, map, length, nat_le, Option, Some, None, option_map, refl}
 use Rattle.std.proofs.Common.{ap, sym, ◌∙◌, subst, inl, inr}
-use Rattle.std.proofs.lemmas.Bool.{and_parts, not-true}
-use Rattle.histar_flat.specs.declared.calls.User.{User}
+use Rattle.std.proofs.lemmas.Bool.{true≢false, and_parts, not-true}
+use Rattle.std.specs.FinMap.{find}
+use Rattle.histar_flat.specs.declared.calls.CallLine.{CallLine}
 use Rattle.histar_flat.specs.declared.calls.UnixCall.{UnixCall}
-use Rattle.histar_flat.specs.declared.calls.UnixCall.TheVariants.{Create, Read, Write, Login}
+use Rattle.histar_flat.specs.declared.calls.UnixCall.TheVariants.{Create, Mkdir, Read, Write, Append, List as ListCall, Stat, Unlink, Rmdir, Rmtree, Rename, Spawn, Exit, Status, Kill, Whoami, Login, Wrap}
 use Rattle.histar_flat.specs.declared.replies.Errno.{Errno}
-use Rattle.histar_flat.specs.declared.replies.Reply.{Reply}
-use Rattle.histar_flat.specs.declared.replies.Reply.TheVariants.{Data, Refused}
+use Rattle.histar_flat.specs.declared.replies.Errno.TheVariants.{EACCES, EFBIG}
+use Rattle.histar_flat.specs.declared.replies.Reply.TheVariants.{Refused}
 use Rattle.histar_flat.specs.Words.{Name, Path, ProcName}
-use Rattle.histar_flat.specs.PathOrder.{same}
-use Rattle.histar_flat.specs.Files.{get, insert}
-use Rattle.histar_flat.specs.Classes.{Process}
-use Rattle.histar_flat.specs.FlatState.{Flat, Node, is_some_and, bytes_of, class_of, with_bytes, with_process}
-use Rattle.histar_flat.specs.FlatState.Content.{File}
-use Rattle.histar_flat.specs.FlatCalls.{refused, changed, answer, reply_or, flat_or, if_running, running, reply_by, flat_by, reply_to, flat_after}
-use Rattle.histar_flat.specs.Meaning.{Asked, boot, replies_from, flat_end, meaning}
-use Rattle.histar_flat.specs.Laws.{private_file, runs_for, is_login_as, has_no_login_as, IsAway}
-use Rattle.histar_flat.proofs.FileLemmas.{same_path_found, get_other, get_new}
+use Rattle.histar_flat.specs.PathOrder.{path_cmp, same, same_path, under_path, under_process, parent}
+use Rattle.histar_flat.specs.Sessions.{Session}
+use Rattle.histar_flat.specs.Files.{get, insert, from_list}
+use Rattle.histar_flat.specs.Classes.{Class, Process, is_free, may_read, may_write, class_made}
+use Rattle.histar_flat.specs.Classes.Class.{Private, Readable, Open, Scratch, Grouped}
+use Rattle.histar_flat.specs.FlatState.{Flat, Node, Content, is_some_and, reads, writes, bytes_of, bytes_at, class_of, with_bytes, with_process, with_child, without_below, with_renamed, moved}
+use Rattle.histar_flat.specs.FlatState.Content.{Dir, File}
+use Rattle.histar_flat.specs.FlatCalls.{most_bytes, no_file, refused, class_or_open, inner_chain, next_child, changed, answer, reply_or, flat_or, if_running, running, reply_by, flat_by, reply_to, flat_after}
+use Rattle.histar_flat.specs.Meaning.{boot, answered_from, flat_end, meaning}
+use Rattle.histar_flat.specs.Laws.{private_file, is_login_as, has_no_login_as, IsAway}
+use Rattle.histar_flat.proofs.FileLemmas.{same_name_found, same_path_found, get-insert, get-keep}
+use Rattle.histar_flat.proofs.Refusals.{two_pass}
+use Rattle.histar_flat.proofs.Entries.{shown, all_told, find_told, same_told}
+use Rattle.histar_flat.proofs.Renaming.{get-from_list}
 use Rattle.histar_flat.proofs.Laws.{replies_go_on}
-use Rattle.histar_flat.proofs.FirstProcess.{IsAlone, first_runs, others_are_still}
-use Rattle.histar_flat.proofs.Alike.{ShowAlike, refused_alike}
-use Rattle.histar_flat.proofs.Entries.{shown}
-use Rattle.histar_flat.proofs.PrivateFiles.{private_file_stays, made_elsewhere, read_elsewhere, written_elsewhere}
+use Rattle.histar_flat.proofs.Changes.{EachChange, by_line}
+use Rattle.histar_flat.proofs.Alike.{ShowAlike, refused_alike, answer_alike}
 
--- two states that differ in the bytes of one private file alone
-pub record IsAlikeBut (owner : Name) (q : Path) (f g : Flat) : Type 0 where
-  pub elsewhere : (r : Path) → q ≢ r → get f.files r ≡ get g.files r
-  pub first : List ℕ
-  pub second : List ℕ
-  pub here : get f.files q ≡ Some (private_file owner first)
-  pub there : get g.files q ≡ Some (private_file owner second)
-  pub processes : f.processes ≡ g.processes
+-- the class is for this owner alone
+abbrev is_private_of : Name → Class → Bool
+is_private_of owner (Private o) = same o owner
+is_private_of owner _ = false
 
-reply_alike : (d e : Option Errno) (a b : Reply) → d ≡ e → (d ≡ None → a ≡ b) → reply_or d a ≡ reply_or e b
-reply_alike None None a b h k = k refl
-reply_alike None (Some x) a b h k = absurd (cc)
-reply_alike (Some x) None a b h k = absurd (cc)
-reply_alike (Some x) (Some y) a b h k = let t : x ≡ y = cc in ap Refused t
+-- a file or a directory without the bytes that are for this owner alone
+abbrev veiled_content : Bool → Content → Content
+veiled_content hides Dir = Dir
+veiled_content hides (File bytes) = File (cond hides [] bytes)
 
-module _ (owner : Name) (q : Path) (f g : Flat) (alike : IsAlikeBut owner q f g) where
-  shown_alike : ShowAlike f g
-  shown_alike r = elim (same_path_found q r) [
-    | inl e ↦ subst (λ s. option_map shown (get f.files s) ≡ option_map shown (get g.files s)) e.1 (ap (option_map shown) alike.here ∙ sym (ap (option_map shown) alike.there))
-    | inr n ↦ ap (option_map shown) (alike.elsewhere r n.1)
-  ]
+abbrev veiled : Name → Node → Node
+veiled owner n = record { class = n.class; content = veiled_content (is_private_of owner n.class) n.content }
 
-  -- a call that is not refused has the same answer to another user's process
-  answer_alike : (users : List User) (me : ProcName) (p : Process) (call : UnixCall) → same p.user owner ≡ false → refused users f me p call ≡ None → answer f me p call ≡ answer g me p call
-  answer_alike users me p (Create r mode) i e = refl
-  answer_alike users me p (Read r) i e = ap (λ o. Data (bytes_of o)) (alike.elsewhere r (read_elsewhere f q owner alike.first alike.here users me p r i e))
-  answer_alike users me p (Write r bytes) i e = refl
-  answer_alike users me p (Login name password) i e = refl
-
-  -- the same change elsewhere leaves them alike
-  inserted_alike : (r : Path) (x : Node) → q ≢ r → IsAlikeBut owner q (record f { files = insert f.files r x }) (record g { files = insert g.files r x })
-  inserted_alike r x apart = record {
-    elsewhere = λ s other. by s other;
-    first = alike.first;
-    second = alike.second;
-    here = get_other f.files r x q apart ∙ alike.here;
-    there = get_other g.files r x q apart ∙ alike.there;
-    processes = alike.processes;
-  }
-    where
-      by : (s : Path) → q ≢ s → get (insert f.files r x) s ≡ get (insert g.files r x) s
-      by s other = elim (same_path_found s r) [
-        | inl e ↦ subst (λ t. get (insert f.files r x) t ≡ get (insert g.files r x) t) (sym e.1) (get_new f.files r x ∙ sym (get_new g.files r x))
-        | inr n ↦ get_other f.files r x s n.1 ∙ alike.elsewhere s other ∙ sym (get_other g.files r x s n.1)
-      ]
-
-  changed_alike : (users : List User) (me : ProcName) (p : Process) (call : UnixCall) → same p.user owner ≡ false → refused users f me p call ≡ None → IsAlikeBut owner q (changed users f me p call) (changed users g me p call)
-  changed_alike users me p (Create r mode) i e = inserted_alike r _ (made_elsewhere f q owner alike.first alike.here users me p r mode e)
-  changed_alike users me p (Read r) i e = alike
-  changed_alike users me p (Write r bytes) i e =
-      let apart = written_elsewhere f q owner alike.first alike.here users me p r bytes i e in
-      subst (λ c. IsAlikeBut owner q (with_bytes f r bytes) (record g { files = insert g.files r (record { class = c; content = File bytes }) })) (ap class_of (alike.elsewhere r apart)) (inserted_alike r _ apart)
-  changed_alike users me p (Login name password) i e = record {
-    elsewhere = alike.elsewhere;
-    first = alike.first;
-    second = alike.second;
-    here = alike.here;
-    there = alike.there;
-    processes = λ j. λ x. cond (same me x) (Some (record p { user = name; held = [] })) (alike.processes j x);
-  }
-
-  flat_or_alike : (users : List User) (me : ProcName) (p : Process) (call : UnixCall) → same p.user owner ≡ false → (d e : Option Errno) → refused users f me p call ≡ d → d ≡ e → IsAlikeBut owner q (flat_or d f (changed users f me p call)) (flat_or e g (changed users g me p call))
-  flat_or_alike users me p call i None None r h = changed_alike users me p call i r
-  flat_or_alike users me p call i None (Some x) r h = absurd (cc)
-  flat_or_alike users me p call i (Some x) None r h = absurd (cc)
-  flat_or_alike users me p call i (Some x) (Some y) r h = alike
-
-  -- One call of a process that is not the owner's has the same reply in both.
-  pub reply_to_alike : (users : List User) (me : ProcName) (call : UnixCall) → runs_for f me owner ≡ false → reply_to users f me call ≡ reply_to users g me call
-  reply_to_alike users me call other = by (running f me) other ∙ ap (λ o. reply_by users g me (if_running (o me)) call) alike.processes
-    where
-      by : (r : Option Process) → is_some_and r (λ p. same p.user owner) ≡ false → reply_by users f me r call ≡ reply_by users g me r call
-      by None i = refl
-      by (Some p) i = reply_alike (refused users f me p call) (refused users g me p call) (answer f me p call) (answer g me p call) (refused_alike f g shown_alike users me p call) (answer_alike users me p call i)
-
-  -- It leaves states that differ in these bytes alone.
-  pub flat_after_alike : (users : List User) (me : ProcName) (call : UnixCall) → runs_for f me owner ≡ false → IsAlikeBut owner q (flat_after users f me call) (flat_after users g me call)
-  flat_after_alike users me call other = subst (λ o. IsAlikeBut owner q (flat_after users f me call) (flat_by users g me (if_running (o me)) call)) alike.processes (by (running f me) other)
-    where
-      by : (r : Option Process) → is_some_and r (λ p. same p.user owner) ≡ false → IsAlikeBut owner q (flat_by users f me r call) (flat_by users g me r call)
-      by None i = alike
-      by (Some p) i = flat_or_alike users me p call i (refused users f me p call) (refused users g me p call) refl (refused_alike f g shown_alike users me p call)
+-- two states that differ in bytes that are for this owner alone
+record IsAlikeBut (owner : Name) (f g : Flat) : Type 0 where
+  files : (r : Path) → option_map (veiled owner) (get f.files r) ≡ option_map (veiled owner) (get g.files r)
+  processes : f.processes ≡ g.processes
 
 module _ (owner : Name) where
+  -- the veil leaves the class and the kind
+  shown_through : (n : Node) → shown (veiled owner n) ≡ shown n
+  shown_through n = by n.content
+    where
+      by : (content : Content) → shown (veiled owner (record { class = n.class; content = content })) ≡ shown (record { class = n.class; content = content })
+      by Dir = refl
+      by (File bytes) = refl
+
+  -- what stands there shows as much through the veil
+  option_shown_through : (o : Option Node) → option_map shown (option_map (veiled owner) o) ≡ option_map shown o
+  option_shown_through None = refl
+  option_shown_through (Some n) = ap Some (shown_through n)
+
+  -- the veil leaves bytes that are not the owner's alone
+  bytes_through : (o : Option Node) → is_some_and o (λ n. not (is_private_of owner n.class)) ≡ true → bytes_of (option_map (veiled owner) o) ≡ bytes_of o
+  bytes_through None h = refl
+  bytes_through (Some n) h = by n.content
+    where
+      by : (content : Content) → bytes_of (Some (veiled owner (record { class = n.class; content = content }))) ≡ bytes_of (Some (record { class = n.class; content = content }))
+      by Dir = refl
+      by (File bytes) = ap (λ b. cond b [] bytes) (not-true (is_private_of owner n.class) h)
+
+  -- what another user's process may read is not the owner's alone
+  read_is_unveiled : (session : Session) (p : Process) (class : Class) → same p.user owner ≡ false → may_read session p class ≡ true → not (is_private_of owner class) ≡ true
+  read_is_unveiled session p (Private o) other h = elim (same_name_found o owner) [
+    | inl e ↦ absurd (true≢false (sym h ∙ ap (same p.user) e.1 ∙ other))
+    | inr e ↦ ap not e.0
+  ]
+  read_is_unveiled session p (Readable o) other h = refl
+  read_is_unveiled session p Open other h = refl
+  read_is_unveiled session p (Scratch o jobs) other h = refl
+  read_is_unveiled session p (Grouped group) other h = refl
+
+  -- nor is what it may write
+  written_is_unveiled : (session : Session) (p : Process) (class : Class) → same p.user owner ≡ false → may_write session p class ≡ true → not (is_private_of owner class) ≡ true
+  written_is_unveiled session p (Private o) other h = read_is_unveiled session p (Private o) other (and_parts (same p.user o) (is_free p) h).0
+  written_is_unveiled session p (Readable o) other h = refl
+  written_is_unveiled session p Open other h = refl
+  written_is_unveiled session p (Scratch o jobs) other h = refl
+  written_is_unveiled session p (Grouped group) other h = refl
+
+  -- a test that follows from another
+  test_follows : (test later : Node → Bool) → ((n : Node) → test n ≡ true → later n ≡ true) → (o : Option Node) → is_some_and o test ≡ true → is_some_and o later ≡ true
+  test_follows test later follows None h = absurd (true≢false (sym h))
+  test_follows test later follows (Some n) h = follows n h
+
+  -- the same class
+  class_alike : (a b : Option Node) → option_map (veiled owner) a ≡ option_map (veiled owner) b → class_of a ≡ class_of b
+  class_alike None None h = refl
+  class_alike None (Some n) h = absurd (cc)
+  class_alike (Some m) None h = absurd (cc)
+  class_alike (Some m) (Some n) h = let e : veiled owner m ≡ veiled owner n = cc in ap (λ x. x.class) e
+
+  -- what a test leaves is told alike
+  chosen_alike : {X : Type 0} (told : X → Node) (b : Bool) (x y u v : Option X) → option_map told x ≡ option_map told u → option_map told y ≡ option_map told v → option_map told (cond b x y) ≡ option_map told (cond b u v)
+  chosen_alike told true x y u v d e = d
+  chosen_alike told false x y u v d e = e
+
+  module _ (f g : Flat) (alike : IsAlikeBut owner f g) where
+    shown_alike : ShowAlike f g
+    shown_alike r = sym (option_shown_through (get f.files r)) ∙ ap (option_map shown) (alike.files r) ∙ option_shown_through (get g.files r)
+
+    -- bytes that are not the owner's alone are the same
+    unveiled_alike : (r : Path) → is_some_and (get f.files r) (λ n. not (is_private_of owner n.class)) ≡ true → bytes_at f r ≡ bytes_at g r
+    unveiled_alike r h =
+        sym (bytes_through (get f.files r) h) ∙ ap bytes_of (alike.files r) ∙ bytes_through (get g.files r) (sym (test (get f.files r) (get g.files r) (alike.files r)) ∙ h)
+      where
+        test : (a b : Option Node) → option_map (veiled owner) a ≡ option_map (veiled owner) b → is_some_and a (λ n. not (is_private_of owner n.class)) ≡ is_some_and b (λ n. not (is_private_of owner n.class))
+        test None None e = refl
+        test None (Some n) e = absurd (cc)
+        test (Some m) None e = absurd (cc)
+        test (Some m) (Some n) e = let v : veiled owner m ≡ veiled owner n = cc in ap (λ x. not (is_private_of owner x.class)) v
+
+    -- the same, or as much the same, at a path
+    put_alike : (r : Path) (x y : Node) → x ≡ y → (q : Path) → option_map (veiled owner) (get (insert f.files r x) q) ≡ option_map (veiled owner) (get (insert g.files r y) q)
+    put_alike r x y e q =
+        ap (option_map (veiled owner)) (get-insert f.files r x q)
+        ∙ chosen_alike (veiled owner) (same_path q r) (Some x) (get f.files q) (Some y) (get g.files q) (ap (λ z. Some (veiled owner z)) e) (alike.files q)
+        ∙ ap (option_map (veiled owner)) (sym (get-insert g.files r y q))
+
+    cut_alike : (r q : Path) → option_map (veiled owner) (get (without_below f r).files q) ≡ option_map (veiled owner) (get (without_below g r).files q)
+    cut_alike r q =
+        ap (option_map (veiled owner)) (get-keep f.files (λ t. not (under_path r t)) q)
+        ∙ chosen_alike (veiled owner) (not (under_path r q)) (get f.files q) None (get g.files q) None (alike.files q) refl
+        ∙ ap (option_map (veiled owner)) (sym (get-keep g.files (λ t. not (under_path r t)) q))
+
+    -- a rename moves both alike
+    renamed_alike : (old new q : Path) → option_map (veiled owner) (get (with_renamed f old new).files q) ≡ option_map (veiled owner) (get (with_renamed g old new).files q)
+    renamed_alike old new q =
+        told f.files.entries
+        ∙ ap (λ (l : List (Path × Node)). find path_cmp q (map (λ e. (moved old new e.0, e.1)) l)) (same_told (veiled owner) f.files g.files alike.files)
+        ∙ sym (told g.files.entries)
+      where
+        both : (es : List (Path × Node)) → all_told (veiled owner) (map (λ e. (moved old new e.0, e.1)) es) ≡ map (λ e. (moved old new e.0, e.1)) (all_told (veiled owner) es)
+        both [] = refl
+        both (e ∷ es) = ap (λ (l : List (Path × Node)). (moved old new e.0, veiled owner e.1) ∷ l) (both es)
+
+        told : (es : List (Path × Node)) → option_map (veiled owner) (get (from_list (map (λ e. (moved old new e.0, e.1)) es)) q) ≡ find path_cmp q (map (λ e. (moved old new e.0, e.1)) (all_told (veiled owner) es))
+        told es =
+            ap (option_map (veiled owner)) (get-from_list (map (λ e. (moved old new e.0, e.1)) es) q)
+            ∙ sym (find_told (veiled owner) q (map (λ e. (moved old new e.0, e.1)) es)) ∙ ap (find path_cmp q) (both es)
+
+    module _ (session : Session) (me : ProcName) (p : Process) (other : same p.user owner ≡ false) where
+      read_alike : (r : Path) → reads session f p r ≡ true → bytes_at f r ≡ bytes_at g r
+      read_alike r h = unveiled_alike r (test_follows (λ n. may_read session p n.class) (λ n. not (is_private_of owner n.class)) (λ n. read_is_unveiled session p n.class other) (get f.files r) h)
+
+      written_alike : (r : Path) → writes session f p r ≡ true → bytes_at f r ≡ bytes_at g r
+      written_alike r h = unveiled_alike r (test_follows (λ n. may_write session p n.class) (λ n. not (is_private_of owner n.class)) (λ n. written_is_unveiled session p n.class other) (get f.files r) h)
+
+      refusals_alike : (call : UnixCall) → refused session f me p call ≡ refused session g me p call
+      refusals_alike call = refused_alike session f g shown_alike alike.processes me p written_alike call
+
+      overwritten_alike : (r : Path) (b c : List ℕ) → b ≡ c → IsAlikeBut owner (with_bytes f r b) (with_bytes g r c)
+      overwritten_alike r b c e = record {
+        files = put_alike r (record { class = class_of (get f.files r); content = File b }) (record { class = class_of (get g.files r); content = File c }) (λ i. record { class = class_alike (get f.files r) (get g.files r) (alike.files r) i; content = File (e i) });
+        processes = alike.processes;
+      }
+
+      -- a call of another user's process leaves them alike
+      changed_alike : (call : UnixCall) → refused session f me p call ≡ None → IsAlikeBut owner (changed session f me p call) (changed session g me p call)
+      changed_alike (Create r mode) h = record { files = put_alike r (record { class = class_or_open (class_made session p mode); content = File [] }) (record { class = class_or_open (class_made session p mode); content = File [] }) refl; processes = alike.processes }
+      changed_alike (Mkdir r mode) h = record { files = put_alike r (record { class = class_or_open (class_made session p mode); content = Dir }) (record { class = class_or_open (class_made session p mode); content = Dir }) refl; processes = alike.processes }
+      changed_alike (Read r) h = alike
+      changed_alike (Write r bytes) h = overwritten_alike r bytes bytes refl
+      changed_alike (Append r bytes) h =
+          let tests = two_pass (no_file session f p r) (writes session f p r) (nat_le (length (bytes_at f r ++ bytes)) most_bytes) EACCES EFBIG h in
+          overwritten_alike r (bytes_at f r ++ bytes) (bytes_at g r ++ bytes) (ap (λ b. b ++ bytes) (written_alike r tests.1))
+      changed_alike (ListCall r) h = alike
+      changed_alike (Stat r) h = alike
+      changed_alike (Unlink r) h = record { files = cut_alike r; processes = alike.processes }
+      changed_alike (Rmdir r) h = record { files = cut_alike r; processes = alike.processes }
+      changed_alike (Rmtree r) h = record { files = cut_alike r; processes = alike.processes }
+      changed_alike (Rename r name) h = record { files = renamed_alike r (name ∷ parent r); processes = alike.processes }
+      changed_alike Spawn h = record { files = alike.files; processes = λ i. (changed session (record f { processes = alike.processes i }) me p Spawn).processes }
+      changed_alike (Exit n) h = record { files = alike.files; processes = λ i. (changed session (record f { processes = alike.processes i }) me p (Exit n)).processes }
+      changed_alike (Status name) h = alike
+      changed_alike (Kill name) h = record { files = alike.files; processes = λ i. (changed session (record f { processes = alike.processes i }) me p (Kill name)).processes }
+      changed_alike Whoami h = alike
+      changed_alike (Login name password) h = record { files = alike.files; processes = λ i. (changed session (record f { processes = alike.processes i }) me p (Login name password)).processes }
+      changed_alike (Wrap r) h = record {
+        files = put_alike r (record { class = Scratch p.user (inner_chain me p); content = Dir }) (record { class = Scratch p.user (inner_chain me p); content = Dir }) refl;
+        processes = λ i. (changed session (record f { processes = alike.processes i }) me p (Wrap r)).processes;
+      }
+
+      replies_alike : (call : UnixCall) (d e : Option Errno) → refused session f me p call ≡ d → d ≡ e → reply_or d (answer f me p call) ≡ reply_or e (answer g me p call)
+      replies_alike call None None h k = answer_alike session f g shown_alike alike.processes me p read_alike call h
+      replies_alike call None (Some x) h k = absurd (cc)
+      replies_alike call (Some x) None h k = absurd (cc)
+      replies_alike call (Some x) (Some y) h k = let t : x ≡ y = cc in ap Refused t
+
+      states_alike : (call : UnixCall) (d e : Option Errno) → refused session f me p call ≡ d → d ≡ e → IsAlikeBut owner (flat_or d f (changed session f me p call)) (flat_or e g (changed session g me p call))
+      states_alike call None None h k = changed_alike call h
+      states_alike call None (Some x) h k = absurd (cc)
+      states_alike call (Some x) None h k = absurd (cc)
+      states_alike call (Some x) (Some y) h k = alike
+
+    module _ (session : Session) (away : IsAway owner f) (me : ProcName) (call : UnixCall) where
+      -- One call has the same reply in both, while no process is the owner's.
+      reply_to_alike : reply_to session f me call ≡ reply_to session g me call
+      reply_to_alike = by (running f me) (away me) ∙ ap (λ o. reply_by session g me (if_running (o me)) call) alike.processes
+        where
+          by : (r : Option Process) → is_some_and r (λ p. same p.user owner) ≡ false → reply_by session f me r call ≡ reply_by session g me r call
+          by None i = refl
+          by (Some p) i = replies_alike session me p i call (refused session f me p call) (refused session g me p call) refl (refusals_alike session me p i call)
+
+      -- It leaves states that differ in these bytes alone.
+      flat_after_alike : IsAlikeBut owner (flat_after session f me call) (flat_after session g me call)
+      flat_after_alike = subst (λ o. IsAlikeBut owner (flat_after session f me call) (flat_by session g me (if_running (o me)) call)) alike.processes (by (running f me) (away me))
+        where
+          by : (r : Option Process) → is_some_and r (λ p. same p.user owner) ≡ false → IsAlikeBut owner (flat_by session f me r call) (flat_by session g me r call)
+          by None i = alike
+          by (Some p) i = states_alike session me p i call (refused session f me p call) (refused session g me p call) refl (refusals_alike session me p i call)
+
   -- a process of another user is not the owner's, whether it runs or not
   other_is_away : (p : Process) → same p.user owner ≡ false → is_some_and (if_running (Some p)) (λ r. same r.user owner) ≡ false
   other_is_away p h = by p.exited
@@ -116,75 +228,79 @@ module _ (owner : Name) where
       by None = h
       by (Some n) = refl
 
-  login_away : (f : Flat) (me : ProcName) (p : Process) (name : Name) → IsAway owner f → same name owner ≡ false → IsAway owner (with_process f me (record p { user = name; held = [] }))
-  login_away f me p name away h x = by (same me x)
+  away_with : (f : Flat) (me : ProcName) (p : Process) → IsAway owner f → same p.user owner ≡ false → IsAway owner (with_process f me p)
+  away_with f me p away h x = by (same me x)
     where
-      by : (b : Bool) → is_some_and (if_running (cond b (Some (record p { user = name; held = [] })) (f.processes x))) (λ r. same r.user owner) ≡ false
-      by true = other_is_away (record p { user = name; held = [] }) h
+      by : (b : Bool) → is_some_and (if_running (cond b (Some p) (f.processes x))) (λ r. same r.user owner) ≡ false
+      by true = other_is_away p h
       by false = away x
 
-  changed_away : (users : List User) (f : Flat) (me : ProcName) (p : Process) (call : UnixCall) → IsAway owner f → is_login_as owner call ≡ false → IsAway owner (changed users f me p call)
-  changed_away users f me p (Create r mode) away h = away
-  changed_away users f me p (Read r) away h = away
-  changed_away users f me p (Write r bytes) away h = away
-  changed_away users f me p (Login name password) away h = login_away f me p name away h
+  away_with_child : (f : Flat) (me : ProcName) (p : Process) (chain : List ProcName) → IsAway owner f → same p.user owner ≡ false → IsAway owner (with_child f me p chain)
+  away_with_child f me p chain away h =
+      let grown : Process = record p { born = p.born + 1 } in
+      away_with (with_process f me grown) ((p.born + 1) ∷ me) (record { user = p.user; chain = chain; held = []; exited = None; born = 0 }) (away_with f me grown away h) h
+
+  away_without : (b : Bool) (o : Option Process) → is_some_and (if_running o) (λ r. same r.user owner) ≡ false → is_some_and (if_running (cond b None o)) (λ r. same r.user owner) ≡ false
+  away_without true o h = refl
+  away_without false o h = h
+
+  away_changes : (session : Session) (f : Flat) (me : ProcName) (p : Process) (call : UnixCall) → IsAway owner f → same p.user owner ≡ false → is_login_as owner call ≡ false → EachChange session f me p call (IsAway owner)
+  away_changes session f me p call away other quiet = record {
+    stays = away;
+    makes = λ n d x walked free w own. away;
+    overwrites = λ n d bytes file w. away;
+    cuts = λ n d takes w. away;
+    renames = λ n k d takes apart free w. away;
+    spawns = λ is. away_with_child f me p p.chain away other;
+    exits = λ n is. away_with f me (record p { exited = Some n }) away other;
+    logs_in = λ name password is known free. away_with f me (record p { user = name; held = [] }) away (sym (ap (is_login_as owner) is) ∙ quiet);
+    kills = λ n x. away_without (under_process (n ∷ me) x) (f.processes x) (away x);
+    wraps = λ n d is walked free w named. away_with_child f me (record p { held = p.held ++ next_child me p ∷ [] }) (inner_chain me p) away other;
+  }
 
   -- The owner stays away while no process logs in as the owner.
-  pub stays_away : (users : List User) (f : Flat) (me : ProcName) (call : UnixCall) → IsAway owner f → is_login_as owner call ≡ false → IsAway owner (flat_after users f me call)
-  stays_away users f me call away h = by (running f me)
-    where
-      first : (p : Process) (refusal : Option Errno) → IsAway owner (flat_or refusal f (changed users f me p call))
-      first p None = changed_away users f me p call away h
-      first p (Some d) = away
+  pub stays_away : (session : Session) (f : Flat) (me : ProcName) (call : UnixCall) → IsAway owner f → is_login_as owner call ≡ false → IsAway owner (flat_after session f me call)
+  stays_away session f me call away quiet = by_line session f me call (IsAway owner) away (λ p runs. away_changes session f me p call away (sym (ap (λ r. is_some_and r (λ p. same p.user owner)) runs) ∙ away me) quiet)
 
-      by : (r : Option Process) → IsAway owner (flat_by users f me r call)
-      by None = away
-      by (Some p) = first p (refused users f me p call)
-
-  -- While no process is the owner's, the replies are the same in two states that differ in a private file's bytes alone.
-  pub replies_alike : (users : List User) (q : Path) (f g : Flat) → IsAlikeBut owner q f g → IsAway owner f → (asked : List Asked) → has_no_login_as owner asked ≡ true → replies_from users f asked ≡ replies_from users g asked
-  replies_alike users q f g alike away [] h = refl
-  replies_alike users q f g alike away (a ∷ asked) h =
-      let parts = and_parts (not (is_login_as owner a.call)) (has_no_login_as owner asked) h in
-      let quiet = not-true (is_login_as owner a.call) parts.0 in
-      let here = reply_to_alike owner q f g alike users a.process a.call (away a.process) in
-      let rest = replies_alike users q (flat_after users f a.process a.call) (flat_after users g a.process a.call)
-      (flat_after_alike owner q f g alike users a.process a.call (away a.process)) (stays_away users f a.process a.call away quiet) asked parts.1 in
-      λ i. (a.line, here i) ∷ rest i
+  -- While no process is the owner's, the replies are the same in two states that differ in the owner's private bytes alone.
+  all_replies_alike : (session : Session) (f g : Flat) → IsAlikeBut owner f g → IsAway owner f → (calls : List CallLine) → has_no_login_as owner calls ≡ true → answered_from session f calls ≡ answered_from session g calls
+  all_replies_alike session f g alike away [] h = refl
+  all_replies_alike session f g alike away (c ∷ calls) h =
+      let parts = and_parts (not (is_login_as owner c.call)) (has_no_login_as owner calls) h in
+      let quiet = not-true (is_login_as owner c.call) parts.0 in
+      let here = reply_to_alike f g alike session away c.process c.call in
+      let rest = all_replies_alike session (flat_after session f c.process c.call) (flat_after session g c.process c.call)
+      (flat_after_alike f g alike session away c.process c.call) (stays_away session f c.process c.call away quiet) calls parts.1 in
+      λ i. record { call = c; reply = here i } ∷ rest i
 
   -- No reply tells others what a private file holds: whatever bytes stand in it, the replies are the same until its owner logs in.
-  pub private_bytes_are_untold : (users : List User) (f : Flat) (q : Path) (bytes other : List ℕ) (asked : List Asked) → get f.files q ≡ Some (private_file owner bytes) → IsAway owner f → has_no_login_as owner asked ≡ true → replies_from users f asked ≡ replies_from users (with_bytes f q other) asked
-  private_bytes_are_untold users f q bytes other asked h away quiet = replies_alike users q f (with_bytes f q other) alike away asked quiet
+  pub private_bytes_are_untold : (session : Session) (f : Flat) (q : Path) (bytes other : List ℕ) (calls : List CallLine) → get f.files q ≡ Some (private_file owner bytes) → IsAway owner f → has_no_login_as owner calls ≡ true → answered_from session f calls ≡ answered_from session (with_bytes f q other) calls
+  private_bytes_are_untold session f q bytes other calls h away quiet = all_replies_alike session f (with_bytes f q other) alike away calls quiet
     where
-      alike : IsAlikeBut owner q f (with_bytes f q other)
+      new : Node
+      new = record { class = class_of (get f.files q); content = File other }
+
+      private_is_veiled : (b : List ℕ) → veiled owner (private_file owner b) ≡ private_file owner []
+      private_is_veiled b = elim (same_name_found owner owner) [
+        | inl e ↦ ap (λ t. private_file owner (cond t [] b)) e.0
+        | inr e ↦ absurd (e.1 refl)
+      ]
+
+      alike : IsAlikeBut owner f (with_bytes f q other)
       alike = record {
-        elsewhere = λ r apart. sym (get_other f.files q _ r (λ e. apart (sym e)));
-        first = bytes;
-        second = other;
-        here = h;
-        there = get_new f.files q _ ∙ ap (λ o. Some (record { class = class_of o; content = File other })) h;
+        files = λ r. elim (same_path_found r q) [
+          | inl e ↦ ap (option_map (veiled owner)) (ap (get f.files) e.1 ∙ h) ∙ ap Some (private_is_veiled bytes ∙ sym (private_is_veiled other))
+              ∙ ap (option_map (veiled owner)) (sym (get-insert f.files q _ r ∙ ap (λ b. cond b (Some new) (get f.files r)) e.0 ∙ ap (λ o. Some (record { class = class_of o; content = File other })) h))
+          | inr e ↦ ap (option_map (veiled owner)) (sym (get-insert f.files q new r ∙ ap (λ b. cond b (Some new) (get f.files r)) e.0))
+        ];
         processes = refl;
       }
 
-  -- Others change no private file: until its owner logs in, it stays as it is.
-  pub private_bytes_stay : (users : List User) (f : Flat) (q : Path) (bytes : List ℕ) (asked : List Asked) → get f.files q ≡ Some (private_file owner bytes) → IsAway owner f → has_no_login_as owner asked ≡ true → get (flat_end users f asked).files q ≡ Some (private_file owner bytes)
-  private_bytes_stay users f q bytes [] h away quiet = h
-  private_bytes_stay users f q bytes (a ∷ asked) h away quiet =
-      let parts = and_parts (not (is_login_as owner a.call)) (has_no_login_as owner asked) quiet in
-      private_bytes_stay users (flat_after users f a.process a.call) q bytes asked
-      (private_file_stays f q owner bytes h users a.process a.call (away a.process))
-      (stays_away users f a.process a.call away (not-true (is_login_as owner a.call) parts.0)) parts.1
-
-  -- While process 0 is the only one, the owner is away where it is another user's or nobody's.
-  pub away_from_the_first : (f : Flat) (h : IsAlone f) → same h.first.user owner ≡ false → IsAway owner f
-  away_from_the_first f h other [] = ap (λ r. is_some_and r (λ p. same p.user owner)) (first_runs f h) ∙ other
-  away_from_the_first f h other (n ∷ q) = ap (λ r. is_some_and r (λ p. same p.user owner)) (others_are_still f h n q)
-
   -- In a script: once a private file stands and its owner is away, all that follows is answered as if other bytes stood in the
   -- file, until its owner logs in.
-  pub private_in_a_script : (users : List User) (before later : List Asked) (q : Path) (bytes other : List ℕ) → get (flat_end users (boot users) before).files q ≡ Some (private_file owner bytes)
-      → IsAway owner (flat_end users (boot users) before) → has_no_login_as owner later ≡ true
-      → meaning users (before ++ later) ≡ meaning users before ++ replies_from users (with_bytes (flat_end users (boot users) before) q other) later
-  private_in_a_script users before later q bytes other h away quiet =
-      replies_go_on users (boot users) before later
-      ∙ ap (λ l. meaning users before ++ l) (private_bytes_are_untold users (flat_end users (boot users) before) q bytes other later h away quiet)
+  pub private_in_a_script : (session : Session) (before later : List CallLine) (q : Path) (bytes other : List ℕ) → get (flat_end session (boot session) before).files q ≡ Some (private_file owner bytes)
+      → IsAway owner (flat_end session (boot session) before) → has_no_login_as owner later ≡ true
+      → meaning session (before ++ later) ≡ meaning session before ++ answered_from session (with_bytes (flat_end session (boot session) before) q other) later
+  private_in_a_script session before later q bytes other h away quiet =
+      replies_go_on session (boot session) before later
+      ∙ ap (λ l. meaning session before ++ l) (private_bytes_are_untold session (flat_end session (boot session) before) q bytes other later h away quiet)

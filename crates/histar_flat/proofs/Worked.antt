@@ -1,35 +1,35 @@
 -- Worked sessions: the replies of the meaning, computed.
-use Rattle.std.specs.Prelude.{◌≡◌, ℕ, zero, suc, List, [], ◌∷◌, ◌++◌, codes, replicate, refl, Some}
-use Rattle.std.specs.List.{flat_map}
+use Rattle.std.specs.Prelude.{◌≡◌, ℕ, zero, suc, List, [], ◌∷◌, ◌++◌, codes, map, replicate, refl, Some}
 use Rattle.std.specs.Fmt.{decimal, digits}
-use Rattle.histar_flat.specs.declared.calls.User.{User}
+use Rattle.histar_flat.specs.declared.calls.CallLine.{CallLine}
 use Rattle.histar_flat.specs.declared.calls.Mode.TheVariants.{Private, Readable}
 use Rattle.histar_flat.specs.declared.calls.UnixCall.{UnixCall}
 use Rattle.histar_flat.specs.declared.calls.UnixCall.TheVariants.{Create, Read, Write, Login}
 use Rattle.histar_flat.specs.declared.replies.Errno.TheVariants.{ENOENT, ENOTDIR, EISDIR, EEXIST, EACCES, EPERM, ENOSPC, EFBIG, EAUTH}
 use Rattle.histar_flat.specs.declared.replies.Reply.{Reply}
 use Rattle.histar_flat.specs.declared.replies.Reply.TheVariants.{Done, Data, Refused, Gone}
-use Rattle.histar_flat.specs.Texts.{reply_text}
 use Rattle.histar_flat.specs.Words.{Path}
+use Rattle.histar_flat.specs.Sessions.{Session}
 use Rattle.histar_flat.specs.Files.{get}
 use Rattle.histar_flat.specs.Classes.Class.{Open, Scratch, Private as PrivateClass, Readable as ReadableClass}
 use Rattle.histar_flat.specs.FlatState.{Flat, with_node, with_process}
 use Rattle.histar_flat.specs.FlatState.Content.{Dir, File}
 use Rattle.histar_flat.specs.FlatCalls.{reply_to}
-use Rattle.histar_flat.specs.Meaning.{Asked, boot, flat_end, meaning, replies_from, first_process}
+use Rattle.histar_flat.specs.Meaning.{Answered, boot, flat_end, meaning, answered_from, first_process}
+use Rattle.histar_flat.proofs.WorkedScripts.{printed}
 
 -- the users of the sessions: root, who is the first, and bob
-abbrev users : List User
-users = record { name = codes "root"; password = codes "rr" } ∷ record { name = codes "bob"; password = codes "bb" } ∷ []
+abbrev users : Session
+users = record { users = record { name = codes "root"; password = codes "rr" } ∷ record { name = codes "bob"; password = codes "bb" } ∷ []; groups = [] }
 
-abbrev root_alone : List User
-root_alone = record { name = codes "root"; password = codes "rr" } ∷ []
+abbrev root_alone : Session
+root_alone = record { users = record { name = codes "root"; password = codes "rr" } ∷ []; groups = [] }
 
 -- a call line of process 0, and one of its first child
-abbrev by_zero : ℕ → UnixCall → Asked
+abbrev by_zero : ℕ → UnixCall → CallLine
 by_zero line call = record { line = line; process = []; call = call }
 
-abbrev by_child : ℕ → UnixCall → Asked
+abbrev by_child : ℕ → UnixCall → CallLine
 by_child line call = record { line = line; process = 1 ∷ []; call = call }
 
 abbrev root_logs_in : UnixCall
@@ -45,20 +45,20 @@ path_a = codes "a" ∷ []
 abbrev path_b : Path
 path_b = codes "b" ∷ []
 
--- the replies as they are printed: a line each, with its number, a space and the text of the reply
-abbrev printed : List (ℕ × Reply) → List ℕ
-printed = flat_map (λ reply. decimal reply.0 ++ codes " " ++ reply_text reply.1 ++ codes "\n")
+-- the replies, each with the number of its line
+abbrev replied : List Answered → List (ℕ × Reply)
+replied = map (λ (a : Answered). (a.call.line, a.reply))
 
 -- no call, no reply
-pub nothing_asked : meaning users [] ≡ []
+pub nothing_asked : replied (meaning users []) ≡ []
 nothing_asked = refl
 
 -- one user makes a file, writes it and reads it
-pub one_user : meaning root_alone (
+pub one_user : replied (meaning root_alone (
     by_zero 2 root_logs_in ∷
     by_zero 3 (Create path_a Private) ∷
     by_zero 4 (Write path_a (codes "hello")) ∷
-    by_zero 5 (Read path_a) ∷ []) ≡
+    by_zero 5 (Read path_a) ∷ [])) ≡
     (2, Done) ∷
     (3, Done) ∷
     (4, Done) ∷
@@ -66,7 +66,7 @@ pub one_user : meaning root_alone (
 one_user = refl
 
 -- two users: a private file, a wrong password, and what the other user may not do
-pub two_users : meaning users (
+pub two_users : replied (meaning users (
     by_zero 3 (Create path_a Readable) ∷
     by_zero 4 root_logs_in ∷
     by_zero 5 (Create path_a Private) ∷
@@ -77,7 +77,7 @@ pub two_users : meaning users (
     by_zero 10 (Read path_a) ∷
     by_zero 11 (Read path_b) ∷
     by_zero 12 (Create path_a Readable) ∷
-    by_zero 13 (Create path_b Readable) ∷ []) ≡
+    by_zero 13 (Create path_b Readable) ∷ [])) ≡
     (3, Refused EACCES) ∷
     (4, Done) ∷
     (5, Done) ∷
@@ -109,44 +109,6 @@ pub two_users_printed : printed (meaning users (
 unfolding digits
 two_users_printed = refl
 
--- what another user tries on a private file leaves it as it is
-pub private_file : meaning users (
-    by_zero 3 root_logs_in ∷
-    by_zero 4 (Create path_a Private) ∷
-    by_zero 5 (Write path_a (codes "secret")) ∷
-    by_zero 6 bob_logs_in ∷
-    by_zero 7 (Read path_a) ∷
-    by_zero 8 (Write path_a (codes "mine")) ∷
-    by_zero 9 root_logs_in ∷
-    by_zero 10 (Read path_a) ∷ []) ≡
-    (3, Done) ∷
-    (4, Done) ∷
-    (5, Done) ∷
-    (6, Done) ∷
-    (7, Refused EACCES) ∷
-    (8, Refused EACCES) ∷
-    (9, Done) ∷
-    (10, Data (codes "secret")) ∷ []
-private_file = refl
-
--- everyone may read a readable file, and its owner alone may write it
-pub readable_file : meaning users (
-    by_zero 3 root_logs_in ∷
-    by_zero 4 (Create path_a Readable) ∷
-    by_zero 5 (Write path_a (codes "news")) ∷
-    by_zero 6 bob_logs_in ∷
-    by_zero 7 (Read path_a) ∷
-    by_zero 8 (Write path_a (codes "lies")) ∷
-    by_zero 9 (Read path_a) ∷ []) ≡
-    (3, Done) ∷
-    (4, Done) ∷
-    (5, Done) ∷
-    (6, Done) ∷
-    (7, Data (codes "news")) ∷
-    (8, Refused EACCES) ∷
-    (9, Data (codes "news")) ∷ []
-readable_file = refl
-
 -- a new file is empty, and its line ends with the space
 pub empty_file : printed (meaning users (
     by_zero 3 root_logs_in ∷
@@ -157,12 +119,12 @@ unfolding digits
 empty_file = refl
 
 -- bytes that are written stand in the place of all that was there
-pub written_twice : meaning users (
+pub written_twice : replied (meaning users (
     by_zero 3 root_logs_in ∷
     by_zero 4 (Create path_a Private) ∷
     by_zero 5 (Write path_a (codes "hello world")) ∷
     by_zero 6 (Write path_a (codes "bye")) ∷
-    by_zero 7 (Read path_a) ∷ []) ≡
+    by_zero 7 (Read path_a) ∷ [])) ≡
     (3, Done) ∷
     (4, Done) ∷
     (5, Done) ∷
@@ -171,14 +133,14 @@ pub written_twice : meaning users (
 written_twice = refl
 
 -- a file that exists is told before the right to make one, and stays as it is
-pub file_that_exists : meaning users (
+pub file_that_exists : replied (meaning users (
     by_zero 3 root_logs_in ∷
     by_zero 4 (Create path_a Readable) ∷
     by_zero 5 (Write path_a (codes "one")) ∷
     by_zero 6 (Create path_a Private) ∷
     by_zero 7 bob_logs_in ∷
     by_zero 8 (Create path_a Private) ∷
-    by_zero 9 (Read path_a) ∷ []) ≡
+    by_zero 9 (Read path_a) ∷ [])) ≡
     (3, Done) ∷
     (4, Done) ∷
     (5, Done) ∷
@@ -189,19 +151,19 @@ pub file_that_exists : meaning users (
 file_that_exists = refl
 
 -- a name that isn't there
-pub nothing_there : meaning users (
+pub nothing_there : replied (meaning users (
     by_zero 3 (Read path_a) ∷
-    by_zero 4 (Write path_a (codes "x")) ∷ []) ≡
+    by_zero 4 (Write path_a (codes "x")) ∷ [])) ≡
     (3, Refused ENOENT) ∷
     (4, Refused ENOENT) ∷ []
 nothing_there = refl
 
 -- after a wrong password the process is who it was
-pub wrong_password : meaning users (
+pub wrong_password : replied (meaning users (
     by_zero 3 root_logs_in ∷
     by_zero 4 (Create path_a Private) ∷
     by_zero 5 (Login (codes "bob") (codes "rr")) ∷
-    by_zero 6 (Read path_a) ∷ []) ≡
+    by_zero 6 (Read path_a) ∷ [])) ≡
     (3, Done) ∷
     (4, Done) ∷
     (5, Refused EAUTH) ∷
@@ -209,27 +171,27 @@ pub wrong_password : meaning users (
 wrong_password = refl
 
 -- no one is the user of an unknown name, and none logs in as nobody
-pub unknown_user : meaning users (
+pub unknown_user : replied (meaning users (
     by_zero 3 (Login (codes "alice") (codes "rr")) ∷
-    by_zero 4 (Login (codes "nobody") (codes "x")) ∷ []) ≡
+    by_zero 4 (Login (codes "nobody") (codes "x")) ∷ [])) ≡
     (3, Refused ENOENT) ∷
     (4, Refused ENOENT) ∷ []
 unknown_user = refl
 
 -- nobody makes no file in root's directory
-pub nobody_in_the_directory_of_root : meaning users (
+pub nobody_in_the_directory_of_root : replied (meaning users (
     by_zero 3 (Create path_a Private) ∷
-    by_zero 4 (Create path_a Readable) ∷ []) ≡
+    by_zero 4 (Create path_a Readable) ∷ [])) ≡
     (3, Refused EACCES) ∷
     (4, Refused EACCES) ∷ []
 nobody_in_the_directory_of_root = refl
 
 -- `/` is no file
-pub root_directory : meaning users (
+pub root_directory : replied (meaning users (
     by_zero 3 root_logs_in ∷
     by_zero 4 (Create [] Private) ∷
     by_zero 5 (Read []) ∷
-    by_zero 6 (Write [] (codes "x")) ∷ []) ≡
+    by_zero 6 (Write [] (codes "x")) ∷ [])) ≡
     (3, Done) ∷
     (4, Refused EEXIST) ∷
     (5, Refused EISDIR) ∷
@@ -237,11 +199,11 @@ pub root_directory : meaning users (
 root_directory = refl
 
 -- a process that was never born is gone, and changes nothing
-pub never_born : meaning users (
+pub never_born : replied (meaning users (
     by_zero 3 root_logs_in ∷
     by_child 4 (Create path_a Private) ∷
     by_child 5 bob_logs_in ∷
-    by_zero 6 (Create path_a Private) ∷ []) ≡
+    by_zero 6 (Create path_a Private) ∷ [])) ≡
     (3, Done) ∷
     (4, Gone) ∷
     (5, Gone) ∷
@@ -249,11 +211,11 @@ pub never_born : meaning users (
 never_born = refl
 
 -- a path that leads through a file, and one through nothing
-pub through_a_file : meaning users (
+pub through_a_file : replied (meaning users (
     by_zero 3 root_logs_in ∷
     by_zero 4 (Create path_a Private) ∷
     by_zero 5 (Read (codes "x" ∷ path_a)) ∷
-    by_zero 6 (Read (codes "x" ∷ path_b)) ∷ []) ≡
+    by_zero 6 (Read (codes "x" ∷ path_b)) ∷ [])) ≡
     (3, Done) ∷
     (4, Done) ∷
     (5, Refused ENOTDIR) ∷
@@ -268,16 +230,16 @@ pub too_large_a_file : reply_to users (flat_end users (boot users) (by_zero 3 ro
 too_large_a_file = refl
 
 -- so many files, named f1, f2 and on
-abbrev numbered_files : ℕ → List Asked
+abbrev numbered_files : ℕ → List CallLine
 numbered_files zero = []
 numbered_files (suc n) = by_zero n (Create ((codes "f" ++ decimal n) ∷ []) Private) ∷ numbered_files n
 
 -- a directory has 64 entries, and no more; this is looked at before the right to write it
-pub full_directory : replies_from users (flat_end users (boot users) (by_zero 3 root_logs_in ∷ numbered_files 64)) (
+pub full_directory : replied (answered_from users (flat_end users (boot users) (by_zero 3 root_logs_in ∷ numbered_files 64)) (
     by_zero 68 (Create path_a Private) ∷
     by_zero 69 (Create (codes "f7" ∷ []) Private) ∷
     by_zero 70 bob_logs_in ∷
-    by_zero 71 (Create path_a Private) ∷ []) ≡
+    by_zero 71 (Create path_a Private) ∷ [])) ≡
     (68, Refused ENOSPC) ∷
     (69, Refused EEXIST) ∷
     (70, Done) ∷
@@ -294,11 +256,11 @@ abbrev open_root : Flat
 open_root = with_node (with_node (boot users) [] Open Dir) (codes "d" ∷ []) (PrivateClass (codes "root")) Dir
 
 -- in an open directory nobody makes nothing of these modes, and bob makes what is his
-pub nobody_owns_nothing : replies_from users open_root (
+pub nobody_owns_nothing : replied (answered_from users open_root (
     by_zero 3 (Create path_a Private) ∷
     by_zero 4 (Create path_a Readable) ∷
     by_zero 5 bob_logs_in ∷
-    by_zero 6 (Create path_a Private) ∷ []) ≡
+    by_zero 6 (Create path_a Private) ∷ [])) ≡
     (3, Refused EPERM) ∷
     (4, Refused EPERM) ∷
     (5, Done) ∷
@@ -306,11 +268,11 @@ pub nobody_owns_nothing : replies_from users open_root (
 nobody_owns_nothing = refl
 
 -- a walk stops at a directory that may not be read, before what stands there is told
-pub unreadable_directory : replies_from users open_root (
+pub unreadable_directory : replied (answered_from users open_root (
     by_zero 3 (Read (codes "x" ∷ codes "d" ∷ [])) ∷
     by_zero 4 (Read (codes "d" ∷ [])) ∷
     by_zero 5 root_logs_in ∷
-    by_zero 6 (Read (codes "x" ∷ codes "d" ∷ [])) ∷ []) ≡
+    by_zero 6 (Read (codes "x" ∷ codes "d" ∷ [])) ∷ [])) ≡
     (3, Refused EACCES) ∷
     (4, Refused EISDIR) ∷
     (5, Done) ∷
@@ -324,7 +286,7 @@ in_a_job = with_process
     [] (record first_process { user = codes "bob"; chain = (1 ∷ []) ∷ [] })
 
 -- in a job a process reads as its user, writes only in its job, makes what is the job's whatever mode is named, and logs in as no one
-pub job : replies_from users in_a_job (
+pub job : replied (answered_from users in_a_job (
     by_zero 3 (Read path_a) ∷
     by_zero 4 (Write path_a (codes "no")) ∷
     by_zero 5 (Create path_b Readable) ∷
@@ -333,7 +295,7 @@ pub job : replies_from users in_a_job (
     by_zero 8 (Read (codes "out" ∷ codes "j" ∷ [])) ∷
     by_zero 9 bob_logs_in ∷
     by_zero 10 (Login (codes "bob") (codes "no")) ∷
-    by_zero 11 (Login (codes "alice") (codes "no")) ∷ []) ≡
+    by_zero 11 (Login (codes "alice") (codes "no")) ∷ [])) ≡
     (3, Data (codes "deep")) ∷
     (4, Refused EACCES) ∷
     (5, Refused EACCES) ∷
@@ -350,7 +312,7 @@ abbrev holding_a_job : Flat
 holding_a_job = with_process in_a_job [] (record first_process { user = codes "bob"; held = (1 ∷ []) ∷ [] })
 
 -- who holds a job works in its directory; what it makes there is its own, and a login lets go of the job
-pub held_job : replies_from users holding_a_job (
+pub held_job : replied (answered_from users holding_a_job (
     by_zero 3 (Create (codes "in" ∷ codes "j" ∷ []) Private) ∷
     by_zero 4 (Write (codes "in" ∷ codes "j" ∷ []) (codes "data")) ∷
     by_zero 5 (Write path_a (codes "new")) ∷
@@ -358,7 +320,7 @@ pub held_job : replies_from users holding_a_job (
     by_zero 7 (Read (codes "in" ∷ codes "j" ∷ [])) ∷
     by_zero 8 bob_logs_in ∷
     by_zero 9 (Read (codes "in" ∷ codes "j" ∷ [])) ∷
-    by_zero 10 (Read path_a) ∷ []) ≡
+    by_zero 10 (Read path_a) ∷ [])) ≡
     (3, Done) ∷
     (4, Done) ∷
     (5, Done) ∷

@@ -2,8 +2,9 @@
 use Rattle.std.specs.Prelude.{◌≡◌, Bool, true, false, List, [], ◌∷◌, codes, Option, Some, None, map, refl}
 use Rattle.histar_flat.specs.declared.calls.Mode.TheVariants as modes
 use Rattle.histar_flat.specs.Words.{ProcName}
+use Rattle.histar_flat.specs.Sessions.{Session}
 use Rattle.histar_flat.specs.Classes.{Class, Process, may_read, may_write, class_made}
-use Rattle.histar_flat.specs.Classes.Class.{Private, Readable, Open, Scratch}
+use Rattle.histar_flat.specs.Classes.Class.{Private, Readable, Open, Scratch, Grouped}
 use Rattle.histar_flat.specs.Meaning.{first_process}
 
 -- the job 0.1, and the job 0.1.1 that was started in it
@@ -13,20 +14,24 @@ outer = 1 ∷ []
 abbrev inner : ProcName
 inner = 1 ∷ 1 ∷ []
 
+-- a session with a group of which bob is the member
+abbrev of_team : Session
+of_team = record { users = []; groups = record { name = codes "team"; members = codes "bob" ∷ [] } ∷ [] }
+
 -- bob's classes, from private to the scratch of the inner job
 abbrev classes : List Class
 classes = Private (codes "bob") ∷ Readable (codes "bob") ∷ Open ∷ Scratch (codes "bob") (outer ∷ []) ∷ Scratch (codes "bob") (outer ∷ inner ∷ []) ∷ []
 
 -- the classes that a process may read, and those that it may write
 abbrev readable : Process → List Bool
-readable p = map (may_read p) classes
+readable p = map (may_read of_team p) classes
 
 abbrev writable : Process → List Bool
-writable p = map (may_write p) classes
+writable p = map (may_write of_team p) classes
 
 -- what a process makes for `private`, and for `readable`
 abbrev made : Process → List (Option Class)
-made p = class_made p modes.Private ∷ class_made p modes.Readable ∷ []
+made p = class_made of_team p modes.Private ∷ class_made of_team p modes.Readable ∷ []
 
 -- root's process, bob's, bob's in these jobs, and bob's that holds these jobs
 abbrev of_root : Process
@@ -77,3 +82,20 @@ made_by_bob = refl
 -- in a job a process makes scratch of all its jobs, whatever mode is named
 pub made_in_a_job : made (of_bob (outer ∷ inner ∷ []) []) ≡ Some (Scratch (codes "bob") (outer ∷ inner ∷ [])) ∷ Some (Scratch (codes "bob") (outer ∷ inner ∷ [])) ∷ []
 made_in_a_job = refl
+
+-- everyone makes what is open, and a member what is a group's; in a job both are scratch
+pub made_open : class_made of_team first_process modes.Open ≡ Some Open
+made_open = refl
+
+pub made_for_a_group : (class_made of_team (of_bob [] []) (modes.Group (codes "team")) ≡ Some (Grouped (codes "team"))) × (class_made of_team of_root (modes.Group (codes "team")) ≡ None)
+made_for_a_group = (refl, refl)
+
+pub made_for_a_group_in_a_job : class_made of_team (of_bob (outer ∷ []) []) (modes.Group (codes "team")) ≡ Some (Scratch (codes "bob") (outer ∷ []))
+made_for_a_group_in_a_job = refl
+
+-- a group's files are read by its members, and written by those in no job
+pub rights_of_a_member : map (λ p. may_read of_team p (Grouped (codes "team"))) (of_bob [] [] ∷ of_bob (outer ∷ []) [] ∷ of_root ∷ first_process ∷ []) ≡ true ∷ true ∷ false ∷ false ∷ []
+rights_of_a_member = refl
+
+pub writing_of_a_member : map (λ p. may_write of_team p (Grouped (codes "team"))) (of_bob [] [] ∷ of_bob (outer ∷ []) [] ∷ of_root ∷ first_process ∷ []) ≡ true ∷ false ∷ false ∷ false ∷ []
+writing_of_a_member = refl

@@ -4,18 +4,18 @@ use Rattle.std.specs.List.{list_all}
 use Rattle.std.proofs.Common.{ap, sym, ◌∙◌, subst, inl, inr}
 use Rattle.std.proofs.lemmas.Bool.{true≢false, and_parts, not-true}
 use Rattle.histar_base.specs.Refusals.{◌orelse◌, unless}
-use Rattle.histar_flat.specs.declared.calls.User.{User}
 use Rattle.histar_flat.specs.declared.calls.UnixCall.TheVariants.{Read, Write}
 use Rattle.histar_flat.specs.declared.replies.Errno.{Errno}
 use Rattle.histar_flat.specs.declared.replies.Errno.TheVariants.{ENOENT, EISDIR, EACCES, EFBIG}
 use Rattle.histar_flat.specs.declared.replies.Reply.TheVariants.{Done, Data}
 use Rattle.histar_flat.specs.Words.{Path, ProcName}
 use Rattle.histar_flat.specs.PathOrder.{same}
+use Rattle.histar_flat.specs.Sessions.{Session, has, is_member}
 use Rattle.histar_flat.specs.Files.{get}
-use Rattle.histar_flat.specs.Classes.{Class, Process, is_free, knows, has, may_read, may_write}
-use Rattle.histar_flat.specs.Classes.Class.{Private, Readable, Open, Scratch}
+use Rattle.histar_flat.specs.Classes.{Class, Process, is_free, knows, may_read, may_write}
+use Rattle.histar_flat.specs.Classes.Class.{Private, Readable, Open, Scratch, Grouped}
 use Rattle.histar_flat.specs.FlatState.{Flat, Node, is_some_and, is_dir, is_there, is_file_at, reads, writes, bytes_of, class_of, walk, with_bytes}
-use Rattle.histar_flat.specs.FlatCalls.{is_below_root, no_file, refused, answer, reply_or, flat_or, running, reply_by, flat_by, reply_to, flat_after}
+use Rattle.histar_flat.specs.FlatCalls.{most_bytes, is_below_root, no_file, refused, answer, reply_or, flat_or, running, reply_by, flat_by, reply_to, flat_after}
 use Rattle.histar_flat.proofs.Alike.{ShowAlike, file_reached_alike, reads_alike}
 use Rattle.histar_flat.proofs.Entries.{shown}
 use Rattle.histar_flat.proofs.FileLemmas.{same_path_found, get_other, get_new}
@@ -23,19 +23,20 @@ use Rattle.histar_flat.proofs.PrivateFiles.{written_is_writable}
 use Rattle.histar_flat.proofs.Refusals.{passes_first, passes_later, passed}
 
 -- What a process may write it may read.
-pub writable_is_readable : (p : Process) (class : Class) → may_write p class ≡ true → may_read p class ≡ true
-writable_is_readable p (Private owner) h = (and_parts (same p.user owner) (is_free p) h).0
-writable_is_readable p (Readable owner) h = refl
-writable_is_readable p Open h = refl
-writable_is_readable p (Scratch owner jobs) h = (and_parts (same p.user owner && list_all (knows p) jobs) (list_all (has jobs) p.chain) h).0
+pub writable_is_readable : (session : Session) (p : Process) (class : Class) → may_write session p class ≡ true → may_read session p class ≡ true
+writable_is_readable session p (Private owner) h = (and_parts (same p.user owner) (is_free p) h).0
+writable_is_readable session p (Readable owner) h = refl
+writable_is_readable session p Open h = refl
+writable_is_readable session p (Scratch owner jobs) h = (and_parts (same p.user owner && list_all (knows p) jobs) (list_all (has jobs) p.chain) h).0
+writable_is_readable session p (Grouped group) h = (and_parts (is_member session p.user group) (is_free p) h).0
 
 -- so a process reads what it writes
-pub writes_and_reads : (f : Flat) (p : Process) (q : Path) → writes f p q ≡ true → reads f p q ≡ true
-writes_and_reads f p q h = by (get f.files q) h
+pub writes_and_reads : (session : Session) (f : Flat) (p : Process) (q : Path) → writes session f p q ≡ true → reads session f p q ≡ true
+writes_and_reads session f p q h = by (get f.files q) h
   where
-    by : (o : Option Node) → is_some_and o (λ n. may_write p n.class) ≡ true → is_some_and o (λ n. may_read p n.class) ≡ true
+    by : (o : Option Node) → is_some_and o (λ n. may_write session p n.class) ≡ true → is_some_and o (λ n. may_read session p n.class) ≡ true
     by None i = i
-    by (Some n) i = writable_is_readable p n.class i
+    by (Some n) i = writable_is_readable session p n.class i
 
 -- new bytes in a file show nothing else
 bytes_show_nothing : (f : Flat) (q : Path) (bytes : List ℕ) → is_file_at f q ≡ true → ShowAlike (with_bytes f q bytes) f
@@ -48,29 +49,29 @@ bytes_show_nothing f q bytes h r = elim (same_path_found r q) [
     by None i = absurd (true≢false (sym i))
     by (Some n) i = ap (λ (b : Bool). Some (n.class, b)) (sym (not-true (is_dir n) i))
 
-module _ (users : List User) (f : Flat) (me : ProcName) (q : Path) (bytes : List ℕ) where
-  reply_after : (p : Process) → refused users f me p (Write q bytes) ≡ None → reply_by users (with_bytes f q bytes) me (Some p) (Read q) ≡ Data bytes
+module _ (session : Session) (f : Flat) (me : ProcName) (q : Path) (bytes : List ℕ) where
+  reply_after : (p : Process) → refused session f me p (Write q bytes) ≡ None → reply_by session (with_bytes f q bytes) me (Some p) (Read q) ≡ Data bytes
   reply_after p h =
-      let short = unless (nat_le (length bytes) 4096) EFBIG in
-      let reached = passes_first (no_file f p q) (unless (writes f p q) EACCES orelse short) h in
+      let short = unless (nat_le (length bytes) most_bytes) EFBIG in
+      let reached = passes_first (no_file session f p q) (unless (writes session f p q) EACCES orelse short) h in
       let is_file = unless (is_file_at f q) EISDIR in
-      let found = passes_later (unless (is_below_root q) EISDIR) (walk f p q orelse unless (is_there f q) ENOENT orelse is_file) reached in
-      let file = passed (is_file_at f q) EISDIR (passes_later (unless (is_there f q) ENOENT) is_file (passes_later (walk f p q) (unless (is_there f q) ENOENT orelse is_file) found)) in
+      let found = passes_later (unless (is_below_root q) EISDIR) (walk session f p q orelse unless (is_there f q) ENOENT orelse is_file) reached in
+      let file = passed (is_file_at f q) EISDIR (passes_later (unless (is_there f q) ENOENT) is_file (passes_later (walk session f p q) (unless (is_there f q) ENOENT orelse is_file) found)) in
       let alike = bytes_show_nothing f q bytes file in
-      let readable = reads_alike (with_bytes f q bytes) f alike p q ∙ writes_and_reads f p q (written_is_writable users f me p q bytes h) in
-      let none = file_reached_alike (with_bytes f q bytes) f alike p q ∙ reached in
+      let readable = reads_alike session (with_bytes f q bytes) f alike p q ∙ writes_and_reads session f p q (written_is_writable session f me p q bytes h) in
+      let none = file_reached_alike session (with_bytes f q bytes) f alike p q ∙ reached in
       ap (λ e. reply_or e (Data (bytes_of (get (with_bytes f q bytes).files q)))) (λ i. none i orelse unless (readable i) EACCES)
       ∙ ap (λ o. Data (bytes_of o)) (get_new f.files q _)
 
   -- What a process has written it reads back.
-  pub written_is_read : reply_to users f me (Write q bytes) ≡ Done → reply_to users (flat_after users f me (Write q bytes)) me (Read q) ≡ Data bytes
+  pub written_is_read : reply_to session f me (Write q bytes) ≡ Done → reply_to session (flat_after session f me (Write q bytes)) me (Read q) ≡ Data bytes
   written_is_read h = by (running f me) refl h
     where
-      first : (p : Process) (refusal : Option Errno) → running f me ≡ Some p → refused users f me p (Write q bytes) ≡ refusal → reply_or refusal (answer f me p (Write q bytes)) ≡ Done
-          → reply_to users (flat_or refusal f (with_bytes f q bytes)) me (Read q) ≡ Data bytes
-      first p None runs e i = ap (λ r. reply_by users (with_bytes f q bytes) me r (Read q)) runs ∙ reply_after p e
+      first : (p : Process) (refusal : Option Errno) → running f me ≡ Some p → refused session f me p (Write q bytes) ≡ refusal → reply_or refusal (answer f me p (Write q bytes)) ≡ Done
+          → reply_to session (flat_or refusal f (with_bytes f q bytes)) me (Read q) ≡ Data bytes
+      first p None runs e i = ap (λ r. reply_by session (with_bytes f q bytes) me r (Read q)) runs ∙ reply_after p e
       first p (Some d) runs e i = absurd (cc)
 
-      by : (r : Option Process) → running f me ≡ r → reply_by users f me r (Write q bytes) ≡ Done → reply_to users (flat_by users f me r (Write q bytes)) me (Read q) ≡ Data bytes
+      by : (r : Option Process) → running f me ≡ r → reply_by session f me r (Write q bytes) ≡ Done → reply_to session (flat_by session f me r (Write q bytes)) me (Read q) ≡ Data bytes
       by None runs i = absurd (cc)
-      by (Some p) runs i = first p (refused users f me p (Write q bytes)) runs refl i
+      by (Some p) runs i = first p (refused session f me p (Write q bytes)) runs refl i

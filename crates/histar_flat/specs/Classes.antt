@@ -1,9 +1,12 @@
 -- Processes and classes of files: who may read and write what, and what a process makes.
 use Rattle.std.specs.Prelude.{ℕ, Bool, true, false, ◌||◌, ◌&&◌, List, [], ◌∷◌, Option, None, Some, codes, if◌then◌else◌}
-use Rattle.std.specs.List.{list_any, list_all}
+use Rattle.std.specs.List.{list_all}
 use Rattle.histar_flat.specs.declared.calls.Mode.{Mode}
 use Rattle.histar_flat.specs.declared.calls.Mode.TheVariants as modes
+use Rattle.histar_flat.specs.declared.replies.FileMode.{FileMode}
+use Rattle.histar_flat.specs.declared.replies.FileMode.TheVariants as file_modes
 use Rattle.histar_flat.specs.Words.{Name, ProcName}
+use Rattle.histar_flat.specs.Sessions.{Session, has, is_member}
 use Rattle.histar_flat.specs.PathOrder.{same}
 
 -- whose a file or a directory is, and for whom
@@ -16,6 +19,8 @@ pub data Class : Type 0 where
   Open : Class
   -- for its owner in these jobs, outermost first; a job is named by its first process
   Scratch : Name → List ProcName → Class
+  -- for the members of this group
+  Grouped : Name → Class
 
 -- a process: its user, the jobs that it is in, outermost first, the jobs that it holds, the number that it has exited with, if
 -- it has, and how many children were born to it
@@ -30,10 +35,6 @@ pub record Process : Type 0 where
 abbrev pub nobody : Name
 nobody = codes "nobody"
 
--- the list has this name
-abbrev pub has : List ProcName → ProcName → Bool
-has names name = list_any (same name) names
-
 -- the process is in no job
 abbrev pub is_free : Process → Bool
 is_free p = elim p.chain [ [] ↦ true | job ∷ jobs ↦ false ]
@@ -42,27 +43,57 @@ is_free p = elim p.chain [ [] ↦ true | job ∷ jobs ↦ false ]
 abbrev pub knows : Process → ProcName → Bool
 knows p job = has p.chain job || has p.held job
 
--- A process may read what is private where its user is the owner; what is readable or open always; and scratch where its user is
--- the owner and it knows each of the jobs.
-abbrev pub may_read : Process → Class → Bool
-may_read p (Private owner) = same p.user owner
-may_read p (Readable owner) = true
-may_read p Open = true
-may_read p (Scratch owner jobs) = same p.user owner && list_all (knows p) jobs
+-- A process may read what is private where its user is the owner; what is readable or open always; scratch where its user is the
+-- owner and it knows each of the jobs; and what is a group's where its user is a member.
+abbrev pub may_read : Session → Process → Class → Bool
+may_read session p (Private owner) = same p.user owner
+may_read session p (Readable owner) = true
+may_read session p Open = true
+may_read session p (Scratch owner jobs) = same p.user owner && list_all (knows p) jobs
+may_read session p (Grouped group) = is_member session p.user group
 
 -- A process may write what is private or readable where its user is the owner and it is in no job; what is open where it is in no
--- job; and scratch where it may read it and is in no other job than these.
-abbrev pub may_write : Process → Class → Bool
-may_write p (Private owner) = same p.user owner && is_free p
-may_write p (Readable owner) = same p.user owner && is_free p
-may_write p Open = is_free p
-may_write p (Scratch owner jobs) = same p.user owner && list_all (knows p) jobs && list_all (has jobs) p.chain
+-- job; scratch where it may read it and is in no other job than these; and what is a group's where its user is a member and it is
+-- in no job.
+abbrev pub may_write : Session → Process → Class → Bool
+may_write session p (Private owner) = same p.user owner && is_free p
+may_write session p (Readable owner) = same p.user owner && is_free p
+may_write session p Open = is_free p
+may_write session p (Scratch owner jobs) = same p.user owner && list_all (knows p) jobs && list_all (has jobs) p.chain
+may_write session p (Grouped group) = is_member session p.user group && is_free p
 
--- what a process in no job makes for a mode: its user's, and nobody makes nothing of these modes
-abbrev pub free_class : Process → Mode → Option Class
-free_class p modes.Private = if same p.user nobody then None else Some (Private p.user)
-free_class p modes.Readable = if same p.user nobody then None else Some (Readable p.user)
+-- what a process in no job makes for a mode: nobody makes what is open alone, and a group's is made by its members
+abbrev pub free_class : Session → Process → Mode → Option Class
+free_class session p modes.Private = if same p.user nobody then None else Some (Private p.user)
+free_class session p modes.Readable = if same p.user nobody then None else Some (Readable p.user)
+free_class session p modes.Open = Some Open
+free_class session p (modes.Group group) = if is_member session p.user group then Some (Grouped group) else None
 
 -- the class that a process makes: in a job it is scratch of its jobs, whatever mode is named
-abbrev pub class_made : Process → Mode → Option Class
-class_made p mode = if is_free p then free_class p mode else Some (Scratch p.user p.chain)
+abbrev pub class_made : Session → Process → Mode → Option Class
+class_made session p mode = if is_free p then free_class session p mode else Some (Scratch p.user p.chain)
+
+-- a process sees another one where it knows each of the other's jobs
+abbrev pub sees : Process → Process → Bool
+sees p other = list_all (knows p) other.chain
+
+-- the owner of what is of a class, if it has one
+abbrev pub class_owner : Class → Option Name
+class_owner (Private owner) = Some owner
+class_owner (Readable owner) = Some owner
+class_owner Open = None
+class_owner (Scratch owner jobs) = Some owner
+class_owner (Grouped group) = None
+
+-- the mode of what is of a class
+abbrev pub class_mode : Class → FileMode
+class_mode (Private owner) = file_modes.Private
+class_mode (Readable owner) = file_modes.Readable
+class_mode Open = file_modes.Open
+class_mode (Scratch owner jobs) = file_modes.Scratch
+class_mode (Grouped group) = file_modes.Group group
+
+-- what is of the class is of this job
+abbrev pub carries : ProcName → Class → Bool
+carries job (Scratch owner jobs) = has jobs job
+carries job _ = false

@@ -1,7 +1,7 @@
 -- A map of paths, in the order of paths.
-use Rattle.std.specs.Prelude.{T, List, [], Option}
+use Rattle.std.specs.Prelude.{Bool, T, List, [], ◌∷◌, Option}
 use Rattle.std.specs.FinMap.{find, put, is_sorted}
-use Rattle.std.specs.FinMap.Entries.{is_sorted-put}
+use Rattle.std.specs.FinMap.Entries.{where_key, is_sorted-put, is_sorted-where_key}
 use Rattle.histar_flat.specs.Words.{Path}
 use Rattle.histar_flat.specs.PathOrder.{path_cmp}
 use Rattle.histar_flat.specs.PathOrderLaws.{path_cmp_total}
@@ -23,3 +23,12 @@ module _ {X : Type 0} where
   -- with x at the path q, and all else as it was
   abbrev pub insert : Files X → Path → X → Files X
   insert m q x = record { entries = put path_cmp q x m.entries; sorted = is_sorted-put path_cmp path_cmp_total q x m.entries m.sorted }
+
+  -- what stands at the paths that pass the test
+  abbrev pub keep : Files X → (Path → Bool) → Files X
+  keep m test = record { entries = where_key path_cmp test m.entries; sorted = is_sorted-where_key path_cmp test m.entries m.sorted }
+
+  -- the map of a list; at a path that stands twice in it, the first counts
+  abbrev pub from_list : List (Path × X) → Files X
+  from_list [] = empty
+  from_list (e ∷ es) = insert (from_list es) e.0 e.1

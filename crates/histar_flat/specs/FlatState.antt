@@ -1,12 +1,13 @@
 -- The flat state: a map from paths to files and directories, and a map from names to processes; what is there, and the walk.
-use Rattle.std.specs.Prelude.{Bool, true, false, not, cond, List, [], ◌∷◌, ℕ, Option, None, Some}
+use Rattle.std.specs.Prelude.{◌≡◌, Bool, true, false, not, cond, List, [], ◌∷◌, map, ℕ, ◌+◌, ◌&&◌, nat_le, Option, None, Some}
 use Rattle.std.specs.List.{filter_map}
 use Rattle.histar_base.specs.Refusals.{◌orelse◌, unless}
 use Rattle.histar_flat.specs.declared.replies.Errno.{Errno}
 use Rattle.histar_flat.specs.declared.replies.Errno.TheVariants.{EACCES, ENOENT, ENOTDIR}
 use Rattle.histar_flat.specs.Words.{Name, Path, ProcName}
-use Rattle.histar_flat.specs.PathOrder.{same, same_path}
-use Rattle.histar_flat.specs.Files.{Files, get, insert}
+use Rattle.histar_flat.specs.PathOrder.{same, same_path, under_path, under_process}
+use Rattle.histar_flat.specs.Sessions.{Session}
+use Rattle.histar_flat.specs.Files.{Files, get, insert, keep, from_list}
 use Rattle.histar_flat.specs.Classes.{Class, Process, may_read, may_write}
 use Rattle.histar_flat.specs.Classes.Class.{Open}
 
@@ -46,13 +47,18 @@ is_dir_at f q = is_some_and (get f.files q) is_dir
 abbrev pub is_file_at : Flat → Path → Bool
 is_file_at f q = is_some_and (get f.files q) (λ n. not (is_dir n))
 
+-- the paths are a tree: `/` is a directory, and what lies in something lies in a directory
+pub record IsTree (f : Flat) : Type 0 where
+  pub root : is_dir_at f [] ≡ true
+  pub below : (n : Name) (d : Path) → is_there f (n ∷ d) ≡ true → is_dir_at f d ≡ true
+
 -- the process may read what stands at the path
-abbrev pub reads : Flat → Process → Path → Bool
-reads f p q = is_some_and (get f.files q) (λ n. may_read p n.class)
+abbrev pub reads : Session → Flat → Process → Path → Bool
+reads session f p q = is_some_and (get f.files q) (λ n. may_read session p n.class)
 
 -- the process may write what stands at the path
-abbrev pub writes : Flat → Process → Path → Bool
-writes f p q = is_some_and (get f.files q) (λ n. may_write p n.class)
+abbrev pub writes : Session → Flat → Process → Path → Bool
+writes session f p q = is_some_and (get f.files q) (λ n. may_write session p n.class)
 
 -- the bytes of a file, where one stands there
 abbrev pub bytes_of : Option Node → List ℕ
@@ -77,18 +83,18 @@ entries_in f d = filter_map (entry_in d) f.files.entries
 
 -- The first refusal on the way into a directory: from `/` on each directory may not be read, or the next name is not in it, or that
 -- is no directory.
-abbrev pub into : Flat → Process → Path → Option Errno
-into f p [] = unless (reads f p []) EACCES
-into f p (n ∷ d) =
-    into f p d
+abbrev pub into : Session → Flat → Process → Path → Option Errno
+into session f p [] = unless (reads session f p []) EACCES
+into session f p (n ∷ d) =
+    into session f p d
     orelse unless (is_there f (n ∷ d)) ENOENT
     orelse unless (is_dir_at f (n ∷ d)) ENOTDIR
-    orelse unless (reads f p (n ∷ d)) EACCES
+    orelse unless (reads session f p (n ∷ d)) EACCES
 
 -- the first refusal on the walk to a path, which is the way into the directory that it lies in; to `/` there is no walk
-abbrev pub walk : Flat → Process → Path → Option Errno
-walk f p [] = None
-walk f p (n ∷ d) = into f p d
+abbrev pub walk : Session → Flat → Process → Path → Option Errno
+walk session f p [] = None
+walk session f p (n ∷ d) = into session f p d
 
 -- with this at the path
 abbrev pub with_node : Flat → Path → Class → Content → Flat
@@ -106,3 +112,36 @@ with_bytes f q bytes = with_node f q (class_of (get f.files q)) (File bytes)
 -- with this process under the name
 abbrev pub with_process : Flat → ProcName → Process → Flat
 with_process f me p = record f { processes = λ q. cond (same me q) (Some p) (f.processes q) }
+
+-- without what stands at the path and all below it
+abbrev pub without_below : Flat → Path → Flat
+without_below f q = record f { files = keep f.files (λ r. not (under_path q r)) }
+
+-- where a path leads once what stands at `old` is called `new`
+abbrev pub moved : Path → Path → Path → Path
+moved old new [] = []
+moved old new (n ∷ d) = cond (same_path old (n ∷ d)) new (n ∷ moved old new d)
+
+-- with all paths as they are once what stands at `old` is called `new`
+abbrev pub with_renamed : Flat → Path → Path → Flat
+with_renamed f old new = record f { files = from_list (map (λ e. (moved old new e.0, e.1)) f.files.entries) }
+
+-- with a child of the process `me`, which is p, in these jobs; a child is its parent's user's, runs, and holds nothing
+abbrev pub with_child : Flat → ProcName → Process → List ProcName → Flat
+with_child f me p chain =
+    with_process (with_process f me (record p { born = p.born + 1 })) ((p.born + 1) ∷ me)
+    (record { user = p.user; chain = chain; held = []; exited = None; born = 0 })
+
+-- without the process and all below it
+abbrev pub without_process : Flat → ProcName → Flat
+without_process f me = record f { processes = λ q. cond (under_process me q) None (f.processes q) }
+
+-- the number was given to a child that was born, where the process is there
+abbrev pub was_given : Option Process → ℕ → Bool
+was_given None n = true
+was_given (Some p) n = nat_le 1 n && nat_le n p.born
+
+-- each number in a name was given to a child that was born to the process before it
+abbrev pub is_given : (ProcName → Option Process) → ProcName → Bool
+is_given processes [] = true
+is_given processes (n ∷ p) = was_given (processes p) n && is_given processes p

@@ -1,19 +1,22 @@
--- What the meaning amounts to: calls that are refused, the private files of others, what is written, and the replies of a script.
-use Rattle.std.specs.Prelude.{◌≡◌, ◌≢◌, ℕ, Bool, true, false, not, List, map, Some}
+-- What the meaning amounts to: calls that are refused, the private files of others, what is written, the replies of a script, names
+-- and jobs.
+use Rattle.std.specs.Prelude.{◌≡◌, ◌≢◌, ℕ, Bool, true, false, not, List, [], map, None, Some}
 use Rattle.std.specs.List.{list_all}
-use Rattle.histar_flat.specs.declared.calls.User.{User}
+use Rattle.histar_flat.specs.declared.calls.CallLine.{CallLine}
 use Rattle.histar_flat.specs.declared.calls.UnixCall.{UnixCall}
-use Rattle.histar_flat.specs.declared.calls.UnixCall.TheVariants.{Create, Read, Write, Login}
+use Rattle.histar_flat.specs.declared.calls.UnixCall.TheVariants.{Read, Write, Unlink, Rmdir, Rmtree, Rename, Login}
 use Rattle.histar_flat.specs.declared.replies.Errno.{Errno}
 use Rattle.histar_flat.specs.declared.replies.Reply.TheVariants.{Done, Data, Refused}
 use Rattle.histar_flat.specs.Words.{Name, Path, ProcName}
-use Rattle.histar_flat.specs.PathOrder.{same}
+use Rattle.histar_flat.specs.PathOrder.{same, under_path}
+use Rattle.histar_flat.specs.Sessions.{Session, user_named}
 use Rattle.histar_flat.specs.Files.{get}
+use Rattle.histar_flat.specs.Classes.{Process, nobody, knows, carries}
 use Rattle.histar_flat.specs.Classes.Class.{Private}
-use Rattle.histar_flat.specs.FlatState.{Flat, Node, is_some_and, with_bytes}
+use Rattle.histar_flat.specs.FlatState.{Flat, Node, IsTree, is_some_and, with_bytes, is_given}
 use Rattle.histar_flat.specs.FlatState.Content.{File}
-use Rattle.histar_flat.specs.FlatCalls.{running, reply_to, flat_after}
-use Rattle.histar_flat.specs.Meaning.{Asked, replies_from, meaning}
+use Rattle.histar_flat.specs.FlatCalls.{next_child, running, reply_to, flat_after}
+use Rattle.histar_flat.specs.Meaning.{Answered, boot, answered_from, flat_end, meaning}
 
 -- a private file of this owner with these bytes
 abbrev pub private_file : Name → List ℕ → Node
@@ -26,13 +29,11 @@ runs_for f me owner = is_some_and (running f me) (λ p. same p.user owner)
 -- a login as this user
 abbrev pub is_login_as : Name → UnixCall → Bool
 is_login_as owner (Login name password) = same name owner
-is_login_as owner (Create r mode) = false
-is_login_as owner (Read r) = false
-is_login_as owner (Write r bytes) = false
+is_login_as owner _ = false
 
 -- none of the calls is a login as this user
-abbrev pub has_no_login_as : Name → List Asked → Bool
-has_no_login_as owner asked = list_all (λ a. not (is_login_as owner a.call)) asked
+abbrev pub has_no_login_as : Name → List CallLine → Bool
+has_no_login_as owner calls = list_all (λ (c : CallLine). not (is_login_as owner c.call)) calls
 
 -- no process that runs is the owner's
 abbrev pub IsAway : Name → Flat → Type 0
@@ -40,27 +41,67 @@ IsAway owner f = (me : ProcName) → runs_for f me owner ≡ false
 
 -- a call that is refused changes nothing
 abbrev pub RefusalsChangeNothing : Type 0
-RefusalsChangeNothing = (users : List User) (f : Flat) (me : ProcName) (call : UnixCall) (e : Errno) → reply_to users f me call ≡ Refused e → flat_after users f me call ≡ f
+RefusalsChangeNothing = (session : Session) (f : Flat) (me : ProcName) (call : UnixCall) (e : Errno) → reply_to session f me call ≡ Refused e → flat_after session f me call ≡ f
 
--- a call of a process that is not the owner's leaves a private file as it is: it stands at its path, is private, and has its bytes
+-- the call takes away or renames what stands at the path, or a directory that it lies in
+abbrev pub takes_away : UnixCall → Path → Bool
+takes_away (Unlink r) q = under_path r q
+takes_away (Rmdir r) q = under_path r q
+takes_away (Rmtree r) q = under_path r q
+takes_away (Rename r name) q = under_path r q
+takes_away _ q = false
+
+-- In a tree a call of a process that is not the owner's leaves a private file as it is, unless it takes it away or renames it: it
+-- stands at its path, is private, and has its bytes.
 abbrev pub PrivateFilesStay : Type 0
-PrivateFilesStay = (f : Flat) (q : Path) (owner : Name) (bytes : List ℕ) → get f.files q ≡ Some (private_file owner bytes)
-    → (users : List User) (me : ProcName) (call : UnixCall) → runs_for f me owner ≡ false → get (flat_after users f me call).files q ≡ Some (private_file owner bytes)
+PrivateFilesStay = (f : Flat) → IsTree f → (q : Path) (owner : Name) (bytes : List ℕ) → get f.files q ≡ Some (private_file owner bytes)
+    → (session : Session) (me : ProcName) (call : UnixCall) → runs_for f me owner ≡ false → takes_away call q ≡ false
+    → get (flat_after session f me call).files q ≡ Some (private_file owner bytes)
 
 -- a process that is not the owner's and reads a private file is answered no bytes
 abbrev pub PrivateFilesAreUntold : Type 0
 PrivateFilesAreUntold = (f : Flat) (q : Path) (owner : Name) (bytes : List ℕ) → get f.files q ≡ Some (private_file owner bytes)
-    → (users : List User) (me : ProcName) (told : List ℕ) → runs_for f me owner ≡ false → reply_to users f me (Read q) ≢ Data told
+    → (session : Session) (me : ProcName) (told : List ℕ) → runs_for f me owner ≡ false → reply_to session f me (Read q) ≢ Data told
 
 -- while no process is the owner's and no call is a login as the owner, all replies are as if other bytes stood in the private file
 abbrev pub PrivateBytesAreUntold : Type 0
-PrivateBytesAreUntold = (owner : Name) (users : List User) (f : Flat) (q : Path) (bytes other : List ℕ) (asked : List Asked) → get f.files q ≡ Some (private_file owner bytes)
-    → IsAway owner f → has_no_login_as owner asked ≡ true → replies_from users f asked ≡ replies_from users (with_bytes f q other) asked
+PrivateBytesAreUntold = (owner : Name) (session : Session) (f : Flat) (q : Path) (bytes other : List ℕ) (calls : List CallLine) → get f.files q ≡ Some (private_file owner bytes)
+    → IsAway owner f → has_no_login_as owner calls ≡ true → answered_from session f calls ≡ answered_from session (with_bytes f q other) calls
 
 -- a process that has written bytes to a file, and reads the file next, is answered these bytes
 abbrev pub WritesAreReadBack : Type 0
-WritesAreReadBack = (users : List User) (f : Flat) (me : ProcName) (q : Path) (bytes : List ℕ) → reply_to users f me (Write q bytes) ≡ Done → reply_to users (flat_after users f me (Write q bytes)) me (Read q) ≡ Data bytes
+WritesAreReadBack = (session : Session) (f : Flat) (me : ProcName) (q : Path) (bytes : List ℕ) → reply_to session f me (Write q bytes) ≡ Done
+    → reply_to session (flat_after session f me (Write q bytes)) me (Read q) ≡ Data bytes
 
--- the replies of a script are one a call line, in the order of the lines, each with the number of its line
+-- the replies of a script are one a call line, in the order of the lines
 abbrev pub OneReplyALine : Type 0
-OneReplyALine = (users : List User) (asked : List Asked) → map (λ reply. reply.0) (meaning users asked) ≡ map (λ a. a.line) asked
+OneReplyALine = (session : Session) (calls : List CallLine) → map (λ (a : Answered). a.call) (meaning session calls) ≡ calls
+
+-- in each state that calls lead to the paths are a tree
+abbrev pub PathsAreATree : Type 0
+PathsAreATree = (session : Session) (calls : List CallLine) → IsTree (flat_end session (boot session) calls)
+
+-- each process that is there, each job that such a process knows, and each job that a class carries has a name that was given
+pub record NamesAreGiven (f : Flat) : Type 0 where
+  pub of_processes : (q : ProcName) (p : Process) → f.processes q ≡ Some p → is_given f.processes q ≡ true
+  pub of_known_jobs : (q : ProcName) (p : Process) (job : ProcName) → f.processes q ≡ Some p → knows p job ≡ true → is_given f.processes job ≡ true
+  pub of_carried_jobs : (q : Path) (n : Node) (job : ProcName) → get f.files q ≡ Some n → carries job n.class ≡ true → is_given f.processes job ≡ true
+
+-- Names are given once: in each state that calls lead to, all names that are there were given; the name of a next child was not; and
+-- a name that was given stays so.
+pub record NamesAreGivenOnce : Type 0 where
+  pub old : (session : Session) (calls : List CallLine) → NamesAreGiven (flat_end session (boot session) calls)
+  pub new : (f : Flat) (me : ProcName) (p : Process) → f.processes me ≡ Some p → is_given f.processes (next_child me p) ≡ false
+  pub stay : (session : Session) (f : Flat) (me : ProcName) (call : UnixCall) (name : ProcName) → is_given f.processes name ≡ true → is_given (flat_after session f me call).processes name ≡ true
+
+-- the process is in no job and holds none
+pub record HasNoJob (p : Process) : Type 0 where
+  pub in_none : p.chain ≡ []
+  pub holds_none : p.held ≡ []
+
+-- who is nobody, and who is no declared user, has no job, in each state that calls lead to
+pub record NobodyHasAJob : Type 0 where
+  pub nobodys : (session : Session) (calls : List CallLine) (me : ProcName) (p : Process) → (flat_end session (boot session) calls).processes me ≡ Some p
+      → p.user ≡ nobody → HasNoJob p
+  pub strangers : (session : Session) (calls : List CallLine) (me : ProcName) (p : Process) → (flat_end session (boot session) calls).processes me ≡ Some p
+      → user_named session.users p.user ≡ None → HasNoJob p

@@ -1,12 +1,14 @@
 pub mod Padding
 pub mod PaddingLaws
 pub mod Words
-pub mod Texts
+pub mod Modes
 pub mod PathOrder
 pub mod PathOrderLaws
+pub mod Sessions
 pub mod Files
 pub mod Classes
 pub mod FlatState
 pub mod FlatCalls
 pub mod Meaning
+pub mod Texts
 pub mod Laws

@@ -1,13 +1,18 @@
 -- How paths, processes and modes are written, and what is printed of a reply.
-use Rattle.std.specs.Prelude.{ℕ, List, [], ◌∷◌, ◌++◌, codes}
+use Rattle.std.specs.Prelude.{ℕ, Bool, List, [], ◌∷◌, ◌++◌, Option, None, Some, codes, if◌then◌else◌}
+use Rattle.std.specs.List.{flat_map}
 use Rattle.std.specs.Fmt.{decimal}
 use Rattle.histar_flat.specs.declared.calls.Mode.{Mode}
-use Rattle.histar_flat.specs.declared.calls.Mode.TheVariants.{Private, Readable}
+use Rattle.histar_flat.specs.declared.calls.Mode.TheVariants.{Private, Readable, Open, Group}
 use Rattle.histar_flat.specs.declared.replies.Errno.{Errno}
 use Rattle.histar_flat.specs.declared.replies.Errno.TheVariants.{ENOENT, ENOTDIR, EISDIR, EEXIST, EACCES, EPERM, ENOTEMPTY, EBUSY, ENOSPC, EFBIG, ESRCH, EAGAIN, EAUTH}
+use Rattle.histar_flat.specs.declared.replies.FileMode.{FileMode}
+use Rattle.histar_flat.specs.declared.replies.FileMode.TheVariants as file_modes
+use Rattle.histar_flat.specs.declared.replies.Stat.{Stat}
 use Rattle.histar_flat.specs.declared.replies.Reply.{Reply}
-use Rattle.histar_flat.specs.declared.replies.Reply.TheVariants.{Done, Data, Refused, Gone}
-use Rattle.histar_flat.specs.Words.{Path, ProcName}
+use Rattle.histar_flat.specs.declared.replies.Reply.TheVariants.{Done, Data, Entries, Stats, Child, Running, Exited, User, Refused, Gone}
+use Rattle.histar_flat.specs.Words.{Name, Path, ProcName}
+use Rattle.histar_flat.specs.FlatState.{Entry}
 
 -- each name after a slash
 abbrev pub names_text : Path → List ℕ
@@ -28,6 +33,8 @@ process_text (n ∷ p) = process_text p ++ codes "." ++ decimal n
 abbrev pub mode_text : Mode → List ℕ
 mode_text Private = codes "private"
 mode_text Readable = codes "readable"
+mode_text Open = codes "open"
+mode_text (Group name) = codes "group:" ++ name
 
 -- the name of a refusal
 abbrev pub errno_text : Errno → List ℕ
@@ -45,9 +52,40 @@ errno_text ESRCH = codes "ESRCH"
 errno_text EAGAIN = codes "EAGAIN"
 errno_text EAUTH = codes "EAUTH"
 
+-- an owner as it is printed: what has none has a hyphen
+abbrev pub owner_text : Option Name → List ℕ
+owner_text None = codes "-"
+owner_text (Some owner) = owner
+
+-- the mode of a file or a directory as it is printed
+abbrev pub file_mode_text : FileMode → List ℕ
+file_mode_text file_modes.Private = codes "private"
+file_mode_text file_modes.Readable = codes "readable"
+file_mode_text file_modes.Open = codes "open"
+file_mode_text file_modes.Scratch = codes "scratch"
+file_mode_text (file_modes.Group name) = codes "group:" ++ name
+
+-- the kind of what stands at a path, its owner and its mode
+abbrev pub stat_text : Stat → List ℕ
+stat_text stat = (if stat.is_directory then codes "dir " else codes "file ") ++ owner_text stat.owner ++ codes " " ++ file_mode_text stat.mode
+
+-- an entry in a list: a directory's name has a slash after it
+abbrev pub entry_text : Entry → List ℕ
+entry_text e = codes " " ++ e.0 ++ (if e.1 then codes "/" else [])
+
+-- what stands after the user of a process that is in a job
+abbrev pub confined_text : Bool → List ℕ
+confined_text confined = if confined then codes " confined" else []
+
 -- the text of a reply: what was read stands after `= `, also where it is empty
 abbrev pub reply_text : Reply → List ℕ
 reply_text Done = codes "ok"
 reply_text (Data bytes) = codes "= " ++ bytes
+reply_text (Entries entries) = codes "ok" ++ flat_map entry_text entries
+reply_text (Stats stat) = codes "ok " ++ stat_text stat
+reply_text (Child process) = codes "ok " ++ process_text process
+reply_text Running = codes "ok running"
+reply_text (Exited n) = codes "ok exited " ++ decimal n
+reply_text (User name confined) = codes "ok " ++ name ++ confined_text confined
 reply_text (Refused e) = errno_text e
 reply_text Gone = codes "gone"

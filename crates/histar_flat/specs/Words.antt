@@ -1,9 +1,7 @@
--- Names, passwords, paths, processes and modes: what they are, and which bytes are read as one.
+-- Names, passwords, paths and processes: what they are, and which bytes are read as one.
 use Rattle.std.specs.Prelude.{ℕ, Bool, true, false, not, ◌&&◌, ◌||◌, ◌==◌, nat_le, nat_lt, List, [], ◌∷◌, length, codes, Option, Some, None, option_map, if◌then◌else◌}
 use Rattle.std.specs.List.{list_all}
 use Rattle.std.specs.Str.{bytes_eq}
-use Rattle.histar_flat.specs.declared.calls.Mode.{Mode}
-use Rattle.histar_flat.specs.declared.calls.Mode.TheVariants.{Private, Readable}
 
 -- a name is its bytes
 abbrev pub Name : Type 0
@@ -88,7 +86,3 @@ path_of (b ∷ bs) = if b == 47 then option_map (λ name. name ∷ []) (name_of 
 -- the process that the bytes name, if they name one: `0`
 abbrev pub process_of : List ℕ → Option ProcName
 process_of bs = if bytes_eq bs (codes "0") then Some [] else None
-
--- the mode that the bytes name, if they name one: `private` or `readable`
-abbrev pub mode_of : List ℕ → Option Mode
-mode_of bs = if bytes_eq bs (codes "private") then Some Private else (if bytes_eq bs (codes "readable") then Some Readable else None)

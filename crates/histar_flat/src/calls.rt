@@ -1,6 +1,7 @@
-//! Users and the calls that they make.
+//! Users, the calls that they make, and the lines of a script that hold them.
 use crate::names::{Name, Password};
 use crate::paths::Path;
+use crate::processes::ProcName;
 use histar_base::Bytes;
 
 /// A user of the machine, as a script declares one.
@@ -10,11 +11,17 @@ pub struct User {
     pub password: Password,
 }
 
-/// Who may read a file: its owner alone, or everyone. Its owner alone may write it in both.
-#[derive(Clone, Copy, Debug, PartialEq, Eq)]
+/// For whom a file or a directory is made. In a job no mode counts: what is made there is for the job.
+#[derive(Clone, Copy)]
 pub enum Mode {
+    /// For its owner alone.
     Private,
+    /// For everyone to read, and for its owner to write.
     Readable,
+    /// For everyone.
+    Open,
+    /// For the members of the group of this name.
+    Group(Name),
 }
 
 /// A Unix call.
@@ -22,10 +29,48 @@ pub enum Mode {
 pub enum UnixCall {
     /// Makes an empty file.
     Create(Path, Mode),
-    /// Puts bytes in the place of what a file holds.
-    Write(Path, Bytes),
+    /// Makes an empty directory.
+    Mkdir(Path, Mode),
     /// Asks for the bytes of a file.
     Read(Path),
+    /// Puts bytes in the place of what a file holds.
+    Write(Path, Bytes),
+    /// Puts bytes behind what a file holds.
+    Append(Path, Bytes),
+    /// Asks for the entries of a directory.
+    List(Path),
+    /// Asks what stands at a path, whose it is and of which mode.
+    Stat(Path),
+    /// Takes a file away.
+    Unlink(Path),
+    /// Takes an empty directory away.
+    Rmdir(Path),
+    /// Takes away a file, or a directory with all below it.
+    Rmtree(Path),
+    /// Gives an entry another name in the same directory.
+    Rename(Path, Name),
+    /// Has a child of the process be born.
+    Spawn,
+    /// Ends the process that makes the call, with this status.
+    Exit(u8),
+    /// Asks whether a process runs.
+    Status(ProcName),
+    /// Ends a child, and all processes below it.
+    Kill(ProcName),
+    /// Asks for the process's own user, and whether it is in a job.
+    Whoami,
     /// Makes the process that of another user, by the user's password.
     Login(Name, Password),
+    /// Starts a job: a directory for it, and a child of the process that is in it.
+    Wrap(Path),
+}
+
+/// A call line of a script.
+#[derive(Drop)]
+pub struct CallLine {
+    /// The number of the line; lines count from 1.
+    pub line: u32,
+    /// The process that makes the call.
+    pub process: ProcName,
+    pub call: UnixCall,
 }

@@ -2,14 +2,15 @@
 ghost use Rattle.histar_flat.specs.Laws.{RefusalsChangeNothing, WritesAreReadBack, OneReplyALine};
 ghost use Rattle.histar_flat.specs.Laws.{PrivateFilesStay, PrivateFilesAreUntold};
 ghost use Rattle.histar_flat.specs.Laws.{PrivateBytesAreUntold};
+ghost use Rattle.histar_flat.specs.Laws.{PathsAreATree, NamesAreGivenOnce, NobodyHasAJob};
 
 /// A call that is refused changes nothing.
 pub fn a_refused_call_changes_nothing()
     ensures { RefusalsChangeNothing }
 {}
 
-/// A call of a process that is not the owner's leaves a private file as it is: it stands at its
-/// path, is private, and has its bytes.
+/// A call of a process that is not the owner's leaves a private file as it is, unless it takes it
+/// away or renames it: it stands at its path, is private, and has its bytes.
 pub fn a_private_file_stays_with_others()
     ensures { PrivateFilesStay }
 {}
@@ -30,8 +31,23 @@ pub fn what_is_written_is_read_back()
     ensures { WritesAreReadBack }
 {}
 
-/// The replies of a script are one a call line, in the order of the lines, each with the number of
-/// its line.
+/// The replies of a script are one a call line, in the order of the lines.
 pub fn one_reply_a_line()
     ensures { OneReplyALine }
+{}
+
+/// In each state that calls lead to, what lies in something lies in a directory.
+pub fn paths_are_a_tree()
+    ensures { PathsAreATree }
+{}
+
+/// Names of processes are given once: all that are there were given, the name of a next child was
+/// not, and a name that was given stays so.
+pub fn names_are_given_once()
+    ensures { NamesAreGivenOnce }
+{}
+
+/// Who is nobody, or no declared user, is in no job and holds none.
+pub fn nobody_has_a_job()
+    ensures { NobodyHasAJob }
 {}

@@ -12,9 +12,9 @@ mod readers;
 mod replies;
 mod words;
 
-pub use calls::{Mode, UnixCall, User};
+pub use calls::{CallLine, Mode, UnixCall, User};
 pub use names::{Name, Password};
 pub use paths::Path;
 pub use processes::ProcName;
 pub use readers::{read_mode, read_name, read_password, read_path, read_process, read_user_name};
-pub use replies::{Errno, Reply};
+pub use replies::{Errno, FileMode, Listing, Reply, Stat};

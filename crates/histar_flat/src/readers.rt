@@ -1,7 +1,8 @@
 //! Readers of single words.
 ghost use Rattle.std.specs.Prelude.{◌≡◌, IsTrue};
 ghost use Rattle.std.specs.List.{list_all};
-ghost use Rattle.histar_flat.specs.Words.{name_of, user_name_of, password_of, path_of, process_of, mode_of, is_name_byte as name_byte, is_dots as dots, is_letter as letter, begins_with_letter as letter_first, is_name as name, is_user_name as user_name, is_password_byte as password_byte, is_password as password};
+ghost use Rattle.histar_flat.specs.Modes.{mode_of};
+ghost use Rattle.histar_flat.specs.Words.{name_of, user_name_of, password_of, path_of, process_of, is_name_byte as name_byte, is_dots as dots, is_letter as letter, begins_with_letter as letter_first, is_name as name, is_user_name as user_name, is_password_byte as password_byte, is_password as password};
 
 use crate::calls::Mode;
 use crate::names::{Name, Password};

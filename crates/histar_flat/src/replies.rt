@@ -2,7 +2,10 @@
 ghost use Rattle.std.specs.Prelude.{◌≡◌};
 ghost use Rattle.histar_flat.specs.Texts.{errno_text};
 
+use crate::names::Name;
+use crate::processes::ProcName;
 use histar_base::Bytes;
+use std::marker::Model;
 
 /// Why a call is refused. A refused call changes nothing.
 #[derive(Clone, Copy, Debug, PartialEq, Eq)]
@@ -58,6 +61,59 @@ impl Errno {
     }
 }
 
+/// The mode of a file or a directory that is there.
+#[derive(Clone, Copy)]
+pub enum FileMode {
+    /// For its owner alone.
+    Private,
+    /// For everyone to read, and for its owner to write.
+    Readable,
+    /// For everyone.
+    Open,
+    /// For its owner in jobs.
+    Scratch,
+    /// For the members of the group of this name.
+    Group(Name),
+}
+
+/// What is told of a file or a directory.
+#[derive(Clone, Copy)]
+pub struct Stat {
+    pub is_directory: bool,
+    /// The owner, if it has one: what is open or a group's has none.
+    pub owner: Option<Name>,
+    pub mode: FileMode,
+}
+
+/// The entries of a directory, by rising names, and of each whether it is a directory.
+#[derive(Drop)]
+pub struct Listing {
+    entries: Vec<(Name, bool)>,
+}
+
+impl Model for Listing {
+    ghost use Rattle.std.specs.Prelude.{ℕ, Bool, List};
+
+    ghost Value = { List (List ℕ × Bool) };
+
+    ghost view = { λ l. l.entries.items };
+}
+
+impl Listing {
+    /// The listing of these entries.
+    pub fn new(entries: Vec<(Name, bool)>) -> Self
+        ensures { result ≡ entries.items }
+    {
+        Listing { entries }
+    }
+
+    pub fn entries(&self) -> &[(Name, bool)]
+        ensures { result.now ≡ self.now }
+    {
+        self.entries.as_slice()
+    }
+}
+
 /// The reply to one call.
 #[derive(Drop)]
 pub enum Reply {
@@ -65,6 +121,18 @@ pub enum Reply {
     Done,
     /// The bytes that were read.
     Data(Bytes),
+    /// The entries of a directory.
+    Entries(Listing),
+    /// What stands at a path.
+    Stats(Stat),
+    /// The child that was born.
+    Child(ProcName),
+    /// The process runs.
+    Running,
+    /// The process has exited with this status.
+    Exited(u8),
+    /// The user of the process, and whether it is in a job.
+    User(Name, bool),
     Refused(Errno),
     /// The process that made the call doesn't run.
     Gone,

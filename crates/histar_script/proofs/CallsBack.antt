@@ -6,7 +6,8 @@ use Rattle.histar_flat.specs.declared.calls.Mode.{Mode}
 use Rattle.histar_flat.specs.declared.calls.User.{User}
 use Rattle.histar_flat.specs.declared.calls.UnixCall.{UnixCall}
 use Rattle.histar_flat.specs.declared.calls.UnixCall.TheVariants.{Create, Write, Read, Login}
-use Rattle.histar_flat.specs.Words.{Path, is_name, is_user_name, is_password, is_path, name_of, user_name_of, password_of, path_of, mode_of}
+use Rattle.histar_flat.specs.Words.{Path, is_name, is_user_name, is_password, is_path, name_of, user_name_of, password_of, path_of}
+use Rattle.histar_flat.specs.Modes.{mode_of, is_line_mode}
 use Rattle.histar_flat.specs.Texts.{path_text, mode_text}
 use Rattle.histar_script.specs.Lines.{split_word, ◌space◌}
 use Rattle.histar_script.specs.Reading.{◌>>=◌, user_of, create_of, write_of, read_of, login_of, call_named, call_of}
@@ -57,14 +58,14 @@ create_takes text c e =
     let b = bind_some w.1 (λ rest. mode_of rest >>= λ mode. Some (Create a.0 mode)) c a.2 in
     let d = bind_some (mode_of b.0) (λ mode. Some (Create a.0 mode)) c b.2 in
     let path = path_takes w.0 a.0 a.1 in
-    let spelled : text ≡ path_text a.0 space mode_text d.0 = parted text (path_text a.0) b.0 path.0 b.1 ∙ ap (λ (l : List ℕ). path_text a.0 space l) (mode_takes b.0 d.0 d.1) in
+    let spelled : text ≡ path_text a.0 space mode_text d.0 = parted text (path_text a.0) b.0 path.0 b.1 ∙ ap (λ (l : List ℕ). path_text a.0 space l) (mode_takes b.0 d.0 d.1).0 in
     let same : Create a.0 d.0 ≡ c = cc in
-    subst (IsCallText (codes "create" space text)) same (ap (λ (l : List ℕ). codes "create" space l) spelled, path.1)
+    subst (IsCallText (codes "create" space text)) same (ap (λ (l : List ℕ). codes "create" space l) spelled, path.1, (mode_takes b.0 d.0 d.1).1)
 
 -- and the other way
-create_again : (path : Path) (mode : Mode) → is_path path ≡ true → create_of (path_text path space mode_text mode) ≡ Some (Create path mode)
+create_again : (path : Path) (mode : Mode) → is_path path ≡ true → is_line_mode mode ≡ true → create_of (path_text path space mode_text mode) ≡ Some (Create path mode)
 unfolding create_of
-create_again path mode h = rw (split_path path (mode_text mode) h, path_again path h, mode_again mode) refl
+create_again path mode h named = rw (split_path path (mode_text mode) h, path_again path h, mode_again mode named) refl
 
 -- a `write` that is read is spelled so
 write_takes : (text : List ℕ) (c : UnixCall) → write_of text ≡ Some c → IsCallText (codes "write" space text) c
@@ -161,7 +162,8 @@ call_takes text c e =
 -- and a call that is spelled is read
 pub call_again : (text : List ℕ) (c : UnixCall) → IsCallText text c → call_of text ≡ Some c
 unfolding call_of split_word
-call_again text (Create path mode) h = ap call_of h.0 ∙ create_again path mode h.1
+call_again text (Create path mode) h = ap call_of h.0 ∙ create_again path mode h.1 h.2
 call_again text (Write path bytes) h = ap call_of h.0 ∙ write_again path bytes h.1
 call_again text (Read path) h = ap call_of h.0 ∙ read_again path h.1
 call_again text (Login name password) h = ap call_of h.0 ∙ login_again name password h.1 h.2
+call_again text _ h = absurd h

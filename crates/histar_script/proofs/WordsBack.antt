@@ -7,8 +7,9 @@ use Rattle.std.specs.Str.{bytes_eq}
 use Rattle.std.proofs.lemmas.Slice.Eq.{bytes_eq-Decides}
 use Rattle.std.proofs.lemmas.Bool.{false≢true, eqb-true, and_parts}
 use Rattle.histar_flat.specs.declared.calls.Mode.{Mode}
-use Rattle.histar_flat.specs.declared.calls.Mode.TheVariants.{Private, Readable}
-use Rattle.histar_flat.specs.Words.{Path, ProcName, is_name, is_name_byte, is_dots, is_user_name, begins_with_letter, is_path, is_process, name_of, path_of, process_of, mode_of}
+use Rattle.histar_flat.specs.declared.calls.Mode.TheVariants.{Private, Readable, Open, Group}
+use Rattle.histar_flat.specs.Words.{Path, ProcName, is_name, is_name_byte, is_dots, is_user_name, begins_with_letter, is_path, is_process, name_of, path_of, process_of}
+use Rattle.histar_flat.specs.Modes.{mode_of, is_line_mode}
 use Rattle.histar_flat.specs.Texts.{path_text, process_text, mode_text}
 use Rattle.histar_script.specs.Lines.{split_word, ◌space◌}
 use Rattle.histar_script.proofs.Chains.{chosen, mapped}
@@ -109,15 +110,17 @@ process_takes text process e =
     let g = cond_some (bytes_eq text (codes "0")) [] process e in
     subst (λ (p : ProcName). (text ≡ process_text p) × (is_process p ≡ true)) g.1 (same_bytes text (codes "0") g.0, refl)
 
--- a mode that is read is spelled so
-pub mode_takes : (text : List ℕ) (mode : Mode) → mode_of text ≡ Some mode → text ≡ mode_text mode
+-- a mode that is read is spelled so, and a line can name it
+pub mode_takes : (text : List ℕ) (mode : Mode) → mode_of text ≡ Some mode → (text ≡ mode_text mode) × (is_line_mode mode ≡ true)
 mode_takes text mode e =
     elim (chosen (bytes_eq text (codes "private")) (Some Private) (cond (bytes_eq text (codes "readable")) (Some Readable) None) (Some mode) e) [
-      | inl h ↦ let same : Private ≡ mode = cc in subst (λ (m : Mode). text ≡ mode_text m) same (same_bytes text (codes "private") h.0)
-      | inr h ↦ let g = cond_some (bytes_eq text (codes "readable")) Readable mode h.1 in subst (λ (m : Mode). text ≡ mode_text m) g.1 (same_bytes text (codes "readable") g.0)
+      | inl h ↦ let same : Private ≡ mode = cc in subst (λ (m : Mode). (text ≡ mode_text m) × (is_line_mode m ≡ true)) same (same_bytes text (codes "private") h.0, refl)
+      | inr h ↦ let g = cond_some (bytes_eq text (codes "readable")) Readable mode h.1 in subst (λ (m : Mode). (text ≡ mode_text m) × (is_line_mode m ≡ true)) g.1 (same_bytes text (codes "readable") g.0, refl)
     ]
 
--- and a mode that is spelled is read
-pub mode_again : (mode : Mode) → mode_of (mode_text mode) ≡ Some mode
-mode_again Private = refl
-mode_again Readable = refl
+-- and a mode that is spelled is read, where a line can name it
+pub mode_again : (mode : Mode) → is_line_mode mode ≡ true → mode_of (mode_text mode) ≡ Some mode
+mode_again Private h = refl
+mode_again Readable h = refl
+mode_again Open h = absurd (false≢true h)
+mode_again (Group name) h = absurd (false≢true h)

@@ -4,6 +4,7 @@ use Rattle.histar_flat.specs.declared.calls.User.{User}
 use Rattle.histar_flat.specs.declared.calls.UnixCall.{UnixCall}
 use Rattle.histar_flat.specs.declared.calls.UnixCall.TheVariants.{Create, Write, Read, Login}
 use Rattle.histar_flat.specs.Words.{is_name, is_user_name, is_password, is_path, is_process}
+use Rattle.histar_flat.specs.Modes.{is_line_mode}
 use Rattle.histar_flat.specs.Texts.{path_text, process_text, mode_text}
 use Rattle.histar_script.specs.declared.items.Item.{Item}
 use Rattle.histar_script.specs.declared.items.Item.TheVariants as items
@@ -16,12 +17,13 @@ pub record IsUserText (text : List ℕ) (u : User) : Type 0 where
   pub name : IsTrue (is_user_name u.name)
   pub password : IsTrue (is_password u.password)
 
--- `create PATH MODE`, `write PATH BYTES` with any bytes, `read PATH`, or `login NAME PASSWORD` with any name
+-- `create PATH MODE`, `write PATH BYTES` with any bytes, `read PATH`, or `login NAME PASSWORD` with any name; no other call has a line
 abbrev pub IsCallText : List ℕ → UnixCall → Type 0
-IsCallText text (Create path mode) = (text ≡ codes "create" space path_text path space mode_text mode) × IsTrue (is_path path)
+IsCallText text (Create path mode) = (text ≡ codes "create" space path_text path space mode_text mode) × IsTrue (is_path path) × IsTrue (is_line_mode mode)
 IsCallText text (Write path bytes) = (text ≡ codes "write" space path_text path space bytes) × IsTrue (is_path path)
 IsCallText text (Read path) = (text ≡ codes "read" space path_text path) × IsTrue (is_path path)
 IsCallText text (Login name password) = (text ≡ codes "login" space name space password) × IsTrue (is_name name) × IsTrue (is_password password)
+IsCallText text _ = ⊥
 
 -- what a line that is not empty says: `#..`, `user NAME PASSWORD` or `PROC CALL`
 abbrev pub SaysInWords : List ℕ → Item → Type 0

@@ -5,7 +5,8 @@ use Rattle.std.specs.Str.{bytes_eq}
 use Rattle.histar_flat.specs.declared.calls.User.{User}
 use Rattle.histar_flat.specs.declared.calls.UnixCall.{UnixCall}
 use Rattle.histar_flat.specs.declared.calls.UnixCall.TheVariants.{Create, Write, Read, Login}
-use Rattle.histar_flat.specs.Words.{Name, name_of, user_name_of, password_of, path_of, process_of, mode_of}
+use Rattle.histar_flat.specs.Words.{Name, name_of, user_name_of, password_of, path_of, process_of}
+use Rattle.histar_flat.specs.Modes.{mode_of}
 use Rattle.histar_script.specs.declared.fault.Fault.{Fault}
 use Rattle.histar_script.specs.declared.fault.Fault.TheVariants.{BadScript, TooLong}
 use Rattle.histar_script.specs.declared.items.Item.{Item}

@@ -2,7 +2,7 @@
 use Rattle.std.specs.Prelude.{◌≢◌, ℕ, ◌<◌, ◌≤◌, List, [], length, IsTrue, All, AllPairs}
 use Rattle.histar_flat.specs.declared.calls.User.{User}
 use Rattle.histar_flat.specs.Words.{is_user_name}
-use Rattle.histar_script.specs.declared.items.CallLine.{CallLine}
+use Rattle.histar_flat.specs.declared.calls.CallLine.{CallLine}
 
 -- the users in their order, and the calls with the numbers of their lines
 pub record Reading : Type 0 where

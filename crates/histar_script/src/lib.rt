@@ -8,7 +8,6 @@ mod lines;
 mod script;
 
 pub use fault::Fault;
-pub use items::CallLine;
 pub use script::{Script, one_reading, read_script};
 
 #[cfg(test)]

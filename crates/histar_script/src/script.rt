@@ -8,9 +8,9 @@ ghost use Rattle.histar_script.specs.Outcome.{Gives, GivesNext};
 
 use crate::calls::read_item;
 use crate::fault::Fault;
-use crate::items::{CallLine, Item};
+use crate::items::Item;
 use crate::lines::{count_lines, split_line};
-use histar_flat::{Name, ProcName, UnixCall, User};
+use histar_flat::{CallLine, Name, ProcName, UnixCall, User};
 use std::alloc::Global;
 use std::marker::Model;
 
@@ -41,13 +41,6 @@ impl Script {
         ensures { result.now ≡ self.now.users }
     {
         self.users.as_slice()
-    }
-
-    /// The calls, in the order of their lines.
-    pub fn calls(&self) -> &[CallLine]
-        ensures { result.now ≡ self.now.calls }
-    {
-        self.calls.as_slice()
     }
 
     /// The users and the calls, to be taken one by one.

@@ -1,6 +1,6 @@
 //! Worked scripts: what is read, which line is bad, and what is too long.
-use crate::{CallLine, Fault, read_script};
-use histar_flat::{Mode, Path, UnixCall};
+use crate::{Fault, read_script};
+use histar_flat::{CallLine, Mode, Path, UnixCall};
 use std::alloc::{AllocError, Global};
 use std::test::Fail;
 
@@ -20,6 +20,7 @@ fn told(alloc: Global, line: &CallLine) -> Result<Vec<u8>, AllocError> {
         UnixCall::Write(path, bytes) => ("write", entry(path), bytes.as_slice()),
         UnixCall::Read(path) => ("read", entry(path), b"".as_slice()),
         UnixCall::Login(name, password) => ("login", name.as_bytes(), password.as_bytes()),
+        _ => ("another call", b"".as_slice(), b"".as_slice()),
     };
     let mut told = Vec::new(alloc);
     for part in [word.as_bytes(), first, second] {

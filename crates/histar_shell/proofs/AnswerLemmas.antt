@@ -8,10 +8,11 @@ use Rattle.std.specs.Io.KnownBytes.{Appends, Keeps}
 use Rattle.histar_calls.specs.declared.stopping.Stopped.{Stopped}
 use Rattle.histar_flat.specs.declared.replies.Reply.{Reply}
 use Rattle.histar_script.specs.declared.fault.Fault.{Fault}
-use Rattle.histar_script.specs.declared.items.CallLine.{CallLine}
+use Rattle.histar_flat.specs.declared.calls.CallLine.{CallLine}
 use Rattle.histar_devices.specs.Writing.{AppendsFront}
 use Rattle.histar_devices.proofs.WritingLemmas.{sent_none}
-use Rattle.histar_shell.specs.Answers.{Answered, answer_text, answers_text, calls_of, line_text}
+use Rattle.histar_flat.specs.Meaning.{Answered}
+use Rattle.histar_shell.specs.Answers.{answer_text, answers_text, calls_of, line_text}
 use Rattle.histar_shell.specs.Machine.{Running, AnswersLine}
 use Rattle.histar_shell.specs.Session.{Session, AnswersCall, AnswersCalls, BeginsAnswer, BeginsAnswers}
 

@@ -7,6 +7,7 @@ use Rattle.histar_flat.specs.declared.calls.UnixCall.TheVariants.{Create, Write,
 use Rattle.histar_flat.specs.declared.replies.Reply.{Reply}
 use Rattle.histar_flat.specs.declared.replies.Reply.TheVariants.{Gone}
 use Rattle.histar_flat.specs.Words.{ProcName}
+use Rattle.histar_flat.specs.Sessions.{session_of}
 use Rattle.histar_flat.specs.FlatState.{Flat}
 use Rattle.histar_flat.specs.FlatCalls.{if_running, flat_after}
 use Rattle.histar_flat.proofs.Laws.{not_running_is_gone}
@@ -27,9 +28,9 @@ module _ (old new : Running) (f : Flat) (shows : Shows old f) where
   -- a call of process 0 is its row
   made_row : (k : Traced) → LaysOut old.users (state k) f → (call : UnixCall) (result : Result Reply Stopped) → IsScriptable call → Makes old.users (places_of (length old.users)) k new.kernel (8 + 2 * length old.users) call result
       → IsRowOf old.users f call k new.kernel result
-  made_row k l (Create [] mode) result can made = absurd cc
-  made_row k l (Create (m ∷ []) mode) result can made = create_row old.users (no_user_is_nobody old.users shows.users) k new.kernel f l m mode can result made.0
-  made_row k l (Create (m ∷ n ∷ d) mode) result can made = absurd cc
+  made_row k l (Create [] mode) result can made = let never = can.0 in absurd cc
+  made_row k l (Create (m ∷ []) mode) result can made = create_row old.users (no_user_is_nobody old.users shows.users) k new.kernel f l m mode can.1 can.0 result made.0
+  made_row k l (Create (m ∷ n ∷ d) mode) result can made = let never = can.0 in absurd cc
   made_row k l (Write [] bytes) result can made = absurd cc
   made_row k l (Write (m ∷ []) bytes) result can made = write_row old.users (no_user_is_nobody old.users shows.users) k new.kernel f l m bytes result made.0
   made_row k l (Write (m ∷ n ∷ d) bytes) result can made = absurd cc
@@ -37,6 +38,7 @@ module _ (old new : Running) (f : Flat) (shows : Shows old f) where
   made_row k l (Read (m ∷ [])) result can made = read_row old.users (no_user_is_nobody old.users shows.users) k new.kernel f l m result made.0
   made_row k l (Read (m ∷ n ∷ d)) result can made = absurd cc
   made_row k l (Login name password) result can made = login_is_row old.users (no_user_is_nobody old.users shows.users) k new.kernel f l name password result made.0 made.1
+  made_row k l _ result can made = absurd can
 
   -- at the places and by the thread that boot told the machine
   row_of_made : (line : ℕ) (call : UnixCall) (result : Result Reply Stopped) → IsScriptable call → HasMade old new line call result → IsRowOf old.users f call (on_line line old.kernel) new.kernel result
@@ -63,7 +65,7 @@ module _ (old new : Running) (f : Flat) (shows : Shows old f) where
         entries = row.1.entries;
         trace = row.1.trace;
         row = row.1.row;
-        shows = still_shows line call (Ok reply) (flat_after old.users f [] call) h row.1.row.lays_out;
+        shows = still_shows line call (Ok reply) (flat_after (session_of old.users) f [] call) h row.1.row.lays_out;
       }
   made_ends line call (Err stopped) can h =
       let out = row_of_made line call (Err stopped) can h in
@@ -77,7 +79,7 @@ module _ (old new : Running) (f : Flat) (shows : Shows old f) where
   -- a line of a process that was never born is answered `gone`, and makes no raw call
   gone_ends : (line n : ℕ) (p : ProcName) (call : UnixCall) → EndsAsMeant old old f (record { line = line; process = n ∷ p; call = call }) (Ok Gone)
   gone_ends line n p call =
-      let still = not_running_is_gone old.users f (n ∷ p) call (ap if_running (shows.kernel.others n p)) in
+      let still = not_running_is_gone (session_of old.users) f (n ∷ p) call (ap if_running (shows.kernel.others n p)) in
       let is_line : IsLine old.users (state old.kernel) line (n ∷ p) call Gone [] (state old.kernel) = record {
         run = refl;
         own = tt;

@@ -7,15 +7,16 @@ use Rattle.std.proofs.lemmas.Grind.{flat_map-append}
 use Rattle.std.proofs.lemmas.List.{map-append}
 use Rattle.histar_flat.specs.declared.calls.User.{User}
 use Rattle.histar_flat.specs.declared.replies.Reply.{Reply}
+use Rattle.histar_flat.specs.Sessions.{session_of}
 use Rattle.histar_flat.specs.FlatState.{Flat}
 use Rattle.histar_flat.specs.FlatCalls.{reply_to, flat_after}
-use Rattle.histar_flat.specs.Meaning.{Asked, boot, replies_from, flat_end, meaning}
+use Rattle.histar_flat.specs.Meaning.{boot, answered_from, flat_end, meaning, Answered}
 use Rattle.histar_flat.proofs.Laws.{replies_go_on}
 use Rattle.histar_object.specs.State.{State, empty_state}
 use Rattle.histar_script.specs.Script.{Reading, IsUserList}
 use Rattle.histar_script.specs.declared.fault.Fault.{Fault}
 use Rattle.histar_script.specs.declared.fault.Fault.TheVariants.{BadScript, TooLong, OutOfMemory, ReadFailed, WriteFailed}
-use Rattle.histar_script.specs.declared.items.CallLine.{CallLine}
+use Rattle.histar_flat.specs.declared.calls.CallLine.{CallLine}
 use Rattle.histar_script.specs.Reading.{script_of}
 use Rattle.histar_syscall.specs.declared.trace.TraceEntry.{TraceEntry}
 use Rattle.histar_syscall.specs.Traced.{state}
@@ -28,24 +29,20 @@ use Rattle.histar_simulation.proofs.Start.{start_lays_out}
 use Rattle.histar_simulation.proofs.Sessions.{run_after, rows_run}
 use Rattle.histar_simulation.proofs.Chains.{entries_of, chain_run, chain_own, granted_run}
 use Rattle.histar_devices.specs.Writing.{AppendsFront}
-use Rattle.histar_shell.specs.Answers.{Answered, answers_text, calls_of, line_text}
+use Rattle.histar_shell.specs.Answers.{answer_text, answers_text, calls_of, line_text}
 use Rattle.histar_shell.specs.Machine.{Running, IsStart}
 use Rattle.histar_shell.specs.Session.{Session, AnswersCalls, BeginsAnswers}
 use Rattle.histar_shell.specs.Outcome.{BeginsScript, WritesAtFault, WritesAnswers}
-use Rattle.histar_shell.specs.Meaning.{asked_by, meaning_text, Shows, AnswersAsMeant, WritesMeaning, BeginsMeaning, WritesMeaningAtFault, RunsAsMeant}
+use Rattle.histar_shell.specs.Meaning.{meaning_text, Shows, AnswersAsMeant, WritesMeaning, BeginsMeaning, WritesMeaningAtFault, RunsAsMeant}
 use Rattle.histar_shell.proofs.Users.{AreScriptable, script_says}
 use Rattle.histar_shell.proofs.LineMeanings.{line_follows, users_stay}
 
--- the text of replies with the numbers of their lines
-abbrev pub replies_text : List (ℕ × Reply) → List ℕ
-replies_text = flat_map (λ r. line_text r.0 r.1)
-
 -- What the lines of a session have done, from a machine that shows a flat state on.
 pub record IsMeantSession (m : Running) (f : Flat) (answers : List Answered) (end : Running) : Type 0 where
-  pub text : answers_text answers ≡ replies_text (replies_from m.users f (map asked_by (calls_of answers)))
+  pub text : answers_text answers ≡ answers_text (answered_from (session_of m.users) f (calls_of answers))
   pub entries : List TraceEntry
   pub trace : end.kernel.trace ≡ m.kernel.trace ++ entries
-  pub rows : AreRows m.users (state m.kernel) f (map asked_by (calls_of answers)) entries (state end.kernel)
+  pub rows : AreRows m.users (state m.kernel) f (calls_of answers) entries (state end.kernel)
 
 -- a session of no line
 session_none : (m : Running) (f : Flat) (end : Running) → end ≡ m → IsMeantSession m f [] end
@@ -57,20 +54,20 @@ session_none m f end same = record {
 }
 
 -- a line before a session
-session_first : (m mid : Running) (f : Flat) (a : Answered) (answers : List Answered) (end : Running) → mid.users ≡ m.users → AnswersAsMeant m mid f (asked_by a.call) a.reply
-    → IsMeantSession mid (flat_after m.users f a.call.process a.call.call) answers end → IsMeantSession m f (a ∷ answers) end
+session_first : (m mid : Running) (f : Flat) (a : Answered) (answers : List Answered) (end : Running) → mid.users ≡ m.users → AnswersAsMeant m mid f a.call a.reply
+    → IsMeantSession mid (flat_after (session_of m.users) f a.call.process a.call.call) answers end → IsMeantSession m f (a ∷ answers) end
 session_first m mid f a answers end same line later =
-    let g = flat_after m.users f a.call.process a.call.call in
-    let asked = map asked_by (calls_of answers) in
+    let g = flat_after (session_of m.users) f a.call.process a.call.call in
+    let asked = calls_of answers in
     record {
-      text = (λ i. line_text a.call.line (line.told i) ++ later.text i) ∙ ap (λ (users : List User). line_text a.call.line (reply_of line) ++ replies_text (replies_from users g asked)) same;
+      text = (λ i. line_text a.call.line (line.told i) ++ later.text i) ∙ ap (λ (users : List User). line_text a.call.line (reply_of line) ++ answers_text (answered_from (session_of users) g asked)) same;
       entries = line.entries ++ later.entries;
       trace = later.trace ∙ ap (λ (es : List TraceEntry). es ++ later.entries) line.trace ∙ append_assoc m.kernel.trace line.entries later.entries;
       rows = (line.entries, later.entries, state mid.kernel, refl, line.row, subst (λ (users : List User). AreRows users (state mid.kernel) g asked later.entries (state end.kernel)) same later.rows);
     }
   where
-    reply_of : AnswersAsMeant m mid f (asked_by a.call) a.reply → Reply
-    reply_of l = reply_to m.users f a.call.process a.call.call
+    reply_of : AnswersAsMeant m mid f a.call a.reply → Reply
+    reply_of l = reply_to (session_of m.users) f a.call.process a.call.call
 
 -- a session of lines that a script can have
 pub session_means : (m : Running) (f : Flat) (answers : List Answered) (end : Running) → Session m answers end → Shows m f → AreScriptable (calls_of answers) → IsMeantSession m f answers end
@@ -78,15 +75,15 @@ session_means m f [] end session shows can = session_none m f end session
 session_means m f (a ∷ answers) end session shows can =
     let line = line_follows m session.0 a.call.line a.call.process a.call.call (Ok a.reply) session.1 f shows can.0 in
     session_first m session.0 f a answers end (users_stay m session.0 a.call.line a.call.process a.call.call (Ok a.reply) session.1) line
-    (session_means session.0 (flat_after m.users f a.call.process a.call.call) answers end session.2 line.shows can.1)
+    (session_means session.0 (flat_after (session_of m.users) f a.call.process a.call.call) answers end session.2 line.shows can.1)
 
 -- a machine that was booted shows the flat start
-pub start_shows : (users : List User) (m : Running) → IsUserList users → IsStart users m → Shows m (boot users)
+pub start_shows : (users : List User) (m : Running) → IsUserList users → IsStart users m → Shows m (boot (session_of users))
 start_shows users m is_list start = record {
   users = subst IsUserList (sym start.users) is_list;
   places = start.places ∙ ap (λ (us : List User). places_of (length us)) (sym start.users);
   thread = start.thread ∙ ap (λ (us : List User). thread_number (length us)) (sym start.users);
-  kernel = subst (λ (us : List User). LaysOut us (state m.kernel) (boot users)) (sym start.users) (subst (λ (s : State). LaysOut users s (boot users)) (sym start.state) (start_lays_out users is_list.some));
+  kernel = subst (λ (us : List User). LaysOut us (state m.kernel) (boot (session_of users))) (sym start.users) (subst (λ (s : State). LaysOut users s (boot (session_of users))) (sym start.state) (start_lays_out users is_list.some));
 }
 
 -- the raw calls of boot
@@ -110,12 +107,12 @@ boot_trace users m booted =
 
 module _ (script : Reading) (is_list : IsUserList script.users) (can : AreScriptable script.calls) (start : Running) (starts : IsStart script.users start) where
   -- the session from the start on
-  from_start : (answers : List Answered) (end : Running) → AreScriptable (calls_of answers) → Session start answers end → IsMeantSession start (boot script.users) answers end
-  from_start answers end these session = session_means start (boot script.users) answers end session (start_shows script.users start is_list starts) these
+  from_start : (answers : List Answered) (end : Running) → AreScriptable (calls_of answers) → Session start answers end → IsMeantSession start (boot (session_of script.users)) answers end
+  from_start answers end these session = session_means start (boot (session_of script.users)) answers end session (start_shows script.users start is_list starts) these
 
   -- the text of the lines that were answered
-  text_is : (answers : List Answered) (end : Running) → AreScriptable (calls_of answers) → Session start answers end → answers_text answers ≡ replies_text (meaning script.users (map asked_by (calls_of answers)))
-  text_is answers end these session = (from_start answers end these session).text ∙ ap (λ (us : List User). replies_text (replies_from us (boot script.users) (map asked_by (calls_of answers)))) starts.users
+  text_is : (answers : List Answered) (end : Running) → AreScriptable (calls_of answers) → Session start answers end → answers_text answers ≡ answers_text (meaning (session_of script.users) (calls_of answers))
+  text_is answers end these session = (from_start answers end these session).text ∙ ap (λ (us : List User). answers_text (answered_from (session_of us) (boot (session_of script.users)) (calls_of answers))) starts.users
 
   -- all lines were answered
   pub writes_meaning : (old new : Option (List ℕ)) (read : Result Reading Fault) → read ≡ Ok script → (trace : List TraceEntry) (end : Running) → AnswersCalls start end old new script.calls → trace ≡ end.kernel.trace → WritesMeaning old new read trace
@@ -124,12 +121,12 @@ module _ (script : Reading) (is_list : IsUserList script.users) (can : AreScript
       let session = from_start answered.answers end these answered.session in
       let of_boot = boot_trace script.users start starts.booted in
       let parts = recorded ∙ session.trace ∙ ap (λ (es : List TraceEntry). es ++ session.entries) of_boot.trace in
-      let rows = subst (λ (calls : List CallLine). AreRows script.users (state start.kernel) (boot script.users) (map asked_by calls) session.entries (state end.kernel)) answered.each
-      (subst (λ (us : List User). AreRows us (state start.kernel) (boot script.users) (map asked_by (calls_of answered.answers)) session.entries (state end.kernel)) starts.users session.rows) in
+      let rows = subst (λ (calls : List CallLine). AreRows script.users (state start.kernel) (boot (session_of script.users)) calls session.entries (state end.kernel)) answered.each
+      (subst (λ (us : List User). AreRows us (state start.kernel) (boot (session_of script.users)) (calls_of answered.answers) session.entries (state end.kernel)) starts.users session.rows) in
       record {
         script = script;
         is_read = is_read;
-        written = subst (Appends old new) (text_is answered.answers end these answered.session ∙ ap (λ (calls : List CallLine). replies_text (meaning script.users (map asked_by calls))) answered.each) answered.written;
+        written = subst (Appends old new) (text_is answered.answers end these answered.session ∙ ap (λ (calls : List CallLine). answers_text (meaning (session_of script.users) calls)) answered.each) answered.written;
         recorded = record {
           of_boot = of_boot.entries;
           of_lines = session.entries;
@@ -137,12 +134,12 @@ module _ (script : Reading) (is_list : IsUserList script.users) (can : AreScript
           start = state start.kernel;
           boot_run = of_boot.run;
           boot_own = of_boot.own;
-          boot_lays_out = subst (λ (s : State). LaysOut script.users s (boot script.users)) (sym starts.state) (start_lays_out script.users is_list.some);
+          boot_lays_out = subst (λ (s : State). LaysOut script.users s (boot (session_of script.users))) (sym starts.state) (start_lays_out script.users is_list.some);
           end = state end.kernel;
           rows = rows;
           run = subst (λ (es : List TraceEntry). IsRun empty_state es (state end.kernel)) (sym parts)
               (run_after empty_state (state start.kernel) (state end.kernel) of_boot.entries session.entries of_boot.run
-              (rows_run script.users (state start.kernel) (boot script.users) (map asked_by script.calls) session.entries (state end.kernel) rows));
+              (rows_run script.users (state start.kernel) (boot (session_of script.users)) script.calls session.entries (state end.kernel) rows));
         };
       }
 
@@ -160,15 +157,14 @@ module _ (script : Reading) (is_list : IsUserList script.users) (can : AreScript
   begins_meaning old new read is_read begun =
       let front = calls_of begun.answers in
       let these : AreScriptable front = front_can front begun.rest (subst AreScriptable begun.parts can) in
-      let asked = map asked_by front in
-      let more = map asked_by begun.rest in
+      let asked = front in
+      let more = begun.rest in
       let text = text_is begun.answers begun.end these begun.session in
-      let rest_text = replies_text (replies_from script.users (flat_end script.users (boot script.users) asked) more) in
+      let rest_text = answers_text (answered_from (session_of script.users) (flat_end (session_of script.users) (boot (session_of script.users)) asked) more) in
       let whole : meaning_text script ≡ answers_text begun.answers ++ rest_text =
-      ap (λ (calls : List CallLine). replies_text (meaning script.users (map asked_by calls))) begun.parts
-      ∙ ap (λ (a : List Asked). replies_text (meaning script.users a)) (map-append asked_by front begun.rest)
-      ∙ ap replies_text (replies_go_on script.users (boot script.users) asked more)
-      ∙ flat_map-append (λ r. line_text r.0 r.1) (meaning script.users asked) (replies_from script.users (flat_end script.users (boot script.users) asked) more)
+      ap (λ (calls : List CallLine). answers_text (meaning (session_of script.users) calls)) begun.parts
+      ∙ ap answers_text (replies_go_on (session_of script.users) (boot (session_of script.users)) asked more)
+      ∙ flat_map-append answer_text (meaning (session_of script.users) asked) (answered_from (session_of script.users) (flat_end (session_of script.users) (boot (session_of script.users)) asked) more)
       ∙ ap (λ (t : List ℕ). t ++ rest_text) (sym text) in
       record { script = script; is_read = is_read; written = subst (AppendsFront old new) (sym whole) (longer_front old new (answers_text begun.answers) rest_text begun.written) }
 

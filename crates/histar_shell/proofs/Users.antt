@@ -8,8 +8,9 @@ use Rattle.histar_flat.specs.declared.calls.User.{User}
 use Rattle.histar_flat.specs.declared.calls.UnixCall.{UnixCall}
 use Rattle.histar_flat.specs.declared.calls.UnixCall.TheVariants.{Create, Write, Read, Login}
 use Rattle.histar_flat.specs.Words.{is_name, is_user_name, begins_with_letter}
+use Rattle.histar_flat.specs.Sessions.{user_named}
 use Rattle.histar_flat.specs.Classes.{nobody}
-use Rattle.histar_script.specs.declared.items.CallLine.{CallLine}
+use Rattle.histar_flat.specs.declared.calls.CallLine.{CallLine}
 use Rattle.histar_script.specs.declared.items.Item.{Item}
 use Rattle.histar_script.specs.declared.items.Item.TheVariants as items
 use Rattle.histar_script.specs.declared.fault.Fault.{Fault}
@@ -20,7 +21,6 @@ use Rattle.histar_script.specs.Grammar.{IsCallText, Says, Adds, TakesAll, IsScri
 use Rattle.histar_script.specs.Reading.{reading, script_of}
 use Rattle.histar_script.proofs.ScriptsBack.{found_from}
 use Rattle.histar_script.proofs.Kept.{listed}
-use Rattle.histar_flat.specs.FlatCalls.{user_named}
 use Rattle.histar_simulation.specs.Lines.{IsScriptable}
 use Rattle.histar_simulation.proofs.Users.{IsNoUser, unnamed_place}
 
@@ -62,10 +62,11 @@ more_scriptable (d ∷ calls) c h k = (h.0, more_scriptable calls c h.1 k)
 
 -- a call that is spelled so
 spelled_scriptable : (text : List ℕ) (c : UnixCall) → IsCallText text c → IsScriptable c
-spelled_scriptable text (Create path mode) h = h.1
+spelled_scriptable text (Create path mode) h = (h.1, h.2)
 spelled_scriptable text (Write path bytes) h = h.1
 spelled_scriptable text (Read path) h = h.1
 spelled_scriptable text (Login name password) h = tt
+spelled_scriptable text _ h = absurd h
 
 -- a call line says a call that a line can make
 said_scriptable : (line process : List ℕ) (c : UnixCall) → Says line (items.Call process c) → IsScriptable c

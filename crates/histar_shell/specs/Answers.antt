@@ -3,16 +3,12 @@ use Rattle.std.specs.Prelude.{ℕ, List, ◌++◌, codes, decimal, map}
 use Rattle.std.specs.List.{flat_map}
 use Rattle.histar_flat.specs.declared.replies.Reply.{Reply}
 use Rattle.histar_flat.specs.Texts.{reply_text}
-use Rattle.histar_script.specs.declared.items.CallLine.{CallLine}
+use Rattle.histar_flat.specs.Meaning.{Answered}
+use Rattle.histar_flat.specs.declared.calls.CallLine.{CallLine}
 
 -- the number of a call line, a space, the text of the reply, and a line end
 abbrev pub line_text : ℕ → Reply → List ℕ
 line_text number reply = decimal number ++ codes " " ++ reply_text reply ++ codes "\n"
-
--- a call line with the reply to it
-pub record Answered : Type 0 where
-  pub call : CallLine
-  pub reply : Reply
 
 -- the line that tells the reply
 abbrev pub answer_text : Answered → List ℕ

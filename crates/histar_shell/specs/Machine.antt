@@ -45,7 +45,7 @@ abbrev pub on_line : ℕ → Traced → Traced
 on_line line k = record { kept = k.kept; line = line; trace = k.trace }
 
 -- A call other than a login follows its plan of raw calls, by the thread on the line that was begun, and answers EACCES and
--- EPERM exactly where the kernel refused one of them so.
+-- EPERM exactly where the kernel refused one of them so. A call that no line can hold makes none, and has no answer.
 abbrev pub Makes : List User → Places → Traced → Traced → ℕ → UnixCall → Result Reply Stopped → Type 0
 Makes users places old new thread (Create path mode) result = MakesFile places old new thread path mode result × IfOk result (Replies old new thread)
 Makes users places old new thread (Write path bytes) result = WritesFile places old new thread path bytes result × IfOk result (Replies old new thread)
@@ -54,6 +54,7 @@ Makes users places old new thread (Login name password) result =
     LogsIn users old new thread name password result
     × IfOk result (BecomesUserAt (place_of users name) (length users) thread (state old) (state new))
     × IfOk result (Replies old new thread)
+Makes users places old new thread _ result = IsErr result × (new ≡ old)
 
 -- The call was made by the thread on the line that was begun; the machine has the places, the thread and the users that it
 -- had, and has stopped where the call ended without an answer.

@@ -6,14 +6,15 @@ use Rattle.histar_flat.specs.declared.calls.User.{User}
 use Rattle.histar_flat.specs.declared.replies.Reply.{Reply}
 use Rattle.histar_flat.specs.declared.calls.UnixCall.{UnixCall}
 use Rattle.histar_flat.specs.Words.{ProcName}
+use Rattle.histar_flat.specs.Sessions.{session_of}
 use Rattle.histar_flat.specs.FlatState.{Flat}
 use Rattle.histar_flat.specs.FlatCalls.{reply_to, flat_after}
-use Rattle.histar_flat.specs.Meaning.{Asked, boot, meaning}
+use Rattle.histar_flat.specs.Meaning.{boot, meaning}
 use Rattle.histar_object.specs.State.{State, empty_state}
 use Rattle.histar_script.specs.Script.{Reading, IsUserList}
 use Rattle.histar_script.specs.declared.fault.Fault.{Fault}
 use Rattle.histar_script.specs.declared.fault.Fault.TheVariants.{BadScript, TooLong, OutOfMemory, ReadFailed, WriteFailed}
-use Rattle.histar_script.specs.declared.items.CallLine.{CallLine}
+use Rattle.histar_flat.specs.declared.calls.CallLine.{CallLine}
 use Rattle.histar_syscall.specs.declared.trace.TraceEntry.{TraceEntry}
 use Rattle.histar_syscall.specs.Traced.{state}
 use Rattle.histar_syscall.specs.Runs.{IsBy, IsRun}
@@ -23,16 +24,12 @@ use Rattle.histar_login.specs.Start.{places_of, thread_number}
 use Rattle.histar_simulation.specs.LaysOut.{LaysOut}
 use Rattle.histar_simulation.specs.Lines.{IsScriptable, IsRow, AreRows, IsRunUnlessExhausted}
 use Rattle.histar_devices.specs.Writing.{AppendsFront}
-use Rattle.histar_shell.specs.Answers.{line_text}
+use Rattle.histar_shell.specs.Answers.{answers_text}
 use Rattle.histar_shell.specs.Machine.{Running}
-
--- a call line, as the flat meaning is asked it
-abbrev pub asked_by : CallLine → Asked
-asked_by c = record { line = c.line; process = c.process; call = c.call }
 
 -- the text of a script's meaning: for each call line, its number and the reply that the flat rules give
 abbrev pub meaning_text : Reading → List ℕ
-meaning_text script = flat_map (λ r. line_text r.0 r.1) (meaning script.users (map asked_by script.calls))
+meaning_text script = answers_text (meaning (session_of script.users) script.calls)
 
 -- A machine lays out a flat state: its kernel does, and it knows of `/`, of its process's thread and of its users what boot told it.
 pub record Shows (m : Running) (f : Flat) : Type 0 where
@@ -43,12 +40,12 @@ pub record Shows (m : Running) (f : Flat) : Type 0 where
 
 -- The line was answered what the flat state says. The new end of the trace are its raw calls, which are its row, and the machine lays
 -- out the flat state after the call.
-pub record AnswersAsMeant (old new : Running) (f : Flat) (asked : Asked) (reply : Reply) : Type 0 where
-  pub told : reply ≡ reply_to old.users f asked.process asked.call
+pub record AnswersAsMeant (old new : Running) (f : Flat) (asked : CallLine) (reply : Reply) : Type 0 where
+  pub told : reply ≡ reply_to (session_of old.users) f asked.process asked.call
   pub entries : List TraceEntry
   pub trace : new.kernel.trace ≡ old.kernel.trace ++ entries
   pub row : IsRow old.users (state old.kernel) f asked entries (state new.kernel)
-  pub shows : Shows new (flat_after old.users f asked.process asked.call)
+  pub shows : Shows new (flat_after (session_of old.users) f asked.process asked.call)
 
 -- The line ended without an answer: its raw calls are a run of the kernel by the thread of its process, of which none was refused but
 -- where a counter has its greatest value.
@@ -59,7 +56,7 @@ pub record StopsUnrefused (old new : Running) (line : ℕ) : Type 0 where
   pub own : AllByRecursion (IsBy line old.thread) entries
 
 -- a line that ends so
-abbrev pub EndsAsMeant : Running → Running → Flat → Asked → Result Reply Stopped → Type 0
+abbrev pub EndsAsMeant : Running → Running → Flat → CallLine → Result Reply Stopped → Type 0
 EndsAsMeant old new f asked (Ok reply) = AnswersAsMeant old new f asked reply
 EndsAsMeant old new f asked (Err stopped) = StopsUnrefused old new asked.line
 
@@ -70,7 +67,7 @@ FollowsMeaning old new line process call result =
 
 -- a machine lays out the flat start
 abbrev pub ShowsStart : List User → Running → Type 0
-ShowsStart users m = Shows m (boot users)
+ShowsStart users m = Shows m (boot (session_of users))
 
 -- The trace of a run: one run of the labelled kernel from its empty state on. It is raw calls of boot, by the boot thread on line 0,
 -- which leave a state that lays out the flat start; then the raw calls of the lines, each line the row of its call.
@@ -81,9 +78,9 @@ pub record IsMeantTrace (script : Reading) (trace : List TraceEntry) : Type 0 wh
   pub start : State
   pub boot_run : IsRun empty_state of_boot start
   pub boot_own : AllByRecursion (IsBy 0 boot_thread_number) of_boot
-  pub boot_lays_out : LaysOut script.users start (boot script.users)
+  pub boot_lays_out : LaysOut script.users start (boot (session_of script.users))
   pub end : State
-  pub rows : AreRows script.users start (boot script.users) (map asked_by script.calls) of_lines end
+  pub rows : AreRows script.users start (boot (session_of script.users)) script.calls of_lines end
   pub run : IsRun empty_state trace end
 
 -- The reading is of a script, the text of its meaning was written, and the trace is that of the meaning.

@@ -3,9 +3,10 @@ use Rattle.std.specs.Prelude.{◌≡◌, ℕ, List, [], ◌∷◌, ◌++◌, Opt
 use Rattle.std.specs.Io.KnownBytes.{Appends, Keeps}
 use Rattle.histar_calls.specs.declared.stopping.Stopped.{Stopped}
 use Rattle.histar_flat.specs.declared.replies.Reply.{Reply}
-use Rattle.histar_script.specs.declared.items.CallLine.{CallLine}
+use Rattle.histar_flat.specs.declared.calls.CallLine.{CallLine}
 use Rattle.histar_devices.specs.Writing.{AppendsFront}
-use Rattle.histar_shell.specs.Answers.{Answered, answers_text, calls_of, line_text}
+use Rattle.histar_flat.specs.Meaning.{Answered}
+use Rattle.histar_shell.specs.Answers.{answers_text, calls_of, line_text}
 use Rattle.histar_shell.specs.Machine.{Running, AnswersLine}
 
 -- A machine answered these call lines one after another, each as the one before had left it, and each with the reply that it

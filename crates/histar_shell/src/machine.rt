@@ -126,7 +126,8 @@ impl<S: LabelStore + Drop> Machine<S> {
     }
 }
 
-/// Does one call of a thread on the line that was begun.
+/// Does one call of a thread on the line that was begun. A call that no line can hold yet is not
+/// done.
 fn make<S: LabelStore + Drop>(
     kernel: &mut Kernel<S>,
     alloc: Global,
@@ -143,5 +144,6 @@ fn make<S: LabelStore + Drop>(
         UnixCall::Read(path) => read(kernel, alloc, places, thread, &path),
         UnixCall::Write(path, bytes) => write(kernel, alloc, places, thread, &path, bytes),
         UnixCall::Login(name, password) => login(kernel, alloc, users, thread, name, password),
+        _ => Err(Stopped),
     }
 }

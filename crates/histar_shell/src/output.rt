@@ -1,11 +1,93 @@
 //! Printing replies.
 ghost use Rattle.std.specs.Prelude.{◌≡◌, ◌++◌, IfOk, OnOk};
-ghost use Rattle.histar_flat.specs.Texts.{reply_text};
+ghost use Rattle.std.specs.List.{flat_map};
+ghost use Rattle.std.specs.Fmt.{decimal};
+ghost use Rattle.histar_flat.specs.Texts.{entry_text, file_mode_text, owner_text, process_text, reply_text, stat_text};
 ghost use Rattle.histar_shell.specs.Answers.{line_text};
 
-use histar_flat::Reply;
+use histar_flat::{FileMode, Name, ProcName, Reply, Stat};
 use itoa::Buffer;
 use std::alloc::{AllocError, Global};
+
+/// Adds a number, in decimal digits.
+fn push_number(line: &mut Vec<u8>, number: u32) -> Result<(), AllocError>
+    ensures { OnOk result (line.new.items ≡ line.old.items ++ decimal number) }
+{
+    let mut digits = Buffer::new();
+    line.extend_from_slice(digits.format(number).as_bytes())
+}
+
+/// Adds a process's name: 0, and a dot before each further number.
+fn push_process(line: &mut Vec<u8>, process: &ProcName) -> Result<(), AllocError>
+    ensures { OnOk result (line.new.items ≡ line.old.items ++ process_text process.now) }
+{
+    let numbers = process.numbers();
+    line.extend_from_slice(b"0")?;
+    for i in 0..numbers.len() {
+        line.extend_from_slice(b".")?;
+        push_number(line, u32::from(numbers[numbers.len() - 1 - i]))?;
+    }
+    Ok(())
+}
+
+/// Adds an entry of a directory: a space and its name, and a slash behind a directory's.
+fn push_entry(line: &mut Vec<u8>, name: &Name, is_directory: bool) -> Result<(), AllocError>
+    ensures { OnOk result (line.new.items ≡ line.old.items ++ entry_text (name.now, is_directory)) }
+{
+    line.extend_from_slice(b" ")?;
+    line.extend_from_slice(name.as_bytes())?;
+    if is_directory {
+        line.extend_from_slice(b"/")?;
+    }
+    Ok(())
+}
+
+/// Adds the entries of a directory.
+fn push_entries(line: &mut Vec<u8>, entries: &[(Name, bool)]) -> Result<(), AllocError>
+    ensures { OnOk result (line.new.items ≡ line.old.items ++ flat_map entry_text entries.now) }
+{
+    for entry in entries {
+        push_entry(line, &entry.0, entry.1)?;
+    }
+    Ok(())
+}
+
+/// Adds an owner: what has none has a hyphen.
+fn push_owner(line: &mut Vec<u8>, owner: Option<Name>) -> Result<(), AllocError>
+    ensures { OnOk result (line.new.items ≡ line.old.items ++ owner_text owner) }
+{
+    match owner {
+        None => line.extend_from_slice(b"-"),
+        Some(name) => line.extend_from_slice(name.as_bytes()),
+    }
+}
+
+/// Adds a mode.
+fn push_mode(line: &mut Vec<u8>, mode: FileMode) -> Result<(), AllocError>
+    ensures { OnOk result (line.new.items ≡ line.old.items ++ file_mode_text mode) }
+{
+    match mode {
+        FileMode::Private => line.extend_from_slice(b"private"),
+        FileMode::Readable => line.extend_from_slice(b"readable"),
+        FileMode::Open => line.extend_from_slice(b"open"),
+        FileMode::Scratch => line.extend_from_slice(b"scratch"),
+        FileMode::Group(name) => {
+            line.extend_from_slice(b"group:")?;
+            line.extend_from_slice(name.as_bytes())
+        }
+    }
+}
+
+/// Adds the kind of what stands at a path, its owner and its mode.
+fn push_stat(line: &mut Vec<u8>, stat: Stat) -> Result<(), AllocError>
+    ensures { OnOk result (line.new.items ≡ line.old.items ++ stat_text stat) }
+{
+    let kind = if stat.is_directory { "dir " } else { "file " };
+    line.extend_from_slice(kind.as_bytes())?;
+    push_owner(line, stat.owner)?;
+    line.extend_from_slice(b" ")?;
+    push_mode(line, stat.mode)
+}
 
 /// Adds the text of a reply.
 fn push_reply(line: &mut Vec<u8>, reply: &Reply) -> Result<(), AllocError>
@@ -16,6 +98,29 @@ fn push_reply(line: &mut Vec<u8>, reply: &Reply) -> Result<(), AllocError>
         Reply::Data(bytes) => {
             line.extend_from_slice(b"= ")?;
             line.extend_from_slice(bytes.as_slice())
+        }
+        Reply::Entries(listing) => {
+            line.extend_from_slice(b"ok")?;
+            push_entries(line, listing.entries())
+        }
+        Reply::Stats(stat) => {
+            line.extend_from_slice(b"ok ")?;
+            push_stat(line, *stat)
+        }
+        Reply::Child(process) => {
+            line.extend_from_slice(b"ok ")?;
+            push_process(line, process)
+        }
+        Reply::Running => line.extend_from_slice(b"ok running"),
+        Reply::Exited(status) => {
+            line.extend_from_slice(b"ok exited ")?;
+            push_number(line, u32::from(*status))
+        }
+        Reply::User(name, confined) => {
+            line.extend_from_slice(b"ok ")?;
+            line.extend_from_slice(name.as_bytes())?;
+            let after = if *confined { " confined" } else { "" };
+            line.extend_from_slice(after.as_bytes())
         }
         Reply::Refused(errno) => line.extend_from_slice(errno.name().as_bytes()),
         Reply::Gone => line.extend_from_slice(b"gone"),

@@ -10,8 +10,9 @@ ghost use Rattle.histar_shell.specs.Outcome.{AgreesWith, IsOutputFault, TakesInp
 use crate::machine::{Machine, Trace};
 use crate::output::reply_line;
 use histar_devices::{Sink, Source, read_input, write_bytes};
+use histar_flat::CallLine;
 use histar_label::{LabelStore, PlainStore};
-use histar_script::{CallLine, Fault, read_script};
+use histar_script::{Fault, read_script};
 use std::alloc::Global;
 
 /// What a run is asked for beside the replies. There is nothing to ask for yet.

@@ -8,6 +8,7 @@ use Rattle.histar_flat.specs.declared.calls.UnixCall.{UnixCall}
 use Rattle.histar_flat.specs.declared.replies.Errno.{Errno}
 use Rattle.histar_flat.specs.declared.replies.Reply.{Reply}
 use Rattle.histar_flat.specs.declared.replies.Reply.TheVariants.{Done, Data, Refused, Gone}
+use Rattle.histar_flat.specs.Sessions.{session_of}
 use Rattle.histar_flat.specs.FlatState.{Flat, is_some_and}
 use Rattle.histar_flat.specs.FlatCalls as flat
 use Rattle.histar_flat.specs.FlatCalls.{refused, changed, reply_or, flat_or, reply_to}
@@ -35,7 +36,7 @@ abbrev pub IsBacked : State → List TraceEntry → Reply → Type 0
 IsBacked s entries Done = Unit {0}
 IsBacked s entries (Data bytes) = EndsWithRead s entries bytes
 IsBacked s entries (Refused errno) = (is_access errno ≡ false) × (is_permission errno ≡ false)
-IsBacked s entries Gone = ⊥
+IsBacked s entries _ = ⊥
 
 module _ (s : State) (entries : List TraceEntry) where
   backed_plain : (r : Reply) → IsBacked s entries r → (is_no_access r ≡ false) × (is_no_permission r ≡ false)
@@ -119,9 +120,9 @@ module _ (users : List User) (f : Flat) (run : IsRunning f) (call : UnixCall) (o
   all_own line (s ∷ steps) = ((refl, named), all_own line steps)
 
   -- where the raw calls agree with the reply of the flat rules, and the state lays out the flat state after the call, a call is answered so
-  pub agreed_row : (steps : List Step) → Chain old t steps new → (refusal : Option Errno) → refused users f [] run.process call ≡ refusal → (r : Reply) → reply_or refusal allowed ≡ r
+  pub agreed_row : (steps : List Step) → Chain old t steps new → (refusal : Option Errno) → refused (session_of users) f [] run.process call ≡ refusal → (r : Reply) → reply_or refusal allowed ≡ r
       → Agrees r (entries_of old.line t steps) → ((bytes : List ℕ) → r ≡ Data bytes → EndsWithRead (state old) (entries_of old.line t steps) bytes) → HasReads steps r → r ≢ Gone
-      → LaysOut users (state new) (flat_or refusal f (changed users f [] run.process call)) → IsAnsweredWith users f call old new r
+      → LaysOut users (state new) (flat_or refusal f (changed (session_of users) f [] run.process call)) → IsAnsweredWith users f call old new r
   agreed_row steps chain refusal is r r_is agrees told reads lives lays_out =
       let part = chain_run t old new steps chain in
       let reply = reply_is users f run call refusal is ∙ r_is in
@@ -150,8 +151,8 @@ module _ (users : List User) (f : Flat) (run : IsRunning f) (call : UnixCall) (o
       )
 
   -- where every raw call was granted, a call that the flat rules allow is answered what they answer
-  pub granted_row : (calls : List RawCall) → Chain old t (all_granted calls) new → refused users f [] run.process call ≡ None → IsBacked (state old) (entries_of old.line t (all_granted calls)) allowed → HasReads (all_granted calls) allowed
-      → LaysOut users (state new) (changed users f [] run.process call) → IsAnsweredWith users f call old new allowed
+  pub granted_row : (calls : List RawCall) → Chain old t (all_granted calls) new → refused (session_of users) f [] run.process call ≡ None → IsBacked (state old) (entries_of old.line t (all_granted calls)) allowed → HasReads (all_granted calls) allowed
+      → LaysOut users (state new) (changed (session_of users) f [] run.process call) → IsAnsweredWith users f call old new allowed
   granted_row calls chain is backed reads lays_out =
       let entries = entries_of old.line t (all_granted calls) in
       agreed_row (all_granted calls) chain None is allowed refl (granted_agree old.line t allowed (backed_plain (state old) entries allowed backed) calls)
@@ -159,21 +160,21 @@ module _ (users : List User) (f : Flat) (run : IsRunning f) (call : UnixCall) (o
 
   -- where every raw call was granted and nothing has changed, a call that the flat rules refuse is answered their errno, if it is neither EACCES nor EPERM
   pub unchanged_row : (calls : List RawCall) → Chain old t (all_granted calls) new → state new ≡ state old → LaysOut users (state old) f
-      → (errno : Errno) → is_access errno ≡ false → is_permission errno ≡ false → refused users f [] run.process call ≡ Some errno → HasReads (all_granted calls) (Refused errno) → IsAnsweredWith users f call old new (Refused errno)
+      → (errno : Errno) → is_access errno ≡ false → is_permission errno ≡ false → refused (session_of users) f [] run.process call ≡ Some errno → HasReads (all_granted calls) (Refused errno) → IsAnsweredWith users f call old new (Refused errno)
   unchanged_row calls chain stays lays_out errno no_access no_permission is reads =
       agreed_row (all_granted calls) chain (Some errno) is (Refused errno) refl (granted_agree old.line t (Refused errno) (no_access, no_permission) calls) (λ bytes e. absurd cc) reads (λ e. absurd cc)
       (subst (λ (s : State). LaysOut users s f) (sym stays) lays_out)
 
   -- where the last raw call was refused, the others granted and nothing has changed, a call that the flat rules refuse as that refusal is told is answered so
   pub refused_row : (calls : List RawCall) (last : RawCall) (denied : Denied) → Chain old t (all_granted calls ++ (last, Some denied) ∷ []) new → state new ≡ state old → LaysOut users (state old) f
-      → (errno : Errno) → write_errno_of denied ≡ Some errno → refused users f [] run.process call ≡ Some errno → HasReads (all_granted calls ++ (last, Some denied) ∷ []) (Refused errno) → IsAnsweredWith users f call old new (Refused errno)
+      → (errno : Errno) → write_errno_of denied ≡ Some errno → refused (session_of users) f [] run.process call ≡ Some errno → HasReads (all_granted calls ++ (last, Some denied) ∷ []) (Refused errno) → IsAnsweredWith users f call old new (Refused errno)
   refused_row calls last denied chain stays lays_out errno told is reads =
       agreed_row (all_granted calls ++ (last, Some denied) ∷ []) chain (Some errno) is (Refused errno) refl (refused_agree old.line t last denied errno told calls) (λ bytes e. absurd cc) reads (λ e. absurd cc)
       (subst (λ (s : State). LaysOut users s f) (sym stays) lays_out)
 
   -- a plan whose raw calls were all granted ends so, where it answers what the flat rules do
-  pub ends_granted : (calls : List RawCall) → Chain old t (all_granted calls) new → refused users f [] run.process call ≡ None → IsBacked (state old) (entries_of old.line t (all_granted calls)) allowed → HasReads (all_granted calls) allowed
-      → LaysOut users (state new) (changed users f [] run.process call) → (reply : Option Reply) → reply ≡ Some allowed → (refusal : Option (RawCall × Denied)) → refusal ≡ None → Ends users f call old new t (answer reply refusal)
+  pub ends_granted : (calls : List RawCall) → Chain old t (all_granted calls) new → refused (session_of users) f [] run.process call ≡ None → IsBacked (state old) (entries_of old.line t (all_granted calls)) allowed → HasReads (all_granted calls) allowed
+      → LaysOut users (state new) (changed (session_of users) f [] run.process call) → (reply : Option Reply) → reply ≡ Some allowed → (refusal : Option (RawCall × Denied)) → refusal ≡ None → Ends users f call old new t (answer reply refusal)
   ends_granted calls chain is backed reads lays_out reply answers refusal granted =
       let row = granted_row calls chain is backed reads lays_out in
       inl (ap (answer reply) granted ∙ answers ∙ ap Some row.0, row.1)
@@ -182,7 +183,7 @@ module _ (users : List User) (f : Flat) (run : IsRunning f) (call : UnixCall) (o
   module _ (calls : List RawCall) (mid : Traced) (so_far : Chain old t (all_granted calls) mid) where
     -- ends at the next, where that is refused, nothing has changed, and the flat rules refuse the call as that refusal is told
     pub ends_refused : state mid ≡ state old → LaysOut users (state old) f → (next : RawCall) (denied : Denied) → check (state mid) t next ≡ Some denied
-        → (errno : Errno) → told_as next denied ≡ Some errno → refused users f [] run.process call ≡ Some errno → HasReads (all_granted calls ++ (next, Some denied) ∷ []) (Refused errno)
+        → (errno : Errno) → told_as next denied ≡ Some errno → refused (session_of users) f [] run.process call ≡ Some errno → HasReads (all_granted calls ++ (next, Some denied) ∷ []) (Refused errno)
         → (reply : Option Reply) (more : List RawCall) (refusal : Option (RawCall × Denied)) → Made mid new t (next ∷ more) refusal → Ends users f call old new t (answer reply refusal)
     ends_refused stays lays_out next denied fails errno told is reads reply more refusal made =
         let end = first_refused t mid new next more refusal denied fails made in

@@ -9,6 +9,7 @@ use Rattle.histar_flat.specs.declared.replies.Errno.TheVariants.{EACCES}
 use Rattle.histar_flat.specs.declared.replies.Reply.{Reply}
 use Rattle.histar_flat.specs.declared.replies.Reply.TheVariants.{Data}
 use Rattle.histar_flat.specs.Words.{Name}
+use Rattle.histar_flat.specs.Sessions.{session_of}
 use Rattle.histar_flat.specs.Files.{get}
 use Rattle.histar_flat.specs.Classes.{may_read}
 use Rattle.histar_flat.specs.FlatState.{Node, Flat, is_some_and, reads, bytes_of, bytes_at}
@@ -40,7 +41,7 @@ use Rattle.histar_simulation.proofs.Scenes.{Scene, caller, here, root, listed, w
 module _ (users : List User) (old new : Traced) (f : Flat) (scene : Scene users (state old) f) (m : Name) where
   -- the refusal that comes after the way to the file
   abbrev later : Option Errno
-  later = unless (reads f scene.run.process (m ∷ [])) EACCES
+  later = unless (reads (session_of users) f scene.run.process (m ∷ [])) EACCES
 
   -- the call, and the read of the directory segment before it
   abbrev call : UnixCall
@@ -49,8 +50,8 @@ module _ (users : List User) (old new : Traced) (f : Flat) (scene : Scene users 
   abbrev walk : RawCall
   walk = walk_call users old f scene
 
-  module _ (seen : reads f scene.run.process [] ≡ true) (there : Node) (bytes : List ℕ) (stands : get f.files (m ∷ []) ≡ Some there) (content : there.content ≡ File bytes)
-      (file : IsFileAt users (state old) f scene.lays_out m there stands bytes (root users old f scene)) (is_refused : refused users f [] scene.run.process call ≡ later) (mid : Traced) (walked : Called old mid (caller users old f scene) walk None) where
+  module _ (seen : reads (session_of users) f scene.run.process [] ≡ true) (there : Node) (bytes : List ℕ) (stands : get f.files (m ∷ []) ≡ Some there) (content : there.content ≡ File bytes)
+      (file : IsFileAt users (state old) f scene.lays_out m there stands bytes (root users old f scene)) (is_refused : refused (session_of users) f [] scene.run.process call ≡ later) (mid : Traced) (walked : Called old mid (caller users old f scene) walk None) where
     abbrev t : ℕ
     t = 8 + 2 * length users
 
@@ -61,10 +62,10 @@ module _ (users : List User) (old new : Traced) (f : Flat) (scene : Scene users 
     reply = Some (Data (bytes_in ((state old).objects file.number)))
 
     -- the thread may observe the file exactly where its process may read it
-    sees_file : is_below_raised file.label scene.label ≡ reads f scene.run.process (m ∷ [])
-    sees_file = scene.observes there.class file.label file.labelled ∙ sym (ap (λ (o : Option Node). is_some_and o (λ (x : Node). may_read scene.run.process x.class)) stands)
+    sees_file : is_below_raised file.label scene.label ≡ reads (session_of users) f scene.run.process (m ∷ [])
+    sees_file = scene.observes there.class file.label file.labelled ∙ sym (ap (λ (o : Option Node). is_some_and o (λ (x : Node). may_read (session_of users) scene.run.process x.class)) stands)
 
-    checked : (allowed : Bool) → reads f scene.run.process (m ∷ []) ≡ allowed → check (state mid) t read_call ≡ unless allowed Observe
+    checked : (allowed : Bool) → reads (session_of users) f scene.run.process (m ∷ []) ≡ allowed → check (state mid) t read_call ≡ unless allowed Observe
     checked allowed is =
         let r = root users old f scene in
         ap (λ (s : State). check s t read_call) walked.state
@@ -77,7 +78,7 @@ module _ (users : List User) (old new : Traced) (f : Flat) (scene : Scene users 
 
     module _ (refusal : Option (RawCall × Denied)) (made : Made mid new t (read_call ∷ []) refusal) where
       -- a file that may not be read, and one that may
-      by_right : (allowed : Bool) → reads f scene.run.process (m ∷ []) ≡ allowed → Ends users f call old new t (answer reply refusal)
+      by_right : (allowed : Bool) → reads (session_of users) f scene.run.process (m ∷ []) ≡ allowed → Ends users f call old new t (answer reply refusal)
       by_right false is =
           ends_refused users f scene.run call old new t scene.named (walk ∷ []) mid (mid, walked, same_kernel mid) walked.state scene.lays_out read_call Observe (checked false is)
           EACCES refl (is_refused ∙ ap (λ (b : Bool). unless b EACCES) is) (inl (refl, tt)) reply [] refusal made
@@ -90,7 +91,7 @@ module _ (users : List User) (old new : Traced) (f : Flat) (scene : Scene users 
           told (inl (refl, tt)) (subst (λ (s : State). LaysOut users s f) (sym stays) scene.lays_out) reply (ap (λ (b : List ℕ). Some (Data b)) held) refusal last.2.1
 
       uses_file : Ends users f call old new t (answer reply refusal)
-      uses_file = by_right (reads f scene.run.process (m ∷ [])) refl
+      uses_file = by_right (reads (session_of users) f scene.run.process (m ∷ [])) refl
 
   -- a read of an entry of `/`
   pub read_ends : (refusal : Option (RawCall × Denied)) → Made old new (8 + 2 * length users) (after_walk (here users old f scene) (at_target (map.get (listed users old f scene) m) (read_segment (here users old f scene) (state old)))).calls refusal

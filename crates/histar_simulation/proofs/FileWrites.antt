@@ -9,6 +9,7 @@ use Rattle.histar_flat.specs.declared.replies.Errno.{Errno}
 use Rattle.histar_flat.specs.declared.replies.Errno.TheVariants.{EACCES, EFBIG}
 use Rattle.histar_flat.specs.declared.replies.Reply.TheVariants.{Done}
 use Rattle.histar_flat.specs.Words.{Name}
+use Rattle.histar_flat.specs.Sessions.{session_of}
 use Rattle.histar_flat.specs.Files.{get}
 use Rattle.histar_flat.specs.Classes.{may_write}
 use Rattle.histar_flat.specs.FlatState.{Node, Flat, is_some_and, reads, writes}
@@ -46,7 +47,7 @@ module _ (users : List User) (old new : Traced) (f : Flat) (scene : Scene users 
 
   -- the refusal that comes after the way to the file
   abbrev later : Option Errno
-  later = refusals (writes f scene.run.process (m ∷ [])) (nat_le (length bytes) 4096)
+  later = refusals (writes (session_of users) f scene.run.process (m ∷ [])) (nat_le (length bytes) 4096)
 
   -- the call, and the read of the directory segment before it
   abbrev call : UnixCall
@@ -55,8 +56,8 @@ module _ (users : List User) (old new : Traced) (f : Flat) (scene : Scene users 
   abbrev walk : RawCall
   walk = walk_call users old f scene
 
-  module _ (seen : reads f scene.run.process [] ≡ true) (there : Node) (held : List ℕ) (stands : get f.files (m ∷ []) ≡ Some there) (content : there.content ≡ File held)
-      (file : IsFileAt users (state old) f scene.lays_out m there stands held (root users old f scene)) (is_refused : refused users f [] scene.run.process call ≡ later) (mid : Traced) (walked : Called old mid (caller users old f scene) walk None) where
+  module _ (seen : reads (session_of users) f scene.run.process [] ≡ true) (there : Node) (held : List ℕ) (stands : get f.files (m ∷ []) ≡ Some there) (content : there.content ≡ File held)
+      (file : IsFileAt users (state old) f scene.lays_out m there stands held (root users old f scene)) (is_refused : refused (session_of users) f [] scene.run.process call ≡ later) (mid : Traced) (walked : Called old mid (caller users old f scene) walk None) where
     abbrev t : ℕ
     t = 8 + 2 * length users
 
@@ -64,10 +65,10 @@ module _ (users : List User) (old new : Traced) (f : Flat) (scene : Scene users 
     write_call = raw.Write (4 + 2 * length users) file.number 0 bytes
 
     -- the thread may modify the file exactly where its process may write it
-    modifies_file : (is_below scene.label file.label && is_below_raised file.label scene.label) ≡ writes f scene.run.process (m ∷ [])
-    modifies_file = scene.modifies there.class file.label file.labelled ∙ sym (ap (λ (o : Option Node). is_some_and o (λ (x : Node). may_write scene.run.process x.class)) stands)
+    modifies_file : (is_below scene.label file.label && is_below_raised file.label scene.label) ≡ writes (session_of users) f scene.run.process (m ∷ [])
+    modifies_file = scene.modifies there.class file.label file.labelled ∙ sym (ap (λ (o : Option Node). is_some_and o (λ (x : Node). may_write (session_of users) scene.run.process x.class)) stands)
 
-    module _ (may fits : Bool) (is_may : writes f scene.run.process (m ∷ []) ≡ may) (is_fits : nat_le (length bytes) 4096 ≡ fits) where
+    module _ (may fits : Bool) (is_may : writes (session_of users) f scene.run.process (m ∷ []) ≡ may) (is_fits : nat_le (length bytes) 4096 ≡ fits) where
       checked : check (state mid) t write_call ≡ tests may fits
       checked =
           let r = root users old f scene in
@@ -75,17 +76,17 @@ module _ (users : List User) (old new : Traced) (f : Flat) (scene : Scene users 
           ∙ write_check (state old) t scene.label scene.clearance scene.thread (4 + 2 * length users) r.directory.label r.links r.container (sees_root users old f scene ∙ seen) file.number file.linked file.label held file.segment 0 bytes
           ∙ (λ i. tests (modifies_file i) (nat_le (kept_none held bytes i) 4096)) ∙ (λ i. tests (is_may i) (is_fits i))
 
-      is_later : refused users f [] scene.run.process call ≡ refusals may fits
+      is_later : refused (session_of users) f [] scene.run.process call ≡ refusals may fits
       is_later = is_refused ∙ (λ i. refusals (is_may i) (is_fits i))
 
     module _ (refusal : Option (RawCall × Denied)) (made : Made mid new t (write_call ∷ []) refusal) where
       -- a write that the kernel refuses
-      blocked : (denied : Denied) (errno : Errno) → check (state mid) t write_call ≡ Some denied → write_errno_of denied ≡ Some errno → refused users f [] scene.run.process call ≡ Some errno → Ends users f call old new t (answer (Some Done) refusal)
+      blocked : (denied : Denied) (errno : Errno) → check (state mid) t write_call ≡ Some denied → write_errno_of denied ≡ Some errno → refused (session_of users) f [] scene.run.process call ≡ Some errno → Ends users f call old new t (answer (Some Done) refusal)
       blocked denied errno fails told is =
           ends_refused users f scene.run call old new t scene.named (walk ∷ []) mid (mid, walked, same_kernel mid) walked.state scene.lays_out write_call denied fails errno told is (inl (refl, tt)) (Some Done) [] refusal made
 
       -- a file that may not be written, too many bytes, and a write that is granted
-      by_tests : (may fits : Bool) → writes f scene.run.process (m ∷ []) ≡ may → nat_le (length bytes) 4096 ≡ fits → Ends users f call old new t (answer (Some Done) refusal)
+      by_tests : (may fits : Bool) → writes (session_of users) f scene.run.process (m ∷ []) ≡ may → nat_le (length bytes) 4096 ≡ fits → Ends users f call old new t (answer (Some Done) refusal)
       by_tests false fits is_may is_fits = blocked Modify EACCES (checked false fits is_may is_fits) refl (is_later false fits is_may is_fits)
       by_tests true false is_may is_fits = blocked TooBig EFBIG (checked true false is_may is_fits) refl (is_later true false is_may is_fits)
       by_tests true true is_may is_fits =
@@ -95,7 +96,7 @@ module _ (users : List User) (old new : Traced) (f : Flat) (scene : Scene users 
           (write_lays_out users (state old) f scene.lays_out (m ∷ []) there held bytes file.number stands content file.named (state new) writes_it) (Some Done) refl refusal last.2.1
 
       uses_file : Ends users f call old new t (answer (Some Done) refusal)
-      uses_file = by_tests (writes f scene.run.process (m ∷ [])) (nat_le (length bytes) 4096) refl refl
+      uses_file = by_tests (writes (session_of users) f scene.run.process (m ∷ [])) (nat_le (length bytes) 4096) refl refl
 
   -- a write of an entry of `/`
   pub write_ends : (refusal : Option (RawCall × Denied)) → Made old new (8 + 2 * length users) (after_walk (here users old f scene) (at_target (map.get (listed users old f scene) m) (write_segment (here users old f scene) bytes))).calls refusal

@@ -8,9 +8,9 @@ use Rattle.std.proofs.lemmas.Option.{same_Some}
 use Rattle.histar_flat.specs.declared.calls.User.{User}
 use Rattle.histar_flat.specs.Words.{Name}
 use Rattle.histar_flat.specs.PathOrder.{same}
+use Rattle.histar_flat.specs.Sessions.{user_named}
 use Rattle.histar_flat.specs.Classes.{Process}
 use Rattle.histar_flat.specs.FlatState.{Flat}
-use Rattle.histar_flat.specs.FlatCalls.{user_named}
 use Rattle.histar_label.specs.Levels.{Levels}
 use Rattle.histar_label.specs.Floors.{join_of, floor_of}
 use Rattle.histar_object.specs.declared.objects.Kind.TheVariants.{Container}

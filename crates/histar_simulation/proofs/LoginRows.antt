@@ -12,9 +12,10 @@ use Rattle.histar_flat.specs.declared.replies.Reply.{Reply}
 use Rattle.histar_flat.specs.declared.replies.Reply.TheVariants.{Refused}
 use Rattle.histar_flat.specs.Words.{Name, Password, ProcName}
 use Rattle.histar_flat.specs.PathOrder.{same}
+use Rattle.histar_flat.specs.Sessions.{session_of, user_named}
 use Rattle.histar_flat.specs.Classes.{is_free}
 use Rattle.histar_flat.specs.FlatState.{Flat, is_some_and}
-use Rattle.histar_flat.specs.FlatCalls.{refused, user_named}
+use Rattle.histar_flat.specs.FlatCalls.{refused}
 use Rattle.histar_rules.specs.declared.raw.Denied.{Denied}
 use Rattle.histar_rules.specs.declared.raw.RawCall.{RawCall}
 use Rattle.histar_syscall.specs.Traced.{Traced, state, IsUnchanged}
@@ -38,7 +39,7 @@ module _ (users : List User) (old new : Traced) (f : Flat) (scene : Scene users 
   abbrev login_refusal : Option User → Bool → Bool → Option Errno
   login_refusal user free right = unless (has_value user) ENOENT orelse unless free EACCES orelse unless right EAUTH
 
-  refused_is : (user : Option User) (right : Bool) → user_named users name ≡ user → is_some_and user (λ u. same u.password password) ≡ right → refused users f [] scene.run.process call ≡ login_refusal user true right
+  refused_is : (user : Option User) (right : Bool) → user_named users name ≡ user → is_some_and user (λ u. same u.password password) ≡ right → refused (session_of users) f [] scene.run.process call ≡ login_refusal user true right
   refused_is user right is_user is_right = λ i. login_refusal (is_user i) (is_free_path i) ((ap (λ (o : Option User). is_some_and o (λ u. same u.password password)) is_user ∙ is_right) i)
     where
       is_free_path : is_free scene.run.process ≡ true
@@ -65,7 +66,7 @@ module _ (users : List User) (old new : Traced) (f : Flat) (scene : Scene users 
     abbrev raw_calls : List RawCall
     raw_calls = login_calls right (length users) (place + 1) (own_of (state old) (8 + 2 * length users)) (most_of (state old) (8 + 2 * length users))
 
-    refused_by : (b : Bool) → right ≡ b → refused users f [] scene.run.process call ≡ login_refusal (Some the_user.0) true b
+    refused_by : (b : Bool) → right ≡ b → refused (session_of users) f [] scene.run.process call ≡ login_refusal (Some the_user.0) true b
     refused_by b e = refused_is (Some the_user.0) b the_user.1 (sym (password_agrees users (state old) f scene.lays_out name (place + 1) numbered the_user.0 password the_user.1) ∙ e)
 
     none_refused : (front rest : List RawCall) (refusal : Option (RawCall × Denied)) → raw_calls ≡ front ++ rest → Made old new (8 + 2 * length users) front refusal → refusal ≡ None

@@ -6,10 +6,11 @@ use Rattle.std.proofs.lemmas.Option.{none-some, same_Some}
 use Rattle.histar_flat.specs.declared.calls.User.{User}
 use Rattle.histar_flat.specs.declared.calls.Mode.{Mode}
 use Rattle.histar_flat.specs.declared.calls.Mode.TheVariants as modes
+use Rattle.histar_flat.specs.Modes.{is_line_mode}
 use Rattle.histar_flat.specs.Words.{Name}
 use Rattle.histar_flat.specs.PathOrder.{same}
 use Rattle.histar_flat.specs.Classes.{Class, nobody}
-use Rattle.histar_flat.specs.Classes.Class.{Private, Readable, Open, Scratch}
+use Rattle.histar_flat.specs.Classes.Class.{Private, Readable, Open, Scratch, Grouped}
 use Rattle.histar_label.specs.declared.levels.Level.TheVariants.{Star, L1}
 use Rattle.histar_label.specs.Level.{rank}
 use Rattle.histar_label.specs.Levels.{Levels, constant, level_of-constant, grades}
@@ -19,20 +20,24 @@ use Rattle.histar_simulation.proofs.Users.{number_range, one_name, mapped}
 use Rattle.histar_simulation.proofs.Rights.{written_at, written_low, secret_at, equal_names, IsWhose, whose}
 
 -- a file's label is lowest at its owner's second category
-lowest_at : (mode : Mode) (i : ℕ) → grades (file_label mode i) (write_category i) ≡ 1
-lowest_at modes.Private i = grind (arith, nat_tests, secret_at (read_category i) (write_category i) (write_category i))
-lowest_at modes.Readable i = grind (arith, nat_tests, written_at (write_category i) (write_category i))
+lowest_at : (mode : Mode) → is_line_mode mode ≡ true → (i : ℕ) → grades (file_label mode i) (write_category i) ≡ 1
+lowest_at modes.Private named i = grind (arith, nat_tests, secret_at (read_category i) (write_category i) (write_category i))
+lowest_at modes.Readable named i = grind (arith, nat_tests, written_at (write_category i) (write_category i))
+lowest_at modes.Open named i = absurd cc
+lowest_at (modes.Group group) named i = absurd cc
 
 -- and at no other
-lowest_only : (mode : Mode) (i c : ℕ) → grades (file_label mode i) c ≡ 1 → c ≡ write_category i
-lowest_only modes.Private i c low = grind (arith, nat_tests, secret_at (read_category i) (write_category i) c)
-lowest_only modes.Readable i c low = grind (arith, nat_tests, written_at (write_category i) c)
+lowest_only : (mode : Mode) → is_line_mode mode ≡ true → (i c : ℕ) → grades (file_label mode i) c ≡ 1 → c ≡ write_category i
+lowest_only modes.Private named i c low = grind (arith, nat_tests, secret_at (read_category i) (write_category i) c)
+lowest_only modes.Readable named i c low = grind (arith, nat_tests, written_at (write_category i) c)
+lowest_only modes.Open named i c low = absurd cc
+lowest_only (modes.Group group) named i c low = absurd cc
 
 -- so the label tells the owner's number
-one_number : (m n : Mode) (i j : ℕ) → file_label m i ≡ file_label n j → i ≡ j
-one_number m n i j e =
-    let low : grades (file_label n j) (write_category i) ≡ 1 = ap (λ (x : Levels). grades x (write_category i)) (sym e) ∙ lowest_at m i in
-    let at : write_category i ≡ write_category j = lowest_only n j (write_category i) low in
+one_number : (m n : Mode) → is_line_mode m ≡ true → is_line_mode n ≡ true → (i j : ℕ) → file_label m i ≡ file_label n j → i ≡ j
+one_number m n m_named n_named i j e =
+    let low : grades (file_label n j) (write_category i) ≡ 1 = ap (λ (x : Levels). grades x (write_category i)) (sym e) ∙ lowest_at m m_named i in
+    let at : write_category i ≡ write_category j = lowest_only n n_named j (write_category i) low in
     omega (arith, at)
 
 -- a private label is no readable one
@@ -42,8 +47,8 @@ private_apart i j e =
     omega (arith, high, ap (λ (x : Levels). grades x (read_category i)) e, written_low (write_category j) (read_category i))
 
 -- and neither is the open one
-open_apart : (mode : Mode) (i : ℕ) → file_label mode i ≡ constant L1 → ⊥
-open_apart mode i e = omega (arith, lowest_at mode i, ap (λ (x : Levels). grades x (write_category i)) e, ap rank (level_of-constant L1 (write_category i)))
+open_apart : (mode : Mode) → is_line_mode mode ≡ true → (i : ℕ) → file_label mode i ≡ constant L1 → ⊥
+open_apart mode named i e = omega (arith, lowest_at mode named i, ap (λ (x : Levels). grades x (write_category i)) e, ap rank (level_of-constant L1 (write_category i)))
 
 module _ (users : List User) (x : Levels) where
   -- it is the label of an owner's files of this mode
@@ -51,11 +56,11 @@ module _ (users : List User) (x : Levels) where
   IsOf mode owner = option_map (file_label mode) (user_number users owner) ≡ Some x
 
   -- a label is that of one owner's files
-  one_file_owner : (m n : Mode) (a b : Name) → IsOf m a → IsOf n b → a ≡ b
-  one_file_owner m n a b h k =
+  one_file_owner : (m n : Mode) → is_line_mode m ≡ true → is_line_mode n ≡ true → (a b : Name) → IsOf m a → IsOf n b → a ≡ b
+  one_file_owner m n m_named n_named a b h k =
       let i = mapped (file_label m) (user_number users a) x h in
       let j = mapped (file_label n) (user_number users b) x k in
-      let one : i.0 ≡ j.0 = one_number m n i.0 j.0 (i.2 ∙ sym j.2) in
+      let one : i.0 ≡ j.0 = one_number m n m_named n_named i.0 j.0 (i.2 ∙ sym j.2) in
       one_name users a b j.0 (i.1 ∙ ap Some one) j.1
 
   -- a private file's label is no readable one's
@@ -66,24 +71,26 @@ module _ (users : List User) (x : Levels) where
       private_apart i.0 j.0 (i.2 ∙ sym j.2)
 
   -- and no open one's
-  not_open : (mode : Mode) (a : Name) → IsOf mode a → Some (constant L1) ≡ Some x → ⊥
-  not_open mode a h k =
+  not_open : (mode : Mode) → is_line_mode mode ≡ true → (a : Name) → IsOf mode a → Some (constant L1) ≡ Some x → ⊥
+  not_open mode named a h k =
       let i = mapped (file_label mode) (user_number users a) x h in
-      open_apart mode i.0 (i.2 ∙ sym (same_Some (constant L1) x k))
+      open_apart mode named i.0 (i.2 ∙ sym (same_Some (constant L1) x k))
 
   -- a label is that of one class at most
   pub one_class : (c e : Class) → class_label users c ≡ Some x → class_label users e ≡ Some x → c ≡ e
-  one_class (Private a) (Private b) h k = ap Private (one_file_owner modes.Private modes.Private a b h k)
+  one_class (Private a) (Private b) h k = ap Private (one_file_owner modes.Private modes.Private refl refl a b h k)
   one_class (Private a) (Readable b) h k = absurd (not_both a b h k)
-  one_class (Private a) Open h k = absurd (not_open modes.Private a h k)
+  one_class (Private a) Open h k = absurd (not_open modes.Private refl a h k)
   one_class (Readable a) (Private b) h k = absurd (not_both b a k h)
-  one_class (Readable a) (Readable b) h k = ap Readable (one_file_owner modes.Readable modes.Readable a b h k)
-  one_class (Readable a) Open h k = absurd (not_open modes.Readable a h k)
-  one_class Open (Private b) h k = absurd (not_open modes.Private b k h)
-  one_class Open (Readable b) h k = absurd (not_open modes.Readable b k h)
+  one_class (Readable a) (Readable b) h k = ap Readable (one_file_owner modes.Readable modes.Readable refl refl a b h k)
+  one_class (Readable a) Open h k = absurd (not_open modes.Readable refl a h k)
+  one_class Open (Private b) h k = absurd (not_open modes.Private refl b k h)
+  one_class Open (Readable b) h k = absurd (not_open modes.Readable refl b k h)
   one_class Open Open h k = refl
   one_class (Scratch a jobs) e h k = absurd (none-some x h)
+  one_class (Grouped a) e h k = absurd (none-some x h)
   one_class c (Scratch b jobs) h k = absurd (none-some x k)
+  one_class c (Grouped b) h k = absurd (none-some x k)
 
 -- what is star by one of two tests is star by the other
 one_test : (b c : Bool) → (if b then Star else L1) ≡ (if c then Star else L1) → b ≡ c

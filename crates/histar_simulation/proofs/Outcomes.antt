@@ -8,6 +8,7 @@ use Rattle.histar_flat.specs.declared.calls.UnixCall.{UnixCall}
 use Rattle.histar_flat.specs.declared.replies.Errno.{Errno}
 use Rattle.histar_flat.specs.declared.replies.Reply.{Reply}
 use Rattle.histar_flat.specs.declared.replies.Reply.TheVariants.{Refused}
+use Rattle.histar_flat.specs.Sessions.{session_of}
 use Rattle.histar_flat.specs.Classes.{Process}
 use Rattle.histar_flat.specs.FlatState.{Flat}
 use Rattle.histar_flat.specs.FlatCalls as flat
@@ -35,7 +36,7 @@ module _ (users : List User) (f : Flat) (call : UnixCall) where
 
   -- and it is answered so
   abbrev pub IsAnsweredWith : Traced → Traced → Reply → Type 0
-  IsAnsweredWith old new reply = (reply ≡ reply_to users f [] call) × IsAnswered old new
+  IsAnsweredWith old new reply = (reply ≡ reply_to (session_of users) f [] call) × IsAnswered old new
 
 -- the raw calls that were made are a run of the kernel, of which none was refused but where a counter has its greatest value
 pub record IsOut (old new : Traced) (t : ℕ) : Type 0 where
@@ -81,21 +82,21 @@ module _ (users : List User) (f : Flat) (run : IsRunning f) (call : UnixCall) wh
   runs = ap if_running run.stands ∙ ap (λ (x : Option ℕ). elim x as (λ _. Option Process) [ None ↦ Some run.process | Some n ↦ None ]) run.lone.runs
 
   -- so its call is answered by its row, and the state after it is the row's too
-  pub reply_is : (refusal : Option Errno) → refused users f [] run.process call ≡ refusal → reply_to users f [] call ≡ reply_or refusal (flat.answer f [] run.process call)
-  reply_is refusal e = ap (λ (r : Option Process). reply_by users f [] r call) runs ∙ ap (λ (r : Option Errno). reply_or r (flat.answer f [] run.process call)) e
+  pub reply_is : (refusal : Option Errno) → refused (session_of users) f [] run.process call ≡ refusal → reply_to (session_of users) f [] call ≡ reply_or refusal (flat.answer f [] run.process call)
+  reply_is refusal e = ap (λ (r : Option Process). reply_by (session_of users) f [] r call) runs ∙ ap (λ (r : Option Errno). reply_or r (flat.answer f [] run.process call)) e
 
-  pub after_is : (refusal : Option Errno) → refused users f [] run.process call ≡ refusal → flat_after users f [] call ≡ flat_or refusal f (changed users f [] run.process call)
-  after_is refusal e = ap (λ (r : Option Process). flat_by users f [] r call) runs ∙ ap (λ (r : Option Errno). flat_or r f (changed users f [] run.process call)) e
+  pub after_is : (refusal : Option Errno) → refused (session_of users) f [] run.process call ≡ refusal → flat_after (session_of users) f [] call ≡ flat_or refusal f (changed (session_of users) f [] run.process call)
+  after_is refusal e = ap (λ (r : Option Process). flat_by (session_of users) f [] r call) runs ∙ ap (λ (r : Option Errno). flat_or r f (changed (session_of users) f [] run.process call)) e
 
 -- how a plan that was followed so far has ended
 abbrev pub Ends : (users : List User) (f : Flat) (call : UnixCall) (old new : Traced) (t : ℕ) (told : Option Reply) → Type 0
-Ends users f call old new t told = ((told ≡ Some (reply_to users f [] call)) × IsAnswered users f call old new) ⊎ ((told ≡ None) × IsOut old new t)
+Ends users f call old new t told = ((told ≡ Some (reply_to (session_of users) f [] call)) × IsAnswered users f call old new) ⊎ ((told ≡ None) × IsOut old new t)
 
 module _ (users : List User) (f : Flat) (call : UnixCall) (old new : Traced) (t : ℕ) (plan : Plan) (ends : (refusal : Option (RawCall × Denied)) → Made old new t plan.calls refusal → Ends users f call old new t (answer plan.reply refusal)) where
   -- a plan that was followed to its answer is the row of the call
   pub completed : (r : Reply) → Completes old new t plan r → IsAnsweredWith users f call old new r
   completed r c = elim (ends c.refusal c.made) [
-    | inl a ↦ (same_Some r (reply_to users f [] call) (sym c.answers ∙ a.0), a.1)
+    | inl a ↦ (same_Some r (reply_to (session_of users) f [] call) (sym c.answers ∙ a.0), a.1)
     | inr o ↦ let k : None ≡ Some r = sym o.0 ∙ c.answers in absurd cc
   ]
 
@@ -109,6 +110,6 @@ module _ (users : List User) (f : Flat) (call : UnixCall) (old new : Traced) (t 
       by : (refusal : Option (RawCall × Denied)) → Made old new t h.front refusal → IsUntold refusal → IsOut old new t
       by None made u = granted_out old new t h.front made
       by (Some r) made u = elim (ends (Some r) (subst (λ (calls : List RawCall). Made old new t calls (Some r)) (sym h.parts) (made_longer t old new h.front h.rest r made))) [
-        | inl a ↦ let k : None ≡ Some (reply_to users f [] call) = sym (untold r u) ∙ a.0 in absurd cc
+        | inl a ↦ let k : None ≡ Some (reply_to (session_of users) f [] call) = sym (untold r u) ∙ a.0 in absurd cc
         | inr o ↦ o.1
       ]

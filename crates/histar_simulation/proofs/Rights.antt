@@ -8,10 +8,12 @@ use Rattle.std.proofs.lemmas.Option.{same_Some}
 use Rattle.histar_flat.specs.declared.calls.User.{User}
 use Rattle.histar_flat.specs.declared.calls.Mode.{Mode}
 use Rattle.histar_flat.specs.declared.calls.Mode.TheVariants as modes
+use Rattle.histar_flat.specs.Modes.{is_line_mode}
 use Rattle.histar_flat.specs.Words.{Name, ProcName}
 use Rattle.histar_flat.specs.PathOrder.{same}
+use Rattle.histar_flat.specs.Sessions.{session_of}
 use Rattle.histar_flat.specs.Classes.{Class, Process, nobody, may_read, may_write, is_free}
-use Rattle.histar_flat.specs.Classes.Class.{Private, Readable, Open, Scratch}
+use Rattle.histar_flat.specs.Classes.Class.{Private, Readable, Open, Scratch, Grouped}
 use Rattle.histar_label.specs.declared.levels.Level.{Level}
 use Rattle.histar_label.specs.declared.levels.Level.TheVariants.{Star, L0, L1, L3}
 use Rattle.histar_label.specs.Level.{rank, is_star}
@@ -265,7 +267,7 @@ module _ (users : List User) (no_one : IsNoUser users) (p : Process) (lone : IsL
   modifies_open = written label mine.owned mine.owning (constant L1) constant_high
 
   -- a thread may observe what is of a class exactly where its process may read it
-  pub observes_class : (class : Class) (l : Levels) → class_label users class ≡ Some l → is_below_raised l label ≡ may_read p class
+  pub observes_class : (class : Class) (l : Levels) → class_label users class ≡ Some l → is_below_raised l label ≡ may_read (session_of users) p class
   observes_class (Private owner) l e =
       let of = mapped (file_label modes.Private) (user_number users owner) l e in
       ap (λ (m : Levels). is_below_raised m label) (sym of.2) ∙ observes_private of.0 ∙ owner_reads owner of.0 of.1
@@ -274,9 +276,10 @@ module _ (users : List User) (no_one : IsNoUser users) (p : Process) (lone : IsL
       ap (λ (m : Levels). is_below_raised m label) (sym of.2) ∙ observes_written (write_category of.0)
   observes_class Open l e = ap (λ (m : Levels). is_below_raised m label) (sym (same_Some (constant L1) l e)) ∙ observes_open
   observes_class (Scratch owner jobs) l e = absurd cc
+  observes_class (Grouped group) l e = absurd cc
 
   -- a thread may modify what is of a class exactly where its process may write it
-  pub modifies_class : (class : Class) (l : Levels) → class_label users class ≡ Some l → (is_below label l && is_below_raised l label) ≡ may_write p class
+  pub modifies_class : (class : Class) (l : Levels) → class_label users class ≡ Some l → (is_below label l && is_below_raised l label) ≡ may_write (session_of users) p class
   modifies_class (Private owner) l e =
       let of = mapped (file_label modes.Private) (user_number users owner) l e in
       ap (λ (m : Levels). is_below label m && is_below_raised m label) (sym of.2)
@@ -290,6 +293,7 @@ module _ (users : List User) (no_one : IsNoUser users) (p : Process) (lone : IsL
   modifies_class Open l e =
       ap (λ (m : Levels). is_below label m && is_below_raised m label) (sym (same_Some (constant L1) l e)) ∙ (λ i. modifies_open i && observes_open i) ∙ sym free
   modifies_class (Scratch owner jobs) l e = absurd cc
+  modifies_class (Grouped group) l e = absurd cc
 
   -- the categories that the label owns
   owns_read : (j : ℕ) → owns label j ≡ mine.owned (read_category j)
@@ -320,16 +324,20 @@ module _ (users : List User) (no_one : IsNoUser users) (p : Process) (lone : IsL
       subst (λ (who : ℕ). ((same p.user nobody ≡ true) × (who ≡ 0)) ⊎ ((same p.user nobody ≡ false) × (user_number users p.user ≡ Some who))) one mine.user
 
   -- the label of a file that a thread makes is below its clearance where it owns the file's categories
-  clears_file : (mode : Mode) (j : ℕ) → mine.owned (read_category j) ≡ true → is_below (file_label mode j) clearance ≡ true
-  clears_file modes.Private j is =
+  clears_file : (mode : Mode) → is_line_mode mode ≡ true → (j : ℕ) → mine.owned (read_category j) ≡ true → is_below (file_label mode j) clearance ≡ true
+  clears_file modes.Private named j is =
       cleared_at clearance mine.owned mine.clearing (file_label modes.Private j) (read_category j) is (omega (arith, secret_high (read_category j) (write_category j) (two_categories j)))
       (λ c other. omega (arith, secret_low (read_category j) (write_category j) c other))
-  clears_file modes.Readable j is = cleared clearance mine.owned mine.clearing (file_label modes.Readable j) (λ c. omega (arith, written_low (write_category j) c))
+  clears_file modes.Readable named j is = cleared clearance mine.owned mine.clearing (file_label modes.Readable j) (λ c. omega (arith, written_low (write_category j) c))
+  clears_file modes.Open named j is = absurd cc
+  clears_file (modes.Group group) named j is = absurd cc
 
   -- its own label is below that where it owns the file's category for writing
-  modifies_file : (mode : Mode) (j : ℕ) → is_below label (file_label mode j) ≡ mine.owned (write_category j)
-  modifies_file modes.Private j = modifies_private j
-  modifies_file modes.Readable j = modifies_readable j
+  modifies_file : (mode : Mode) → is_line_mode mode ≡ true → (j : ℕ) → is_below label (file_label mode j) ≡ mine.owned (write_category j)
+  modifies_file modes.Private named j = modifies_private j
+  modifies_file modes.Readable named j = modifies_readable j
+  modifies_file modes.Open named j = absurd cc
+  modifies_file (modes.Group group) named j = absurd cc
 
   -- the user's number is its own
   own_number : (user : ℕ) → same p.user nobody ≡ false → user_number users p.user ≡ Some user → user ≡ mine.who
@@ -339,30 +347,34 @@ module _ (users : List User) (no_one : IsNoUser users) (p : Process) (lone : IsL
   ]
 
   -- a user may make files of both modes
-  pub user_makes : (mode : Mode) (user : ℕ) → same p.user nobody ≡ false → user_number users p.user ≡ Some user → (is_below label (file_label mode user) && is_below (file_label mode user) clearance) ≡ true
-  user_makes mode user other is =
+  pub user_makes : (mode : Mode) → is_line_mode mode ≡ true → (user : ℕ) → same p.user nobody ≡ false → user_number users p.user ≡ Some user → (is_below label (file_label mode user) && is_below (file_label mode user) clearance) ≡ true
+  user_makes mode named user other is =
       let range = number_range users p.user user is in
       let one : (user == mine.who) ≡ true = let e = own_number user other is in grind (arith, nat_tests, e) in
-      (λ i. (modifies_file mode user ∙ mine.writes user range.1 range.0 ∙ one) i && clears_file mode user (mine.reads user range.1 range.0 ∙ one) i)
+      (λ i. (modifies_file mode named user ∙ mine.writes user range.1 range.0 ∙ one) i && clears_file mode named user (mine.reads user range.1 range.0 ∙ one) i)
 
   -- and nobody may make none
-  pub nobody_makes : (mode : Mode) → same p.user nobody ≡ true → (is_below label (file_label mode 0) && is_below (file_label mode 0) clearance) ≡ false
-  nobody_makes mode is = ap (λ b. b && is_below (file_label mode 0) clearance) (modifies_file mode 0 ∙ mine.writes_none)
+  pub nobody_makes : (mode : Mode) → is_line_mode mode ≡ true → same p.user nobody ≡ true → (is_below label (file_label mode 0) && is_below (file_label mode 0) clearance) ≡ false
+  nobody_makes mode named is = ap (λ b. b && is_below (file_label mode 0) clearance) (modifies_file mode named 0 ∙ mine.writes_none)
 
 -- the label of a user's file names categories that boot made
-pub file_label_known : (n : ℕ) (mode : Mode) (user : ℕ) → user ≤ n → is_made (6 + 2 * n) (file_label mode user) ≡ true
-file_label_known n modes.Private user le =
+pub file_label_known : (n : ℕ) (mode : Mode) → is_line_mode mode ≡ true → (user : ℕ) → user ≤ n → is_made (6 + 2 * n) (file_label mode user) ≡ true
+file_label_known n modes.Private named user le =
     is_made-with_level (6 + 2 * n) (with_level (constant L1) (read_category user) L3) (write_category user) L0 (omega arith) (omega (arith, le))
     (is_made-with_level (6 + 2 * n) (constant L1) (read_category user) L3 (omega arith) (omega (arith, le)) (is_made-constant (6 + 2 * n) L1))
-file_label_known n modes.Readable user le = is_made-with_level (6 + 2 * n) (constant L1) (write_category user) L0 (omega arith) (omega (arith, le)) (is_made-constant (6 + 2 * n) L1)
+file_label_known n modes.Readable named user le = is_made-with_level (6 + 2 * n) (constant L1) (write_category user) L0 (omega arith) (omega (arith, le)) (is_made-constant (6 + 2 * n) L1)
+file_label_known n modes.Open named user le = absurd cc
+file_label_known n (modes.Group group) named user le = absurd cc
 
 -- where the place of a level is above 0, it is not star
 not_star : (l : Level) → 1 ≤ rank l → l ≢ Star
 not_star l above e = let star : rank l ≡ 0 = ap rank e in omega (arith, star, above)
 
 -- the label of a file owns nothing
-pub file_label_owns_nothing : (mode : Mode) (user : ℕ) → has_star (file_label mode user) ≡ false
-file_label_owns_nothing modes.Private user =
+pub file_label_owns_nothing : (mode : Mode) → is_line_mode mode ≡ true → (user : ℕ) → has_star (file_label mode user) ≡ false
+file_label_owns_nothing modes.Private named user =
     has_star-none (file_label modes.Private user) (λ c. not_star (level_of (file_label modes.Private user) c) (grind (arith, nat_tests, secret_at (read_category user) (write_category user) c)))
-file_label_owns_nothing modes.Readable user =
+file_label_owns_nothing modes.Readable named user =
     has_star-none (file_label modes.Readable user) (λ c. not_star (level_of (file_label modes.Readable user) c) (grind (arith, nat_tests, written_at (write_category user) c)))
+file_label_owns_nothing modes.Open named user = absurd cc
+file_label_owns_nothing (modes.Group group) named user = absurd cc

@@ -3,12 +3,14 @@ use Rattle.std.proofs.Common.{◌≡◌, ℕ, ◌+◌, ◌*◌, List, [], ◌∷
 use Rattle.std.specs.Prelude.{IfOk, IsTrue}
 use Rattle.histar_flat.specs.declared.calls.User.{User}
 use Rattle.histar_flat.specs.declared.calls.Mode.{Mode}
+use Rattle.histar_flat.specs.Modes.{is_line_mode}
 use Rattle.histar_flat.specs.declared.calls.UnixCall.{UnixCall}
 use Rattle.histar_flat.specs.declared.calls.UnixCall.TheVariants as calls
 use Rattle.histar_flat.specs.declared.replies.Reply.{Reply}
 use Rattle.histar_flat.specs.declared.replies.Reply.TheVariants.{Refused}
 use Rattle.histar_flat.specs.declared.replies.Errno.TheVariants.{ENOENT}
 use Rattle.histar_flat.specs.Words.{Name, Password, is_name}
+use Rattle.histar_flat.specs.Sessions.{session_of}
 use Rattle.histar_flat.specs.FlatState.{Flat}
 use Rattle.histar_flat.specs.FlatCalls.{reply_to}
 use Rattle.histar_label.specs.Levels.{Levels}
@@ -60,7 +62,7 @@ scene_of users no_one s f l =
 
 -- a call is answered by its row, or it ends without an answer, refused nowhere but at a counter's greatest value
 abbrev pub IsRowOf : List User → Flat → UnixCall → Traced → Traced → Result Reply Stopped → Type 0
-IsRowOf users f call old new (Ok reply) = (reply ≡ reply_to users f [] call) × IsAnswered users f call old new
+IsRowOf users f call old new (Ok reply) = (reply ≡ reply_to (session_of users) f [] call) × IsAnswered users f call old new
 IsRowOf users f call old new (Err stops) = IsOut old new (8 + 2 * length users)
 
 module _ (users : List User) (no_one : IsNoUser users) (old new : Traced) (f : Flat) (l : LaysOut users (state old) f) where
@@ -89,12 +91,12 @@ module _ (users : List User) (no_one : IsNoUser users) (old new : Traced) (f : F
   owner_here = subst (λ (label : Levels). IsUserOf label (length users) owner.0) (sym label_is) owner.1
 
   -- a create
-  pub create_row : (m : Name) (mode : Mode) → IsTrue (is_name m) → (result : Result Reply Stopped) → MakesFile (places_of (length users)) old new (8 + 2 * length users) (m ∷ []) mode result → IsRowOf users f (calls.Create (m ∷ []) mode) old new result
-  create_row m mode named (Ok reply) makes =
-      completed users f (calls.Create (m ∷ []) mode) old new (8 + 2 * length users) _ (create_ends users old new f scene m mode owner.0 owner.1 named) reply
+  pub create_row : (m : Name) (mode : Mode) → IsTrue (is_line_mode mode) → IsTrue (is_name m) → (result : Result Reply Stopped) → MakesFile (places_of (length users)) old new (8 + 2 * length users) (m ∷ []) mode result → IsRowOf users f (calls.Create (m ∷ []) mode) old new result
+  create_row m mode nameable named (Ok reply) makes =
+      completed users f (calls.Create (m ∷ []) mode) old new (8 + 2 * length users) _ (create_ends users old new f scene m mode nameable owner.0 owner.1 named) reply
       (makes (Some (listed users old f scene)) (holds users old f scene) owner.0 owner_here)
-  create_row m mode named (Err stops) makes =
-      stopped users f (calls.Create (m ∷ []) mode) old new (8 + 2 * length users) _ (create_ends users old new f scene m mode owner.0 owner.1 named)
+  create_row m mode nameable named (Err stops) makes =
+      stopped users f (calls.Create (m ∷ []) mode) old new (8 + 2 * length users) _ (create_ends users old new f scene m mode nameable owner.0 owner.1 named)
       (makes (Some (listed users old f scene)) (holds users old f scene) owner.0 owner_here)
 
   -- a login

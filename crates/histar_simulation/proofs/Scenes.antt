@@ -10,6 +10,7 @@ use Rattle.histar_flat.specs.declared.replies.Errno.TheVariants.{EACCES, ENOENT,
 use Rattle.histar_flat.specs.declared.replies.Reply.{Reply}
 use Rattle.histar_flat.specs.declared.replies.Reply.TheVariants.{Refused}
 use Rattle.histar_flat.specs.Words.{Name}
+use Rattle.histar_flat.specs.Sessions.{session_of}
 use Rattle.histar_flat.specs.Files.{get}
 use Rattle.histar_flat.specs.Classes.{Class, may_read, may_write}
 use Rattle.histar_flat.specs.FlatState.{Node, Content, Flat, is_dir, is_some_and, reads}
@@ -59,8 +60,8 @@ pub record Scene (users : List User) (s : State) (f : Flat) : Type 0 where
   pub labels : thread_labels users run.process.user ≡ Some (label, clearance)
   pub thread : s.objects (8 + 2 * length users) ≡ object label (Thread clearance)
   pub named : IsThreadOf users s [] (8 + 2 * length users)
-  pub observes : (class : Class) (l : Levels) → class_label users class ≡ Some l → is_below_raised l label ≡ may_read run.process class
-  pub modifies : (class : Class) (l : Levels) → class_label users class ≡ Some l → (is_below label l && is_below_raised l label) ≡ may_write run.process class
+  pub observes : (class : Class) (l : Levels) → class_label users class ≡ Some l → is_below_raised l label ≡ may_read (session_of users) run.process class
+  pub modifies : (class : Class) (l : Levels) → class_label users class ≡ Some l → (is_below label l && is_below_raised l label) ≡ may_write (session_of users) run.process class
 
 module _ (users : List User) (old : Traced) (f : Flat) (scene : Scene users (state old) f) where
   -- the thread of process 0, and what `/` is
@@ -88,17 +89,17 @@ module _ (users : List User) (old : Traced) (f : Flat) (scene : Scene users (sta
   }
 
   -- the thread may observe `/` exactly where its process may read it
-  pub sees_root : is_below_raised root.directory.label scene.label ≡ reads f scene.run.process []
-  sees_root = scene.observes root.directory.entry.class root.directory.label root.directory.labelled ∙ sym (ap (λ (o : Option Node). is_some_and o (λ (there : Node). may_read scene.run.process there.class)) root.directory.stands)
+  pub sees_root : is_below_raised root.directory.label scene.label ≡ reads (session_of users) f scene.run.process []
+  sees_root = scene.observes root.directory.entry.class root.directory.label root.directory.labelled ∙ sym (ap (λ (o : Option Node). is_some_and o (λ (there : Node). may_read (session_of users) scene.run.process there.class)) root.directory.stands)
 
   -- a walk that is granted, and one that is not
-  pub walk_granted : reads f scene.run.process [] ≡ true → check (state old) caller walk_call ≡ None
+  pub walk_granted : reads (session_of users) f scene.run.process [] ≡ true → check (state old) caller walk_call ≡ None
   walk_granted seen =
       let sees = sees_root ∙ seen in
       read_check (state old) caller scene.label scene.clearance scene.thread (4 + 2 * length users) root.directory.label root.links root.container sees (5 + 2 * length users) root.linked root.directory.label (spelling listed) root.listing
       ∙ ap (λ (b : Bool). unless b Observe) sees
 
-  pub walk_refused : reads f scene.run.process [] ≡ false → check (state old) caller walk_call ≡ Some Observe
+  pub walk_refused : reads (session_of users) f scene.run.process [] ≡ false → check (state old) caller walk_call ≡ Some Observe
   walk_refused unseen = read_blocked (state old) caller scene.label scene.clearance scene.thread (4 + 2 * length users) root.directory.label root.links root.container (sees_root ∙ unseen) (5 + 2 * length users)
 
   module _ (new : Traced) (call : UnixCall) (owed : (r : Reply) → reads_owed users call r ≡ walk_call ∷ []) where
@@ -107,14 +108,14 @@ module _ (users : List User) (old : Traced) (f : Flat) (scene : Scene users (sta
     has_walk outcome r = subst (λ (calls : List RawCall). AreAmong calls (entries_of old.line caller ((walk_call, outcome) ∷ []))) (sym (owed r)) (inl (refl, tt))
 
     -- a call whose walk is refused is answered EACCES
-    pub ends_unwalked : (plan : Plan) (refusal : Option (RawCall × Denied)) → refused users f [] scene.run.process call ≡ Some EACCES → reads f scene.run.process [] ≡ false
+    pub ends_unwalked : (plan : Plan) (refusal : Option (RawCall × Denied)) → refused (session_of users) f [] scene.run.process call ≡ Some EACCES → reads (session_of users) f scene.run.process [] ≡ false
         → Made old new caller (after_walk here plan).calls refusal → Ends users f call old new caller (answer (after_walk here plan).reply refusal)
     ends_unwalked plan refusal is_refused unseen made =
         ends_refused users f scene.run call old new caller scene.named [] old (same_kernel old) refl scene.lays_out walk_call Observe (walk_refused unseen)
         EACCES refl is_refused (has_walk (Some Observe) (Refused EACCES)) plan.reply plan.calls refusal made
 
     -- a call that is refused after its walk, which no raw call tells
-    pub ends_at_once : (errno : Errno) → is_access errno ≡ false → is_permission errno ≡ false → refused users f [] scene.run.process call ≡ Some errno → (mid : Traced) → Called old mid caller walk_call None
+    pub ends_at_once : (errno : Errno) → is_access errno ≡ false → is_permission errno ≡ false → refused (session_of users) f [] scene.run.process call ≡ Some errno → (mid : Traced) → Called old mid caller walk_call None
         → (plan : Plan) (refusal : Option (RawCall × Denied)) → plan ≡ answering (Refused errno) → Made mid new caller plan.calls refusal → Ends users f call old new caller (answer plan.reply refusal)
     ends_at_once errno no_access no_permission is_refused mid walked plan refusal same made =
         let end = subst (λ (q : Plan). Made mid new caller q.calls refusal) same made in
@@ -126,15 +127,15 @@ module _ (users : List User) (old : Traced) (f : Flat) (scene : Scene users (sta
     abbrev way : Bool → Option Node → Option Errno
     way seen o = unless seen EACCES orelse unless (is_some_and o (λ there. true)) ENOENT orelse unless (is_some_and o (λ there. not (is_dir there))) EISDIR
 
-    module _ (m : Name) (later : Option Errno) (refused_is : refused users f [] scene.run.process call ≡ (way (reads f scene.run.process []) (get f.files (m ∷ [])) orelse later)) where
-      refused_by : (seen : Bool) (o : Option Node) → reads f scene.run.process [] ≡ seen → get f.files (m ∷ []) ≡ o → refused users f [] scene.run.process call ≡ (way seen o orelse later)
+    module _ (m : Name) (later : Option Errno) (refused_is : refused (session_of users) f [] scene.run.process call ≡ (way (reads (session_of users) f scene.run.process []) (get f.files (m ∷ [])) orelse later)) where
+      refused_by : (seen : Bool) (o : Option Node) → reads (session_of users) f scene.run.process [] ≡ seen → get f.files (m ∷ []) ≡ o → refused (session_of users) f [] scene.run.process call ≡ (way seen o orelse later)
       refused_by seen o is_seen is_o = refused_is ∙ (λ i. way (is_seen i) (is_o i) orelse later)
 
       -- what is done with a file, once it was found
       abbrev pub UsesFile : (ℕ → Plan) → Type 0
       UsesFile plan_of =
-          reads f scene.run.process [] ≡ true → (there : Node) (bytes : List ℕ) (stands : get f.files (m ∷ []) ≡ Some there) → there.content ≡ File bytes
-          → (file : IsFileAt users (state old) f scene.lays_out m there stands bytes root) → refused users f [] scene.run.process call ≡ later
+          reads (session_of users) f scene.run.process [] ≡ true → (there : Node) (bytes : List ℕ) (stands : get f.files (m ∷ []) ≡ Some there) → there.content ≡ File bytes
+          → (file : IsFileAt users (state old) f scene.lays_out m there stands bytes root) → refused (session_of users) f [] scene.run.process call ≡ later
           → (mid : Traced) → Called old mid caller walk_call None → (refusal : Option (RawCall × Denied)) → Made mid new caller (plan_of file.number).calls refusal
           → Ends users f call old new caller (answer (plan_of file.number).reply refusal)
 
@@ -150,16 +151,16 @@ module _ (users : List User) (old : Traced) (f : Flat) (scene : Scene users (sta
         inner_at : (o : Option Node) (target : Option Target) → get f.files (m ∷ []) ≡ o → leads_to o ≡ target → inner ≡ at_target target plan_of
         inner_at o target stands leads = ap (λ (x : Option Target). at_target x plan_of) (get_directory f.files scene.lays_out.naming.number [] m ∙ ap leads_to stands ∙ leads)
 
-        module _ (seen : reads f scene.run.process [] ≡ true) (mid : Traced) (walked : Called old mid caller walk_call None) (made : Made mid new caller inner.calls refusal) where
+        module _ (seen : reads (session_of users) f scene.run.process [] ≡ true) (mid : Traced) (walked : Called old mid caller walk_call None) (made : Made mid new caller inner.calls refusal) where
           by_content : (there : Node) (stands : get f.files (m ∷ []) ≡ Some there) → (c : Content) → there.content ≡ c → Ends users f call old new caller (answer inner.reply refusal)
           by_content there stands Dir content =
               let leads = directory_leads users (state old) f scene.lays_out m there stands content in
-              let is_refused : refused users f [] scene.run.process call ≡ Some EISDIR =
+              let is_refused : refused (session_of users) f [] scene.run.process call ≡ Some EISDIR =
               refused_by true (Some there) seen stands ∙ (λ i. (unless (not (elim (content i) as (λ _. Bool) [ Dir ↦ true | File bytes ↦ false ])) EISDIR) orelse later) in
               ends_at_once EISDIR refl refl is_refused mid walked inner refusal (inner_at (Some there) (Some (targets.Directory leads.0 leads.1)) stands leads.2) made
           by_content there stands (File bytes) content =
               let file = file_is users (state old) f scene.lays_out m there stands bytes content root in
-              let is_refused : refused users f [] scene.run.process call ≡ later =
+              let is_refused : refused (session_of users) f [] scene.run.process call ≡ later =
               refused_by true (Some there) seen stands ∙ (λ i. (unless (not (elim (content i) as (λ _. Bool) [ Dir ↦ true | File held ↦ false ])) EISDIR) orelse later) in
               let same = inner_at (Some there) (Some (targets.File file.number)) stands file.leads in
               subst (λ (plan : Plan). Ends users f call old new caller (answer plan.reply refusal)) (sym same)
@@ -171,8 +172,8 @@ module _ (users : List User) (old : Traced) (f : Flat) (scene : Scene users (sta
 
         -- a call on a file of `/`: its walk is refused, nothing stands there, a directory does, or the file is used
         pub ends_at_file : Made old new caller (after_walk here inner).calls refusal → Ends users f call old new caller (answer (after_walk here inner).reply refusal)
-        ends_at_file made = by_seen (reads f scene.run.process []) refl
+        ends_at_file made = by_seen (reads (session_of users) f scene.run.process []) refl
           where
-            by_seen : (b : Bool) → reads f scene.run.process [] ≡ b → Ends users f call old new caller (answer inner.reply refusal)
+            by_seen : (b : Bool) → reads (session_of users) f scene.run.process [] ≡ b → Ends users f call old new caller (answer inner.reply refusal)
             by_seen false unseen = ends_unwalked inner refusal (refused_by false (get f.files (m ∷ [])) unseen refl) unseen made
             by_seen true seen = let first = first_granted caller old new walk_call inner.calls refusal (walk_granted seen) made in by_stands seen first.0 first.1 first.2 (get f.files (m ∷ [])) refl

@@ -5,6 +5,7 @@ use Rattle.std.specs.FinSet as set
 use Rattle.std.proofs.lemmas.Option.{same_Some}
 use Rattle.histar_flat.specs.declared.calls.User.{User}
 use Rattle.histar_flat.specs.Words.{Name, Path}
+use Rattle.histar_flat.specs.Sessions.{session_of}
 use Rattle.histar_flat.specs.Files.{get}
 use Rattle.histar_flat.specs.Classes.{Process, nobody}
 use Rattle.histar_flat.specs.FlatState.{Node}
@@ -52,40 +53,40 @@ module _ (users : List User) (some_user : 0 < length users) where
   left_stands q false e = refl
 
   -- what the flat state has at `/`
-  slash_expected : node_at users (boot users) number (Some []) ≡ bare (objects (4 + 2 * length users))
+  slash_expected : node_at users (boot (session_of users)) number (Some []) ≡ bare (objects (4 + 2 * length users))
   slash_expected =
       ap (node_object users) (slash_got users) ∙ ap (labelled_as (Container set.empty)) (slash_label users some_user)
       ∙ sym (ap bare (slash_stands users))
 
   -- what the directory segment of `/` is to be
-  listing_expected : listing_at users (boot users) number (Some []) ≡ bare (objects (5 + 2 * length users))
+  listing_expected : listing_at users (boot (session_of users)) number (Some []) ≡ bare (objects (5 + 2 * length users))
   listing_expected =
       (λ i. listing_object users (nothing_spelled users number [] i) (slash_got users i))
       ∙ ap (labelled_as (Segment [])) (slash_label users some_user)
       ∙ sym (ap bare (listing_stands users))
 
   -- what is at `/`, or nothing
-  node_if : (b : Bool) → node_at users (boot users) number (cond b (Some []) None) ≡ cond b (bare (objects (4 + 2 * length users))) None
+  node_if : (b : Bool) → node_at users (boot (session_of users)) number (cond b (Some []) None) ≡ cond b (bare (objects (4 + 2 * length users))) None
   node_if true = slash_expected
   node_if false = refl
 
   -- the directory segment of `/`, or none
-  listing_if : (b : Bool) → listing_at users (boot users) number (cond b (Some []) None) ≡ cond b (bare (objects (5 + 2 * length users))) None
+  listing_if : (b : Bool) → listing_at users (boot (session_of users)) number (cond b (Some []) None) ≡ cond b (bare (objects (5 + 2 * length users))) None
   listing_if true = listing_expected
   listing_if false = refl
 
   -- nothing stands at a name
-  no_node : (name : Name) (d : Option Path) → node_at users (boot users) number (option_map (λ q. name ∷ q) d) ≡ None
+  no_node : (name : Name) (d : Option Path) → node_at users (boot (session_of users)) number (option_map (λ q. name ∷ q) d) ≡ None
   no_node name None = refl
   no_node name (Some d) = ap (node_object users) (nothing_named users name d)
 
   -- and no directory segment
-  no_listing : (name : Name) (d : Option Path) → listing_at users (boot users) number (option_map (λ q. name ∷ q) d) ≡ None
+  no_listing : (name : Name) (d : Option Path) → listing_at users (boot (session_of users)) number (option_map (λ q. name ∷ q) d) ≡ None
   no_listing name None = refl
   no_listing name (Some d) = ap (listing_object users _) (nothing_named users name d)
 
   -- what stands at each address is what the flat state asks for there
-  start_expected : (a : Address Step) → bare (objects_at objects (start_naming (length users)) a) ≡ expected users (boot users) number a
+  start_expected : (a : Address Step) → bare (objects_at objects (start_naming (length users)) a) ≡ expected users (boot (session_of users)) number a
   start_expected [] = refl
   start_expected (Left q ∷ a) = found_if objects [] a (cond (is_left (length users) q) (Some q) None) (left_by_boot users q) (left_stands q (is_left (length users) q) refl)
   start_expected (Slash ∷ a) = found_if objects [] a (Some (4 + 2 * length users)) _ refl ∙ sym (node_if (same_address [] a))
@@ -105,11 +106,11 @@ module _ (users : List User) (some_user : 0 < length users) where
   number_there a (Some q) e = sym (place_there users q a (place_of_number (length users) q a e))
 
   -- an address has a number exactly where the flat state asks for something
-  start_named : (a : Address Step) → is_some (number a) ≡ is_there (expected users (boot users) number a)
+  start_named : (a : Address Step) → is_some (number a) ≡ is_there (expected users (boot (session_of users)) number a)
   start_named a = number_there a (number a) refl ∙ sym (bare_there (objects_at objects (start_naming (length users)) a)) ∙ ap is_there (start_expected a)
 
   -- there is a label for `/`, and nothing else is there
-  start_labelled : (q : Path) (node : Node) → get (boot users).files q ≡ Some node → class_label users node.class ≢ None
+  start_labelled : (q : Path) (node : Node) → get (boot (session_of users)).files q ≡ Some node → class_label users node.class ≢ None
   start_labelled [] node e without =
       let is : slash_node users ≡ node = same_Some (slash_node users) node (sym (slash_got users) ∙ e) in
       let label = sym (ap (λ (x : Node). class_label users x.class) is) ∙ slash_label users some_user in
@@ -117,14 +118,14 @@ module _ (users : List User) (some_user : 0 < length users) where
   start_labelled (name ∷ d) node e without = let no : None ≡ Some node = sym (nothing_named users name d) ∙ e in absurd cc
 
   -- process 0 is nobody's
-  start_owned : (p : Process) → (boot users).processes [] ≡ Some p → thread_labels users p.user ≢ None
+  start_owned : (p : Process) → (boot (session_of users)).processes [] ≡ Some p → thread_labels users p.user ≢ None
   start_owned p e without =
       let is : first_process ≡ p = same_Some first_process p e in
       let labels : thread_labels users nobody ≡ None = ap (λ (x : Process). thread_labels users x.user) is ∙ without in
       absurd cc
 
 -- the state in which a machine starts lays out the flat state at the start
-pub start_lays_out : (users : List User) → 0 < length users → LaysOut users (start_state users) (boot users)
+pub start_lays_out : (users : List User) → 0 < length users → LaysOut users (start_state users) (boot (session_of users))
 start_lays_out users h = record {
   naming = start_naming (length users);
   tree = start_laid users;

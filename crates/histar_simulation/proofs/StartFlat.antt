@@ -5,6 +5,7 @@ use Rattle.std.specs.List.{flat_map}
 use Rattle.std.proofs.lemmas.Bool.Decides.{nat_tests}
 use Rattle.histar_flat.specs.declared.calls.User.{User}
 use Rattle.histar_flat.specs.Words.{Name, Path}
+use Rattle.histar_flat.specs.Sessions.{session_of}
 use Rattle.histar_flat.specs.Files.{empty, get}
 use Rattle.histar_flat.specs.Classes.Class.{Readable}
 use Rattle.histar_flat.specs.FlatState.{Node}
@@ -33,15 +34,15 @@ module _ (users : List User) where
   slash_node = record { class = Readable (first_user users); content = Dir }
 
   -- a directory stands at `/`
-  pub slash_got : get (boot users).files [] ≡ Some slash_node
+  pub slash_got : get (boot (session_of users)).files [] ≡ Some slash_node
   slash_got = get_new empty [] slash_node
 
   -- nothing else is there
-  pub nothing_named : (name : Name) (d : Path) → get (boot users).files (name ∷ d) ≡ None
+  pub nothing_named : (name : Name) (d : Path) → get (boot (session_of users)).files (name ∷ d) ≡ None
   nothing_named name d = get_other empty [] slash_node (name ∷ d) (λ e. cc)
 
   -- a directory of the start is one that a directory segment can hold
-  pub start_listable : (number : Numbers) (d : Path) → IsListable (directory_of (boot users).files number d)
+  pub start_listable : (number : Numbers) (d : Path) → IsListable (directory_of (boot (session_of users)).files number d)
   start_listable number d = listable_empty
 
   -- everyone may read `/`, and the first user may write it
@@ -49,5 +50,5 @@ module _ (users : List User) where
   slash_label h = ap (λ (i : Option ℕ). option_map (λ k. written_by (write_category k)) i) (first_is_one users h)
 
   -- no directory of the start has an entry
-  pub nothing_spelled : (number : Numbers) (d : Path) → spelling (directory_of (boot users).files number d) ≡ []
+  pub nothing_spelled : (number : Numbers) (d : Path) → spelling (directory_of (boot (session_of users)).files number d) ≡ []
   nothing_spelled number d = ap (flat_map entry_bytes) entries-empty

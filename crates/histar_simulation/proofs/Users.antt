@@ -9,8 +9,8 @@ use Rattle.std.specs.List.{find, position_or_len}
 use Rattle.std.proofs.lemmas.Option.{same_Some}
 use Rattle.histar_flat.specs.declared.calls.User.{User}
 use Rattle.histar_flat.specs.Words.{Name}
+use Rattle.histar_flat.specs.Sessions.{user_named}
 use Rattle.histar_flat.specs.Classes.{nobody}
-use Rattle.histar_flat.specs.FlatCalls.{user_named}
 use Rattle.histar_login.specs.Login.{place_of}
 use Rattle.histar_simulation.specs.Labels.{user_number}
 

@@ -5,7 +5,7 @@ use Rattle.histar_flat.specs.declared.calls.Mode.TheVariants as modes
 use Rattle.histar_flat.specs.Words.{Name}
 use Rattle.histar_flat.specs.PathOrder.{same}
 use Rattle.histar_flat.specs.Classes.{Class, Process, nobody}
-use Rattle.histar_flat.specs.Classes.Class.{Private, Readable, Open, Scratch}
+use Rattle.histar_flat.specs.Classes.Class.{Private, Readable, Open, Scratch, Grouped}
 use Rattle.histar_label.specs.declared.levels.Level.TheVariants.{L1}
 use Rattle.histar_label.specs.Levels.{Levels, constant}
 use Rattle.histar_object.specs.State.{Found}
@@ -19,12 +19,13 @@ use Rattle.histar_login.specs.Login.{place_of, user_label, user_clearance}
 abbrev pub user_number : List User → Name → Option ℕ
 user_number users name = option_map (λ place. place + 1) (place_of users name)
 
--- the label of what is of a class; there is none where the owner is no user, and none of a scratch class while no call makes a job
+-- the label of what is of a class; there is none where the owner is no user, and none of a scratch class or a group's while no call makes a job or a group
 abbrev pub class_label : List User → Class → Option Levels
 class_label users (Private owner) = option_map (file_label modes.Private) (user_number users owner)
 class_label users (Readable owner) = option_map (file_label modes.Readable) (user_number users owner)
 class_label users Open = Some (constant L1)
 class_label users (Scratch owner jobs) = None
+class_label users (Grouped group) = None
 
 -- the label and the clearance of the thread of process 0: as nobody's it owns the process's own two categories, and as a user's
 -- the user's two as well

@@ -2,6 +2,7 @@
 use Rattle.std.specs.Prelude.{◌≡◌, ℕ, ◌<◌, true, List, length}
 use Rattle.histar_flat.specs.declared.calls.User.{User}
 use Rattle.histar_flat.specs.Words.{Path, ProcName}
+use Rattle.histar_flat.specs.Sessions.{session_of}
 use Rattle.histar_flat.specs.Files.{get}
 use Rattle.histar_flat.specs.FlatState.{Flat}
 use Rattle.histar_flat.specs.Meaning.{boot}
@@ -23,4 +24,4 @@ OneIsLaidOut = (users : List User) (s : State) (f g : Flat) → LaysOut users s 
 
 -- the state in which a machine starts lays out the flat state at the start
 abbrev pub StartIsLaidOut : Type 0
-StartIsLaidOut = (users : List User) → 0 < length users → LaysOut users (start_state users) (boot users)
+StartIsLaidOut = (users : List User) → 0 < length users → LaysOut users (start_state users) (boot (session_of users))

@@ -8,9 +8,11 @@ use Rattle.histar_flat.specs.declared.replies.Errno.TheVariants.{EAUTH}
 use Rattle.histar_flat.specs.declared.replies.Reply.{Reply}
 use Rattle.histar_flat.specs.declared.replies.Reply.TheVariants.{Done, Data, Refused, Gone}
 use Rattle.histar_flat.specs.Words.{Path, ProcName, is_path}
+use Rattle.histar_flat.specs.Modes.{is_line_mode}
+use Rattle.histar_flat.specs.Sessions.{session_of}
 use Rattle.histar_flat.specs.FlatState.{Flat}
 use Rattle.histar_flat.specs.FlatCalls.{reply_to, flat_after}
-use Rattle.histar_flat.specs.Meaning.{Asked}
+use Rattle.histar_flat.specs.declared.calls.CallLine.{CallLine}
 use Rattle.histar_object.specs.Objects.{bytes_in}
 use Rattle.histar_object.specs.State.{State}
 use Rattle.histar_rules.specs.declared.raw.Denied.{Denied}
@@ -29,12 +31,13 @@ use Rattle.histar_login.specs.Login.{place_of, password_of}
 use Rattle.histar_login.specs.Start.{process_bytes}
 use Rattle.histar_simulation.specs.LaysOut.{LaysOut}
 
--- a call that a line of a script can make: a path that it names is an entry of `/`
+-- a call that a line of a script can make: one of these, of a mode that a line can name; a path that it names is an entry of `/`
 abbrev pub IsScriptable : UnixCall → Type 0
-IsScriptable (Create path mode) = IsTrue (is_path path)
+IsScriptable (Create path mode) = IsTrue (is_path path) × IsTrue (is_line_mode mode)
 IsScriptable (Write path bytes) = IsTrue (is_path path)
 IsScriptable (Read path) = IsTrue (is_path path)
 IsScriptable (Login name password) = Unit {0}
+IsScriptable _ = ⊥
 
 -- the thread is the one that the process segment of this process names
 abbrev pub IsThreadOf : List User → State → ProcName → ℕ → Type 0
@@ -89,12 +92,13 @@ reads_of_login None compared = []
 reads_of_login (Some place) false = []
 reads_of_login (Some place) true = raw.Read root_number (password_of (place + 1)) ∷ []
 
--- the reads that a call cannot do without, so that what it tells was asked of the kernel
+-- the reads that a call cannot do without, so that what it tells was asked of the kernel; a call that no line can make owes none
 abbrev pub reads_owed : List User → UnixCall → Reply → List RawCall
 reads_owed users (Create path mode) reply = reads_on_way (length users) path
 reads_owed users (Write path bytes) reply = reads_on_way (length users) path
 reads_owed users (Read path) reply = reads_on_way (length users) path
 reads_owed users (Login name password) reply = reads_of_login (place_of users name) (is_compared reply)
+reads_owed users _ reply = []
 
 -- a denial that the reply tells: EACCES one by label, EPERM one by range, EFBIG one of bytes that are too many; no other is told
 abbrev pub IsDenialTold : Reply → Option Denied → Type 0
@@ -119,16 +123,16 @@ pub record IsLine (users : List User) (before : State) (line : ℕ) (process : P
 
 -- The line is the row of its call: it is answered what the flat state says, and the state after it lays out the flat state after
 -- the call.
-pub record IsRow (users : List User) (before : State) (f : Flat) (asked : Asked) (entries : List TraceEntry) (after : State) : Type 0 where
-  pub line : IsLine users before asked.line asked.process asked.call (reply_to users f asked.process asked.call) entries after
-  pub lays_out : LaysOut users after (flat_after users f asked.process asked.call)
+pub record IsRow (users : List User) (before : State) (f : Flat) (asked : CallLine) (entries : List TraceEntry) (after : State) : Type 0 where
+  pub line : IsLine users before asked.line asked.process asked.call (reply_to (session_of users) f asked.process asked.call) entries after
+  pub lays_out : LaysOut users after (flat_after (session_of users) f asked.process asked.call)
 
 -- the lines of a script, one after another, from a state that lays out this flat state: each is the row of its call
-abbrev pub AreRows : List User → State → Flat → List Asked → List TraceEntry → State → Type 0
+abbrev pub AreRows : List User → State → Flat → List CallLine → List TraceEntry → State → Type 0
 AreRows users s f [] entries end = (entries ≡ []) × (end ≡ s)
 AreRows users s f (asked ∷ more) entries end =
     (own : List TraceEntry) × (later : List TraceEntry) × (mid : State)
-    × (entries ≡ own ++ later) × IsRow users s f asked own mid × AreRows users mid (flat_after users f asked.process asked.call) more later end
+    × (entries ≡ own ++ later) × IsRow users s f asked own mid × AreRows users mid (flat_after (session_of users) f asked.process asked.call) more later end
 
 -- a denial that may end a line without an answer: the next object has no number any more
 abbrev pub IsExhausted : State → Option Denied → Type 0

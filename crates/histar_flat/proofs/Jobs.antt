@@ -1,0 +1,102 @@
+-- Who is nobody, or no declared user, has no job.
+use Rattle.std.specs.Prelude.{◌≡◌, ◌+◌, Bool, true, false, cond, List, [], ◌∷◌, ◌++◌, Option, Some, None, is_some, refl}
+use Rattle.std.proofs.Common.{ap, ◌⊎◌, inl, inr, sym, ◌∙◌, subst}
+use Rattle.std.proofs.lemmas.Bool.{true≢false}
+use Rattle.histar_flat.specs.declared.calls.CallLine.{CallLine}
+use Rattle.histar_flat.specs.declared.calls.UnixCall.{UnixCall}
+use Rattle.histar_flat.specs.Words.{ProcName}
+use Rattle.histar_flat.specs.PathOrder.{same, under_process}
+use Rattle.histar_flat.specs.Sessions.{Session, user_named}
+use Rattle.histar_flat.specs.Classes.{Process, nobody, is_free}
+use Rattle.histar_flat.specs.FlatState.{Flat, with_process, with_child}
+use Rattle.histar_flat.specs.FlatCalls.{next_child, inner_chain, flat_after}
+use Rattle.histar_flat.specs.Meaning.{first_process, boot, flat_end}
+use Rattle.histar_flat.specs.Laws.{HasNoJob, NobodyHasAJob}
+use Rattle.histar_flat.proofs.FileLemmas.{same_itself}
+use Rattle.histar_flat.proofs.Changes.{EachChange, by_line, runs_is_there}
+
+-- the process is nobody's, with no job, or a declared user's
+record IsPlaced (session : Session) (p : Process) : Type 0 where
+  nobodys : p.user ≡ nobody → HasNoJob p
+  declared : (p.user ≡ nobody) ⊎ (is_some (user_named session.users p.user) ≡ true)
+
+-- so is each process that is there
+abbrev ArePlaced : Session → Flat → Type 0
+ArePlaced session f = (q : ProcName) (p : Process) → f.processes q ≡ Some p → IsPlaced session p
+
+chosen : (b : Bool) (p q : Process) (o : Option Process) → cond b (Some p) o ≡ Some q → (p ≡ q) ⊎ (o ≡ Some q)
+chosen true p q o e = let one : p ≡ q = cc in inl one
+chosen false p q o e = inr e
+
+left : (b : Bool) (o : Option Process) (p : Process) → cond b None o ≡ Some p → o ≡ Some p
+left true o p e = absurd (cc)
+left false o p e = e
+
+-- a process of no job
+in_no_job : (p : Process) → is_free p ≡ true → p.chain ≡ []
+in_no_job p h = by p.chain h
+  where
+    by : (jobs : List ProcName) → (let b : Bool = elim jobs [ [] ↦ true | k ∷ ks ↦ false ] in b) ≡ true → jobs ≡ []
+    by [] h = refl
+    by (k ∷ ks) h = absurd (true≢false (sym h))
+
+module _ (session : Session) where
+  placed_with : (f : Flat) (me : ProcName) (p : Process) → ArePlaced session f → IsPlaced session p → ArePlaced session (with_process f me p)
+  placed_with f me p placed new q x e = elim (chosen (same me q) p x (f.processes q) e) [
+    | inl i ↦ subst (IsPlaced session) i new
+    | inr i ↦ placed q x i
+  ]
+
+  placed_with_child : (f : Flat) (me : ProcName) (p : Process) (chain : List ProcName) → ArePlaced session f → IsPlaced session (record p { born = p.born + 1 })
+      → IsPlaced session (record { user = p.user; chain = chain; held = []; exited = None; born = 0 }) → ArePlaced session (with_child f me p chain)
+  placed_with_child f me p chain placed grown child =
+      placed_with (with_process f me (record p { born = p.born + 1 })) ((p.born + 1) ∷ me) (record { user = p.user; chain = chain; held = []; exited = None; born = 0 })
+      (placed_with f me (record p { born = p.born + 1 }) placed grown) child
+
+  placed_changes : (f : Flat) (me : ProcName) (p : Process) (call : UnixCall) → ArePlaced session f → IsPlaced session p → EachChange session f me p call (ArePlaced session)
+  placed_changes f me p call placed here = record {
+    stays = placed;
+    makes = λ n d x walked free w own. placed;
+    overwrites = λ n d bytes file w. placed;
+    cuts = λ n d takes w. placed;
+    renames = λ n k d takes apart free w. placed;
+    spawns = λ is. placed_with_child f me p p.chain placed
+        (record { nobodys = λ e. let h = here.nobodys e in record { in_none = h.in_none; holds_none = h.holds_none }; declared = here.declared })
+        (record { nobodys = λ e. let h = here.nobodys e in record { in_none = h.in_none; holds_none = refl }; declared = here.declared });
+    exits = λ n is. placed_with f me (record p { exited = Some n }) placed
+        (record { nobodys = λ e. let h = here.nobodys e in record { in_none = h.in_none; holds_none = h.holds_none }; declared = here.declared });
+    logs_in = λ name password is known free. placed_with f me (record p { user = name; held = [] }) placed
+        (record { nobodys = λ e. record { in_none = in_no_job p free; holds_none = refl }; declared = inr known });
+    kills = λ n q x e. placed q x (left (under_process (n ∷ me) q) (f.processes q) x e);
+    wraps = λ n d is walked free w named.
+        let other : p.user ≡ nobody → ⊥ = λ e. true≢false (sym (same_itself nobody) ∙ ap (λ u. same u nobody) (sym e) ∙ named) in
+        placed_with_child f me (record p { held = p.held ++ next_child me p ∷ [] }) (inner_chain me p) placed
+        (record { nobodys = λ e. absurd (other e); declared = here.declared })
+        (record { nobodys = λ e. absurd (other e); declared = here.declared });
+  }
+
+  placed_after : (f : Flat) (me : ProcName) (call : UnixCall) → ArePlaced session f → ArePlaced session (flat_after session f me call)
+  placed_after f me call placed = by_line session f me call (ArePlaced session) placed (λ p runs. placed_changes f me p call placed (placed me p (runs_is_there (f.processes me) p runs)))
+
+  placed_at_end : (f : Flat) → ArePlaced session f → (calls : List CallLine) → ArePlaced session (flat_end session f calls)
+  placed_at_end f placed [] = placed
+  placed_at_end f placed (c ∷ calls) = placed_at_end (flat_after session f c.process c.call) (placed_after f c.process c.call placed) calls
+
+  placed_at_start : ArePlaced session (boot session)
+  placed_at_start [] p e =
+      let found : Some first_process ≡ Some p = e in
+      let one : first_process ≡ p = cc in
+      subst (IsPlaced session) one (record { nobodys = λ h. record { in_none = refl; holds_none = refl }; declared = inl refl })
+  placed_at_start (n ∷ q) p e = let gone : None ≡ Some p = e in absurd (cc)
+
+-- Who is nobody, and who is no declared user, has no job.
+pub nobody_has_a_job : NobodyHasAJob
+nobody_has_a_job = record {
+  nobodys = λ session calls me p e nobodys. (placed_at_end session (boot session) (placed_at_start session) calls me p e).nobodys nobodys;
+  strangers = λ session calls me p e stranger.
+      let placed = placed_at_end session (boot session) (placed_at_start session) calls me p e in
+      elim placed.declared [
+        | inl i ↦ placed.nobodys i
+        | inr i ↦ absurd (true≢false (sym i ∙ ap is_some stranger))
+      ];
+}

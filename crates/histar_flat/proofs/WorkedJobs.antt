@@ -1,0 +1,129 @@
+-- Worked sessions with jobs and groups: what is printed, computed.
+use Rattle.std.specs.Prelude.{◌≡◌, [], ◌∷◌, codes, refl}
+use Rattle.std.specs.Fmt.{digits}
+use Rattle.histar_flat.specs.declared.calls.Mode.TheVariants as modes
+use Rattle.histar_flat.specs.declared.calls.UnixCall.TheVariants.{Create, Mkdir, Read, Write, Append, List as ListCall, Stat, Rmdir, Rmtree, Spawn, Exit, Status, Kill, Whoami, Login, Wrap}
+use Rattle.histar_flat.specs.Meaning.{meaning}
+use Rattle.histar_flat.proofs.WorkedScripts.{line_of, printed, with_a_team, after_tmp}
+
+-- a process in a job reads as its user, writes only in its job, logs in as no one, and starts jobs in its job alone
+pub job : after_tmp (
+    line_of 10 (1 ∷ []) (Create (codes "s" ∷ codes "tmp" ∷ []) modes.Private) ∷
+    line_of 11 (1 ∷ []) (Write (codes "s" ∷ codes "tmp" ∷ []) (codes "deep")) ∷
+    line_of 12 (1 ∷ []) (Wrap (codes "j" ∷ codes "tmp" ∷ [])) ∷
+    line_of 13 (1 ∷ 1 ∷ []) (Read (codes "s" ∷ codes "tmp" ∷ [])) ∷
+    line_of 14 (1 ∷ 1 ∷ []) (Write (codes "s" ∷ codes "tmp" ∷ []) (codes "no")) ∷
+    line_of 15 (1 ∷ 1 ∷ []) (Create (codes "k" ∷ codes "tmp" ∷ []) modes.Open) ∷
+    line_of 16 (1 ∷ 1 ∷ []) Whoami ∷
+    line_of 17 (1 ∷ 1 ∷ []) (Login (codes "bob") (codes "bb")) ∷
+    line_of 18 (1 ∷ 1 ∷ []) (Wrap (codes "k" ∷ codes "j" ∷ codes "tmp" ∷ [])) ∷
+    line_of 19 (1 ∷ 1 ∷ []) (Wrap (codes "k" ∷ codes "tmp" ∷ [])) ∷ []) ≡
+    codes "10 ok\n11 ok\n12 ok 0.1.1\n13 = deep\n14 EACCES\n15 EACCES\n16 ok alice confined\n17 EACCES\n18 ok 0.1.1.1\n19 EACCES\n"
+unfolding digits
+job = refl
+
+-- what a job makes is scratch: who started the job reads it, a further child and other users don't
+pub output_of_a_job : after_tmp (
+    line_of 10 (1 ∷ []) (Wrap (codes "j" ∷ codes "tmp" ∷ [])) ∷
+    line_of 11 (1 ∷ 1 ∷ []) (Create (codes "out" ∷ codes "j" ∷ codes "tmp" ∷ []) modes.Readable) ∷
+    line_of 12 (1 ∷ 1 ∷ []) (Write (codes "out" ∷ codes "j" ∷ codes "tmp" ∷ []) (codes "result")) ∷
+    line_of 13 (1 ∷ []) (Stat (codes "out" ∷ codes "j" ∷ codes "tmp" ∷ [])) ∷
+    line_of 14 (1 ∷ []) (Read (codes "out" ∷ codes "j" ∷ codes "tmp" ∷ [])) ∷
+    line_of 15 (1 ∷ []) Spawn ∷
+    line_of 16 (2 ∷ 1 ∷ []) (Read (codes "out" ∷ codes "j" ∷ codes "tmp" ∷ [])) ∷
+    line_of 17 (2 ∷ []) (Stat (codes "j" ∷ codes "tmp" ∷ [])) ∷
+    line_of 18 (2 ∷ []) (ListCall (codes "j" ∷ codes "tmp" ∷ [])) ∷ []) ≡
+    codes "10 ok 0.1.1\n11 ok\n12 ok\n13 ok file alice scratch\n14 = result\n15 ok 0.1.2\n16 EACCES\n17 ok dir alice scratch\n18 EACCES\n"
+unfolding digits
+output_of_a_job = refl
+
+-- the owner of the directory around takes a job's directory away with all in it, though it can't list it
+pub directory_of_a_job_taken_away : after_tmp (
+    line_of 10 (1 ∷ []) (Wrap (codes "j" ∷ codes "tmp" ∷ [])) ∷
+    line_of 11 [] (Rmdir (codes "j" ∷ codes "tmp" ∷ [])) ∷
+    line_of 12 [] (Rmtree (codes "j" ∷ codes "tmp" ∷ [])) ∷
+    line_of 13 (1 ∷ 1 ∷ []) (ListCall (codes "j" ∷ codes "tmp" ∷ [])) ∷ []) ≡
+    codes "10 ok 0.1.1\n11 EACCES\n12 ok\n13 ENOENT\n"
+unfolding digits
+directory_of_a_job_taken_away = refl
+
+-- a process that has exited is told of till its parent ends it; names are not given again, and only children are ended
+pub ends_of_processes : after_tmp (
+    line_of 10 (1 ∷ []) (Wrap (codes "j" ∷ codes "tmp" ∷ [])) ∷
+    line_of 11 (1 ∷ 1 ∷ []) Spawn ∷
+    line_of 12 (1 ∷ 1 ∷ 1 ∷ []) (Exit 7) ∷
+    line_of 13 (1 ∷ []) (Status (1 ∷ 1 ∷ 1 ∷ [])) ∷
+    line_of 14 (2 ∷ []) (Status (1 ∷ 1 ∷ [])) ∷
+    line_of 15 (2 ∷ []) (Status (1 ∷ [])) ∷
+    line_of 16 (1 ∷ 1 ∷ 1 ∷ []) Whoami ∷
+    line_of 17 (2 ∷ []) (Kill (1 ∷ [])) ∷
+    line_of 18 (1 ∷ []) (Kill (1 ∷ 1 ∷ [])) ∷
+    line_of 19 (1 ∷ []) (Status (1 ∷ 1 ∷ [])) ∷
+    line_of 20 (1 ∷ 1 ∷ []) Whoami ∷
+    line_of 21 (1 ∷ []) Spawn ∷
+    line_of 22 [] (Kill ([])) ∷ []) ≡
+    codes "10 ok 0.1.1\n11 ok 0.1.1.1\n12 ok\n13 ok exited 7\n14 EACCES\n15 ok running\n16 gone\n17 EACCES\n18 ok\n19 ESRCH\n20 gone\n21 ok 0.1.2\n22 EACCES\n"
+unfolding digits
+ends_of_processes = refl
+
+-- an inner job reads what is of the outer one, and writes its own alone
+pub job_in_a_job : after_tmp (
+    line_of 10 (1 ∷ []) (Wrap (codes "j" ∷ codes "tmp" ∷ [])) ∷
+    line_of 11 (1 ∷ 1 ∷ []) (Wrap (codes "k" ∷ codes "j" ∷ codes "tmp" ∷ [])) ∷
+    line_of 12 (1 ∷ 1 ∷ 1 ∷ []) (Create (codes "o" ∷ codes "k" ∷ codes "j" ∷ codes "tmp" ∷ []) modes.Private) ∷
+    line_of 13 (1 ∷ 1 ∷ []) (Stat (codes "o" ∷ codes "k" ∷ codes "j" ∷ codes "tmp" ∷ [])) ∷
+    line_of 14 (1 ∷ []) (ListCall (codes "j" ∷ codes "tmp" ∷ [])) ∷
+    line_of 15 (1 ∷ []) (ListCall (codes "k" ∷ codes "j" ∷ codes "tmp" ∷ [])) ∷
+    line_of 16 (1 ∷ 1 ∷ 1 ∷ []) (Create (codes "x" ∷ codes "j" ∷ codes "tmp" ∷ []) modes.Open) ∷
+    line_of 17 (1 ∷ 1 ∷ []) (Create (codes "p" ∷ codes "k" ∷ codes "j" ∷ codes "tmp" ∷ []) modes.Open) ∷
+    line_of 18 (1 ∷ 1 ∷ 1 ∷ []) (Read (codes "p" ∷ codes "k" ∷ codes "j" ∷ codes "tmp" ∷ [])) ∷
+    line_of 19 (1 ∷ 1 ∷ 1 ∷ []) (Write (codes "p" ∷ codes "k" ∷ codes "j" ∷ codes "tmp" ∷ []) (codes "z")) ∷
+    line_of 20 (1 ∷ []) (Status (1 ∷ 1 ∷ 1 ∷ [])) ∷
+    line_of 21 (1 ∷ 1 ∷ []) (Status (1 ∷ 1 ∷ 1 ∷ [])) ∷
+    line_of 22 (1 ∷ 1 ∷ []) (Wrap (codes "k" ∷ codes "tmp" ∷ [])) ∷
+    line_of 23 (1 ∷ 1 ∷ 1 ∷ []) (Login (codes "bob") (codes "bb")) ∷
+    line_of 24 (1 ∷ []) (Kill (1 ∷ 1 ∷ [])) ∷
+    line_of 25 (1 ∷ []) (Rmtree (codes "j" ∷ codes "tmp" ∷ [])) ∷ []) ≡
+    codes "10 ok 0.1.1\n11 ok 0.1.1.1\n12 ok\n13 ok file alice scratch\n14 ok k/\n15 EACCES\n16 EACCES\n17 ok\n18 = \n19 EACCES\n20 EACCES\n21 ok running\n22 EACCES\n23 EACCES\n24 ok\n25 ok\n"
+unfolding digits
+job_in_a_job = refl
+
+-- who logs in lets go of the jobs that the process held
+pub login_lets_go : after_tmp (
+    line_of 10 (1 ∷ []) (Wrap (codes "j" ∷ codes "tmp" ∷ [])) ∷
+    line_of 11 (1 ∷ []) (Wrap (codes "q" ∷ [])) ∷
+    line_of 12 (1 ∷ []) (ListCall (codes "j" ∷ codes "tmp" ∷ [])) ∷
+    line_of 13 (1 ∷ []) (Login (codes "alice") (codes "aa")) ∷
+    line_of 14 (1 ∷ []) (ListCall (codes "j" ∷ codes "tmp" ∷ [])) ∷
+    line_of 15 (1 ∷ []) (Status (1 ∷ 1 ∷ [])) ∷
+    line_of 16 (1 ∷ []) (Kill (1 ∷ 1 ∷ [])) ∷ []) ≡
+    codes "10 ok 0.1.1\n11 EACCES\n12 ok\n13 ok\n14 EACCES\n15 EACCES\n16 EACCES\n"
+unfolding digits
+login_lets_go = refl
+
+-- members of a group share its files; a job reads them and doesn't write them
+pub group : printed (meaning with_a_team (
+    line_of 6 [] Spawn ∷
+    line_of 7 [] Spawn ∷
+    line_of 8 [] Spawn ∷
+    line_of 9 [] (Login (codes "root") (codes "rr")) ∷
+    line_of 10 [] (Mkdir (codes "tmp" ∷ []) modes.Open) ∷
+    line_of 11 (1 ∷ []) (Login (codes "alice") (codes "aa")) ∷
+    line_of 12 (2 ∷ []) (Login (codes "bob") (codes "bb")) ∷
+    line_of 13 (3 ∷ []) (Login (codes "carol") (codes "cc")) ∷
+    line_of 14 (1 ∷ []) (Create (codes "g" ∷ codes "tmp" ∷ []) (modes.Group (codes "team"))) ∷
+    line_of 15 (2 ∷ []) (Write (codes "g" ∷ codes "tmp" ∷ []) (codes "hi")) ∷
+    line_of 16 (3 ∷ []) (Read (codes "g" ∷ codes "tmp" ∷ [])) ∷
+    line_of 17 (3 ∷ []) (Stat (codes "g" ∷ codes "tmp" ∷ [])) ∷
+    line_of 18 (3 ∷ []) (Create (codes "h" ∷ codes "tmp" ∷ []) (modes.Group (codes "team"))) ∷
+    line_of 19 (2 ∷ []) (Wrap (codes "j" ∷ codes "tmp" ∷ [])) ∷
+    line_of 20 (1 ∷ 2 ∷ []) (Read (codes "g" ∷ codes "tmp" ∷ [])) ∷
+    line_of 21 (1 ∷ 2 ∷ []) (Append (codes "g" ∷ codes "tmp" ∷ []) (codes "x")) ∷
+    line_of 22 (1 ∷ 2 ∷ []) (Create (codes "o" ∷ codes "j" ∷ codes "tmp" ∷ []) (modes.Group (codes "team"))) ∷
+    line_of 23 (2 ∷ []) (Stat (codes "o" ∷ codes "j" ∷ codes "tmp" ∷ [])) ∷
+    line_of 24 (1 ∷ []) (Read (codes "o" ∷ codes "j" ∷ codes "tmp" ∷ [])) ∷
+    line_of 25 (2 ∷ []) (Login (codes "carol") (codes "cc")) ∷
+    line_of 26 (2 ∷ []) (Read (codes "g" ∷ codes "tmp" ∷ [])) ∷ [])) ≡
+    codes "6 ok 0.1\n7 ok 0.2\n8 ok 0.3\n9 ok\n10 ok\n11 ok\n12 ok\n13 ok\n14 ok\n15 ok\n16 EACCES\n17 ok file - group:team\n18 EPERM\n19 ok 0.2.1\n20 = hi\n21 EACCES\n22 ok\n23 ok file bob scratch\n24 EACCES\n25 ok\n26 EACCES\n"
+unfolding digits
+group = refl

@@ -1,0 +1,57 @@
+-- Scripts of three users, of whom root is the first, and of processes that make their calls.
+use Rattle.std.specs.Prelude.{◌≡◌, ℕ, List, [], ◌∷◌, ◌++◌, codes, refl}
+use Rattle.std.specs.List.{flat_map}
+use Rattle.std.specs.Fmt.{decimal, digits}
+use Rattle.histar_flat.specs.declared.calls.CallLine.{CallLine}
+use Rattle.histar_flat.specs.declared.calls.Mode.TheVariants as modes
+use Rattle.histar_flat.specs.declared.calls.UnixCall.{UnixCall}
+use Rattle.histar_flat.specs.declared.calls.UnixCall.TheVariants.{Mkdir, Spawn, Whoami, Login}
+use Rattle.histar_flat.specs.Texts.{reply_text}
+use Rattle.histar_flat.specs.Words.{ProcName}
+use Rattle.histar_flat.specs.Sessions.{Session}
+use Rattle.histar_flat.specs.Meaning.{Answered, boot, answered_from, flat_end, meaning}
+
+-- a call line
+abbrev pub line_of : ℕ → ProcName → UnixCall → CallLine
+line_of line process call = record { line = line; process = process; call = call }
+
+-- replies as they are printed: a line each, with its number, a space and the text of the reply
+abbrev pub printed : List Answered → List ℕ
+printed = flat_map (λ (a : Answered). decimal a.call.line ++ codes " " ++ reply_text a.reply ++ codes "\n")
+
+-- root, alice and bob, in no group
+abbrev pub three_users : Session
+three_users = record {
+  users = record { name = codes "root"; password = codes "rr" } ∷ record { name = codes "alice"; password = codes "aa" } ∷ record { name = codes "bob"; password = codes "bb" } ∷ [];
+  groups = [];
+}
+
+-- carol beside them, and a group of alice and bob
+abbrev pub with_a_team : Session
+with_a_team = record {
+  users = record { name = codes "root"; password = codes "rr" } ∷ record { name = codes "alice"; password = codes "aa" } ∷ record { name = codes "bob"; password = codes "bb" } ∷ record { name = codes "carol"; password = codes "cc" } ∷ [];
+  groups = record { name = codes "team"; members = codes "alice" ∷ codes "bob" ∷ [] } ∷ [];
+}
+
+-- root makes the open directory /tmp, and has two children: 0.1 becomes alice's, and 0.2 bob's
+abbrev pub tmp_made : List CallLine
+tmp_made =
+    line_of 4 [] Spawn ∷
+    line_of 5 [] Spawn ∷
+    line_of 6 [] (Login (codes "root") (codes "rr")) ∷
+    line_of 7 [] (Mkdir (codes "tmp" ∷ []) modes.Open) ∷
+    line_of 8 (1 ∷ []) (Login (codes "alice") (codes "aa")) ∷
+    line_of 9 (2 ∷ []) (Login (codes "bob") (codes "bb")) ∷ []
+
+pub tmp_is_made : printed (meaning three_users tmp_made) ≡ codes "4 ok 0.1\n5 ok 0.2\n6 ok\n7 ok\n8 ok\n9 ok\n"
+unfolding digits
+tmp_is_made = refl
+
+-- what is printed for the lines after that
+abbrev pub after_tmp : List CallLine → List ℕ
+after_tmp calls = printed (answered_from three_users (flat_end three_users (boot three_users) tmp_made) calls)
+
+-- without a login a process is nobody's
+pub nobody_at_first : printed (meaning three_users (line_of 2 [] Whoami ∷ [])) ≡ codes "2 ok nobody\n"
+unfolding digits
+nobody_at_first = refl

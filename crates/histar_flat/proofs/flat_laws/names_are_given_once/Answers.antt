@@ -1,0 +1,5 @@
+use Rattle.histar_flat.proofs.GivenNames.{names_are_given_once}
+use Rattle.histar_flat.proofs.flat_laws.names_are_given_once.Goals as goal
+
+pub returns : goal.returns
+returns c = names_are_given_once

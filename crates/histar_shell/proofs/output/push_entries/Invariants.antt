@@ -1,0 +1,7 @@
+use Rattle.std.proofs.Common.{◌≡◌, ◌++◌, take}
+use Rattle.std.specs.List.{flat_map}
+use Rattle.histar_flat.specs.Texts.{entry_text}
+use Rattle.histar_shell.proofs.output.push_entries.Given as goal
+
+abbrev pub invariant-loop-entry : goal.invariant-loop-entry
+invariant-loop-entry l = l.line.items ≡ l.fn.line.items ++ flat_map entry_text (take l.entry-index l.entries)
