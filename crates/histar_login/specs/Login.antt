@@ -5,7 +5,7 @@ use Rattle.histar_flat.specs.declared.calls.User.{User}
 use Rattle.histar_flat.specs.declared.replies.Errno.{Errno}
 use Rattle.histar_flat.specs.declared.replies.Errno.TheVariants.{ENOENT, EAUTH}
 use Rattle.histar_flat.specs.declared.replies.Reply.{Reply}
-use Rattle.histar_flat.specs.declared.replies.Reply.TheVariants.{Done, Data, Refused, Gone}
+use Rattle.histar_flat.specs.declared.replies.Reply.TheVariants.{Done, Refused}
 use Rattle.histar_flat.specs.Words.{Name}
 use Rattle.histar_label.specs.declared.levels.Level.{Level}
 use Rattle.histar_label.specs.declared.levels.Level.TheVariants.{Star, L1, L2, L3}
@@ -156,8 +156,7 @@ LogsIn users old new thread name password result = LogsInAt (place_of users name
 abbrev pub BecomesUser : ℕ → ℕ → ℕ → State → State → Reply → Type 0
 BecomesUser users i thread old new Done = new ≡ with_own old thread (user_label users i) (user_clearance users i)
 BecomesUser users i thread old new (Refused errno) = new ≡ old
-BecomesUser users i thread old new (Data bytes) = ⊥
-BecomesUser users i thread old new Gone = ⊥
+BecomesUser users i thread old new _ = ⊥
 
 abbrev pub BecomesUserAt : Option ℕ → ℕ → ℕ → State → State → Reply → Type 0
 BecomesUserAt None users thread old new reply = new ≡ old
