@@ -1,0 +1,6 @@
+//! When the state of a labelled kernel lays out a flat state with a tree of processes, jobs and
+//! groups.
+//!
+//! There is nothing to run here: the definitions stand in `specs/`, and what they are worth in
+//! `proofs/`.
+#![tactic(auto)]
