@@ -17,7 +17,8 @@ use Rattle.histar_refinement.specs.Labels.{class_guard, private_guard, readable_
 use Rattle.histar_refinement.proofs.Members.{or_false}
 use Rattle.histar_refinement.proofs.CategoryTests.{among-append, among_none, among_jobs}
 use Rattle.histar_refinement.proofs.Tested.{NamesApart, observes_by_names, below_by_names}
-use Rattle.histar_refinement.proofs.SessionLemmas.{IsSession, is_number, is_owner, has_number, is_member_number}
+use Rattle.histar_refinement.specs.Sessions.{IsSession}
+use Rattle.histar_refinement.proofs.SessionLemmas.{is_number, is_owner, has_number, is_member_number}
 
 and_true : (b : Bool) → (b && true) ≡ b
 and_true true = refl

@@ -1,23 +1,27 @@
--- What a directory has at a name.
-use Rattle.std.specs.Prelude.{◌≡◌, ◌≢◌, cond, T, List, [], ◌∷◌, Option, Some, None, option_map, option_and_then, refl}
-use Rattle.std.specs.List.{filter_map, cons_option}
-use Rattle.std.proofs.Common.{ap, sym, ◌∙◌, subst, inl, inr}
+-- What a directory has at a name, how many entries it has, and how many bytes its segment.
+use Rattle.std.specs.Prelude.{◌≡◌, ◌≢◌, ◌*◌, ◌≤◌, Bool, cond, T, List, [], ◌∷◌, length, Option, Some, None, option_map, option_and_then, refl}
+use Rattle.std.specs.List.{filter_map, cons_option, flat_map, AllByRecursion}
+use Rattle.std.proofs.Common.{ap, sym, ◌∙◌, subst, inl, inr, arith}
 use Rattle.std.specs.Ordering.{is_lt}
 use Rattle.std.specs.Cmp.Lexicographic.{nat_list_cmp_total}
 use Rattle.std.specs.FinMap as map
 use Rattle.std.specs.FinMap.{find, is_sorted}
 use Rattle.std.specs.FinMap.Entries.{below_all}
+use Rattle.std.proofs.lemmas.List.{length-append}
 use Rattle.histar_flat.specs.Words.{Name, Path}
 use Rattle.histar_flat.specs.PathOrder.{path_cmp}
 use Rattle.histar_flat.specs.PathOrderLaws.{path_cmp_total, path_cmp_exact}
 use Rattle.histar_flat.specs.Files.{Files, get}
-use Rattle.histar_flat.specs.FlatState.{Node}
+use Rattle.histar_flat.specs.FlatState.{Node, Flat, Entry, is_dir, entry_in, entries_in}
 use Rattle.histar_flat.proofs.FileLemmas.{same_path_found, same_name_found}
+use Rattle.histar_flat.proofs.WordLemmas.{short_name}
 use Rattle.histar_layout.specs.declared.entry.Target.{Target}
-use Rattle.histar_layout.proofs.MapLemmas.{by_bytes, antisymmetric}
-use Rattle.histar_refinement.specs.Directories.{target_for, target_in, directory_of}
+use Rattle.histar_layout.specs.declared.entry.Target.TheVariants as targets
+use Rattle.histar_layout.specs.Directory.{Entries, IsEntry, IsListable, entry_bytes, target_bytes, spelling}
+use Rattle.histar_layout.proofs.MapLemmas.{by_bytes, antisymmetric, len_sorted}
 use Rattle.histar_refinement.specs.Addresses.{Numbers}
-use Rattle.histar_flat.proofs.Finding.{first, second, both, find_first, find_behind, find_below, names_decide}
+use Rattle.histar_refinement.specs.Directories.{target_for, target_in, directory_of}
+use Rattle.histar_flat.proofs.Finding.{first, second, both, find_first, find_behind, find_below, find_later, names_decide}
 
 module _ (number : Numbers) (d : Path) where
   -- the entries of the directory among some, with where each leads
@@ -124,6 +128,59 @@ module _ (number : Numbers) (d : Path) where
         | inr t ↦ subst (λ b. T (is_sorted by_bytes (cons_option (cond b (option_map (λ target. (n, target)) (target_for number (n ∷ above, there))) None) (listed es)))) (sym t.0) rest
       ]
 
+  -- each entry of the directory leads somewhere
+  abbrev AllLead : List (Path × Node) → Type 0
+  AllLead es = (n : Name) (there : Node) → find path_cmp (n ∷ d) es ≡ Some there → leads n there ≢ None
+
+  -- an entry before others is in both lists, or in none of them
+  abbrev AsMany : Name → Path → Node → List (Path × Node) → Bool → Type 0
+  AsMany n above there es b =
+      length (cons_option (cond b (option_map (λ target. (n, target)) (target_for number (n ∷ above, there))) None) (listed es)) ≡ length (cons_option (cond b (Some (n, is_dir there)) None) (filter_map (entry_in d) es))
+
+  -- one entry that leads somewhere counts in both lists
+  length_one : (n : Name) (target : Option Target) (small : Entry) (es : List (Path × Node)) → target ≢ None → length (listed es) ≡ length (filter_map (entry_in d) es)
+      → length (cons_option (option_map (λ goal. (n, goal)) target) (listed es)) ≡ length (cons_option (Some small) (filter_map (entry_in d) es))
+  length_one n None small es some rest = absurd (some refl)
+  length_one n (Some target) small es some rest = omega (arith, rest)
+
+  -- then the directory has as many entries with where they lead
+  length_listed : (es : List (Path × Node)) → T (is_sorted path_cmp es) → AllLead es → length (listed es) ≡ length (filter_map (entry_in d) es)
+  length_listed [] h lead = refl
+  length_listed (e ∷ es) h lead = step e.0 e.1 lead (length_listed es (second (below_all path_cmp e.0 es) _ h)
+      (λ n there is. lead n there (find_later path_cmp_total path_cmp_exact e.0 e.1 es (n ∷ d) there (first (below_all path_cmp e.0 es) _ h) is)))
+    where
+      step : (q : Path) (there : Node) → AllLead ((q, there) ∷ es) → length (listed es) ≡ length (filter_map (entry_in d) es) → length (listed ((q, there) ∷ es)) ≡ length (filter_map (entry_in d) ((q, there) ∷ es))
+      step [] there lead rest = rest
+      step (n ∷ above) there lead rest = elim (same_path_found d above) [
+        | inl t ↦
+            let found : find path_cmp (n ∷ d) ((n ∷ above, there) ∷ es) ≡ Some there =
+            subst (λ (a : Path). find path_cmp (n ∷ d) ((n ∷ a, there) ∷ es) ≡ Some there) t.1 (find_first path_cmp_total path_cmp_exact (n ∷ d) there es) in
+            let some : target_for number (n ∷ above, there) ≢ None = subst (λ (a : Path). target_for number (n ∷ a, there) ≢ None) t.1 (lead n there found) in
+            subst (λ b. AsMany n above there es b) (sym t.0) (length_one n (target_for number (n ∷ above, there)) (n, is_dir there) es some rest)
+        | inr t ↦ subst (λ b. AsMany n above there es b) (sym t.0) rest
+      ]
+
 -- the entry of a name in a directory is where its path leads
 pub get_directory : (files : Files Node) (number : Numbers) (d : Path) (n : Name) → map.get (directory_of files number d) n ≡ option_and_then (λ (there : Node). target_for number (n ∷ d, there)) (get files (n ∷ d))
 get_directory files number d n = map.get-from_entries nat_list_cmp_total (filter_map (target_in number d) files.entries) n ∙ find_listed number d n files.entries files.sorted
+
+-- a directory has as many entries as the flat state, where each of them leads somewhere
+pub len_directory : (f : Flat) (number : Numbers) (d : Path) → ((n : Name) (there : Node) → get f.files (n ∷ d) ≡ Some there → target_for number (n ∷ d, there) ≢ None) → map.len (directory_of f.files number d) ≡ length (entries_in f d)
+len_directory f number d lead = len_sorted (filter_map (target_in number d) f.files.entries) (sorted_listed number d f.files.entries f.files.sorted) ∙ length_listed number d f.files.entries f.files.sorted lead
+
+-- ---- the bytes of a directory
+
+-- a target takes 17 bytes
+length_target : (t : Target) → length (target_bytes t) ≡ 17
+length_target (targets.File file) = refl
+length_target (targets.Directory container listing) = refl
+
+-- an entry takes at most 50
+length_entries : (es : List (Name × Target)) → AllByRecursion IsEntry es → length (flat_map entry_bytes es) ≤ 50 * length es
+length_entries [] h = omega arith
+length_entries (e ∷ es) h =
+    omega (arith, length_entries es h.1, short_name e.0 h.0.0, length_target e.1, length-append (entry_bytes e) (flat_map entry_bytes es), length-append e.0 (target_bytes e.1))
+
+-- the bytes of a directory are not too many for a segment
+pub spelling_fits : (dir : Entries) → IsListable dir → length (spelling dir) ≤ 4096
+spelling_fits dir h = omega (arith, length_entries (map.entries dir) h.each, map.len-entries dir, h.few)

@@ -20,5 +20,15 @@ pub mod Beside
 pub mod Becoming
 pub mod LoggingIn
 pub mod DirectoryLaws
+pub mod FileRows
+pub mod Standing
+pub mod ClassLaws
+pub mod ReachedObjects
+pub mod Making
+pub mod Creating
+pub mod Writing
 pub mod OneChain
 pub mod OneProcess
+pub mod SameLines
+pub mod LinesLaid
+pub mod StatusLaid

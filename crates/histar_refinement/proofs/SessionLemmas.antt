@@ -12,12 +12,7 @@ use Rattle.histar_flat.proofs.FileLemmas.{same_name_found}
 use Rattle.histar_flat.specs.Sessions.{Group, Session, has, user_number, group_number, numbers_with, groups_of, is_member}
 use Rattle.histar_flat.specs.Classes.{nobody}
 use Rattle.histar_refinement.proofs.Members.{same_truth, and_both, first_of, second_of, or_first, or_second, or_either}
-
--- no user is called nobody, no two groups have one name, and members are users: a script's users and groups are so
-pub record IsSession (session : Session) : Type 0 where
-  pub no_one : user_number session nobody ≡ None
-  pub groups_differ : (i j : ℕ) (g h : Group) → slice_get session.groups i ≡ Some g → slice_get session.groups j ≡ Some h → same g.name h.name ≡ true → i ≡ j
-  pub declared : (name group : Name) → is_member session name group ≡ true → is_some (user_number session name) ≡ true
+use Rattle.histar_refinement.specs.Sessions.{IsSession}
 
 pub equal_names : (a b : Name) → same a b ≡ true → a ≡ b
 equal_names a b h = elim (same_name_found a b) [ inl e ↦ e.1 | inr e ↦ absurd (true≢false (sym h ∙ e.0)) ]

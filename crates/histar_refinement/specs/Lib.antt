@@ -1,3 +1,4 @@
+pub mod Sessions
 pub mod Categories
 pub mod Guards
 pub mod Labels
@@ -8,3 +9,5 @@ pub mod Directories
 pub mod Expected
 pub mod Stands
 pub mod LaysOut
+pub mod Lines
+pub mod Laws

@@ -2,5 +2,7 @@
 //! groups.
 //!
 //! There is nothing to run here: the definitions stand in `specs/`, and what they are worth in
-//! `proofs/`.
+//! `proofs/`. [`refinement_laws`] says what it comes to that a state lays out a flat state.
 #![tactic(auto)]
+
+pub mod refinement_laws;
