@@ -31,12 +31,12 @@ use Rattle.histar_refinement.specs.Categories.{CategoryName, Categories, IsMade,
 use Rattle.histar_refinement.specs.Categories.CategoryName.{OfBoot, ReadsUser, WritesUser, ReadsGroup, WritesGroup, ReadsProcess, WritesProcess, OfJob}
 use Rattle.histar_refinement.specs.Guards.{Guard, guard_label}
 use Rattle.histar_refinement.specs.Labels.{class_guard, process_guard}
-use Rattle.histar_refinement.specs.Addresses.{Step, Numbers, same_step, address_of, home_of, path_at, process_at, inside_at, boot_number}
-use Rattle.histar_refinement.specs.Addresses.Step.{Left, Slash, Listing, Named, Home, Status, Inside, Runner, Child}
+use Rattle.histar_refinement.specs.Addresses.{Step, Numbers, same_step, address_of, home_of, path_at, boot_number}
+use Rattle.histar_refinement.specs.Addresses.Step.{Listing, Named, Status, Inside, Runner}
 use Rattle.histar_refinement.specs.Processes.{number_bytes, children, child_bytes, written_process, process_bytes}
 use Rattle.histar_refinement.specs.Directories.{both_numbers, target_for, directory_of}
 use Rattle.histar_refinement.specs.Stands.{Stands}
-use Rattle.histar_refinement.specs.Expected.{segment, guarded_object, content_kind, node_object, listing_object, status_object, node_at, listing_at, home_at, bytes_for, status_at, container_inside, thread_at, expected}
+use Rattle.histar_refinement.specs.Expected.{segment, guarded_object, content_kind, node_object, listing_object, status_object, bytes_for, status_at, expected}
 use Rattle.histar_refinement.specs.LaysOut.{IsInOrder, AreJobsGiven, Laid}
 use Rattle.histar_refinement.proofs.Members.{or_first}
 use Rattle.histar_refinement.proofs.Places.{path_address, AsksAlikeAt, asked_alike_at, asked_path, asked_listing}

@@ -29,6 +29,9 @@ pub mod Creating
 pub mod Writing
 pub mod OneChain
 pub mod OneProcess
+pub mod OneClass
 pub mod SameLines
 pub mod LinesLaid
 pub mod StatusLaid
+pub mod StatusFound
+pub mod OneFlatState

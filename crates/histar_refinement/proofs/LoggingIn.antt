@@ -11,7 +11,7 @@ use Rattle.histar_refinement.specs.Guards.{rights_label, rights_clearance}
 use Rattle.histar_refinement.specs.Labels.{thread_rights}
 use Rattle.histar_refinement.specs.Addresses.{home_of}
 use Rattle.histar_refinement.specs.Addresses.Step.{Inside, Runner}
-use Rattle.histar_refinement.specs.LaysOut.{LaysOut, Laid}
+use Rattle.histar_refinement.specs.LaysOut.{LaysOut}
 use Rattle.histar_refinement.proofs.Becoming.{becomes, given_then, job_used}
 
 module _ (session : Session) (s : State) (f : Flat) (l : LaysOut session s f) (me : ProcName) (p : Process) (here : f.processes me ≡ Some p) (runs : p.exited ≡ None)

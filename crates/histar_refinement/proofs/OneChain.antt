@@ -7,14 +7,17 @@ use Rattle.histar_flat.specs.Words.{ProcName}
 use Rattle.histar_label.specs.Level.{rank}
 use Rattle.histar_label.specs.declared.levels.Level.TheVariants.{L1, L3}
 use Rattle.histar_label.specs.Levels.{Levels, level_of}
+use Rattle.histar_flat.specs.Sessions.{has}
 use Rattle.histar_flat.specs.Classes.{Process}
 use Rattle.histar_refinement.specs.Categories.{CategoryName, Categories, AreDifferent, split_category}
 use Rattle.histar_refinement.specs.Categories.CategoryName.{WritesProcess, OfJob}
 use Rattle.histar_refinement.specs.Guards.{guard_label}
 use Rattle.histar_refinement.specs.Labels.{process_guard}
 use Rattle.histar_refinement.specs.LaysOut.{IsRisingFrom, AreInOrder}
-use Rattle.histar_refinement.proofs.Members.{is_in, or_first}
+use Rattle.histar_refinement.proofs.Members.{is_in, or_first, same_truth}
 use Rattle.histar_refinement.proofs.Levelled.{guarded_level, at_guarded}
+use Rattle.histar_refinement.proofs.CategoryTests.{among_jobs, is_in_names, named_in}
+use Rattle.histar_refinement.proofs.Uses.{job_among}
 
 -- a number among rising ones is no smaller than the first
 not_smaller : (n : ℕ) (xs : List ℕ) (q : ℕ) → IsRisingFrom n xs → is_in xs q ≡ true → n ≤ q
@@ -81,6 +84,16 @@ module _ (category : Categories) (different : AreDifferent category) where
   pub one_order : (xs ys : List ProcName) → AreInOrder category xs → AreInOrder category ys → ((q : ℕ) → is_in (map category (map OfJob xs)) q ≡ is_in (map category (map OfJob ys)) q) → xs ≡ ys
   one_order xs ys a b alike = one_list xs ys (one_rising 0 0 (numbers xs) (numbers ys) a b (λ q. ap (λ (cs : List ℕ). is_in cs q) (sym (twice xs)) ∙ alike q ∙ ap (λ (cs : List ℕ). is_in cs q) (twice ys)))
 
+  -- two lists of jobs in order that have the same jobs are the same
+  number_in : (xs ys : List ProcName) → ((job : ProcName) → has xs job ≡ has ys job) → (k : ℕ) → is_in (map category (map OfJob xs)) k ≡ true → is_in (map category (map OfJob ys)) k ≡ true
+  number_in xs ys alike k e =
+      let there = named_in category (map OfJob xs) k e in
+      let found = job_among xs there.0 there.2 in
+      ap (is_in (map category (map OfJob ys))) (there.1 ∙ ap category found.1) ∙ is_in_names category different (map OfJob ys) (OfJob found.0) ∙ among_jobs ys found.0 ∙ sym (alike found.0) ∙ found.2
+
+  pub one_jobs : (xs ys : List ProcName) → AreInOrder category xs → AreInOrder category ys → ((job : ProcName) → has xs job ≡ has ys job) → xs ≡ ys
+  one_jobs xs ys a b alike = one_order xs ys a b (λ k. same_truth (is_in (map category (map OfJob xs)) k) (is_in (map category (map OfJob ys)) k) (number_in xs ys alike k) (number_in ys xs (λ job. sym (alike job)) k))
+
   -- a process's own category is no job's
   not_own : (me : ProcName) (jobs : List ProcName) → is_in (map category (map OfJob jobs)) (category (WritesProcess me)) ≡ false
   not_own me [] = refl
@@ -89,7 +102,7 @@ module _ (category : Categories) (different : AreDifferent category) where
     | inr e ↦ ap (λ b. b || is_in (map category (map OfJob jobs)) (category (WritesProcess me))) e.0 ∙ not_own me jobs
   ]
 
-  told_secret : (s t : Bool) → guarded_level s false ≡ guarded_level t false → s ≡ t
+  pub told_secret : (s t : Bool) → guarded_level s false ≡ guarded_level t false → s ≡ t
   told_secret true true e = refl
   told_secret true false e = let k : rank L3 ≡ rank L1 = ap rank e in absurd (omega (arith, k))
   told_secret false true e = let k : rank L1 ≡ rank L3 = ap rank e in absurd (omega (arith, k))

@@ -14,13 +14,11 @@ use Rattle.histar_refinement.specs.Categories.CategoryName.{ReadsUser, OfJob}
 use Rattle.histar_refinement.specs.Guards.{guard_label, rights_label}
 use Rattle.histar_refinement.specs.Labels.{process_guard, thread_rights}
 use Rattle.histar_refinement.specs.LaysOut.{IsProcess}
-use Rattle.histar_refinement.proofs.Members.{is_in, same_truth}
 use Rattle.histar_refinement.proofs.Levelled.{owning_level, at_owning}
-use Rattle.histar_refinement.proofs.CategoryTests.{among_none, among_jobs, is_in_names, named_in}
+use Rattle.histar_refinement.proofs.CategoryTests.{among_none, among_jobs, is_in_names}
 use Rattle.histar_refinement.proofs.SessionLemmas.{is_number, is_owner, equal_names}
 use Rattle.histar_refinement.proofs.ClassTests.{owns_job, owns_read_of}
-use Rattle.histar_refinement.proofs.Uses.{job_among}
-use Rattle.histar_refinement.proofs.OneChain.{one_order, one_chain}
+use Rattle.histar_refinement.proofs.OneChain.{one_jobs, one_chain}
 
 told_owned : (o u : Bool) → owning_level o false ≡ owning_level u false → o ≡ u
 told_owned true true e = refl
@@ -62,15 +60,8 @@ module _ (session : Session) (category : Categories) (different : AreDifferent c
           ∙ owned_alike (OfJob job) (among_jobs p.chain job ∙ e) (among_jobs q.chain job ∙ ap (λ (jobs : List ProcName). has jobs job) (sym one_chain_then) ∙ e)
           ∙ owns_job session me q job
 
-  number_in : (xs ys : List ProcName) → ((job : ProcName) → has xs job ≡ has ys job) → (k : ℕ) → is_in (map category (map OfJob xs)) k ≡ true → is_in (map category (map OfJob ys)) k ≡ true
-  number_in xs ys alike k e =
-      let there = named_in category (map OfJob xs) k e in
-      let found = job_among xs there.0 there.2 in
-      ap (is_in (map category (map OfJob ys))) (there.1 ∙ ap category found.1) ∙ is_in_names category different (map OfJob ys) (OfJob found.0) ∙ among_jobs ys found.0 ∙ sym (alike found.0) ∙ found.2
-
   pub one_held : p.held ≡ q.held
-  one_held = one_order category different p.held q.held (of_p.held p_runs) (of_q.held q_runs) (λ k. same_truth (is_in (map category (map OfJob p.held)) k) (is_in (map category (map OfJob q.held)) k)
-      (number_in p.held q.held held_alike k) (number_in q.held p.held (λ job. sym (held_alike job)) k))
+  one_held = one_jobs category different p.held q.held (of_p.held p_runs) (of_q.held q_runs) held_alike
 
   same_user_number : user_number session p.user ≡ user_number session q.user
   same_user_number = one_number (user_number session p.user) (user_number session q.user) (λ i.

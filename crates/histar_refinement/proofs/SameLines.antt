@@ -1,5 +1,5 @@
 -- What the segments of a state tell of a process or a directory is one thing at most.
-use Rattle.std.proofs.Common.{◌≡◌, ℕ, ◌+◌, ◌^◌, ◌<◌, List, [], ◌∷◌, ◌++◌, length, get_or, take, drop, Option, Some, None, refl, sym, ap, subst, ◌∙◌, append_assoc, arith}
+use Rattle.std.proofs.Common.{◌≡◌, ℕ, ◌^◌, ◌<◌, List, [], ◌∷◌, ◌++◌, get_or, take, drop, Option, Some, None, refl, sym, ap, subst, ◌∙◌, append_assoc, arith}
 use Rattle.std.specs.Int.{w64, to_be_bytes, from_be_bytes}
 use Rattle.std.specs.List.{flat_map, AllByRecursion}
 use Rattle.std.specs.FinMap as map
@@ -79,9 +79,18 @@ same_status bytes a b l m =
     let k = same_children a.children b.children l.each m.each g.2 in
     λ i. record { exited = e.0 i; born = f.0 i; internal = g.0 i; thread = g.1 i; children = k i }
 
-module _ (who : Session) (s : State) where
+-- the numbers in a target
+abbrev pub container_in : Target → ℕ
+container_in (targets.File file) = 0
+container_in (targets.Directory container listing) = container
+
+abbrev pub listing_in : Target → ℕ
+listing_in (targets.File file) = 0
+listing_in (targets.Directory container listing) = listing
+
+module _ (session : Session) (s : State) where
   -- two segments found for one process are one, in every state
-  pub same_status_segment : (p : ProcName) (c d g h : ℕ) → IsStatusSegment who s p c g → IsStatusSegment who s p d h → (c ≡ d) × (g ≡ h)
+  pub same_status_segment : (p : ProcName) (c d g h : ℕ) → IsStatusSegment session s p c g → IsStatusSegment session s p d h → (c ≡ d) × (g ≡ h)
   same_status_segment [] c d g h x y = (x.0 ∙ sym y.0, x.1 ∙ sym y.1)
   same_status_segment (n ∷ p) c d g h x y =
       let k = same_status_segment p x.0 y.0 x.1 y.1 x.3 y.3 in
@@ -90,25 +99,17 @@ module _ (who : Session) (s : State) where
       (ap (λ (l : Listed). l.container) z, ap (λ (l : Listed). l.segment) z)
 
   -- a process has one thread at most
-  pub same_thread : (p : ProcName) (a b : ℕ) → IsThreadOf who s p a → IsThreadOf who s p b → a ≡ b
+  pub same_thread : (p : ProcName) (a b : ℕ) → IsThreadOf session s p a → IsThreadOf session s p b → a ≡ b
   same_thread p a b x y =
       let k = same_status_segment p x.0 y.0 x.1 y.1 x.3 y.3 in
       let t = same_status (bytes_in (s.objects x.1)) x.2 y.2 x.4 (subst (λ q. IsStatus (bytes_in (s.objects q)) y.2) (sym k.1) y.4) in
       sym x.6 ∙ ap (λ (u : ProcessStatus). u.thread) t ∙ y.6
 
   -- two directory segments found for one path are one
-  pub same_directory_at : (p : Path) (c d g h : ℕ) → IsDirectoryAt who s p c g → IsDirectoryAt who s p d h → (c ≡ d) × (g ≡ h)
+  pub same_directory_at : (p : Path) (c d g h : ℕ) → IsDirectoryAt session s p c g → IsDirectoryAt session s p d h → (c ≡ d) × (g ≡ h)
   same_directory_at [] c d g h x y = (x.0 ∙ sym y.0, x.1 ∙ sym y.1)
   same_directory_at (n ∷ p) c d g h x y =
       let k = same_directory_at p x.0 y.0 x.1 y.1 x.3 y.3 in
       let t = same_directory (bytes_in (s.objects x.1)) x.2 y.2 x.4 (subst (λ q. IsDirectory (bytes_in (s.objects q)) y.2) (sym k.1) y.4) in
       let z = same_Some (targets.Directory c g) (targets.Directory d h) (sym x.5 ∙ ap (λ (u : Entries). map.get u n) t ∙ y.5) in
       (ap container_in z, ap listing_in z)
-    where
-      container_in : Target → ℕ
-      container_in (targets.File file) = 0
-      container_in (targets.Directory container listing) = container
-
-      listing_in : Target → ℕ
-      listing_in (targets.File file) = 0
-      listing_in (targets.Directory container listing) = listing

@@ -1,6 +1,6 @@
 -- Users and groups by their names and numbers.
 use Rattle.std.proofs.Common.{◌≡◌, ◌≢◌, ℕ, zero, suc, ◌+◌, ◌<◌, ◌≤◌, ◌⊎◌, inl, inr, Bool, true, false, ◌&&◌, cond, if◌then◌else◌, List, [], ◌∷◌, length, Option, None, Some, arith, refl, sym, ap, ◌∙◌, subst}
-use Rattle.std.specs.Prelude.{option_map, not, slice_get, nat_lt, nat_eq, position, is_some}
+use Rattle.std.specs.Prelude.{option_map, not, slice_get, nat_lt, nat_eq, position}
 use Rattle.std.specs.List.{list_any, position_or_len}
 use Rattle.std.proofs.lemmas.Bool.Decides.{nat_tests, eqb_tells}
 use Rattle.std.proofs.lemmas.Option.{same_Some, none-some}
@@ -10,7 +10,6 @@ use Rattle.histar_flat.specs.Words.{Name}
 use Rattle.histar_flat.specs.PathOrder.{same}
 use Rattle.histar_flat.proofs.FileLemmas.{same_name_found}
 use Rattle.histar_flat.specs.Sessions.{Group, Session, has, user_number, group_number, numbers_with, groups_of, is_member}
-use Rattle.histar_flat.specs.Classes.{nobody}
 use Rattle.histar_refinement.proofs.Members.{same_truth, and_both, first_of, second_of, or_first, or_second, or_either}
 use Rattle.histar_refinement.specs.Sessions.{IsSession}
 
@@ -80,6 +79,18 @@ one_user session a b i is_a is_b =
     let both : Some u.0 ≡ Some v.0 = sym u.1 ∙ ap (slice_get session.users) place ∙ v.1 in
     let one : u.0 ≡ v.0 = same_Some u.0 v.0 both in
     sym (equal_names u.0.name a u.2) ∙ ap (λ (w : User). w.name) one ∙ equal_names v.0.name b v.2
+
+-- and so are two groups' names
+pub one_group : (session : Session) (a b : Name) (i : ℕ) → group_number session a ≡ Some i → group_number session b ≡ Some i → a ≡ b
+one_group session a b i is_a is_b =
+    let k = from_place (position (λ (g : Group). same g.name a) session.groups) i is_a in
+    let m = from_place (position (λ (g : Group). same g.name b) session.groups) i is_b in
+    let place : k.0 ≡ m.0 = omega (arith, k.2, m.2) in
+    let g = placed (λ (g : Group). same g.name a) session.groups k.0 k.1 in
+    let h = placed (λ (g : Group). same g.name b) session.groups m.0 m.1 in
+    let both : Some g.0 ≡ Some h.0 = sym g.1 ∙ ap (slice_get session.groups) place ∙ h.1 in
+    let one : g.0 ≡ h.0 = same_Some g.0 h.0 both in
+    sym (equal_names g.0.name a g.2) ∙ ap (λ (x : Group). x.name) one ∙ equal_names h.0.name b h.2
 
 -- the number of a process's user is that of an owner
 abbrev pub is_number : Option ℕ → ℕ → Bool

@@ -1,5 +1,5 @@
 -- In a state that is laid out, the segment of a process is the status that the naming tells.
-use Rattle.std.proofs.Common.{◌≡◌, ℕ, ◌^◌, ◌<◌, ◌≤◌, List, [], ◌∷◌, ◌++◌, map, Option, None, Some, inl, inr, refl, sym, ap, ◌∙◌, arith}
+use Rattle.std.proofs.Common.{◌≡◌, ℕ, ◌^◌, ◌<◌, List, [], ◌∷◌, ◌++◌, map, Option, None, Some, inl, inr, refl, sym, ap, ◌∙◌, arith}
 use Rattle.std.specs.Prelude.{option_and_then}
 use Rattle.std.specs.Int.{w64, to_be_bytes}
 use Rattle.std.specs.List.{flat_map, AllByRecursion}
@@ -15,8 +15,8 @@ use Rattle.histar_flat.specs.FlatState.{Flat}
 use Rattle.histar_refinement.specs.Addresses.{Step, Numbers, home_of}
 use Rattle.histar_refinement.specs.Addresses.Step.{Status, Inside, Runner}
 use Rattle.histar_refinement.specs.Stands.{bare}
-use Rattle.histar_refinement.specs.Processes.{number_bytes, life_bytes, children, child_bytes, written_process, process_bytes}
-use Rattle.histar_refinement.specs.Expected.{status_at, bytes_for, status_object}
+use Rattle.histar_refinement.specs.Processes.{number_bytes, life_bytes, children, child_bytes, process_bytes}
+use Rattle.histar_refinement.specs.Expected.{bytes_for, status_object}
 use Rattle.histar_refinement.specs.LaysOut.{Laid}
 use Rattle.histar_refinement.specs.Lines.{Listed, ProcessStatus, listed_bytes, status_bytes, IsListed, IsStatus, IsStatusSegment, IsThreadOf}
 use Rattle.histar_refinement.proofs.Places.{asked_status}

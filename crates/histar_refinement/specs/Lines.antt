@@ -51,23 +51,23 @@ listed_at (l ∷ more) n = cond (l.number == n) (Some l) (listed_at more n)
 -- The container and the process segment of a process: those of process 0 boot made, and those of a child the process segment above
 -- it lists.
 abbrev pub IsStatusSegment : Session → State → ProcName → ℕ → ℕ → Type 0
-IsStatusSegment who s [] container segment = (container ≡ 6 + 2 * length who.users) × (segment ≡ 9 + 2 * length who.users)
-IsStatusSegment who s (n ∷ p) container segment =
+IsStatusSegment session s [] container segment = (container ≡ 6 + 2 * length session.users) × (segment ≡ 9 + 2 * length session.users)
+IsStatusSegment session s (n ∷ p) container segment =
     (above : ℕ) × (listing : ℕ) × (status : ProcessStatus)
-    × IsStatusSegment who s p above listing × IsStatus (bytes_in (s.objects listing)) status
+    × IsStatusSegment session s p above listing × IsStatus (bytes_in (s.objects listing)) status
     × (listed_at status.children n ≡ Some (record { number = n; container = container; segment = segment }))
 
 -- the thread is the one that the process segment of this process, which runs, names
 abbrev pub IsThreadOf : Session → State → ProcName → ℕ → Type 0
-IsThreadOf who s process thread =
+IsThreadOf session s process thread =
     (container : ℕ) × (segment : ℕ) × (status : ProcessStatus)
-    × IsStatusSegment who s process container segment × IsStatus (bytes_in (s.objects segment)) status × (status.exited ≡ None) × (status.thread ≡ thread)
+    × IsStatusSegment session s process container segment × IsStatus (bytes_in (s.objects segment)) status × (status.exited ≡ None) × (status.thread ≡ thread)
 
 -- The container and the directory segment of a directory: those of `/` boot made, and those of another the directory segment above
 -- it lists.
 abbrev pub IsDirectoryAt : Session → State → Path → ℕ → ℕ → Type 0
-IsDirectoryAt who s [] container segment = (container ≡ 4 + 2 * length who.users) × (segment ≡ 5 + 2 * length who.users)
-IsDirectoryAt who s (name ∷ d) container segment =
+IsDirectoryAt session s [] container segment = (container ≡ 4 + 2 * length session.users) × (segment ≡ 5 + 2 * length session.users)
+IsDirectoryAt session s (name ∷ d) container segment =
     (above : ℕ) × (listing : ℕ) × (dir : Entries)
-    × IsDirectoryAt who s d above listing × IsDirectory (bytes_in (s.objects listing)) dir
+    × IsDirectoryAt session s d above listing × IsDirectory (bytes_in (s.objects listing)) dir
     × (map.get dir name ≡ Some (targets.Directory container segment))
