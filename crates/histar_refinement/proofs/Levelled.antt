@@ -11,7 +11,7 @@ use Rattle.histar_label.proofs.Orders.{is_below-law, is_below_raised-law}
 use Rattle.histar_label.proofs.Made.{is_made-constant, is_made-with_level}
 use Rattle.histar_label.proofs.Stars.{has_star-none}
 use Rattle.histar_calls.specs.Labelling.{with_levels}
-use Rattle.histar_refinement.specs.Guards.{at, guarded_by, owning, cleared_at}
+use Rattle.histar_refinement.specs.Guards.{each_at, guarded_by, owning, cleared_at}
 use Rattle.histar_refinement.specs.Categories.{IsMade}
 use Rattle.histar_refinement.proofs.Members.{is_in, same_truth, and_both, first_of, second_of, or_first, all_from, each_of, AreApart}
 
@@ -23,10 +23,10 @@ either_level false true l m = refl
 either_level false false l m = refl
 
 -- a label with one level at some categories has it there, and at all others what it had
-pub level_of-at : (L : Levels) (cs : List ℕ) (l : Level) (q : ℕ) → level_of (with_levels L (at l cs)) q ≡ (if is_in cs q then l else level_of L q)
-level_of-at L [] l q = refl
-level_of-at L (c ∷ cs) l q =
-    level_of-at (with_level L c l) cs l q ∙ ap (λ m. if is_in cs q then l else m) (level_of-with_level L c l q) ∙ either_level (q == c) (is_in cs q) l (level_of L q)
+pub level_of-each_at : (L : Levels) (cs : List ℕ) (l : Level) (q : ℕ) → level_of (with_levels L (each_at l cs)) q ≡ (if is_in cs q then l else level_of L q)
+level_of-each_at L [] l q = refl
+level_of-each_at L (c ∷ cs) l q =
+    level_of-each_at (with_level L c l) cs l q ∙ ap (λ m. if is_in cs q then l else m) (level_of-with_level L c l q) ∙ either_level (q == c) (is_in cs q) l (level_of L q)
 
 -- one list of exceptions after another
 pub with_levels-append : (L : Levels) (es fs : List (ℕ × Level)) → with_levels L (es ++ fs) ≡ with_levels (with_levels L es) fs
@@ -34,10 +34,10 @@ with_levels-append L [] fs = refl
 with_levels-append L (e ∷ es) fs = with_levels-append (with_level L e.0 e.1) es fs
 
 -- a label with one level at some categories and another one at others
-two_levels : (L : Levels) (cs ds : List ℕ) (l m : Level) (q : ℕ) → level_of (with_levels L (at l cs ++ at m ds)) q ≡ (if is_in ds q then m else (if is_in cs q then l else level_of L q))
+two_levels : (L : Levels) (cs ds : List ℕ) (l m : Level) (q : ℕ) → level_of (with_levels L (each_at l cs ++ each_at m ds)) q ≡ (if is_in ds q then m else (if is_in cs q then l else level_of L q))
 two_levels L cs ds l m q =
-    ap (λ (M : Levels). level_of M q) (with_levels-append L (at l cs) (at m ds)) ∙ level_of-at (with_levels L (at l cs)) ds m q
-    ∙ ap (λ k. if is_in ds q then m else k) (level_of-at L cs l q)
+    ap (λ (M : Levels). level_of M q) (with_levels-append L (each_at l cs) (each_at m ds)) ∙ level_of-each_at (with_levels L (each_at l cs)) ds m q
+    ∙ ap (λ k. if is_in ds q then m else k) (level_of-each_at L cs l q)
 
 -- what the three kinds of labels have at a number
 abbrev pub guarded_level : Bool → Bool → Level
@@ -56,7 +56,7 @@ pub at_owning : (O T : List ℕ) (q : ℕ) → level_of (owning O T) q ≡ ownin
 at_owning O T q = two_levels (constant L1) O T Star L3 q ∙ ap (λ k. if is_in T q then L3 else (if is_in O q then Star else k)) (level_of-constant L1 q)
 
 pub at_cleared : (C : List ℕ) (q : ℕ) → level_of (cleared_at C) q ≡ cleared_level (is_in C q)
-at_cleared C q = level_of-at (constant L2) C L3 q ∙ ap (λ k. if is_in C q then L3 else k) (level_of-constant L2 q)
+at_cleared C q = level_of-each_at (constant L2) C L3 q ∙ ap (λ k. if is_in C q then L3 else k) (level_of-constant L2 q)
 
 -- one number, by the tests of the four lists
 seen_at : (s w o t : Bool) → (s ≡ true → (o || t) ≡ true) → rank (guarded_level s w) ≤ raised (owning_level o t)
@@ -195,7 +195,7 @@ pub guarded_owns_nothing : (S W : List ℕ) → has_star (guarded_by S W) ≡ fa
 guarded_owns_nothing S W = has_star-none (guarded_by S W) (λ q e. no_star (is_in S q) (is_in W q) (sym (at_guarded S W q) ∙ e))
 
 -- a label whose exceptions were made names only what was made
-made_at : (next : ℕ) (L : Levels) (cs : List ℕ) (l : Level) → is_made next L ≡ true → ((q : ℕ) → is_in cs q ≡ true → IsMade next q) → is_made next (with_levels L (at l cs)) ≡ true
+made_at : (next : ℕ) (L : Levels) (cs : List ℕ) (l : Level) → is_made next L ≡ true → ((q : ℕ) → is_in cs q ≡ true → IsMade next q) → is_made next (with_levels L (each_at l cs)) ≡ true
 made_at next L [] l made each = made
 made_at next L (c ∷ cs) l made each =
     let here : IsMade next c = each c (or_first (c == c) (is_in cs c) (grind (arith, nat_tests))) in
@@ -207,11 +207,11 @@ made_at next L (c ∷ cs) l made each =
 
 pub guarded_made : (next : ℕ) (S W : List ℕ) → ((q : ℕ) → is_in S q ≡ true → IsMade next q) → ((q : ℕ) → is_in W q ≡ true → IsMade next q) → is_made next (guarded_by S W) ≡ true
 guarded_made next S W secret written =
-    ap (is_made next) (with_levels-append (constant L1) (at L3 S) (at L0 W)) ∙ made_at next _ W L0 (made_at next (constant L1) S L3 (is_made-constant next L1) secret) written
+    ap (is_made next) (with_levels-append (constant L1) (each_at L3 S) (each_at L0 W)) ∙ made_at next _ W L0 (made_at next (constant L1) S L3 (is_made-constant next L1) secret) written
 
 pub owning_made : (next : ℕ) (O T : List ℕ) → ((q : ℕ) → is_in O q ≡ true → IsMade next q) → ((q : ℕ) → is_in T q ≡ true → IsMade next q) → is_made next (owning O T) ≡ true
 owning_made next O T owned tainted =
-    ap (is_made next) (with_levels-append (constant L1) (at Star O) (at L3 T)) ∙ made_at next _ T L3 (made_at next (constant L1) O Star (is_made-constant next L1) owned) tainted
+    ap (is_made next) (with_levels-append (constant L1) (each_at Star O) (each_at L3 T)) ∙ made_at next _ T L3 (made_at next (constant L1) O Star (is_made-constant next L1) owned) tainted
 
 pub cleared_made : (next : ℕ) (C : List ℕ) → ((q : ℕ) → is_in C q ≡ true → IsMade next q) → is_made next (cleared_at C) ≡ true
 cleared_made next C each = made_at next (constant L2) C L3 (is_made-constant next L2) each

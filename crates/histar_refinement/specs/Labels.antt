@@ -48,10 +48,11 @@ process_guard me p = record { secret = map OfJob p.chain; written = WritesProces
 abbrev pub inside_guard : ProcName → Process → Guard
 inside_guard me p = record { secret = ReadsProcess me ∷ map OfJob p.chain; written = WritesProcess me ∷ [] }
 
--- the categories by which user i reads, and by which it writes: its own and those of its groups
+-- the categories by which user i reads: its own and those of its groups
 abbrev pub reading : Session → Name → ℕ → List CategoryName
 reading session name i = ReadsUser i ∷ map ReadsGroup (groups_of session name)
 
+-- the categories by which user i writes: its own and those of its groups
 abbrev pub writing : Session → Name → ℕ → List CategoryName
 writing session name i = WritesUser i ∷ map WritesGroup (groups_of session name)
 

@@ -20,7 +20,7 @@ use Rattle.histar_refinement.specs.Stands.{Stands}
 use Rattle.histar_refinement.specs.Directories.{directory_of}
 use Rattle.histar_refinement.specs.Expected.{expected}
 
--- each number is smaller than those after it
+-- the numbers rise, and the first is no smaller than n
 abbrev pub IsRisingFrom : ℕ → List ℕ → Type 0
 IsRisingFrom n [] = Unit {0}
 IsRisingFrom n (m ∷ more) = (n ≤ m) × IsRisingFrom (m + 1) more

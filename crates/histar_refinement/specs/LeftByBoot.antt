@@ -31,7 +31,7 @@ module _ (session : Session) where
   groups_bytes k [] = []
   groups_bytes k (g ∷ groups) = group_bytes k g ++ groups_bytes (k + 1) groups
 
-  -- the group part of the user table, which is there only where a group is
+  -- the group part of the user table, which is there only where a group is: a zero, which is no name's length, and the groups
   abbrev pub group_part : List Group → List ℕ
   group_part [] = []
   group_part (g ∷ groups) = 0 ∷ groups_bytes 1 (g ∷ groups)

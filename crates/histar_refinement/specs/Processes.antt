@@ -12,10 +12,18 @@ abbrev pub number_bytes : Option ℕ → List ℕ
 number_bytes None = to_be_bytes w64 0
 number_bytes (Some q) = to_be_bytes w64 q
 
+-- `r`, where a process runs
+abbrev pub runs : ℕ
+runs = 114
+
+-- `x`, where a process has exited
+abbrev pub has_exited : ℕ
+has_exited = 120
+
 -- `r` and a zero where the process runs, and else `x` and the number that it has exited with
 abbrev pub life_bytes : Option ℕ → List ℕ
-life_bytes None = 114 ∷ 0 ∷ []
-life_bytes (Some n) = 120 ∷ n ∷ []
+life_bytes None = runs ∷ 0 ∷ []
+life_bytes (Some n) = has_exited ∷ n ∷ []
 
 -- the numbers of the children that were not killed, by rising numbers
 abbrev pub children : (ProcName → Option Process) → ProcName → ℕ → List ℕ
