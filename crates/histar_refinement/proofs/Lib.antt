@@ -35,3 +35,5 @@ pub mod LinesLaid
 pub mod StatusLaid
 pub mod StatusFound
 pub mod OneFlatState
+pub mod RawChecks
+pub mod FileChecks
