@@ -38,6 +38,27 @@ and_false : (b : Bool) → (b && false) ≡ false
 and_false true = refl
 and_false false = refl
 
+-- to read and to write what is a user's or a group's are two categories
+pub user_apart : (i : ℕ) → NamesApart (ReadsUser i ∷ []) (WritesUser i ∷ [])
+user_apart i (ReadsUser j) e = refl
+user_apart i (OfBoot) e = refl
+user_apart i (WritesUser j) e = absurd (true≢false (sym e))
+user_apart i (ReadsGroup j) e = refl
+user_apart i (WritesGroup j) e = refl
+user_apart i (ReadsProcess j) e = refl
+user_apart i (WritesProcess j) e = refl
+user_apart i (OfJob j) e = refl
+
+pub group_apart : (g : ℕ) → NamesApart (ReadsGroup g ∷ []) (WritesGroup g ∷ [])
+group_apart g (ReadsGroup j) e = refl
+group_apart g (OfBoot) e = refl
+group_apart g (WritesGroup j) e = absurd (true≢false (sym e))
+group_apart g (ReadsUser j) e = refl
+group_apart g (WritesUser j) e = refl
+group_apart g (ReadsProcess j) e = refl
+group_apart g (WritesProcess j) e = refl
+group_apart g (OfJob j) e = refl
+
 module _ (session : Session) (me : ProcName) (p : Process) where
   -- what the thread owns
   abbrev owned : List CategoryName
@@ -194,17 +215,7 @@ module _ (session : Session) (me : ProcName) (p : Process) where
 
     -- what is private to user i, readable, for all, scratch, and a group's
     sees_private : (i : ℕ) → is_below_raised (guard_label category (private_guard i)) (rights_label category own) ≡ is_number (user_number session p.user) i
-    sees_private i = observes_by_names category different (private_guard i) own apart ∙ and_true _ ∙ passes_other (ReadsUser i) (λ job. refl) ∙ owns_read_of i
-      where
-        apart : NamesApart (ReadsUser i ∷ []) (WritesUser i ∷ [])
-        apart (ReadsUser j) e = refl
-        apart (OfBoot) e = refl
-        apart (WritesUser j) e = absurd (true≢false (sym e))
-        apart (ReadsGroup j) e = refl
-        apart (WritesGroup j) e = refl
-        apart (ReadsProcess j) e = refl
-        apart (WritesProcess j) e = refl
-        apart (OfJob j) e = refl
+    sees_private i = observes_by_names category different (private_guard i) own (user_apart i) ∙ and_true _ ∙ passes_other (ReadsUser i) (λ job. refl) ∙ owns_read_of i
 
     sees_unguarded : (g : Guard) → g.secret ≡ [] → is_below_raised (guard_label category g) (rights_label category own) ≡ true
     sees_unguarded g e = observes_by_names category different g own (λ c k. absurd (true≢false (sym k ∙ ap (λ names. among names c) e))) ∙ ap (list_all passes) e
@@ -213,17 +224,7 @@ module _ (session : Session) (me : ProcName) (p : Process) where
     sees_scratch jobs i = observes_by_names category different (scratch_guard jobs i) own (λ c e. refl) ∙ (λ k. (passes_other (ReadsUser i) (λ job. refl) ∙ owns_read_of i) k && passes_jobs jobs k)
 
     sees_group : (g : ℕ) → is_below_raised (guard_label category (group_guard g)) (rights_label category own) ≡ (is_some (user_number session p.user) && has_number (groups_of session p.user) g)
-    sees_group g = observes_by_names category different (group_guard g) own apart ∙ and_true _ ∙ passes_other (ReadsGroup g) (λ job. refl) ∙ owns_read_of_group g
-      where
-        apart : NamesApart (ReadsGroup g ∷ []) (WritesGroup g ∷ [])
-        apart (ReadsGroup j) e = refl
-        apart (OfBoot) e = refl
-        apart (WritesGroup j) e = absurd (true≢false (sym e))
-        apart (ReadsUser j) e = refl
-        apart (WritesUser j) e = refl
-        apart (ReadsProcess j) e = refl
-        apart (WritesProcess j) e = refl
-        apart (OfJob j) e = refl
+    sees_group g = observes_by_names category different (group_guard g) own (group_apart g) ∙ and_true _ ∙ passes_other (ReadsGroup g) (λ job. refl) ∙ owns_read_of_group g
 
     -- a process is seen where each of its jobs is known
     pub sees_process : (other : ProcName) (q : Process) → is_below_raised (guard_label category (process_guard other q)) (rights_label category own) ≡ sees p q
@@ -236,30 +237,30 @@ module _ (session : Session) (me : ProcName) (p : Process) where
         ∙ (λ i. tainted_in q.chain p.chain i && (ap (λ b. b && true) (owns_write_own other) ∙ and_true (same other me)) i)
 
     -- below what is guarded by a written category alone, and the others
-    below_private : (i : ℕ) → is_below (rights_label category own) (guard_label category (private_guard i)) ≡ (is_free p && (is_number (user_number session p.user) i && is_free p))
+    pub below_private : (i : ℕ) → is_below (rights_label category own) (guard_label category (private_guard i)) ≡ (is_free p && (is_number (user_number session p.user) i && is_free p))
     below_private i =
         below_by_names category different (private_guard i) own (jobs_apart p.chain (WritesUser i ∷ []) (λ job. refl))
         ∙ (λ k. tainted_in_none (ReadsUser i ∷ []) (λ job. refl) p.chain k && (ap (λ b. b && true) (owns_write_of i) ∙ and_true _) k)
 
-    below_readable : (i : ℕ) → is_below (rights_label category own) (guard_label category (readable_guard i)) ≡ (is_free p && (is_number (user_number session p.user) i && is_free p))
+    pub below_readable : (i : ℕ) → is_below (rights_label category own) (guard_label category (readable_guard i)) ≡ (is_free p && (is_number (user_number session p.user) i && is_free p))
     below_readable i =
         below_by_names category different (readable_guard i) own (jobs_apart p.chain (WritesUser i ∷ []) (λ job. refl))
         ∙ (λ k. tainted_in_none [] (λ job. refl) p.chain k && (ap (λ b. b && true) (owns_write_of i) ∙ and_true _) k)
 
-    below_open : is_below (rights_label category own) (guard_label category open_guard) ≡ is_free p
+    pub below_open : is_below (rights_label category own) (guard_label category open_guard) ≡ is_free p
     below_open = below_by_names category different open_guard own (λ c e. refl) ∙ and_true _ ∙ tainted_in_none [] (λ job. refl) p.chain
 
-    below_scratch : (jobs : List ProcName) (i : ℕ) → is_below (rights_label category own) (guard_label category (scratch_guard jobs i)) ≡ list_all (has jobs) p.chain
+    pub below_scratch : (jobs : List ProcName) (i : ℕ) → is_below (rights_label category own) (guard_label category (scratch_guard jobs i)) ≡ list_all (has jobs) p.chain
     below_scratch jobs i = below_by_names category different (scratch_guard jobs i) own (λ c e. refl) ∙ and_true _ ∙ tainted_by (scratch_guard jobs i).secret jobs (among_jobs jobs) p.chain
 
-    below_group : (g : ℕ) → is_below (rights_label category own) (guard_label category (group_guard g)) ≡ (is_free p && ((is_some (user_number session p.user) && has_number (groups_of session p.user) g) && is_free p))
+    pub below_group : (g : ℕ) → is_below (rights_label category own) (guard_label category (group_guard g)) ≡ (is_free p && ((is_some (user_number session p.user) && has_number (groups_of session p.user) g) && is_free p))
     below_group g =
         below_by_names category different (group_guard g) own (jobs_apart p.chain (WritesGroup g ∷ []) (λ job. refl))
         ∙ (λ k. tainted_in_none (ReadsGroup g ∷ []) (λ job. refl) p.chain k && (ap (λ b. b && true) (owns_write_of_group g) ∙ and_true _) k)
 
     module _ (ok : IsSession session) where
       -- a declared member of a group
-      member : (group : Name) (g : ℕ) → group_number session group ≡ Some g → (is_some (user_number session p.user) && has_number (groups_of session p.user) g) ≡ is_member session p.user group
+      pub member : (group : Name) (g : ℕ) → group_number session group ≡ Some g → (is_some (user_number session p.user) && has_number (groups_of session p.user) g) ≡ is_member session p.user group
       member group g numbered = ap (λ b. is_some (user_number session p.user) && b) (is_member_number session ok p.user group g numbered) ∙ by (is_member session p.user group) refl
         where
           by : (b : Bool) → is_member session p.user group ≡ b → (is_some (user_number session p.user) && b) ≡ b

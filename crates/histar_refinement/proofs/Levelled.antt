@@ -169,6 +169,18 @@ pub guarded_cleared : (S W C : List ℕ) → list_all (is_in C) S ≡ true → i
 guarded_cleared S W C all = (is_below-law (guarded_by S W) (cleared_at C)).1 (λ q.
     rw (at_guarded S W q, at_cleared C q) (top_at (is_in S q) (is_in W q) (is_in C q) (each_of (is_in C) S all q)))
 
+-- and of what is secret and not written it must have each
+top_only : (s w c : Bool) → s ≡ true → w ≡ false → rank (guarded_level s w) ≤ rank (cleared_level c) → c ≡ true
+top_only true false true s w h = refl
+top_only true false false s w h = absurd (omega (arith, h))
+top_only true true c s w h = absurd (true≢false w)
+top_only false w c s e h = absurd (true≢false (sym s))
+
+pub cleared_exactly : (S W C : List ℕ) → AreApart S W → is_below (guarded_by S W) (cleared_at C) ≡ list_all (is_in C) S
+cleared_exactly S W C apart = same_truth (is_below (guarded_by S W) (cleared_at C)) (list_all (is_in C) S)
+    (λ below. all_from (is_in C) S (λ q e. top_only (is_in S q) (is_in W q) (is_in C q) e (apart q e) (rw (sym (at_guarded S W q), sym (at_cleared C q)) ((is_below-law (guarded_by S W) (cleared_at C)).0 below q))))
+    (guarded_cleared S W C)
+
 -- a label with rights is below one that has no less at 3 and owns no more
 pub below_owning : (O T P U : List ℕ) → list_all (is_in U) T ≡ true → list_all (is_in O) P ≡ true → is_below (owning O T) (owning P U) ≡ true
 below_owning O T P U tainted owned = (is_below-law (owning O T) (owning P U)).1 (λ q.

@@ -5,6 +5,7 @@ pub mod Tested
 pub mod SessionLemmas
 pub mod ClassTests
 pub mod Growing
+pub mod MakingRanges
 pub mod Ranges
 pub mod Uses
 pub mod Moving

@@ -7,7 +7,7 @@ use Rattle.histar_refinement.specs.Categories.{CategoryName, Categories, AreDiff
 use Rattle.histar_refinement.specs.Guards.{Guard, Rights, cleared_at, guard_label, rights_label, rights_clearance}
 use Rattle.histar_refinement.proofs.Members.{is_in, AreApart}
 use Rattle.histar_refinement.proofs.CategoryTests.{is_in_names, all_names, named_in}
-use Rattle.histar_refinement.proofs.Levelled.{observes_guarded, below_guarded, guarded_cleared, below_owning, owning_cleared, cleared_below, guarded_owns_nothing, guarded_made, owning_made}
+use Rattle.histar_refinement.proofs.Levelled.{observes_guarded, below_guarded, guarded_cleared, cleared_exactly, below_owning, owning_cleared, cleared_below, guarded_owns_nothing, guarded_made, owning_made}
 
 -- no name is in both lists
 abbrev pub NamesApart : List CategoryName → List CategoryName → Type 0
@@ -39,6 +39,12 @@ module _ (category : Categories) (different : AreDifferent category) where
   pub cleared_by_names : (g : Guard) (r : Rights) → list_all (among (r.owned ++ r.tainted)) g.secret ≡ true → is_below (guard_label category g) (rights_clearance category r) ≡ true
   cleared_by_names g r all = guarded_cleared (map category g.secret) (map category g.written) (map category (r.owned ++ r.tainted))
       (all_names category different (is_in (map category (r.owned ++ r.tainted))) (among (r.owned ++ r.tainted)) (is_in_names category different (r.owned ++ r.tainted)) g.secret ∙ all)
+
+  -- and no other, where no secret category is a written one
+  pub cleared_exactly_by_names : (g : Guard) (names : List CategoryName) → NamesApart g.secret g.written → is_below (guard_label category g) (cleared_at (map category names)) ≡ list_all (among names) g.secret
+  cleared_exactly_by_names g names apart =
+      cleared_exactly (map category g.secret) (map category g.written) (map category names) (numbers_apart g.secret g.written apart)
+      ∙ all_names category different (is_in (map category names)) (among names) (is_in_names category different names) g.secret
 
   -- rights are below others that have no less at 3 and own no more
   pub rights_by_names : (r other : Rights) → list_all (among other.tainted) r.tainted ≡ true → list_all (among r.owned) other.owned ≡ true → is_below (rights_label category r) (rights_label category other) ≡ true

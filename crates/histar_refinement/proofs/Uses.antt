@@ -87,28 +87,32 @@ module _ (session : Session) (f : Flat) where
     | inr k ↦ both_of xs ys (λ d i. first d (or_second (same_category d x) (among xs d) i)) second c k
   ]
 
-  -- what guards a file or a directory
-  pub class_used : (q : Path) (there : Node) → get f.files q ≡ Some there → (class : Class) → there.class ≡ class → (g : Guard) → class_guard session class ≡ Some g → GuardHas Used g
-  class_used q there at (Private owner) is g e =
+  -- what guards what is of a class, where its jobs are known or served
+  pub names_used : (class : Class) → ((job : ProcName) → is_for class job ≡ true → Used (OfJob job)) → (g : Guard) → class_guard session class ≡ Some g → GuardHas Used g
+  names_used (Private owner) known g e =
       let n = from_number private_guard (user_number session owner) g e in
       let within = (user_range session owner n.0 n.1).1 in
       subst (GuardHas Used) n.2 (λ c. one_of (ReadsUser n.0) c within, λ c. one_of (WritesUser n.0) c within)
-  class_used q there at (Readable owner) is g e =
+  names_used (Readable owner) known g e =
       let n = from_number readable_guard (user_number session owner) g e in
       subst (GuardHas Used) n.2 (λ c. none_of c, λ c. one_of (WritesUser n.0) c (user_range session owner n.0 n.1).1)
-  class_used q there at Open is g e = subst (GuardHas Used) (same_Some open_guard g e) (λ c. none_of c, λ c. none_of c)
-  class_used q there at (Scratch owner jobs) is g e =
+  names_used Open known g e = subst (GuardHas Used) (same_Some open_guard g e) (λ c. none_of c, λ c. none_of c)
+  names_used (Scratch owner jobs) known g e =
       let n = from_number (scratch_guard jobs) (user_number session owner) g e in
       subst (GuardHas Used) n.2 (
         λ c. before (ReadsUser n.0) (map OfJob jobs) (user_range session owner n.0 n.1).1 (λ d k.
             let found = job_among jobs d k in
-            subst Used (sym found.1) (inr (q, there, at, ap (λ (class : Class). is_for class found.0) is ∙ found.2))) c,
+            subst Used (sym found.1) (known found.0 found.2)) c,
         λ c. none_of c,
       )
-  class_used q there at (Grouped group) is g e =
+  names_used (Grouped group) known g e =
       let n = from_number group_guard (group_number session group) g e in
       let within = group_range session group n.0 n.1 in
       subst (GuardHas Used) n.2 (λ c. one_of (ReadsGroup n.0) c within, λ c. one_of (WritesGroup n.0) c within)
+
+  -- and so what guards a file or a directory
+  pub class_used : (q : Path) (there : Node) → get f.files q ≡ Some there → (class : Class) → there.class ≡ class → (g : Guard) → class_guard session class ≡ Some g → GuardHas Used g
+  class_used q there at class is = names_used class (λ job e. inr (q, there, at, ap (λ (c : Class). is_for c job) is ∙ e))
 
   module _ (me : ProcName) (p : Process) (here : f.processes me ≡ Some p) where
     there : is_some (f.processes me) ≡ true
