@@ -1,7 +1,7 @@
 -- What the kernel says to the raw calls on a directory that is laid out, and on a file in it, by the thread of a process: a read is
 -- refused Observe exactly where the process may not read, and a write, an unlink and a making Modify exactly where it may not write.
-use Rattle.std.proofs.Common.{◌≡◌, ℕ, ◌+◌, ◌≤◌, ◌&&◌, Bool, true, false, List, ◌∷◌, length, None, Some, arith, refl, sym, ap, ◌∙◌}
-use Rattle.std.specs.Prelude.{min}
+use Rattle.std.proofs.Common.{◌≡◌, ℕ, ◌+◌, ◌≤◌, ◌&&◌, Bool, true, false, List, [], ◌∷◌, length, None, Some, arith, refl, sym, ap, ◌∙◌}
+use Rattle.std.specs.Prelude.{min, not}
 use Rattle.std.specs.FinSet as set
 use Rattle.std.proofs.lemmas.Bool.Decides.{nat_tests}
 use Rattle.histar_base.specs.Refusals.{◌orelse◌, unless}
@@ -15,11 +15,12 @@ use Rattle.histar_label.specs.Levels.{Levels, is_below, is_below_raised}
 use Rattle.histar_layout.specs.Directory.{Entries, IsListable, spelling}
 use Rattle.histar_object.specs.declared.objects.Kind.TheVariants.{Segment, Container, Thread}
 use Rattle.histar_object.specs.Objects.{Numbers as Links, links_in}
-use Rattle.histar_object.specs.State.{State, Found}
-use Rattle.histar_rules.specs.declared.raw.Denied.TheVariants.{Observe, Modify, TooBig}
-use Rattle.histar_rules.specs.declared.raw.RawCall.TheVariants.{Read, Write, Unlink}
-use Rattle.histar_rules.specs.Rules.{no_making, fits_segment, check}
+use Rattle.histar_object.specs.State.{State, Found, in_range}
+use Rattle.histar_rules.specs.declared.raw.Denied.TheVariants.{Observe, Modify, Range, TooBig}
+use Rattle.histar_rules.specs.declared.raw.RawCall.TheVariants.{Read, Write, Unlink, MakeSegment, MakeContainer}
+use Rattle.histar_rules.specs.Rules.{no_making, fits_segment, has_number, known, check}
 use Rattle.histar_refinement.specs.Sessions.{IsSession}
+use Rattle.histar_refinement.specs.Categories.{IsUsed}
 use Rattle.histar_refinement.specs.Guards.{Guard, guard_label, rights_label, rights_clearance}
 use Rattle.histar_refinement.specs.Labels.{class_guard, thread_rights}
 use Rattle.histar_refinement.specs.Addresses.{address_of}
@@ -30,6 +31,11 @@ use Rattle.histar_refinement.specs.Laws.{RunsAs}
 use Rattle.histar_refinement.proofs.ClassTests.{observes_class, modifies_class}
 use Rattle.histar_refinement.proofs.DirectoryLaws.{spelling_fits}
 use Rattle.histar_refinement.proofs.RawChecks.{object, read_blocked, read_check, write_check, unlink_check, making_check}
+use Rattle.histar_refinement.proofs.MakingRanges.{is_made_within}
+use Rattle.histar_refinement.proofs.Growing.{GuardHas}
+use Rattle.histar_refinement.proofs.Tested.{guard_made, guard_owns_nothing}
+use Rattle.histar_refinement.proofs.Uses.{names_used}
+use Rattle.histar_refinement.proofs.FileRows.{ClassFits}
 use Rattle.histar_refinement.proofs.Standing.{thread_found, guard_at, file_found, container_found, listing_found, step_linked}
 
 -- bytes that fit, where nothing is kept
@@ -101,6 +107,32 @@ module _ (session : Session) (s : State) (f : Flat) (l : Laid session s f) (ok :
     -- the first tests of a making in the directory
     pub making_said : no_making s t D ≡ unless (may_write session p class) Modify
     making_said = making_check s t label clearance thread D above links holder observed ∙ ap (λ b. unless b Modify) may_change
+
+    -- a segment or a container is made in the directory for what is of a class, unless the directory may not be written, the thread may
+    -- not hand in the label, or there is no number for it
+    module _ (of : Class) (fitting : ClassFits session s f l of) (g : Guard) (is : class_guard session of ≡ Some g) where
+      names : GuardHas (IsUsed session f) g
+      names = names_used session f of fitting.known g is
+
+      is_known : known s (guard_label l.category g) ≡ true
+      is_known = guard_made s.next_category l.category g (λ c e. l.made c (names.0 c e)) (λ c e. l.made c (names.1 c e))
+
+      in_its_range : in_range (s.objects t) (guard_label l.category g) ≡ is_made_within session l.category l.different me p g
+      in_its_range = ap (λ (o : Found). in_range o (guard_label l.category g)) thread
+
+      pub make_segment_said : check s t (MakeSegment D (guard_label l.category g) []) ≡ (unless (may_write session p class) Modify orelse unless (is_made_within session l.category l.different me p g) Range orelse unless (has_number s) TooBig)
+      make_segment_said = λ i. making_said i
+          orelse unless (in_its_range i) Range
+          orelse unless (is_known i) Range
+          orelse unless (not (guard_owns_nothing l.category g i)) Range
+          orelse unless (has_number s) TooBig
+
+      pub make_container_said : check s t (MakeContainer D (guard_label l.category g)) ≡ (unless (may_write session p class) Modify orelse unless (is_made_within session l.category l.different me p g) Range orelse unless (has_number s) TooBig)
+      make_container_said = λ i. making_said i
+          orelse unless (in_its_range i) Range
+          orelse unless (is_known i) Range
+          orelse unless (not (guard_owns_nothing l.category g i)) Range
+          orelse unless (has_number s) TooBig
 
     -- what stands in the directory
     module _ (n : Name) (O : ℕ) (at_object : l.naming.number (address_of (n ∷ d)) ≡ Some O) where

@@ -38,3 +38,4 @@ pub mod StatusFound
 pub mod OneFlatState
 pub mod RawChecks
 pub mod FileChecks
+pub mod LeftObjects

@@ -49,7 +49,7 @@ module _ {A : Type 0} (test : A → Bool) where
       (at.0, ap (slice_get xs) (sym is.1) ∙ at.1, at.2, omega (arith, below, is.1))
 
 -- what a number comes from
-from_place : (o : Option ℕ) (i : ℕ) → option_map (λ k. k + 1) o ≡ Some i → (k : ℕ) × (o ≡ Some k) × (k + 1 ≡ i)
+pub from_place : (o : Option ℕ) (i : ℕ) → option_map (λ k. k + 1) o ≡ Some i → (k : ℕ) × (o ≡ Some k) × (k + 1 ≡ i)
 from_place None i e = absurd (none-some i e)
 from_place (Some k) i e = (k, refl, same_Some (k + 1) i e)
 

@@ -42,7 +42,7 @@ container_kind label (Container links) m e =
 container_kind label (Thread clearance) m e = absurd (true≢false (sym (ap is_container e)))
 container_kind label (Gate clearance entry) m e = absurd (true≢false (sym (ap is_container e)))
 
-bare_container_is : (found : Found) (m : Levels) → bare found ≡ container m → (links : Links) × (found ≡ Some (record { label = m; kind = Container links }))
+pub bare_container_is : (found : Found) (m : Levels) → bare found ≡ container m → (links : Links) × (found ≡ Some (record { label = m; kind = Container links }))
 bare_container_is None m e = absurd (none-some (record { label = m; kind = Container set.empty }) e)
 bare_container_is (Some x) m e = container_kind x.label x.kind m e
 

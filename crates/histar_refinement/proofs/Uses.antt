@@ -36,7 +36,7 @@ job_among (j ∷ jobs) c e = elim (or_either (same_category c (OfJob j)) (among 
 ]
 
 -- and among those of groups a group's
-group_among : (f : ℕ → CategoryName) (ks : List ℕ) (c : CategoryName) → among (map f ks) c ≡ true → (k : ℕ) × (c ≡ f k) × (has_number ks k ≡ true)
+pub group_among : (f : ℕ → CategoryName) (ks : List ℕ) (c : CategoryName) → among (map f ks) c ≡ true → (k : ℕ) × (c ≡ f k) × (has_number ks k ≡ true)
 group_among f [] c e = absurd (true≢false (sym e))
 group_among f (m ∷ ks) c e = elim (or_either (same_category c (f m)) (among (map f ks) c) e) [
   | inl k ↦ (m, same_told c (f m) k, or_first (nat_eq m m) (has_number ks m) (grind (arith, nat_tests)))
@@ -49,7 +49,7 @@ placed_below [] i g e = absurd (none-some g e)
 placed_below (h ∷ groups) zero g e = omega arith
 placed_below (h ∷ groups) (suc i) g e = let later = placed_below groups i g e in omega (arith, later)
 
-groups_within : (session : Session) (name : Name) (k : ℕ) → has_number (groups_of session name) k ≡ true → (1 ≤ k) × (k ≤ length session.groups)
+pub groups_within : (session : Session) (name : Name) (k : ℕ) → has_number (groups_of session name) k ≡ true → (1 ≤ k) × (k ≤ length session.groups)
 groups_within session name k e =
     let found = from_numbers 1 session.groups name k e in
     let below = placed_below session.groups found.0 found.1 found.2 in
