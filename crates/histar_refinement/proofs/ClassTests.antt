@@ -217,7 +217,7 @@ module _ (session : Session) (me : ProcName) (p : Process) where
     sees_private : (i : ℕ) → is_below_raised (guard_label category (private_guard i)) (rights_label category own) ≡ is_number (user_number session p.user) i
     sees_private i = observes_by_names category different (private_guard i) own (user_apart i) ∙ and_true _ ∙ passes_other (ReadsUser i) (λ job. refl) ∙ owns_read_of i
 
-    sees_unguarded : (g : Guard) → g.secret ≡ [] → is_below_raised (guard_label category g) (rights_label category own) ≡ true
+    pub sees_unguarded : (g : Guard) → g.secret ≡ [] → is_below_raised (guard_label category g) (rights_label category own) ≡ true
     sees_unguarded g e = observes_by_names category different g own (λ c k. absurd (true≢false (sym k ∙ ap (λ names. among names c) e))) ∙ ap (list_all passes) e
 
     sees_scratch : (jobs : List ProcName) (i : ℕ) → is_below_raised (guard_label category (scratch_guard jobs i)) (rights_label category own) ≡ (is_number (user_number session p.user) i && list_all (knows p) jobs)

@@ -39,3 +39,4 @@ pub mod OneFlatState
 pub mod RawChecks
 pub mod FileChecks
 pub mod LeftObjects
+pub mod LoginChecks

@@ -7,7 +7,7 @@ use Rattle.histar_refinement.specs.Categories.{CategoryName, Categories, AreDiff
 use Rattle.histar_refinement.specs.Guards.{Guard, Rights, cleared_at, guard_label, rights_label, rights_clearance}
 use Rattle.histar_refinement.proofs.Members.{is_in, AreApart}
 use Rattle.histar_refinement.proofs.CategoryTests.{is_in_names, all_names, named_in}
-use Rattle.histar_refinement.proofs.Levelled.{observes_guarded, below_guarded, guarded_cleared, cleared_exactly, below_owning, owning_cleared, cleared_below, guarded_owns_nothing, guarded_made, owning_made}
+use Rattle.histar_refinement.proofs.Levelled.{observes_guarded, below_guarded, guarded_cleared, cleared_exactly, below_owning, owning_cleared, cleared_below, guarded_owns_nothing, guarded_made, owning_made, cleared_made}
 
 -- no name is in both lists
 abbrev pub NamesApart : List CategoryName → List CategoryName → Type 0
@@ -74,6 +74,9 @@ guard_made next category g secret written = guarded_made next (map category g.se
 
 pub rights_made : (next : ℕ) (category : Categories) (r : Rights) → AreMade next category r.owned → AreMade next category r.tainted → is_made next (rights_label category r) ≡ true
 rights_made next category r owned tainted = owning_made next (map category r.owned) (map category r.tainted) (numbers_made next category r.owned owned) (numbers_made next category r.tainted tainted)
+
+pub clearance_made : (next : ℕ) (category : Categories) (names : List CategoryName) → AreMade next category names → is_made next (cleared_at (map category names)) ≡ true
+clearance_made next category names made = cleared_made next (map category names) (numbers_made next category names made)
 
 -- and what is guarded owns nothing
 pub guard_owns_nothing : (category : Categories) (g : Guard) → has_star (guard_label category g) ≡ false
