@@ -28,6 +28,10 @@ pub mod ReachedObjects
 pub mod Making
 pub mod Creating
 pub mod Writing
+pub mod Renamings
+pub mod Turning
+pub mod Renaming
+pub mod Removing
 pub mod OneChain
 pub mod OneProcess
 pub mod OneClass

@@ -1,6 +1,6 @@
 -- What the kernel says to the raw calls of a login: the user's gate lets in exactly who is in no job; and behind it the password is
 -- read, and the labels are taken of any rights that are no more than the thread has there.
-use Rattle.std.proofs.Common.{◌≡◌, ◌≢◌, ℕ, ◌≤◌, Bool, true, false, ◌&&◌, ◌||◌, List, [], ◌∷◌, ◌++◌, length, Option, None, Some, arith, refl, sym, ap, ◌∙◌, subst}
+use Rattle.std.proofs.Common.{◌≡◌, ◌≢◌, ℕ, ◌≤◌, Bool, true, false, ◌&&◌, ◌||◌, List, [], ◌∷◌, ◌++◌, length, Option, None, Some, arith, refl, sym, ap, ◌∙◌, subst, if◌then◌else◌}
 use Rattle.std.specs.Prelude.{is_some, map, option_map}
 use Rattle.std.specs.List.{list_all}
 use Rattle.std.specs.FinSet as set
@@ -28,9 +28,9 @@ use Rattle.histar_rules.specs.Rules.{no_link, known, check}
 use Rattle.histar_rules.specs.Sound.{root_number}
 use Rattle.histar_login.specs.Login.{password_of, gate_of}
 use Rattle.histar_refinement.specs.Categories.{CategoryName, Categories, IsUsed, booted, among}
-use Rattle.histar_refinement.specs.Categories.CategoryName.{ReadsUser, WritesUser, ReadsGroup, WritesGroup}
+use Rattle.histar_refinement.specs.Categories.CategoryName.{ReadsUser, WritesUser, ReadsGroup, WritesGroup, ReadsProcess, WritesProcess, OfJob}
 use Rattle.histar_refinement.specs.Guards.{Rights, cleared_at, guard_label, rights_label, rights_clearance}
-use Rattle.histar_refinement.specs.Labels.{boot_guard, private_guard, gate_rights, reading, writing, thread_rights}
+use Rattle.histar_refinement.specs.Labels.{boot_guard, private_guard, gate_rights, reading, writing, owned_as, thread_rights}
 use Rattle.histar_refinement.specs.LaysOut.{Laid}
 use Rattle.histar_refinement.specs.Laws.{RunsAs}
 use Rattle.histar_refinement.proofs.Members.{and_both, or_first}
@@ -38,7 +38,7 @@ use Rattle.histar_refinement.proofs.SessionLemmas.{user_range}
 use Rattle.histar_refinement.proofs.Tested.{AreMade, observes_by_names, rights_by_names, capped_by_names, clearances_by_names, rights_made, clearance_made}
 use Rattle.histar_refinement.proofs.ClassTests.{user_apart, sees_unguarded}
 use Rattle.histar_refinement.proofs.Growing.{covers}
-use Rattle.histar_refinement.proofs.Ranges.{in_first, in_second, at_head, each_head, each_append, let_in, floor_behind, join_behind}
+use Rattle.histar_refinement.proofs.Ranges.{in_first, in_second, at_head, later, each_head, each_append, let_in, floor_behind, join_behind}
 use Rattle.histar_refinement.proofs.Uses.{group_among, groups_within, rights_used}
 use Rattle.histar_refinement.proofs.RawChecks.{object, link_passes, read_check}
 use Rattle.histar_refinement.proofs.Standing.{thread_found}
@@ -199,6 +199,35 @@ module _ (session : Session) (s : State) (f : Flat) (l : Laid session s f) (me :
   read_password_said = read_check entered t wanted limit entered_thread root_number (guard_label (booted session) boot_guard) (root_found session s f l).0 entered_root root_seen_then (password_of i)
       (among_links (password_of i) (password_linked session s f l name i numbered)) password (password_found session s f l name i numbered).0.password entered_password
       ∙ ap (λ b. unless b denials.Observe) password_seen
+
+  -- the process as the user's, holding nothing
+  abbrev pub as_user : Process
+  as_user = record { user = name; chain = p.chain; held = []; exited = p.exited; born = p.born }
+
+  -- as the user's it has no more rights than the thread has there, and neither has it as it was
+  pub user_owns_less : (c : CategoryName) → among (thread_rights session me as_user).owned c ≡ true → among more.owned c ≡ true
+  user_owns_less = each_head (λ c. among more.owned c ≡ true) (ReadsProcess me) (WritesProcess me ∷ owned_as session as_user (user_number session name) ++ [])
+      (in_first mine.owned gate.owned (ReadsProcess me) (at_head (ReadsProcess me) (WritesProcess me ∷ owned_as session p (user_number session p.user) ++ map OfJob p.held)))
+      (each_head (λ c. among more.owned c ≡ true) (WritesProcess me) (owned_as session as_user (user_number session name) ++ [])
+      (in_first mine.owned gate.owned (WritesProcess me) (later (ReadsProcess me) (WritesProcess me ∷ owned_as session p (user_number session p.user) ++ map OfJob p.held) (WritesProcess me) (at_head (WritesProcess me) (owned_as session p (user_number session p.user) ++ map OfJob p.held))))
+      (each_append (λ c. among more.owned c ≡ true) (owned_as session as_user (user_number session name)) []
+      (λ c e. in_second mine.owned gate.owned c (of_user (user_number session name) numbered c e))
+      (λ c e. absurd (true≢false (sym e)))))
+    where
+      picked : (b : Bool) (c : CategoryName) → among (if b then writing session name i else []) c ≡ true → among (writing session name i) c ≡ true
+      picked true c e = e
+      picked false c e = absurd (true≢false (sym e))
+
+      of_number : (c : CategoryName) → among (owned_as session as_user (Some i)) c ≡ true → among gate.owned c ≡ true
+      of_number = each_append (λ c. among gate.owned c ≡ true) (reading session name i) (if is_free p then writing session name i else [])
+          (in_first (reading session name i) (writing session name i))
+          (λ c e. in_second (reading session name i) (writing session name i) c (picked (is_free p) c e))
+
+      of_user : (o : Option ℕ) → o ≡ Some i → (c : CategoryName) → among (owned_as session as_user o) c ≡ true → among gate.owned c ≡ true
+      of_user o is = subst (λ (x : Option ℕ). (c : CategoryName) → among (owned_as session as_user x) c ≡ true → among gate.owned c ≡ true) (sym is) of_number
+
+  pub own_owns_less : (c : CategoryName) → among (thread_rights session me p).owned c ≡ true → among more.owned c ≡ true
+  own_owns_less = in_first mine.owned gate.owned
 
   -- Rights that are no more than the thread has behind the gate, with the jobs that it is in: these are its own, and as the user's.
   module _ (r : Rights) (owned : (c : CategoryName) → among r.owned c ≡ true → among more.owned c ≡ true) (fewer : (c : CategoryName) → among r.tainted c ≡ true → among mine.tainted c ≡ true) (as_many : (c : CategoryName) → among mine.tainted c ≡ true → among r.tainted c ≡ true) where

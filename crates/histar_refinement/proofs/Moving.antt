@@ -242,3 +242,14 @@ stands_same same_step s new naming asked other stands alike same_objects same_ne
       objects = λ a. ap (λ (o : Objects Levels). bare (objects_at o naming a)) (sym objects) ∙ stands.objects a ∙ alike a;
       named = λ a. stands.named a ∙ ap is_there (alike a);
     }
+
+-- where nothing stands under a number, the number has no address
+pub no_address : {X : Type 0} (same_step : X → X → Bool) (s : State) (naming : Naming X) (asked : Address X → Found) → Stands same_step s naming asked → (q : ℕ) → s.objects q ≡ None → naming.address q ≡ None
+no_address {X} same_step s naming asked stands q e = by (naming.address q) refl
+  where
+    by : (o : Option (Address X)) → naming.address q ≡ o → o ≡ None
+    by None is = refl
+    by (Some a) is =
+        let number = stands.tree.numbered q a is in
+        let nothing : asked a ≡ None = sym (stands.objects a) ∙ ap (λ (k : Option ℕ). bare (option_and_then s.objects k)) number ∙ ap bare e in
+        absurd (true≢false (sym (ap is_some number) ∙ stands.named a ∙ ap is_there nothing))
