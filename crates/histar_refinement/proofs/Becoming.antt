@@ -1,0 +1,232 @@
+-- A thread takes another label and another clearance: its process is another user's, or holds other jobs.
+use Rattle.std.proofs.Common.{◌≡◌, ◌≢◌, ℕ, ◌≤◌, ◌⊎◌, inl, inr, Bool, true, false, ◌&&◌, ◌||◌, cond, if◌then◌else◌, List, [], ◌∷◌, Option, None, Some, arith, refl, sym, ap, ◌∙◌, subst}
+use Rattle.std.specs.Prelude.{is_some, option_map}
+use Rattle.std.specs.List.{filter, flat_map, range_with_len}
+use Rattle.std.proofs.lemmas.Bool.Decides.{eqb_tells}
+use Rattle.std.proofs.lemmas.Option.{none-some, same_Some}
+use Rattle.histar_flat.specs.Words.{Name, ProcName}
+use Rattle.histar_flat.proofs.FileLemmas.{same_name_found}
+use Rattle.histar_label.specs.Levels.{Levels}
+use Rattle.histar_object.specs.declared.objects.Kind.{Kind}
+use Rattle.histar_object.specs.declared.objects.Kind.TheVariants.{Segment, Container, Thread, Gate}
+use Rattle.histar_object.specs.declared.objects.Object.{Object}
+use Rattle.histar_object.specs.Objects.{changed_at, kind_links, thread_of}
+use Rattle.histar_object.specs.Rights.{relabelled, clearing, kind_clearing}
+use Rattle.histar_object.specs.State.{State, Found, with_own}
+use Rattle.histar_container.specs.Tree.{Address, set_at}
+use Rattle.histar_container.proofs.Addresses.{same_tells}
+use Rattle.histar_container.proofs.TableMoves.{put_here, put_other, changed_here, changed_other}
+use Rattle.histar_rules.specs.Rules.{greatest}
+use Rattle.histar_login.specs.Boot.{boot_thread_number}
+use Rattle.histar_flat.specs.Sessions.{Session, has, user_number}
+use Rattle.histar_flat.specs.Classes.{Process, nobody, knows}
+use Rattle.histar_flat.specs.FlatState.{Flat, with_process, was_given, is_given}
+use Rattle.histar_refinement.specs.Categories.{CategoryName, IsKnown, IsServed, IsUsed}
+use Rattle.histar_refinement.specs.Categories.CategoryName.{OfBoot, ReadsUser, WritesUser, ReadsGroup, WritesGroup, ReadsProcess, WritesProcess, OfJob}
+use Rattle.histar_refinement.specs.Guards.{guard_label, rights_label, rights_clearance}
+use Rattle.histar_refinement.specs.Labels.{process_guard, thread_rights}
+use Rattle.histar_refinement.specs.Addresses.{Step, same_step, home_of}
+use Rattle.histar_refinement.specs.Addresses.Step.{Inside, Runner}
+use Rattle.histar_refinement.specs.Processes.{child_bytes, written_process, process_bytes}
+use Rattle.histar_refinement.specs.Stands.{kind_bare, bare}
+use Rattle.histar_refinement.specs.Expected.{segment, home_object, status_object, inside_object, thread_object, bytes_for, status_at, expected}
+use Rattle.histar_refinement.specs.LaysOut.{AreInOrder, IsProcess, Laid}
+use Rattle.histar_refinement.proofs.Members.{or_first, or_either}
+use Rattle.histar_refinement.proofs.Places.{AsksAlike, asked_alike, asked_runner}
+use Rattle.histar_refinement.proofs.Steps.{step_tells}
+use Rattle.histar_refinement.proofs.Moving.{at_number, bare_is, stands_changed, stands_same}
+
+-- a thread is given another label and another clearance
+abbrev becoming : Levels → Levels → Object Levels → Object Levels
+becoming label clearance o = clearing clearance (relabelled label o)
+
+same_links : (label clearance : Levels) (o : Object Levels) → kind_links (becoming label clearance o).kind ≡ kind_links o.kind
+same_links label clearance o = by o.kind
+  where
+    by : (k : Kind Levels) → kind_links (kind_clearing clearance k) ≡ kind_links k
+    by (Segment bytes) = refl
+    by (Container links) = refl
+    by (Thread old) = refl
+    by (Gate old entry) = refl
+
+bared : (label clearance : Levels) (o : Found) → bare (option_map (becoming label clearance) o) ≡ option_map (becoming label clearance) (bare o)
+bared label clearance None = refl
+bared label clearance (Some o) = ap (λ (k : Kind Levels). Some (record { label = label; kind = k })) (by o.kind)
+  where
+    by : (k : Kind Levels) → kind_bare (kind_clearing clearance k) ≡ kind_clearing clearance (kind_bare k)
+    by (Segment bytes) = refl
+    by (Container links) = refl
+    by (Thread old) = refl
+    by (Gate old entry) = refl
+
+module _ (session : Session) (s : State) (f : Flat) (l : Laid session s f) (me : ProcName) (p : Process) (here : f.processes me ≡ Some p) (runs : p.exited ≡ None)
+    (name : Name) (known_user : (name ≡ nobody) ⊎ (is_some (user_number session name) ≡ true)) (held : List ProcName) (held_used : (job : ProcName) → has held job ≡ true → IsUsed session f (OfJob job))
+    (held_ordered : AreInOrder l.category held) (held_apart : (job : ProcName) → has p.chain job ≡ true → has held job ≡ false) (held_free : is_some (user_number session name) ≡ false → (p.chain ≡ []) × (held ≡ [])) (T : ℕ) (at_thread : l.naming.number (Runner ∷ Inside ∷ home_of me) ≡ Some T) where
+  -- the process as the new user's, which holds these jobs
+  abbrev changed : Process
+  changed = record { user = name; chain = p.chain; held = held; exited = p.exited; born = p.born }
+
+  abbrev after : Flat
+  after = with_process f me changed
+
+  abbrev label : Levels
+  label = rights_label l.category (thread_rights session me changed)
+
+  abbrev clearance : Levels
+  clearance = rights_clearance l.category (thread_rights session me changed)
+
+  abbrev old_thread : Object Levels
+  old_thread = thread_of (rights_label l.category (thread_rights session me p)) (rights_clearance l.category (thread_rights session me p))
+
+  abbrev old_asked : Address Step → Found
+  old_asked = expected session l.category f l.naming.number
+
+  abbrev wish : Address Step → Found
+  wish = expected session l.category after l.naming.number
+
+  abbrev runner : Address Step
+  runner = Runner ∷ Inside ∷ home_of me
+
+  pub at_me : after.processes me ≡ Some changed
+  at_me = elim (same_name_found me me) [ inl e ↦ ap (λ b. cond b (Some changed) (f.processes me)) e.0 | inr e ↦ absurd (e.1 refl) ]
+
+  pub at_other : (x : ProcName) → x ≢ me → after.processes x ≡ f.processes x
+  at_other x other = elim (same_name_found me x) [ inl e ↦ absurd (other (sym e.1)) | inr e ↦ ap (λ b. cond b (Some changed) (f.processes x)) e.0 ]
+
+  which : (x : ProcName) → (x ≡ me) ⊎ (x ≢ me)
+  which x = elim (same_name_found me x) [ inl e ↦ inl (sym e.1) | inr e ↦ inr (λ k. e.1 (sym k)) ]
+
+  old_runner : old_asked runner ≡ Some old_thread
+  old_runner = asked_runner session l.category f l.naming.number me ∙ ap (thread_object session l.category me) here
+      ∙ ap (λ (e : Option ℕ). elim e as (λ _. Found) [ None ↦ Some old_thread | Some n ↦ None ]) runs
+
+  new_runner : wish runner ≡ Some (thread_of label clearance)
+  new_runner = asked_runner session l.category after l.naming.number me ∙ ap (thread_object session l.category me) at_me
+      ∙ ap (λ (e : Option ℕ). elim e as (λ _. Found) [ None ↦ Some (thread_of label clearance) | Some n ↦ None ]) runs
+
+  pub thread_stands : s.objects T ≡ Some old_thread
+  thread_stands = bare_is (s.objects T) old_thread refl (at_number same_step step_tells s l.naming old_asked l.stands runner T at_thread ∙ old_runner)
+
+  there_alike : (x : ProcName) → is_some (f.processes x) ≡ is_some (after.processes x)
+  there_alike x = elim (which x) [
+    | inl e ↦ ap (λ (y : ProcName). is_some (f.processes y)) e ∙ ap is_some here ∙ sym (ap is_some at_me) ∙ ap (λ (y : ProcName). is_some (after.processes y)) (sym e)
+    | inr other ↦ ap is_some (sym (at_other x other))
+  ]
+
+  same_bytes : (q : ProcName) (x : Process) → process_bytes f.processes l.naming.number q x ≡ process_bytes after.processes l.naming.number q x
+  same_bytes q x = λ i. written_process x.exited x.born (l.naming.number (Inside ∷ home_of q)) (l.naming.number (Runner ∷ Inside ∷ home_of q))
+      (flat_map (child_bytes l.naming.number q) (filter (λ k. there_alike (k ∷ q) i) (range_with_len 1 x.born)))
+
+  -- what stands for a process but its thread
+  object_alike : (object : ProcName → Option Process → Found) → object me (Some p) ≡ object me (Some changed) → (q : ProcName) → object q (f.processes q) ≡ object q (after.processes q)
+  object_alike object same_me q = elim (which q) [
+    | inl e ↦ subst (λ (x : ProcName). object x (f.processes x) ≡ object x (after.processes x)) (sym e) (ap (object me) here ∙ same_me ∙ sym (ap (object me) at_me))
+    | inr other ↦ ap (object q) (sym (at_other q other))
+  ]
+
+  status_alike : (q : ProcName) → status_at session l.category f l.naming.number (Some q) ≡ status_at session l.category after l.naming.number (Some q)
+  status_alike q = by (f.processes q) ∙ object_alike (λ x o. status_object session l.category (bytes_for session l.category after l.naming.number x o) x o) refl q
+    where
+      by : (o : Option Process) → status_object session l.category (bytes_for session l.category f l.naming.number q o) q o ≡ status_object session l.category (bytes_for session l.category after l.naming.number q o) q o
+      by None = refl
+      by (Some x) = ap (segment (guard_label l.category (process_guard q x))) (same_bytes q x)
+
+  files_alike : AsksAlike session l.category l.category f after l.naming.number l.naming.number
+  files_alike = record { at_path = λ q. refl; in_directory = λ d. refl }
+
+  wish_other : (a : Address Step) → runner ≢ a → old_asked a ≡ wish a
+  wish_other a other = asked_alike session l.category l.category f after l.naming.number l.naming.number files_alike a (record {
+    home = λ q is. object_alike (home_object session l.category) refl q;
+    status = λ q is. status_alike q;
+    inside = λ q is. object_alike (inside_object session l.category) refl q;
+    runner = λ q is. elim (which q) [
+      | inl e ↦ absurd (other (ap (λ (x : ProcName). Runner ∷ Inside ∷ home_of x) (sym e) ∙ sym is))
+      | inr not_me ↦ ap (thread_object session l.category q) (sym (at_other q not_me))
+    ];
+  })
+
+  asks : (a : Address Step) → set_at same_step old_asked runner (option_map (becoming label clearance) (old_asked runner)) a ≡ wish a
+  asks a = elim (same_tells same_step step_tells runner a) [
+    | inl e ↦ ap (λ (t : Bool). if t then option_map (becoming label clearance) (old_asked runner) else old_asked a) e.0 ∙ ap (option_map (becoming label clearance)) old_runner ∙ sym new_runner ∙ ap wish e.1
+    | inr e ↦ ap (λ (t : Bool). if t then option_map (becoming label clearance) (old_asked runner) else old_asked a) e.0 ∙ wish_other a e.1
+  ]
+
+  same_objects : (q : ℕ) → (with_own s T label clearance).objects q ≡ changed_at s.objects T (becoming label clearance) q
+  same_objects q = elim (eqb_tells q T) [
+    | inl e ↦
+        ap (with_own s T label clearance).objects e.1 ∙ put_here s.objects T (thread_of label clearance)
+        ∙ sym (ap (changed_at s.objects T (becoming label clearance)) e.1 ∙ changed_here s.objects T (becoming label clearance) ∙ ap (option_map (becoming label clearance)) thread_stands)
+    | inr e ↦ put_other s.objects T (thread_of label clearance) q e.1 ∙ sym (changed_other s.objects T (becoming label clearance) q e.1)
+  ]
+
+  -- what is known and used then was
+  known_then : (job x : ProcName) (px : Process) → after.processes x ≡ Some px → knows px job ≡ true → IsUsed session f (OfJob job)
+  known_then job x px at known = elim (which x) [
+    | inl e ↦
+        let is : changed ≡ px = same_Some changed px (sym at_me ∙ ap after.processes (sym e) ∙ at) in
+        let known_here : (has p.chain job || has held job) ≡ true = subst (λ (y : Process). knows y job ≡ true) (sym is) known in
+        elim (or_either (has p.chain job) (has held job) known_here) [ inl k ↦ inl (me, p, here, or_first (has p.chain job) (has p.held job) k) | inr k ↦ held_used job k ]
+    | inr other ↦ inl (x, px, sym (at_other x other) ∙ at, known)
+  ]
+
+  pub job_used : (job : ProcName) → IsKnown after job ⊎ IsServed after job → IsUsed session f (OfJob job)
+  job_used job (inl k) = known_then job k.0 k.1 k.2 k.3
+  job_used job (inr served) = inr served
+
+  used_then : (c : CategoryName) → IsUsed session after c → IsUsed session f c
+  used_then OfBoot u = u
+  used_then (ReadsUser i) u = u
+  used_then (WritesUser i) u = u
+  used_then (ReadsGroup k) u = u
+  used_then (WritesGroup k) u = u
+  used_then (ReadsProcess x) u = there_alike x ∙ u
+  used_then (WritesProcess x) u = there_alike x ∙ u
+  used_then (OfJob job) u = job_used job u
+
+  given_alike : (y : ProcName) (k : ℕ) → was_given (f.processes y) k ≡ was_given (after.processes y) k
+  given_alike y k = elim (which y) [
+    | inl e ↦ subst (λ (x : ProcName). was_given (f.processes x) k ≡ was_given (after.processes x) k) (sym e) (ap (λ (o : Option Process). was_given o k) here ∙ sym (ap (λ (o : Option Process). was_given o k) at_me))
+    | inr other ↦ ap (λ (o : Option Process). was_given o k) (sym (at_other y other))
+  ]
+
+  pub given_then : (x : ProcName) → is_given f.processes x ≡ is_given after.processes x
+  given_then [] = refl
+  given_then (k ∷ y) = λ i. given_alike y k i && given_then y i
+
+  process_then : (x : ProcName) (px : Process) → after.processes x ≡ Some px → IsProcess session l.category px
+  process_then x px at = elim (which x) [
+    | inl e ↦
+        let o = l.processes me p here in
+        subst (IsProcess session l.category) (same_Some changed px (sym at_me ∙ ap after.processes (sym e) ∙ at))
+        (record { someone = λ r. known_user; free = λ r u. held_free u; apart = λ r. held_apart; chain = o.chain; held = λ r. held_ordered; few = o.few; status = o.status })
+    | inr other ↦ l.processes x px (sym (at_other x other) ∙ at)
+  ]
+
+  gone_then : (with_own s T label clearance).objects boot_thread_number ≡ None
+  gone_then = put_other s.objects T (thread_of label clearance) boot_thread_number (λ e. none-some old_thread (sym l.boot_thread_gone ∙ ap s.objects e ∙ thread_stands)) ∙ l.boot_thread_gone
+
+  -- The kernel lays out the flat state with the process so.
+  pub becomes : (new : State) → ((q : ℕ) → new.objects q ≡ (with_own s T label clearance).objects q) → new.next_object ≡ s.next_object → s.next_category ≤ new.next_category
+      → (later : Laid session new after) × (later.naming ≡ l.naming) × (later.category ≡ l.category)
+  becomes new objects next_is categories = (
+    record {
+      naming = l.naming;
+      category = l.category;
+      stands = stands_same same_step _ new l.naming _ wish
+          (stands_changed same_step step_tells s l.naming old_asked l.stands T runner (becoming label clearance) at_thread (same_links label clearance) (bared label clearance)) asks (λ q. objects q ∙ same_objects q) next_is;
+      numbered = subst (λ (m : ℕ). m ≤ greatest) (sym next_is) l.numbered;
+      as_booted = l.as_booted;
+      different = l.different;
+      made = λ c u. let m = l.made c (used_then c u) in (m.0, omega (arith, m.1, categories));
+      as_made = l.as_made;
+      guarded = l.guarded;
+      in_order = l.in_order;
+      listable = l.listable;
+      first = sym (there_alike []) ∙ l.first;
+      processes = process_then;
+      processes_given = λ x u. sym (given_then x) ∙ l.processes_given x (there_alike x ∙ u);
+      boot_thread_gone = objects boot_thread_number ∙ gone_then;
+    },
+    refl,
+    refl,
+  )

@@ -1,0 +1,338 @@
+-- What the labels of a process's thread let it observe and modify is what its process may read and write.
+use Rattle.std.proofs.Common.{◌≡◌, ℕ, Bool, true, false, ◌&&◌, ◌||◌, List, [], ◌∷◌, Option, None, Some, if◌then◌else◌, refl, sym, ap, ◌∙◌}
+use Rattle.std.specs.Prelude.{map, nat_eq, is_some, option_map}
+use Rattle.std.specs.List.{list_all}
+use Rattle.std.proofs.lemmas.Option.{same_Some, none-some}
+use mathlib.Core.Bool.{true≢false}
+use Rattle.histar_flat.specs.Words.{Name, ProcName}
+use Rattle.histar_flat.specs.PathOrder.{same}
+use Rattle.histar_label.specs.Levels.{is_below, is_below_raised}
+use Rattle.histar_flat.specs.Sessions.{Session, has, user_number, group_number, groups_of, is_member}
+use Rattle.histar_flat.specs.Classes.{Class, Process, is_free, knows, may_read, may_write, sees}
+use Rattle.histar_flat.specs.Classes.Class.{Private, Readable, Open, Scratch, Grouped}
+use Rattle.histar_refinement.specs.Categories.{CategoryName, Categories, AreDifferent, same_category, among}
+use Rattle.histar_refinement.specs.Categories.CategoryName.{OfBoot, ReadsUser, WritesUser, ReadsGroup, WritesGroup, ReadsProcess, WritesProcess, OfJob}
+use Rattle.histar_refinement.specs.Guards.{Guard, Rights, guard_label, rights_label}
+use Rattle.histar_refinement.specs.Labels.{class_guard, private_guard, readable_guard, scratch_guard, group_guard, open_guard, process_guard, reading, writing, owned_as, thread_rights}
+use Rattle.histar_refinement.proofs.Members.{or_false}
+use Rattle.histar_refinement.proofs.CategoryTests.{among-append, among_none, among_jobs}
+use Rattle.histar_refinement.proofs.Tested.{NamesApart, observes_by_names, below_by_names}
+use Rattle.histar_refinement.specs.Sessions.{IsSession}
+use Rattle.histar_refinement.proofs.SessionLemmas.{is_number, is_owner, has_number, is_member_number}
+
+and_true : (b : Bool) → (b && true) ≡ b
+and_true true = refl
+and_true false = refl
+
+-- among the numbers of groups
+among_groups : (f : ℕ → CategoryName) → ((k m : ℕ) → same_category (f k) (f m) ≡ nat_eq k m) → (ks : List ℕ) (k : ℕ) → among (map f ks) (f k) ≡ has_number ks k
+among_groups f tells [] k = refl
+among_groups f tells (m ∷ ks) k = (λ i. tells k m i || among_groups f tells ks k i)
+
+-- in a job nothing is owned to write by
+picked_names : (b : Bool) (names : List CategoryName) (c : CategoryName) → among (if b then names else []) c ≡ (b && among names c)
+picked_names true names c = refl
+picked_names false names c = refl
+
+and_false : (b : Bool) → (b && false) ≡ false
+and_false true = refl
+and_false false = refl
+
+-- to read and to write what is a user's or a group's are two categories
+pub user_apart : (i : ℕ) → NamesApart (ReadsUser i ∷ []) (WritesUser i ∷ [])
+user_apart i (ReadsUser j) e = refl
+user_apart i (OfBoot) e = refl
+user_apart i (WritesUser j) e = absurd (true≢false (sym e))
+user_apart i (ReadsGroup j) e = refl
+user_apart i (WritesGroup j) e = refl
+user_apart i (ReadsProcess j) e = refl
+user_apart i (WritesProcess j) e = refl
+user_apart i (OfJob j) e = refl
+
+pub group_apart : (g : ℕ) → NamesApart (ReadsGroup g ∷ []) (WritesGroup g ∷ [])
+group_apart g (ReadsGroup j) e = refl
+group_apart g (OfBoot) e = refl
+group_apart g (WritesGroup j) e = absurd (true≢false (sym e))
+group_apart g (ReadsUser j) e = refl
+group_apart g (WritesUser j) e = refl
+group_apart g (ReadsProcess j) e = refl
+group_apart g (WritesProcess j) e = refl
+group_apart g (OfJob j) e = refl
+
+module _ (session : Session) (me : ProcName) (p : Process) where
+  -- what the thread owns
+  abbrev owned : List CategoryName
+  owned = (thread_rights session me p).owned
+
+  abbrev as_user : Option ℕ → List CategoryName
+  as_user number = owned_as session p number
+
+  -- by the three parts of what is owned
+  owned_parts : (c : CategoryName) → among owned c ≡ (same_category c (ReadsProcess me) || (same_category c (WritesProcess me) || (among (as_user (user_number session p.user)) c || among (map OfJob p.held) c)))
+  owned_parts c = ap (λ b. same_category c (ReadsProcess me) || (same_category c (WritesProcess me) || b)) (among-append (as_user (user_number session p.user)) (map OfJob p.held) c)
+
+  -- a category that is neither a job's nor the process's own is owned as the user
+  owned_by_user : (c : CategoryName) → ((job : ProcName) → same_category c (OfJob job) ≡ false) → same_category c (ReadsProcess me) ≡ false → same_category c (WritesProcess me) ≡ false
+      → among owned c ≡ among (as_user (user_number session p.user)) c
+  owned_by_user c no_job no_read no_write =
+      owned_parts c ∙ (λ i. no_read i || (no_write i || (among (as_user (user_number session p.user)) c || among_none OfJob c no_job p.held i))) ∙ or_false _
+
+  -- what a user owns, by whether the user is a declared one
+  user_parts : (i : ℕ) (c : CategoryName) → among (as_user (Some i)) c ≡ (among (reading session p.user i) c || (is_free p && among (writing session p.user i) c))
+  user_parts i c = among-append (reading session p.user i) _ c ∙ ap (λ b. among (reading session p.user i) c || b) (picked_names (is_free p) (writing session p.user i) c)
+
+  pub owns_read_of : (i : ℕ) → among owned (ReadsUser i) ≡ is_number (user_number session p.user) i
+  owns_read_of i = owned_by_user (ReadsUser i) (λ job. refl) refl refl ∙ by (user_number session p.user)
+    where
+      by : (number : Option ℕ) → among (as_user number) (ReadsUser i) ≡ is_number number i
+      by None = refl
+      by (Some j) =
+          user_parts j (ReadsUser i)
+          ∙ (λ k. (and_true (nat_eq i j) k || among_none ReadsGroup (ReadsUser i) (λ g. refl) (groups_of session p.user) k) || (is_free p && among_none WritesGroup (ReadsUser i) (λ g. refl) (groups_of session p.user) k))
+          ∙ (λ k. or_false (nat_eq i j) k || and_false (is_free p) k) ∙ or_false (nat_eq i j)
+
+  pub owns_write_of : (i : ℕ) → among owned (WritesUser i) ≡ (is_number (user_number session p.user) i && is_free p)
+  owns_write_of i = owned_by_user (WritesUser i) (λ job. refl) refl refl ∙ by (user_number session p.user)
+    where
+      turned : (a b : Bool) → (b && a) ≡ (a && b)
+      turned true true = refl
+      turned true false = refl
+      turned false true = refl
+      turned false false = refl
+
+      by : (number : Option ℕ) → among (as_user number) (WritesUser i) ≡ (is_number number i && is_free p)
+      by None = refl
+      by (Some j) =
+          user_parts j (WritesUser i)
+          ∙ (λ k. among_none ReadsGroup (WritesUser i) (λ g. refl) (groups_of session p.user) k || (is_free p && (and_true (nat_eq i j) k || among_none WritesGroup (WritesUser i) (λ g. refl) (groups_of session p.user) k)))
+          ∙ (λ k. is_free p && or_false (nat_eq i j) k) ∙ turned (nat_eq i j) (is_free p)
+
+  pub owns_read_of_group : (g : ℕ) → among owned (ReadsGroup g) ≡ (is_some (user_number session p.user) && has_number (groups_of session p.user) g)
+  owns_read_of_group g = owned_by_user (ReadsGroup g) (λ job. refl) refl refl ∙ by (user_number session p.user)
+    where
+      by : (number : Option ℕ) → among (as_user number) (ReadsGroup g) ≡ (is_some number && has_number (groups_of session p.user) g)
+      by None = refl
+      by (Some j) =
+          user_parts j (ReadsGroup g)
+          ∙ (λ k. among_groups ReadsGroup (λ a b. and_true (nat_eq a b)) (groups_of session p.user) g k || (is_free p && among_none WritesGroup (ReadsGroup g) (λ h. refl) (groups_of session p.user) k))
+          ∙ (λ k. has_number (groups_of session p.user) g || and_false (is_free p) k) ∙ or_false _
+
+  pub owns_write_of_group : (g : ℕ) → among owned (WritesGroup g) ≡ ((is_some (user_number session p.user) && has_number (groups_of session p.user) g) && is_free p)
+  owns_write_of_group g = owned_by_user (WritesGroup g) (λ job. refl) refl refl ∙ by (user_number session p.user)
+    where
+      turned : (a b : Bool) → (b && a) ≡ (a && b)
+      turned true true = refl
+      turned true false = refl
+      turned false true = refl
+      turned false false = refl
+
+      by : (number : Option ℕ) → among (as_user number) (WritesGroup g) ≡ ((is_some number && has_number (groups_of session p.user) g) && is_free p)
+      by None = refl
+      by (Some j) =
+          user_parts j (WritesGroup g)
+          ∙ (λ k. among_none ReadsGroup (WritesGroup g) (λ h. refl) (groups_of session p.user) k || (is_free p && among_groups WritesGroup (λ a b. and_true (nat_eq a b)) (groups_of session p.user) g k))
+          ∙ turned (has_number (groups_of session p.user) g) (is_free p)
+
+  -- of jobs the held ones are owned, and no other
+  none_as_user : (job : ProcName) (number : Option ℕ) → among (as_user number) (OfJob job) ≡ false
+  none_as_user job None = refl
+  none_as_user job (Some j) =
+      user_parts j (OfJob job)
+      ∙ (λ k. among_none ReadsGroup (OfJob job) (λ g. refl) (groups_of session p.user) k || (is_free p && among_none WritesGroup (OfJob job) (λ g. refl) (groups_of session p.user) k))
+      ∙ and_false (is_free p)
+
+  pub owns_job : (job : ProcName) → among owned (OfJob job) ≡ has p.held job
+  owns_job job = owned_parts (OfJob job) ∙ (λ i. none_as_user job (user_number session p.user) i || among_jobs p.held job i)
+
+  -- its own two
+  own_as_user : (q : ProcName) (number : Option ℕ) → (among (as_user number) (ReadsProcess q) ≡ false) × (among (as_user number) (WritesProcess q) ≡ false)
+  own_as_user q None = (refl, refl)
+  own_as_user q (Some j) = (
+    user_parts j (ReadsProcess q)
+        ∙ (λ k. among_none ReadsGroup (ReadsProcess q) (λ g. refl) (groups_of session p.user) k || (is_free p && among_none WritesGroup (ReadsProcess q) (λ g. refl) (groups_of session p.user) k))
+        ∙ and_false (is_free p),
+    user_parts j (WritesProcess q)
+        ∙ (λ k. among_none ReadsGroup (WritesProcess q) (λ g. refl) (groups_of session p.user) k || (is_free p && among_none WritesGroup (WritesProcess q) (λ g. refl) (groups_of session p.user) k))
+        ∙ and_false (is_free p),
+  )
+
+  pub owns_read_own : (q : ProcName) → among owned (ReadsProcess q) ≡ same q me
+  owns_read_own q =
+      owned_parts (ReadsProcess q) ∙ (λ i. same q me || ((own_as_user q (user_number session p.user)).0 i || among_none OfJob (ReadsProcess q) (λ job. refl) p.held i)) ∙ or_false (same q me)
+
+  pub owns_write_own : (q : ProcName) → among owned (WritesProcess q) ≡ same q me
+  owns_write_own q =
+      owned_parts (WritesProcess q) ∙ (λ i. same q me || ((own_as_user q (user_number session p.user)).1 i || among_none OfJob (WritesProcess q) (λ job. refl) p.held i)) ∙ or_false (same q me)
+
+  -- a job is owned or at 3 where the process knows it
+  abbrev passes : CategoryName → Bool
+  passes c = among owned c || among (map OfJob p.chain) c
+
+  turned_or : (a b : Bool) → (a || b) ≡ (b || a)
+  turned_or true true = refl
+  turned_or true false = refl
+  turned_or false true = refl
+  turned_or false false = refl
+
+  pub passes_job : (job : ProcName) → passes (OfJob job) ≡ knows p job
+  passes_job job = (λ i. owns_job job i || among_jobs p.chain job i) ∙ turned_or (has p.held job) (has p.chain job)
+
+  pub passes_jobs : (jobs : List ProcName) → list_all passes (map OfJob jobs) ≡ list_all (knows p) jobs
+  passes_jobs [] = refl
+  passes_jobs (j ∷ jobs) = (λ i. passes_job j i && passes_jobs jobs i)
+
+  -- and any other category where it is owned
+  pub passes_other : (c : CategoryName) → ((job : ProcName) → same_category c (OfJob job) ≡ false) → passes c ≡ among owned c
+  passes_other c no_job = ap (λ b. among owned c || b) (among_none OfJob c no_job p.chain) ∙ or_false (among owned c)
+
+  -- the jobs of the process are all secret where nothing but jobs are
+  tainted_by : (names : List CategoryName) (jobs : List ProcName) → ((job : ProcName) → among names (OfJob job) ≡ has jobs job) → (chain : List ProcName) → list_all (among names) (map OfJob chain) ≡ list_all (has jobs) chain
+  tainted_by names jobs same_jobs [] = refl
+  tainted_by names jobs same_jobs (j ∷ chain) = (λ i. same_jobs j i && tainted_by names jobs same_jobs chain i)
+
+  tainted_in : (jobs : List ProcName) (chain : List ProcName) → list_all (among (map OfJob jobs)) (map OfJob chain) ≡ list_all (has jobs) chain
+  tainted_in jobs chain = tainted_by (map OfJob jobs) jobs (among_jobs jobs) chain
+
+  pub tainted_in_none : (names : List CategoryName) → ((job : ProcName) → among names (OfJob job) ≡ false) → (chain : List ProcName) → list_all (among names) (map OfJob chain) ≡ elim chain as (λ _. Bool) [ [] ↦ true | job ∷ jobs ↦ false ]
+  tainted_in_none names none_of [] = refl
+  tainted_in_none names none_of (j ∷ chain) = ap (λ b. b && list_all (among names) (map OfJob chain)) (none_of j)
+
+  -- nothing that the thread has at 3 is written, since that is a job's
+  pub jobs_apart : (chain : List ProcName) (written : List CategoryName) → ((job : ProcName) → among written (OfJob job) ≡ false) → NamesApart (map OfJob chain) written
+  jobs_apart [] written none_of c e = absurd (true≢false (sym e))
+  jobs_apart (j ∷ chain) written none_of OfBoot e = absurd (true≢false (sym (sym (among_none OfJob OfBoot (λ job. refl) chain) ∙ e)))
+  jobs_apart (j ∷ chain) written none_of (ReadsUser i) e = absurd (true≢false (sym (sym (among_none OfJob (ReadsUser i) (λ job. refl) chain) ∙ e)))
+  jobs_apart (j ∷ chain) written none_of (WritesUser i) e = absurd (true≢false (sym (sym (among_none OfJob (WritesUser i) (λ job. refl) chain) ∙ e)))
+  jobs_apart (j ∷ chain) written none_of (ReadsGroup i) e = absurd (true≢false (sym (sym (among_none OfJob (ReadsGroup i) (λ job. refl) chain) ∙ e)))
+  jobs_apart (j ∷ chain) written none_of (WritesGroup i) e = absurd (true≢false (sym (sym (among_none OfJob (WritesGroup i) (λ job. refl) chain) ∙ e)))
+  jobs_apart (j ∷ chain) written none_of (ReadsProcess q) e = absurd (true≢false (sym (sym (among_none OfJob (ReadsProcess q) (λ job. refl) chain) ∙ e)))
+  jobs_apart (j ∷ chain) written none_of (WritesProcess q) e = absurd (true≢false (sym (sym (among_none OfJob (WritesProcess q) (λ job. refl) chain) ∙ e)))
+  jobs_apart (j ∷ chain) written none_of (OfJob job) e = none_of job
+
+  module _ (category : Categories) (different : AreDifferent category) where
+    abbrev own : Rights
+    own = thread_rights session me p
+
+    -- what is private to user i, readable, for all, scratch, and a group's
+    sees_private : (i : ℕ) → is_below_raised (guard_label category (private_guard i)) (rights_label category own) ≡ is_number (user_number session p.user) i
+    sees_private i = observes_by_names category different (private_guard i) own (user_apart i) ∙ and_true _ ∙ passes_other (ReadsUser i) (λ job. refl) ∙ owns_read_of i
+
+    pub sees_unguarded : (g : Guard) → g.secret ≡ [] → is_below_raised (guard_label category g) (rights_label category own) ≡ true
+    sees_unguarded g e = observes_by_names category different g own (λ c k. absurd (true≢false (sym k ∙ ap (λ names. among names c) e))) ∙ ap (list_all passes) e
+
+    sees_scratch : (jobs : List ProcName) (i : ℕ) → is_below_raised (guard_label category (scratch_guard jobs i)) (rights_label category own) ≡ (is_number (user_number session p.user) i && list_all (knows p) jobs)
+    sees_scratch jobs i = observes_by_names category different (scratch_guard jobs i) own (λ c e. refl) ∙ (λ k. (passes_other (ReadsUser i) (λ job. refl) ∙ owns_read_of i) k && passes_jobs jobs k)
+
+    sees_group : (g : ℕ) → is_below_raised (guard_label category (group_guard g)) (rights_label category own) ≡ (is_some (user_number session p.user) && has_number (groups_of session p.user) g)
+    sees_group g = observes_by_names category different (group_guard g) own (group_apart g) ∙ and_true _ ∙ passes_other (ReadsGroup g) (λ job. refl) ∙ owns_read_of_group g
+
+    -- a process is seen where each of its jobs is known
+    pub sees_process : (other : ProcName) (q : Process) → is_below_raised (guard_label category (process_guard other q)) (rights_label category own) ≡ sees p q
+    sees_process other q = observes_by_names category different (process_guard other q) own (jobs_apart q.chain (WritesProcess other ∷ []) (λ job. refl)) ∙ passes_jobs q.chain
+
+    -- a process that sees another one below its own label writes to it exactly where it is its own
+    pub below_process : (other : ProcName) (q : Process) → is_below (rights_label category own) (guard_label category (process_guard other q)) ≡ (list_all (has q.chain) p.chain && same other me)
+    below_process other q =
+        below_by_names category different (process_guard other q) own (jobs_apart p.chain (WritesProcess other ∷ []) (λ job. refl))
+        ∙ (λ i. tainted_in q.chain p.chain i && (ap (λ b. b && true) (owns_write_own other) ∙ and_true (same other me)) i)
+
+    -- below what is guarded by a written category alone, and the others
+    pub below_private : (i : ℕ) → is_below (rights_label category own) (guard_label category (private_guard i)) ≡ (is_free p && (is_number (user_number session p.user) i && is_free p))
+    below_private i =
+        below_by_names category different (private_guard i) own (jobs_apart p.chain (WritesUser i ∷ []) (λ job. refl))
+        ∙ (λ k. tainted_in_none (ReadsUser i ∷ []) (λ job. refl) p.chain k && (ap (λ b. b && true) (owns_write_of i) ∙ and_true _) k)
+
+    pub below_readable : (i : ℕ) → is_below (rights_label category own) (guard_label category (readable_guard i)) ≡ (is_free p && (is_number (user_number session p.user) i && is_free p))
+    below_readable i =
+        below_by_names category different (readable_guard i) own (jobs_apart p.chain (WritesUser i ∷ []) (λ job. refl))
+        ∙ (λ k. tainted_in_none [] (λ job. refl) p.chain k && (ap (λ b. b && true) (owns_write_of i) ∙ and_true _) k)
+
+    pub below_open : is_below (rights_label category own) (guard_label category open_guard) ≡ is_free p
+    below_open = below_by_names category different open_guard own (λ c e. refl) ∙ and_true _ ∙ tainted_in_none [] (λ job. refl) p.chain
+
+    pub below_scratch : (jobs : List ProcName) (i : ℕ) → is_below (rights_label category own) (guard_label category (scratch_guard jobs i)) ≡ list_all (has jobs) p.chain
+    below_scratch jobs i = below_by_names category different (scratch_guard jobs i) own (λ c e. refl) ∙ and_true _ ∙ tainted_by (scratch_guard jobs i).secret jobs (among_jobs jobs) p.chain
+
+    pub below_group : (g : ℕ) → is_below (rights_label category own) (guard_label category (group_guard g)) ≡ (is_free p && ((is_some (user_number session p.user) && has_number (groups_of session p.user) g) && is_free p))
+    below_group g =
+        below_by_names category different (group_guard g) own (jobs_apart p.chain (WritesGroup g ∷ []) (λ job. refl))
+        ∙ (λ k. tainted_in_none (ReadsGroup g ∷ []) (λ job. refl) p.chain k && (ap (λ b. b && true) (owns_write_of_group g) ∙ and_true _) k)
+
+    module _ (ok : IsSession session) where
+      -- a declared member of a group
+      pub member : (group : Name) (g : ℕ) → group_number session group ≡ Some g → (is_some (user_number session p.user) && has_number (groups_of session p.user) g) ≡ is_member session p.user group
+      member group g numbered = ap (λ b. is_some (user_number session p.user) && b) (is_member_number session ok p.user group g numbered) ∙ by (is_member session p.user group) refl
+        where
+          by : (b : Bool) → is_member session p.user group ≡ b → (is_some (user_number session p.user) && b) ≡ b
+          by true e = and_true _ ∙ ok.declared p.user group e
+          by false e = and_false _
+
+      owner : (name : Name) (i : ℕ) → user_number session name ≡ Some i → is_number (user_number session p.user) i ≡ same p.user name
+      owner name i numbered = is_owner session p.user name i numbered
+
+      -- by the number of a user or of a group
+      by_number : {A : Type 0} (f : A → Guard) (o : Option A) (g : Guard) → option_map f o ≡ Some g → (x : A) × (o ≡ Some x) × (f x ≡ g)
+      by_number f None g e = absurd (none-some g e)
+      by_number f (Some x) g e = (x, refl, same_Some (f x) g e)
+
+      -- what a thread observes is what its process may read
+      pub observes_class : (class : Class) (g : Guard) → class_guard session class ≡ Some g → is_below_raised (guard_label category g) (rights_label category own) ≡ may_read session p class
+      observes_class (Private name) g e =
+          let at = by_number private_guard (user_number session name) g e in
+          ap (λ (x : Guard). is_below_raised (guard_label category x) (rights_label category own)) (sym at.2) ∙ sees_private at.0 ∙ owner name at.0 at.1
+      observes_class (Readable name) g e =
+          let at = by_number readable_guard (user_number session name) g e in
+          ap (λ (x : Guard). is_below_raised (guard_label category x) (rights_label category own)) (sym at.2) ∙ sees_unguarded (readable_guard at.0) refl
+      observes_class Open g e = ap (λ (x : Guard). is_below_raised (guard_label category x) (rights_label category own)) (sym (same_Some open_guard g e)) ∙ sees_unguarded open_guard refl
+      observes_class (Scratch name jobs) g e =
+          let at = by_number (scratch_guard jobs) (user_number session name) g e in
+          ap (λ (x : Guard). is_below_raised (guard_label category x) (rights_label category own)) (sym at.2) ∙ sees_scratch jobs at.0 ∙ ap (λ b. b && list_all (knows p) jobs) (owner name at.0 at.1)
+      observes_class (Grouped group) g e =
+          let at = by_number group_guard (group_number session group) g e in
+          ap (λ (x : Guard). is_below_raised (guard_label category x) (rights_label category own)) (sym at.2) ∙ sees_group at.0 ∙ member group at.0 at.1
+
+      -- what it modifies is what its process may write
+      alike : (free mine : Bool) → ((free && (mine && free)) && mine) ≡ (mine && free)
+      alike true true = refl
+      alike true false = refl
+      alike false true = refl
+      alike false false = refl
+
+      alike_readable : (free mine : Bool) → ((free && (mine && free)) && true) ≡ (mine && free)
+      alike_readable true true = refl
+      alike_readable true false = refl
+      alike_readable false true = refl
+      alike_readable false false = refl
+
+      alike_scratch : (mine known inside : Bool) → (inside && (mine && known)) ≡ (mine && known && inside)
+      alike_scratch true true true = refl
+      alike_scratch true true false = refl
+      alike_scratch true false true = refl
+      alike_scratch true false false = refl
+      alike_scratch false known true = refl
+      alike_scratch false known false = refl
+
+      pub modifies_class : (class : Class) (g : Guard) → class_guard session class ≡ Some g
+          → (is_below (rights_label category own) (guard_label category g) && is_below_raised (guard_label category g) (rights_label category own)) ≡ may_write session p class
+      modifies_class (Private name) g e =
+          let at = by_number private_guard (user_number session name) g e in
+          (λ i. is_below (rights_label category own) (guard_label category (sym at.2 i)) && observes_class (Private name) g e i)
+          ∙ (λ i. (below_private at.0 ∙ ap (λ b. is_free p && (b && is_free p)) (owner name at.0 at.1)) i && same p.user name)
+          ∙ alike (is_free p) (same p.user name)
+      modifies_class (Readable name) g e =
+          let at = by_number readable_guard (user_number session name) g e in
+          (λ i. is_below (rights_label category own) (guard_label category (sym at.2 i)) && observes_class (Readable name) g e i)
+          ∙ (λ i. (below_readable at.0 ∙ ap (λ b. is_free p && (b && is_free p)) (owner name at.0 at.1)) i && true)
+          ∙ alike_readable (is_free p) (same p.user name)
+      modifies_class Open g e =
+          (λ i. is_below (rights_label category own) (guard_label category (sym (same_Some open_guard g e) i)) && observes_class Open g e i) ∙ and_true _ ∙ below_open
+      modifies_class (Scratch name jobs) g e =
+          let at = by_number (scratch_guard jobs) (user_number session name) g e in
+          (λ i. is_below (rights_label category own) (guard_label category (sym at.2 i)) && observes_class (Scratch name jobs) g e i)
+          ∙ ap (λ b. b && (same p.user name && list_all (knows p) jobs)) (below_scratch jobs at.0)
+          ∙ alike_scratch (same p.user name) (list_all (knows p) jobs) (list_all (has jobs) p.chain)
+      modifies_class (Grouped group) g e =
+          let at = by_number group_guard (group_number session group) g e in
+          (λ i. is_below (rights_label category own) (guard_label category (sym at.2 i)) && observes_class (Grouped group) g e i)
+          ∙ (λ i. (below_group at.0 ∙ ap (λ b. is_free p && (b && is_free p)) (member group at.0 at.1)) i && is_member session p.user group)
+          ∙ alike (is_free p) (is_member session p.user group)

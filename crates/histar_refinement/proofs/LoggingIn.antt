@@ -1,0 +1,36 @@
+-- After a login that is answered `ok` the kernel lays out the flat state in which the process is the new user's, and holds nothing.
+use Rattle.std.proofs.Common.{◌≡◌, ℕ, inr, true, false, [], ◌∷◌, None, Some, arith, refl, sym, ◌∙◌}
+use Rattle.std.specs.Prelude.{is_some}
+use mathlib.Core.Bool.{true≢false}
+use Rattle.histar_flat.specs.Words.{Name, ProcName}
+use Rattle.histar_object.specs.State.{State, with_own}
+use Rattle.histar_flat.specs.Sessions.{Session, user_number}
+use Rattle.histar_flat.specs.Classes.{Process}
+use Rattle.histar_flat.specs.FlatState.{Flat, with_process}
+use Rattle.histar_refinement.specs.Guards.{rights_label, rights_clearance}
+use Rattle.histar_refinement.specs.Labels.{thread_rights}
+use Rattle.histar_refinement.specs.Addresses.{home_of}
+use Rattle.histar_refinement.specs.Addresses.Step.{Inside, Runner}
+use Rattle.histar_refinement.specs.LaysOut.{LaysOut}
+use Rattle.histar_refinement.proofs.Becoming.{becomes, given_then, job_used}
+
+module _ (session : Session) (s : State) (f : Flat) (l : LaysOut session s f) (me : ProcName) (p : Process) (here : f.processes me ≡ Some p) (runs : p.exited ≡ None)
+    (name : Name) (declared : is_some (user_number session name) ≡ true) (T : ℕ) (at_thread : l.laid.naming.number (Runner ∷ Inside ∷ home_of me) ≡ Some T) where
+  abbrev changed : Process
+  changed = record { user = name; chain = p.chain; held = []; exited = p.exited; born = p.born }
+
+  abbrev new : State
+  new = with_own s T (rights_label l.laid.category (thread_rights session me changed)) (rights_clearance l.laid.category (thread_rights session me changed))
+
+  never : is_some (user_number session name) ≡ false → (p.chain ≡ []) × (changed.held ≡ [])
+  never e = absurd (true≢false (sym declared ∙ e))
+
+  pub lays_out_login : LaysOut session new (with_process f me changed)
+  lays_out_login =
+      let later = becomes session s f l.laid me p here runs name (inr declared) [] (λ job e. absurd (true≢false (sym e))) tt (λ job e. refl) never T at_thread new (λ q. refl) refl (omega arith) in
+      record {
+        laid = later.0;
+        jobs_given = λ job u.
+            sym (given_then session s f l.laid me p here runs name (inr declared) [] (λ job e. absurd (true≢false (sym e))) tt (λ job e. refl) never T at_thread job)
+            ∙ l.jobs_given job (job_used session s f l.laid me p here runs name (inr declared) [] (λ job e. absurd (true≢false (sym e))) tt (λ job e. refl) never T at_thread job u);
+      }

@@ -1,0 +1,122 @@
+-- A part of 'one flat state at most': the label of a process's container tells the jobs that the process is in, since they stand in order.
+use Rattle.std.proofs.Common.{◌≡◌, ◌≢◌, ℕ, ◌+◌, ◌<◌, ◌≤◌, ◌==◌, ◌⊎◌, inl, inr, Bool, true, false, ◌||◌, List, [], ◌∷◌, arith, refl, sym, ap, ◌∙◌, subst}
+use Rattle.std.specs.Prelude.{map}
+use Rattle.std.proofs.lemmas.Bool.Decides.{eqb_tells}
+use mathlib.Core.Bool.{true≢false}
+use Rattle.histar_flat.specs.Words.{ProcName}
+use Rattle.histar_label.specs.Level.{rank}
+use Rattle.histar_label.specs.declared.levels.Level.TheVariants.{L1, L3}
+use Rattle.histar_label.specs.Levels.{Levels, level_of}
+use Rattle.histar_flat.specs.Sessions.{has}
+use Rattle.histar_flat.specs.Classes.{Process}
+use Rattle.histar_refinement.specs.Categories.{CategoryName, Categories, AreDifferent, split_category}
+use Rattle.histar_refinement.specs.Categories.CategoryName.{WritesProcess, OfJob}
+use Rattle.histar_refinement.specs.Guards.{guard_label}
+use Rattle.histar_refinement.specs.Labels.{process_guard}
+use Rattle.histar_refinement.specs.LaysOut.{IsRisingFrom, AreInOrder}
+use Rattle.histar_refinement.proofs.Members.{is_in, or_first, same_truth}
+use Rattle.histar_refinement.proofs.Levelled.{guarded_level, at_guarded}
+use Rattle.histar_refinement.proofs.CategoryTests.{among_jobs, is_in_names, named_in}
+use Rattle.histar_refinement.proofs.Uses.{job_among}
+
+-- a number among rising ones is no smaller than the first
+not_smaller : (n : ℕ) (xs : List ℕ) (q : ℕ) → IsRisingFrom n xs → is_in xs q ≡ true → n ≤ q
+not_smaller n [] q rising e = absurd (true≢false (sym e))
+not_smaller n (x ∷ xs) q rising e = elim (eqb_tells q x) [
+  | inl k ↦ let low = rising.0 in let same = k.1 in omega (arith, low, same)
+  | inr k ↦ let low = rising.0 in let more = not_smaller (x + 1) xs q rising.1 (sym (ap (λ b. b || is_in xs q) k.0) ∙ e) in omega (arith, low, more)
+]
+
+itself : (q : ℕ) → (q == q) ≡ true
+itself q = elim (eqb_tells q q) [ inl e ↦ e.0 | inr e ↦ absurd (e.1 refl) ]
+
+not_among : (n : ℕ) (xs : List ℕ) (q : ℕ) → IsRisingFrom n xs → q < n → is_in xs q ≡ false
+not_among n xs q rising below = by (is_in xs q) refl
+  where
+    by : (b : Bool) → is_in xs q ≡ b → b ≡ false
+    by true e = let low = not_smaller n xs q rising e in absurd (omega (arith, low, below))
+    by false e = refl
+
+-- rising lists with the same members are the same
+pub one_rising : (n m : ℕ) (xs ys : List ℕ) → IsRisingFrom n xs → IsRisingFrom m ys → ((q : ℕ) → is_in xs q ≡ is_in ys q) → xs ≡ ys
+one_rising n m [] [] a b alike = refl
+one_rising n m [] (y ∷ ys) a b alike = absurd (true≢false (sym (or_first (y == y) (is_in ys y) (itself y)) ∙ sym (alike y)))
+one_rising n m (x ∷ xs) [] a b alike = absurd (true≢false (sym (or_first (x == x) (is_in xs x) (itself x)) ∙ alike x))
+one_rising n m (x ∷ xs) (y ∷ ys) a b alike = (λ i. same i ∷ one_rising (x + 1) (y + 1) xs ys a.1 b.1 rest i)
+  where
+    x_there : y ≤ x
+    x_there = not_smaller y (y ∷ ys) x (omega arith, b.1) (sym (alike x) ∙ or_first (x == x) (is_in xs x) (itself x))
+
+    y_there : x ≤ y
+    y_there = not_smaller x (x ∷ xs) y (omega arith, a.1) (alike y ∙ or_first (y == y) (is_in ys y) (itself y))
+
+    same : x ≡ y
+    same = let low = x_there in let high = y_there in omega (arith, low, high)
+
+    rest : (q : ℕ) → is_in xs q ≡ is_in ys q
+    rest q = elim (eqb_tells q x) [
+      | inl e ↦
+          let here = e.1 in
+          let there = same in
+          not_among (x + 1) xs q a.1 (omega (arith, here)) ∙ sym (not_among (y + 1) ys q b.1 (omega (arith, here, there)))
+      | inr e ↦ sym (ap (λ b. b || is_in xs q) e.0) ∙ alike q ∙ ap (λ z. (q == z) || is_in ys q) (sym same) ∙ ap (λ b. b || is_in ys q) e.0
+    ]
+
+module _ (category : Categories) (different : AreDifferent category) where
+  abbrev numbers : List ProcName → List ℕ
+  numbers jobs = map (λ job. category (OfJob job)) jobs
+
+  one_list : (xs ys : List ProcName) → numbers xs ≡ numbers ys → xs ≡ ys
+  one_list [] [] e = refl
+  one_list [] (y ∷ ys) e = absurd (cc)
+  one_list (x ∷ xs) [] e = absurd (cc)
+  one_list (x ∷ xs) (y ∷ ys) e =
+      let heads : category (OfJob x) ≡ category (OfJob y) = cc in
+      let tails : numbers xs ≡ numbers ys = cc in
+      let names : x ≡ y = ap (λ (c : CategoryName). (split_category c).1) (different (OfJob x) (OfJob y) heads) in
+      (λ i. names i ∷ one_list xs ys tails i)
+
+  twice : (jobs : List ProcName) → map category (map OfJob jobs) ≡ numbers jobs
+  twice [] = refl
+  twice (j ∷ jobs) = ap (λ (cs : List ℕ). category (OfJob j) ∷ cs) (twice jobs)
+
+  -- two lists of jobs in order whose numbers are the same
+  pub one_order : (xs ys : List ProcName) → AreInOrder category xs → AreInOrder category ys → ((q : ℕ) → is_in (map category (map OfJob xs)) q ≡ is_in (map category (map OfJob ys)) q) → xs ≡ ys
+  one_order xs ys a b alike = one_list xs ys (one_rising 0 0 (numbers xs) (numbers ys) a b (λ q. ap (λ (cs : List ℕ). is_in cs q) (sym (twice xs)) ∙ alike q ∙ ap (λ (cs : List ℕ). is_in cs q) (twice ys)))
+
+  -- two lists of jobs in order that have the same jobs are the same
+  number_in : (xs ys : List ProcName) → ((job : ProcName) → has xs job ≡ has ys job) → (k : ℕ) → is_in (map category (map OfJob xs)) k ≡ true → is_in (map category (map OfJob ys)) k ≡ true
+  number_in xs ys alike k e =
+      let there = named_in category (map OfJob xs) k e in
+      let found = job_among xs there.0 there.2 in
+      ap (is_in (map category (map OfJob ys))) (there.1 ∙ ap category found.1) ∙ is_in_names category different (map OfJob ys) (OfJob found.0) ∙ among_jobs ys found.0 ∙ sym (alike found.0) ∙ found.2
+
+  pub one_jobs : (xs ys : List ProcName) → AreInOrder category xs → AreInOrder category ys → ((job : ProcName) → has xs job ≡ has ys job) → xs ≡ ys
+  one_jobs xs ys a b alike = one_order xs ys a b (λ k. same_truth (is_in (map category (map OfJob xs)) k) (is_in (map category (map OfJob ys)) k) (number_in xs ys alike k) (number_in ys xs (λ job. sym (alike job)) k))
+
+  -- a process's own category is no job's
+  not_own : (me : ProcName) (jobs : List ProcName) → is_in (map category (map OfJob jobs)) (category (WritesProcess me)) ≡ false
+  not_own me [] = refl
+  not_own me (j ∷ jobs) = elim (eqb_tells (category (WritesProcess me)) (category (OfJob j))) [
+    | inl e ↦ let k : 6 ≡ 7 = ap (λ (c : CategoryName). (split_category c).0) (different (WritesProcess me) (OfJob j) e.1) in absurd (omega (arith, k))
+    | inr e ↦ ap (λ b. b || is_in (map category (map OfJob jobs)) (category (WritesProcess me))) e.0 ∙ not_own me jobs
+  ]
+
+  pub told_secret : (s t : Bool) → guarded_level s false ≡ guarded_level t false → s ≡ t
+  told_secret true true e = refl
+  told_secret true false e = let k : rank L3 ≡ rank L1 = ap rank e in absurd (omega (arith, k))
+  told_secret false true e = let k : rank L1 ≡ rank L3 = ap rank e in absurd (omega (arith, k))
+  told_secret false false e = refl
+
+  -- The label of the container of a process tells the jobs that it is in.
+  pub one_chain : (me : ProcName) (p q : Process) → AreInOrder category p.chain → AreInOrder category q.chain → guard_label category (process_guard me p) ≡ guard_label category (process_guard me q) → p.chain ≡ q.chain
+  one_chain me p q a b e = one_order p.chain q.chain a b (λ k. by k (eqb_tells k (category (WritesProcess me))))
+    where
+      levels : (k : ℕ) → guarded_level (is_in (map category (map OfJob p.chain)) k) (is_in (category (WritesProcess me) ∷ []) k) ≡ guarded_level (is_in (map category (map OfJob q.chain)) k) (is_in (category (WritesProcess me) ∷ []) k)
+      levels k = sym (at_guarded (map category (map OfJob p.chain)) (category (WritesProcess me) ∷ []) k) ∙ ap (λ (l : Levels). level_of l k) e ∙ at_guarded (map category (map OfJob q.chain)) (category (WritesProcess me) ∷ []) k
+
+      by : (k : ℕ) → (((k == category (WritesProcess me)) ≡ true) × (k ≡ category (WritesProcess me))) ⊎ (((k == category (WritesProcess me)) ≡ false) × (k ≢ category (WritesProcess me)))
+          → is_in (map category (map OfJob p.chain)) k ≡ is_in (map category (map OfJob q.chain)) k
+      by k (inl is) = ap (is_in (map category (map OfJob p.chain))) is.1 ∙ not_own me p.chain ∙ sym (ap (is_in (map category (map OfJob q.chain))) is.1 ∙ not_own me q.chain)
+      by k (inr is) = told_secret (is_in (map category (map OfJob p.chain)) k) (is_in (map category (map OfJob q.chain)) k)
+          (subst (λ b. guarded_level (is_in (map category (map OfJob p.chain)) k) (b || false) ≡ guarded_level (is_in (map category (map OfJob q.chain)) k) (b || false)) is.0 (levels k))

@@ -1,0 +1,177 @@
+-- A part of 'one flat state at most': the label of what is of a class tells the class.
+use Rattle.std.proofs.Common.{◌≡◌, ℕ, inl, inr, Bool, true, false, List, [], ◌∷◌, Option, None, Some, arith, refl, sym, ap, subst, ◌∙◌}
+use Rattle.std.specs.Prelude.{map, option_map}
+use Rattle.std.proofs.lemmas.Option.{none-some, same_Some}
+use mathlib.Core.Bool.{true≢false}
+use Rattle.histar_flat.specs.Words.{Name, ProcName}
+use Rattle.histar_flat.specs.Sessions.{Session, user_number, group_number}
+use Rattle.histar_flat.specs.Classes.{Class}
+use Rattle.histar_flat.specs.Classes.Class.{Private, Readable, Open, Scratch, Grouped}
+use Rattle.histar_label.specs.Level.{rank}
+use Rattle.histar_label.specs.declared.levels.Level.TheVariants.{L0, L1, L3}
+use Rattle.histar_label.specs.Levels.{Levels, level_of}
+use Rattle.histar_refinement.specs.Categories.{CategoryName, Categories, AreDifferent, same_category, among}
+use Rattle.histar_refinement.specs.Categories.CategoryName.{OfBoot, ReadsUser, WritesUser, ReadsGroup, WritesGroup, ReadsProcess, WritesProcess, OfJob}
+use Rattle.histar_refinement.specs.Guards.{Guard, guard_label}
+use Rattle.histar_refinement.specs.Labels.{class_guard, private_guard, readable_guard, scratch_guard, group_guard, open_guard}
+use Rattle.histar_refinement.specs.LaysOut.{IsInOrder}
+use Rattle.histar_refinement.proofs.Members.{or_first, or_either}
+use Rattle.histar_refinement.proofs.Levelled.{guarded_level, at_guarded}
+use Rattle.histar_refinement.proofs.CategoryTests.{category_tells, among_none, among_jobs, is_in_names}
+use Rattle.histar_refinement.proofs.SessionLemmas.{one_user, one_group}
+use Rattle.histar_refinement.proofs.Growing.{same_told}
+use Rattle.histar_refinement.proofs.OneChain.{one_jobs}
+
+-- ---- the sets of two guards whose labels are the same
+
+-- no secret category is a written one
+abbrev IsApart : Guard → Type 0
+IsApart g = (c : CategoryName) → among g.secret c ≡ true → among g.written c ≡ false
+
+-- a level tells whether the category is written, and then whether it is secret
+told_written : (s t w x : Bool) → guarded_level s w ≡ guarded_level t x → w ≡ x
+told_written s t true true e = refl
+told_written s t false false e = refl
+told_written true t false true e = let k : rank L3 ≡ rank L0 = ap rank e in absurd (omega (arith, k))
+told_written false t false true e = let k : rank L1 ≡ rank L0 = ap rank e in absurd (omega (arith, k))
+told_written s true true false e = let k : rank L0 ≡ rank L3 = ap rank e in absurd (omega (arith, k))
+told_written s false true false e = let k : rank L0 ≡ rank L1 = ap rank e in absurd (omega (arith, k))
+
+told_both : (s t w x : Bool) → (s ≡ true → w ≡ false) → (t ≡ true → x ≡ false) → guarded_level s w ≡ guarded_level t x → (s ≡ t) × (w ≡ x)
+told_both true true w x a b e = (refl, told_written true true w x e)
+told_both false false w x a b e = (refl, told_written false false w x e)
+told_both true false w true a b e = absurd (true≢false (sym (told_written true false w true e) ∙ a refl))
+told_both true false true false a b e = absurd (true≢false (told_written true false true false e))
+told_both true false false false a b e = let k : rank L3 ≡ rank L1 = ap rank e in absurd (omega (arith, k))
+told_both false true true x a b e = absurd (true≢false (told_written false true true x e ∙ b refl))
+told_both false true false true a b e = absurd (true≢false (sym (told_written false true false true e)))
+told_both false true false false a b e = let k : rank L1 ≡ rank L3 = ap rank e in absurd (omega (arith, k))
+
+-- the same categories are secret, and the same are written
+pub record AreAlike (a b : Guard) : Type 0 where
+  pub secret : (c : CategoryName) → among a.secret c ≡ among b.secret c
+  pub written : (c : CategoryName) → among a.written c ≡ among b.written c
+
+module _ (category : Categories) (different : AreDifferent category) where
+  guards_alike : (a b : Guard) → IsApart a → IsApart b → guard_label category a ≡ guard_label category b → AreAlike a b
+  guards_alike a b apart_a apart_b e = record { secret = λ c. (both c).0; written = λ c. (both c).1 }
+    where
+      level_for : (g : Guard) (c : CategoryName) → level_of (guard_label category g) (category c) ≡ guarded_level (among g.secret c) (among g.written c)
+      level_for g c = at_guarded (map category g.secret) (map category g.written) (category c) ∙ (λ i. guarded_level (is_in_names category different g.secret c i) (is_in_names category different g.written c i))
+
+      both : (c : CategoryName) → (among a.secret c ≡ among b.secret c) × (among a.written c ≡ among b.written c)
+      both c = told_both (among a.secret c) (among b.secret c) (among a.written c) (among b.written c) (apart_a c) (apart_b c)
+          (sym (level_for a c) ∙ ap (λ (l : Levels). level_of l (category c)) e ∙ level_for b c)
+
+-- ---- the guards of classes
+
+-- how a class is guarded, with the number of its user or group
+data View (session : Session) (c : Class) (g : Guard) : Type 0 where
+  ViewPrivate : (name : Name) (i : ℕ) → user_number session name ≡ Some i → c ≡ Private name → g ≡ private_guard i → View session c g
+  ViewReadable : (name : Name) (i : ℕ) → user_number session name ≡ Some i → c ≡ Readable name → g ≡ readable_guard i → View session c g
+  ViewOpen : c ≡ Open → g ≡ open_guard → View session c g
+  ViewScratch : (name : Name) (jobs : List ProcName) (i : ℕ) → user_number session name ≡ Some i → c ≡ Scratch name jobs → g ≡ scratch_guard jobs i → View session c g
+  ViewGroup : (name : Name) (k : ℕ) → group_number session name ≡ Some k → c ≡ Grouped name → g ≡ group_guard k → View session c g
+
+by_number : (f : ℕ → Guard) (o : Option ℕ) (g : Guard) → option_map f o ≡ Some g → (x : ℕ) × (o ≡ Some x) × (g ≡ f x)
+by_number f None g e = absurd (none-some g e)
+by_number f (Some x) g e = (x, refl, sym (same_Some (f x) g e))
+
+view : (session : Session) (c : Class) (g : Guard) → class_guard session c ≡ Some g → View session c g
+view session (Private name) g e = let at = by_number private_guard (user_number session name) g e in ViewPrivate name at.0 at.1 refl at.2
+view session (Readable name) g e = let at = by_number readable_guard (user_number session name) g e in ViewReadable name at.0 at.1 refl at.2
+view session Open g e = ViewOpen refl (sym (same_Some open_guard g e))
+view session (Scratch name jobs) g e = let at = by_number (scratch_guard jobs) (user_number session name) g e in ViewScratch name jobs at.0 at.1 refl at.2
+view session (Grouped name) g e = let at = by_number group_guard (group_number session name) g e in ViewGroup name at.0 at.1 refl at.2
+
+-- what is among one name is this one
+told_one : (d c : CategoryName) → among (d ∷ []) c ≡ true → c ≡ d
+told_one d c e = elim (or_either (same_category c d) false e) [ inl k ↦ same_told c d k | inr k ↦ absurd (true≢false (sym k)) ]
+
+among_first : (d : CategoryName) (more : List CategoryName) → among (d ∷ more) d ≡ true
+among_first d more = or_first (same_category d d) (among more d) (elim (category_tells d d) [ inl e ↦ e.0 | inr e ↦ absurd (e.1 refl) ])
+
+-- what is secret is not written
+class_apart : (session : Session) (c : Class) (g : Guard) → View session c g → IsApart g
+class_apart session c g (ViewPrivate name i numbered is like) = subst IsApart (sym like) (λ d e. ap (among (WritesUser i ∷ [])) (told_one (ReadsUser i) d e))
+class_apart session c g (ViewReadable name i numbered is like) = subst IsApart (sym like) (λ d e. absurd (true≢false (sym e)))
+class_apart session c g (ViewOpen is like) = subst IsApart (sym like) (λ d e. refl)
+class_apart session c g (ViewScratch name jobs i numbered is like) = subst IsApart (sym like) (λ d e. refl)
+class_apart session c g (ViewGroup name k numbered is like) = subst IsApart (sym like) (λ d e. ap (among (WritesGroup k ∷ [])) (told_one (ReadsGroup k) d e))
+
+-- the numbers that names tell
+number_of : CategoryName → ℕ
+number_of OfBoot = 0
+number_of (ReadsUser i) = i
+number_of (WritesUser i) = i
+number_of (ReadsGroup k) = k
+number_of (WritesGroup k) = k
+number_of (ReadsProcess p) = 0
+number_of (WritesProcess p) = 0
+number_of (OfJob job) = 0
+
+clash : {x y : Bool} → x ≡ y → x ≡ true → y ≡ false → ⊥
+clash same is not = true≢false (sym is ∙ same ∙ not)
+
+-- guards that are given by equations
+sets : {a b A B : Guard} → a ≡ A → b ≡ B → AreAlike a b → AreAlike A B
+sets like at alike = record {
+  secret = λ c. ap (λ (g : Guard). among g.secret c) (sym like) ∙ alike.secret c ∙ ap (λ (g : Guard). among g.secret c) at;
+  written = λ c. ap (λ (g : Guard). among g.written c) (sym like) ∙ alike.written c ∙ ap (λ (g : Guard). among g.written c) at;
+}
+
+-- what a user reads by is told among jobs too
+user_read : (jobs : List ProcName) (i j : ℕ) → among (ReadsUser j ∷ map OfJob jobs) (ReadsUser i) ≡ true → i ≡ j
+unfolding number_of
+user_read jobs i j e = elim (or_either (same_category (ReadsUser i) (ReadsUser j)) (among (map OfJob jobs) (ReadsUser i)) e) [
+  | inl k ↦ ap number_of (same_told (ReadsUser i) (ReadsUser j) k)
+  | inr k ↦ absurd (true≢false (sym k ∙ among_none OfJob (ReadsUser i) (λ job. refl) jobs))
+]
+
+module _ (session : Session) (category : Categories) (different : AreDifferent category) where
+  -- the guards of two classes whose sets are the same are those of one class
+  one_view : (c e : Class) (a b : Guard) → View session c a → View session e b → AreAlike a b → IsInOrder category c → IsInOrder category e → c ≡ e
+  unfolding number_of
+  one_view c e a b (ViewPrivate n i x is like) (ViewPrivate m j y it at) alike order_c order_e =
+      let number : i ≡ j = ap number_of (told_one (ReadsUser j) (ReadsUser i) (sym ((sets like at alike).secret (ReadsUser i)) ∙ among_first (ReadsUser i) [])) in
+      is ∙ ap Private (one_user session n m j (x ∙ ap Some number) y) ∙ sym it
+  one_view c e a b (ViewPrivate n i x is like) (ViewReadable m j y it at) alike order_c order_e = absurd (clash ((sets like at alike).secret (ReadsUser i)) (among_first (ReadsUser i) []) refl)
+  one_view c e a b (ViewPrivate n i x is like) (ViewOpen it at) alike order_c order_e = absurd (clash ((sets like at alike).secret (ReadsUser i)) (among_first (ReadsUser i) []) refl)
+  one_view c e a b (ViewPrivate n i x is like) (ViewScratch m others j y it at) alike order_c order_e = absurd (clash ((sets like at alike).written (WritesUser i)) (among_first (WritesUser i) []) refl)
+  one_view c e a b (ViewPrivate n i x is like) (ViewGroup m j y it at) alike order_c order_e = absurd (clash ((sets like at alike).secret (ReadsUser i)) (among_first (ReadsUser i) []) refl)
+  one_view c e a b (ViewReadable n i x is like) (ViewPrivate m j y it at) alike order_c order_e = absurd (clash (sym ((sets like at alike).secret (ReadsUser j))) (among_first (ReadsUser j) []) refl)
+  one_view c e a b (ViewReadable n i x is like) (ViewReadable m j y it at) alike order_c order_e =
+      let number : i ≡ j = ap number_of (told_one (WritesUser j) (WritesUser i) (sym ((sets like at alike).written (WritesUser i)) ∙ among_first (WritesUser i) [])) in
+      is ∙ ap Readable (one_user session n m j (x ∙ ap Some number) y) ∙ sym it
+  one_view c e a b (ViewReadable n i x is like) (ViewOpen it at) alike order_c order_e = absurd (clash ((sets like at alike).written (WritesUser i)) (among_first (WritesUser i) []) refl)
+  one_view c e a b (ViewReadable n i x is like) (ViewScratch m others j y it at) alike order_c order_e = absurd (clash ((sets like at alike).written (WritesUser i)) (among_first (WritesUser i) []) refl)
+  one_view c e a b (ViewReadable n i x is like) (ViewGroup m j y it at) alike order_c order_e = absurd (clash ((sets like at alike).written (WritesUser i)) (among_first (WritesUser i) []) refl)
+  one_view c e a b (ViewOpen is like) (ViewPrivate m j y it at) alike order_c order_e = absurd (clash (sym ((sets like at alike).secret (ReadsUser j))) (among_first (ReadsUser j) []) refl)
+  one_view c e a b (ViewOpen is like) (ViewReadable m j y it at) alike order_c order_e = absurd (clash (sym ((sets like at alike).written (WritesUser j))) (among_first (WritesUser j) []) refl)
+  one_view c e a b (ViewOpen is like) (ViewOpen it at) alike order_c order_e = is ∙ sym it
+  one_view c e a b (ViewOpen is like) (ViewScratch m others j y it at) alike order_c order_e = absurd (clash (sym ((sets like at alike).secret (ReadsUser j))) (among_first (ReadsUser j) (map OfJob others)) refl)
+  one_view c e a b (ViewOpen is like) (ViewGroup m j y it at) alike order_c order_e = absurd (clash (sym ((sets like at alike).secret (ReadsGroup j))) (among_first (ReadsGroup j) []) refl)
+  one_view c e a b (ViewScratch n jobs i x is like) (ViewPrivate m j y it at) alike order_c order_e = absurd (clash (sym ((sets like at alike).written (WritesUser j))) (among_first (WritesUser j) []) refl)
+  one_view c e a b (ViewScratch n jobs i x is like) (ViewReadable m j y it at) alike order_c order_e = absurd (clash (sym ((sets like at alike).written (WritesUser j))) (among_first (WritesUser j) []) refl)
+  one_view c e a b (ViewScratch n jobs i x is like) (ViewOpen it at) alike order_c order_e = absurd (clash ((sets like at alike).secret (ReadsUser i)) (among_first (ReadsUser i) (map OfJob jobs)) refl)
+  one_view c e a b (ViewScratch n jobs i x is like) (ViewScratch m others j y it at) alike order_c order_e =
+      let same = sets like at alike in
+      let number : i ≡ j = user_read others i j (sym (same.secret (ReadsUser i)) ∙ among_first (ReadsUser i) (map OfJob jobs)) in
+      let name : n ≡ m = one_user session n m j (x ∙ ap Some number) y in
+      let list : jobs ≡ others = one_jobs category different jobs others (subst (IsInOrder category) is order_c) (subst (IsInOrder category) it order_e) (λ job. sym (among_jobs jobs job) ∙ same.secret (OfJob job) ∙ among_jobs others job) in
+      is ∙ (λ k. Scratch (name k) (list k)) ∙ sym it
+  one_view c e a b (ViewScratch n jobs i x is like) (ViewGroup m j y it at) alike order_c order_e = absurd (clash ((sets like at alike).secret (ReadsUser i)) (among_first (ReadsUser i) (map OfJob jobs)) refl)
+  one_view c e a b (ViewGroup n i x is like) (ViewPrivate m j y it at) alike order_c order_e = absurd (clash (sym ((sets like at alike).secret (ReadsUser j))) (among_first (ReadsUser j) []) refl)
+  one_view c e a b (ViewGroup n i x is like) (ViewReadable m j y it at) alike order_c order_e = absurd (clash (sym ((sets like at alike).written (WritesUser j))) (among_first (WritesUser j) []) refl)
+  one_view c e a b (ViewGroup n i x is like) (ViewOpen it at) alike order_c order_e = absurd (clash ((sets like at alike).secret (ReadsGroup i)) (among_first (ReadsGroup i) []) refl)
+  one_view c e a b (ViewGroup n i x is like) (ViewScratch m others j y it at) alike order_c order_e = absurd (clash (sym ((sets like at alike).secret (ReadsUser j))) (among_first (ReadsUser j) (map OfJob others)) refl)
+  one_view c e a b (ViewGroup n i x is like) (ViewGroup m j y it at) alike order_c order_e =
+      let number : i ≡ j = ap number_of (told_one (ReadsGroup j) (ReadsGroup i) (sym ((sets like at alike).secret (ReadsGroup i)) ∙ among_first (ReadsGroup i) [])) in
+      is ∙ ap Grouped (one_group session n m j (x ∙ ap Some number) y) ∙ sym it
+
+  -- The label of what is of a class tells the class.
+  pub one_class : (c e : Class) (a b : Guard) → class_guard session c ≡ Some a → class_guard session e ≡ Some b → guard_label category a ≡ guard_label category b → IsInOrder category c → IsInOrder category e → c ≡ e
+  one_class c e a b of_c of_e labels order_c order_e =
+      let left = view session c a of_c in
+      let right = view session e b of_e in
+      one_view c e a b left right (guards_alike category different a b (class_apart session c a left) (class_apart session e b right) labels) order_c order_e

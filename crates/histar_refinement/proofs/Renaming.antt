@@ -1,0 +1,253 @@
+-- After an entry of a directory is renamed the kernel lays out the flat state with all paths below its new name.
+use Rattle.std.proofs.Common.{◌≡◌, ◌≢◌, ℕ, ◌+◌, ◌-◌, ◌*◌, ◌⊎◌, inl, inr, Bool, true, false, ◌||◌, cond, List, [], ◌∷◌, length, Option, None, Some, arith, refl, sym, ap, ◌∙◌, subst}
+use Rattle.std.specs.Prelude.{IsTrue, is_some, option_map, option_and_then}
+use Rattle.std.specs.FinMap as map
+use Rattle.std.specs.FinMap.{find}
+use Rattle.std.specs.Ordering.{eq_by_cmp}
+use Rattle.std.specs.List.{AllByRecursion}
+use Rattle.std.specs.Cmp.Lexicographic.{nat_list_cmp_total, texts_ties}
+use Rattle.std.proofs.lemmas.Option.{none-some, same_Some}
+use mathlib.Core.Bool.{true≢false}
+use Rattle.histar_flat.specs.Words.{Name, Path, ProcName, is_name}
+use Rattle.histar_flat.specs.PathOrder.{same as same_name, same_path}
+use Rattle.histar_flat.specs.Files.{get}
+use Rattle.histar_flat.proofs.FileLemmas.{same_name_found, same_path_found}
+use Rattle.histar_flat.proofs.Finding.{equal}
+use Rattle.histar_layout.specs.Directory.{Entries, IsEntry, IsListable, spelling}
+use Rattle.histar_layout.specs.declared.entry.Target.{Target}
+use Rattle.histar_layout.proofs.MapLemmas.{by_bytes, antisymmetric, listable_insert, listable_remove}
+use Rattle.histar_object.specs.State.{State, Found, with_bytes}
+use Rattle.histar_container.specs.Tree.{Address, Naming}
+use Rattle.histar_flat.specs.Sessions.{Session}
+use Rattle.histar_flat.specs.FlatState.{Node, Flat, is_dir, is_dir_at, is_some_and, with_renamed}
+use Rattle.histar_flat.specs.PathOrder.{under_path}
+use Rattle.histar_refinement.specs.Addresses.{Step, same_step, same_address, address_of, path_at, process_at, inside_at, boot_number}
+use Rattle.histar_refinement.specs.Addresses.Step.{Left, Slash, Listing, Named, Home, Status, Inside, Runner, Child}
+use Rattle.histar_refinement.specs.LeftByBoot.{left_by_boot}
+use Rattle.histar_refinement.specs.Directories.{directory_of}
+use Rattle.histar_refinement.specs.Stands.{Stands}
+use Rattle.histar_refinement.specs.Expected.{node_object, listing_object, node_at, listing_at, home_at, status_at, container_inside, thread_at, expected}
+use Rattle.histar_refinement.specs.LaysOut.{AreJobsGiven, Laid}
+use Rattle.histar_refinement.proofs.Places.{address_path, asked_listing}
+use Rattle.histar_refinement.proofs.Steps.{step_tells}
+use Rattle.histar_refinement.proofs.DirectoryLaws.{get_directory}
+use Rattle.histar_refinement.proofs.Renamings.{renamed_naming, stands_renamed}
+use Rattle.histar_refinement.proofs.FileRows.{SameNumbers, same_status, leads_at, directories_alike, same_leads, nothing_in, old_fits, ClassFits, laid_listed, jobs_kept}
+use Rattle.histar_refinement.proofs.Turning.{turned_name, turned_step, turned_n, turned_k, turned_else, turned, turned_address, address_back, directory_stays, address_stays, same_tests, turned_path_address, turned_home, process_turned, inside_turned, path_turned, get_renamed}
+
+-- an entry that is found is one
+pub found_entry : (es : List (Name × Target)) (q : Name) (v : Target) → AllByRecursion IsEntry es → find by_bytes q es ≡ Some v → IsEntry (q, v)
+found_entry [] q v h e = absurd (none-some v e)
+found_entry (x ∷ es) q v h e =
+    elim (eq_by_cmp by_bytes q x.0) as (λ b. eq_by_cmp by_bytes q x.0 ≡ b → cond b (Some x.1) (find by_bytes q es) ≡ Some v → IsEntry (q, v)) [
+      | true ↦ λ t f.
+          let name : x.0 ≡ q = sym (antisymmetric q x.0 (equal (by_bytes q x.0) t)) in
+          let target : x.1 ≡ v = same_Some x.1 v f in
+          subst IsEntry (λ i. (name i, target i)) h.0
+      | false ↦ λ t f. found_entry es q v h.1 f
+    ] refl e
+
+-- what a directory that can be listed has at a name is an entry
+pub entry_found : (dir : Entries) (q : Name) (v : Target) → IsListable dir → map.get dir q ≡ Some v → IsEntry (q, v)
+entry_found dir q v h at = found_entry (map.entries dir) q v h.each (sym (map.get-entries dir q) ∙ at)
+
+module _ (session : Session) (s : State) (f : Flat) (l : Laid session s f) where
+  -- where nothing stands, nothing stands below
+  pub nothing_under : (top : Path) → get f.files top ≡ None → (q : Path) → under_path top q ≡ true → get f.files q ≡ None
+  nothing_under top absent [] u = elim (same_path_found top []) [
+    | inl e ↦ ap (get f.files) (sym e.1) ∙ absent
+    | inr e ↦ absurd (true≢false (sym u ∙ e.0))
+  ]
+  nothing_under top absent (m ∷ e) u = elim (same_path_found top (m ∷ e)) [
+    | inl t ↦ ap (get f.files) (sym t.1) ∙ absent
+    | inr t ↦ nothing_in session s f l m e (nothing_under top absent e (sym (ap (λ b. b || under_path top e) t.0) ∙ u))
+  ]
+
+  -- so what stands is not below
+  pub not_under : (top : Path) → get f.files top ≡ None → (q : Path) (there : Node) → get f.files q ≡ Some there → under_path top q ≡ false
+  not_under top absent q there at = by (under_path top q) refl
+    where
+      by : (t : Bool) → under_path top q ≡ t → t ≡ false
+      by true u = absurd (none-some there (sym (nothing_under top absent q u) ∙ at))
+      by false u = refl
+
+  module _ (n k : Name) (d : Path) (N : ℕ) (at_listing : l.naming.number (Listing ∷ address_of d) ≡ Some N) (absent : get f.files (k ∷ d) ≡ None) where
+    abbrev pub old_path : Path
+    old_path = n ∷ d
+
+    abbrev pub new_path : Path
+    new_path = k ∷ d
+
+    abbrev pub after : Flat
+    after = with_renamed f (n ∷ d) (k ∷ d)
+
+    abbrev pub turn : Address Step → Address Step
+    turn = turned_address n k d
+
+    abbrev pub naming : Naming Step
+    naming = renamed_naming same_step step_tells (turned_address n k d) (turned_address n k d) (address_back n k d) (address_back n k d) refl (λ x a. (turned_step n k (same_address (address_of d) a) x, refl)) l.naming
+
+    abbrev pub asked : Address Step → Found
+    asked = λ a. expected session l.category f l.naming.number (turned_address n k d a)
+
+    stands_turned : Stands same_step s naming asked
+    stands_turned = stands_renamed same_step step_tells (turned_address n k d) (turned_address n k d) (address_back n k d) (address_back n k d) refl (λ x a. (turned_step n k (same_address (address_of d) a) x, refl)) s l.naming (expected session l.category f l.naming.number) l.stands
+
+    got : (q : Path) → get after.files q ≡ get f.files (turned n k d q)
+    got q = get_renamed n k d f.files (not_under (k ∷ d) absent) q
+
+    same_numbers : SameNumbers l.naming.number naming.number
+    same_numbers = record {
+      home = λ q. ap l.naming.number (sym (turned_home n k d q));
+      status = λ q. ap (λ (a : Address Step). l.naming.number (Status ∷ a)) (sym (turned_home n k d q));
+      inside = λ q. ap (λ (a : Address Step). l.naming.number (Inside ∷ a)) (sym (turned_home n k d q));
+      runner = λ q. ap (λ (a : Address Step). l.naming.number (Runner ∷ Inside ∷ a)) (sym (turned_home n k d q));
+    }
+
+    -- an entry leads where the one of the turned path led
+    leads_turned : (p : Path) → leads_at f.files l.naming.number (turned n k d p) ≡ leads_at after.files naming.number p
+    leads_turned p = same_leads f.files after.files l.naming.number naming.number (turned n k d p) p (sym (got p)) (ap l.naming.number (sym (turned_path_address n k d p))) (ap (λ (a : Address Step). l.naming.number (Listing ∷ a)) (sym (turned_path_address n k d p)))
+
+    -- another directory is the one of the turned path
+    directory_else : (e : Path) → d ≢ e → directory_of f.files l.naming.number (turned n k d e) ≡ directory_of after.files naming.number e
+    directory_else e other = directories_alike f.files after.files l.naming.number naming.number (turned n k d e) e (λ m. ap (leads_at f.files l.naming.number) (entry m) ∙ leads_turned (m ∷ e))
+      where
+        entry : (m : Name) → m ∷ turned n k d e ≡ turned n k d (m ∷ e)
+        entry m = elim (same_path_found d e) [
+          | inl t ↦ absurd (other t.1)
+          | inr t ↦ ap (λ b. turned_name n k b m ∷ turned n k d e) (sym t.0)
+        ]
+
+    node_turned : (o : Option Path) → node_at session l.category f l.naming.number (option_map (turned n k d) o) ≡ node_at session l.category after naming.number o
+    node_turned None = refl
+    node_turned (Some q) = ap (node_object session l.category) (sym (got q))
+
+    listing_turned : (e : Path) → d ≢ e → listing_at session l.category f l.naming.number (Some (turned n k d e)) ≡ listing_at session l.category after naming.number (Some e)
+    listing_turned e other = λ i. listing_object session l.category (spelling (directory_else e other i)) (sym (got e) i)
+
+    -- what is asked for at an address is what was at the turned one
+    asked_else : (a : Address Step) → Listing ∷ address_of d ≢ a → asked a ≡ expected session l.category after naming.number a
+    asked_else [] other = refl
+    asked_else (Left q ∷ a) other = ap (λ b. cond b (left_by_boot session q) None) (same_tests n k d [] a)
+    asked_else (Slash ∷ a) other = ap (node_at session l.category f l.naming.number) (path_turned n k d (Slash ∷ a)) ∙ node_turned (path_at (Slash ∷ a))
+    asked_else (Listing ∷ a) other = ap (listing_at session l.category f l.naming.number) (path_turned n k d a) ∙ by (path_at a) refl
+      where
+        by : (o : Option Path) → path_at a ≡ o → listing_at session l.category f l.naming.number (option_map (turned n k d) o) ≡ listing_at session l.category after naming.number o
+        by None is = refl
+        by (Some e) is = listing_turned e (λ i. other (ap (λ (b : Address Step). Listing ∷ b) (ap address_of i ∙ sym (address_path a e is))))
+    asked_else (Named m ∷ a) other = ap (node_at session l.category f l.naming.number) (path_turned n k d (Named m ∷ a)) ∙ node_turned (path_at (Named m ∷ a))
+    asked_else (Home ∷ a) other = ap (home_at session l.category f l.naming.number) (process_turned n k d (Home ∷ a)) ∙ by (process_at (Home ∷ a))
+      where
+        by : (q : Option ProcName) → home_at session l.category f l.naming.number q ≡ home_at session l.category after naming.number q
+        by None = refl
+        by (Some q) = refl
+    asked_else (Status ∷ a) other = ap (status_at session l.category f l.naming.number) (process_turned n k d a) ∙ by (process_at a)
+      where
+        by : (q : Option ProcName) → status_at session l.category f l.naming.number q ≡ status_at session l.category after naming.number q
+        by None = refl
+        by (Some q) = same_status session l.category f after.files l.naming.number naming.number same_numbers q
+    asked_else (Inside ∷ a) other = ap (container_inside session l.category f l.naming.number) (process_turned n k d a) ∙ by (process_at a)
+      where
+        by : (q : Option ProcName) → container_inside session l.category f l.naming.number q ≡ container_inside session l.category after naming.number q
+        by None = refl
+        by (Some q) = refl
+    asked_else (Runner ∷ a) other = ap (thread_at session l.category f l.naming.number) (inside_turned n k d a) ∙ by (inside_at a)
+      where
+        by : (q : Option ProcName) → thread_at session l.category f l.naming.number q ≡ thread_at session l.category after naming.number q
+        by None = refl
+        by (Some q) = refl
+    asked_else (Child m ∷ a) other = ap (home_at session l.category f l.naming.number) (process_turned n k d (Child m ∷ a)) ∙ by (process_at (Child m ∷ a))
+      where
+        by : (q : Option ProcName) → home_at session l.category f l.naming.number q ≡ home_at session l.category after naming.number q
+        by None = refl
+        by (Some q) = refl
+
+    listing_stays : naming.number (Listing ∷ address_of d) ≡ Some N
+    listing_stays = ap (λ (a : Address Step). l.naming.number (Listing ∷ a)) (address_stays n k d) ∙ at_listing
+
+    asked_here : asked (Listing ∷ address_of d) ≡ listing_object session l.category (spelling (directory_of f.files l.naming.number d)) (get after.files d)
+    asked_here =
+        ap (λ (a : Address Step). expected session l.category f l.naming.number (Listing ∷ a)) (address_stays n k d)
+        ∙ asked_listing session l.category f l.naming.number d
+        ∙ ap (listing_object session l.category (spelling (directory_of f.files l.naming.number d))) (sym (got d ∙ ap (get f.files) (directory_stays n k d)))
+
+    -- boot gave no number to what turns
+    boot_turned : (a : Address Step) → boot_number (length session.users) (turned_address n k d a) ≡ boot_number (length session.users) a
+    boot_turned [] = refl
+    boot_turned (Left q ∷ a) = ap (λ b. cond b (boot_number (length session.users) (Left q ∷ [])) None) (same_tests n k d [] a)
+    boot_turned (Slash ∷ a) = ap (λ b. cond b (Some (4 + 2 * length session.users)) None) (same_tests n k d [] a)
+    boot_turned (Listing ∷ a) = ap (λ b. cond b (Some (5 + 2 * length session.users)) None) (same_tests n k d (Slash ∷ []) a)
+    boot_turned (Named m ∷ a) = refl
+    boot_turned (Home ∷ a) = ap (λ b. cond b (Some (6 + 2 * length session.users)) None) (same_tests n k d [] a)
+    boot_turned (Status ∷ a) = ap (λ b. cond b (Some (9 + 2 * length session.users)) None) (same_tests n k d (Home ∷ []) a)
+    boot_turned (Inside ∷ a) = refl
+    boot_turned (Runner ∷ a) = refl
+    boot_turned (Child m ∷ a) = refl
+
+    fits_all : (q : Path) (there : Node) → get after.files q ≡ Some there → ClassFits session s f l there.class
+    fits_all q there at = old_fits session s f l (turned n k d q) there (sym (got q) ∙ at)
+
+    -- the numbers in the names of jobs were given as before
+    pub jobs_renamed : AreJobsGiven f → AreJobsGiven after
+    jobs_renamed = jobs_kept session s f l after.files fits_all
+
+    -- ---- the renamed directory
+
+    module _ (target : Target) (leads : leads_at f.files l.naming.number (n ∷ d) ≡ Some target) where
+      -- the directory with the renamed entry
+      abbrev pub renamed_directory : Entries
+      renamed_directory = map.insert (map.remove (directory_of f.files l.naming.number d) n) k target
+
+      leads_nowhere : leads_at f.files l.naming.number (k ∷ d) ≡ None
+      leads_nowhere = ap (option_and_then _) absent
+
+      pub directory_renamed : directory_of after.files naming.number d ≡ renamed_directory
+      directory_renamed = map.same_map nat_list_cmp_total antisymmetric _ _ (λ m.
+          get_directory after.files naming.number d m ∙ sym (leads_turned (m ∷ d)) ∙ (λ i. leads_at f.files l.naming.number (turned_name n k (itself i) m ∷ directory_stays n k d i)) ∙ at_name m
+          ∙ sym (map.get-insert nat_list_cmp_total (map.remove (directory_of f.files l.naming.number d) n) k target m
+          ∙ ap (cond (eq_by_cmp by_bytes m k) (Some target)) (map.get-remove nat_list_cmp_total (directory_of f.files l.naming.number d) n m ∙ ap (cond (eq_by_cmp by_bytes m n) None) (get_directory f.files l.naming.number d m))
+          ∙ (λ i. cond (sym (texts_ties m k) i) (Some target) (cond (sym (texts_ties m n) i) None (leads_at f.files l.naming.number (m ∷ d))))))
+        where
+          itself : same_path d d ≡ true
+          itself = elim (same_path_found d d) [ inl e ↦ e.0 | inr e ↦ absurd (e.1 refl) ]
+
+          at_name : (m : Name) → leads_at f.files l.naming.number (turned_name n k true m ∷ d) ≡ cond (same_name m k) (Some target) (cond (same_name m n) None (leads_at f.files l.naming.number (m ∷ d)))
+          at_name m = elim (same_name_found m k) [
+            | inl e ↦
+                ap (λ (x : Name). leads_at f.files l.naming.number (x ∷ d)) (ap (turned_name n k true) e.1 ∙ turned_k n k) ∙ leads
+                ∙ sym (ap (λ b. cond b (Some target) (cond (same_name m n) None (leads_at f.files l.naming.number (m ∷ d)))) e.0)
+            | inr e ↦
+                by (same_name_found m n) e.1
+                ∙ sym (ap (λ b. cond b (Some target) (cond (same_name m n) None (leads_at f.files l.naming.number (m ∷ d)))) e.0)
+          ]
+            where
+              by : ((same_name m n ≡ true) × (m ≡ n)) ⊎ ((same_name m n ≡ false) × (m ≢ n)) → m ≢ k → leads_at f.files l.naming.number (turned_name n k true m ∷ d) ≡ cond (same_name m n) None (leads_at f.files l.naming.number (m ∷ d))
+              by (inl t) not_k =
+                  ap (λ (x : Name). leads_at f.files l.naming.number (x ∷ d)) (ap (turned_name n k true) t.1 ∙ turned_n n k) ∙ leads_nowhere
+                  ∙ sym (ap (λ b. cond b None (leads_at f.files l.naming.number (m ∷ d))) t.0)
+              by (inr t) not_k =
+                  ap (λ (x : Name). leads_at f.files l.naming.number (x ∷ d)) (turned_else n k m (λ i. t.1 (sym i)) (λ i. not_k (sym i)))
+                  ∙ sym (ap (λ b. cond b None (leads_at f.files l.naming.number (m ∷ d))) t.0)
+
+      -- a directory segment can hold it
+      pub listable_renamed : IsTrue (is_name k) → IsListable (directory_of f.files l.naming.number d) → IsListable renamed_directory
+      listable_renamed name h =
+          let dir : Entries = directory_of f.files l.naming.number d in
+          let is_there : map.get (directory_of f.files l.naming.number d) n ≡ Some target = get_directory f.files l.naming.number d n ∙ leads in
+          let fewer = map.len-remove nat_list_cmp_total (directory_of f.files l.naming.number d) n ∙ ap (λ b. cond b (map.len (directory_of f.files l.naming.number d) - 1) (map.len (directory_of f.files l.naming.number d))) (ap is_some is_there) in
+          listable_insert (map.remove (directory_of f.files l.naming.number d) n) k target (listable_remove (directory_of f.files l.naming.number d) n h) (omega (arith, fewer, h.few))
+          (name, (entry_found (directory_of f.files l.naming.number d) n target h is_there).1)
+
+      -- The kernel has the objects of the flat state in which all below the old name is below the new one.
+      pub laid_renamed : IsTrue (is_name k) → is_dir_at f d ≡ true
+          → (later : Laid session (with_bytes s N (spelling renamed_directory)) after) × (later.naming ≡ naming) × (later.category ≡ l.category)
+      laid_renamed name dir = subst (λ (x : Entries). (later : Laid session (with_bytes s N (spelling x)) after) × (later.naming ≡ naming) × (later.category ≡ l.category)) directory_renamed
+          (laid_listed session s f l after.files fits_all s naming asked stands_turned l.numbered d N listing_stays
+          (spelling (directory_of f.files l.naming.number d)) asked_here asked_else
+          (λ a q e. l.as_booted (turned_address n k d a) q (boot_turned a ∙ e)) listable refl l.boot_thread_gone)
+        where
+          listable : (e : Path) → is_dir_at after e ≡ true → IsListable (directory_of after.files naming.number e)
+          listable e is = elim (same_path_found d e) [
+            | inl t ↦ subst (λ (z : Path). IsListable (directory_of after.files naming.number z)) t.1 (subst IsListable (sym directory_renamed) (listable_renamed name (l.listable d dir)))
+            | inr t ↦ subst IsListable (directory_else e t.1) (l.listable (turned n k d e) (ap (λ (o : Option Node). is_some_and o is_dir) (sym (got e)) ∙ is))
+          ]

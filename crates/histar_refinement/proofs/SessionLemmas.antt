@@ -1,0 +1,186 @@
+-- Users and groups by their names and numbers.
+use Rattle.std.proofs.Common.{◌≡◌, ◌≢◌, ℕ, zero, suc, ◌+◌, ◌<◌, ◌≤◌, ◌⊎◌, inl, inr, Bool, true, false, ◌&&◌, cond, if◌then◌else◌, List, [], ◌∷◌, length, Option, None, Some, arith, refl, sym, ap, ◌∙◌, subst}
+use Rattle.std.specs.Prelude.{option_map, not, slice_get, nat_lt, nat_eq, position}
+use Rattle.std.specs.List.{list_any, position_or_len}
+use Rattle.std.proofs.lemmas.Bool.Decides.{nat_tests, eqb_tells}
+use Rattle.std.proofs.lemmas.Option.{same_Some, none-some}
+use mathlib.Core.Bool.{true≢false}
+use Rattle.histar_flat.specs.declared.calls.User.{User}
+use Rattle.histar_flat.specs.Words.{Name}
+use Rattle.histar_flat.specs.PathOrder.{same}
+use Rattle.histar_flat.proofs.FileLemmas.{same_name_found}
+use Rattle.histar_flat.specs.Sessions.{Group, Session, has, user_number, group_number, numbers_with, groups_of, is_member}
+use Rattle.histar_refinement.proofs.Members.{same_truth, and_both, first_of, second_of, or_first, or_second, or_either}
+use Rattle.histar_refinement.specs.Sessions.{IsSession}
+
+pub equal_names : (a b : Name) → same a b ≡ true → a ≡ b
+equal_names a b h = elim (same_name_found a b) [ inl e ↦ e.1 | inr e ↦ absurd (true≢false (sym h ∙ e.0)) ]
+
+pub equal_tested : (a b : Name) → a ≡ b → same a b ≡ true
+equal_tested a b h = elim (same_name_found a b) [ inl e ↦ e.0 | inr e ↦ absurd (e.1 h) ]
+
+module _ {A : Type 0} (test : A → Bool) where
+  -- what stands at the first place passes the test
+  place_by : (x : A) (xs : List A) (b : Bool) → test x ≡ b → position_or_len test (x ∷ xs) < length (x ∷ xs)
+      → (position_or_len test xs < length xs → (y : A) × (slice_get xs (position_or_len test xs) ≡ Some y) × (test y ≡ true))
+      → (y : A) × (slice_get (x ∷ xs) (position_or_len test (x ∷ xs)) ≡ Some y) × (test y ≡ true)
+  place_by x xs true is lt later = (x, ap (λ b. slice_get (x ∷ xs) (cond (not b) (1 + position_or_len test xs) 0)) is, is)
+  place_by x xs false is lt later =
+      let place : cond (not (test x)) (1 + position_or_len test xs) 0 ≡ 1 + position_or_len test xs = ap (λ b. cond (not b) (1 + position_or_len test xs) 0) is in
+      let below : cond (not (test x)) (1 + position_or_len test xs) 0 < suc (length xs) = lt in
+      let at = later (omega (arith, place, below)) in
+      let next : 1 + position_or_len test xs ≡ suc (position_or_len test xs) = omega arith in
+      (at.0, ap (slice_get (x ∷ xs)) (place ∙ next) ∙ at.1, at.2)
+
+  first_place : (xs : List A) → position_or_len test xs < length xs → (x : A) × (slice_get xs (position_or_len test xs) ≡ Some x) × (test x ≡ true)
+  first_place [] lt = absurd (omega (arith, lt))
+  first_place (x ∷ xs) lt = place_by x xs (test x) refl lt (first_place xs)
+
+  told : (b : Bool) (k m : ℕ) → cond b (Some k) None ≡ Some m → (b ≡ true) × (k ≡ m)
+  told true k m e = (refl, same_Some k m e)
+  told false k m e = absurd (none-some m e)
+
+  pub placed : (xs : List A) (k : ℕ) → position test xs ≡ Some k → (x : A) × (slice_get xs k ≡ Some x) × (test x ≡ true) × (k < length xs)
+  placed xs k e =
+      let is = told (nat_lt (position_or_len test xs) (length xs)) (position_or_len test xs) k e in
+      let passed : nat_lt (position_or_len test xs) (length xs) ≡ true = is.0 in
+      let below : position_or_len test xs < length xs = grind (arith, nat_tests, passed) in
+      let at = first_place xs below in
+      (at.0, ap (slice_get xs) (sym is.1) ∙ at.1, at.2, omega (arith, below, is.1))
+
+-- what a number comes from
+pub from_place : (o : Option ℕ) (i : ℕ) → option_map (λ k. k + 1) o ≡ Some i → (k : ℕ) × (o ≡ Some k) × (k + 1 ≡ i)
+from_place None i e = absurd (none-some i e)
+from_place (Some k) i e = (k, refl, same_Some (k + 1) i e)
+
+-- users and groups have the numbers from 1 on
+pub user_range : (session : Session) (name : Name) (i : ℕ) → user_number session name ≡ Some i → (1 ≤ i) × (i ≤ length session.users)
+user_range session name i e =
+    let k = from_place (position (λ (u : User). same u.name name) session.users) i e in
+    let at = placed (λ (u : User). same u.name name) session.users k.0 k.1 in
+    let below : k.0 < length session.users = at.3 in
+    (omega (arith, k.2), omega (arith, k.2, below))
+
+pub group_range : (session : Session) (name : Name) (i : ℕ) → group_number session name ≡ Some i → (1 ≤ i) × (i ≤ length session.groups)
+group_range session name i e =
+    let k = from_place (position (λ (g : Group). same g.name name) session.groups) i e in
+    let at = placed (λ (g : Group). same g.name name) session.groups k.0 k.1 in
+    let below : k.0 < length session.groups = at.3 in
+    (omega (arith, k.2), omega (arith, k.2, below))
+
+-- two users' names with one number are one
+pub one_user : (session : Session) (a b : Name) (i : ℕ) → user_number session a ≡ Some i → user_number session b ≡ Some i → a ≡ b
+one_user session a b i is_a is_b =
+    let k = from_place (position (λ (u : User). same u.name a) session.users) i is_a in
+    let m = from_place (position (λ (u : User). same u.name b) session.users) i is_b in
+    let place : k.0 ≡ m.0 = omega (arith, k.2, m.2) in
+    let u = placed (λ (u : User). same u.name a) session.users k.0 k.1 in
+    let v = placed (λ (u : User). same u.name b) session.users m.0 m.1 in
+    let both : Some u.0 ≡ Some v.0 = sym u.1 ∙ ap (slice_get session.users) place ∙ v.1 in
+    let one : u.0 ≡ v.0 = same_Some u.0 v.0 both in
+    sym (equal_names u.0.name a u.2) ∙ ap (λ (w : User). w.name) one ∙ equal_names v.0.name b v.2
+
+-- and so are two groups' names
+pub one_group : (session : Session) (a b : Name) (i : ℕ) → group_number session a ≡ Some i → group_number session b ≡ Some i → a ≡ b
+one_group session a b i is_a is_b =
+    let k = from_place (position (λ (g : Group). same g.name a) session.groups) i is_a in
+    let m = from_place (position (λ (g : Group). same g.name b) session.groups) i is_b in
+    let place : k.0 ≡ m.0 = omega (arith, k.2, m.2) in
+    let g = placed (λ (g : Group). same g.name a) session.groups k.0 k.1 in
+    let h = placed (λ (g : Group). same g.name b) session.groups m.0 m.1 in
+    let both : Some g.0 ≡ Some h.0 = sym g.1 ∙ ap (slice_get session.groups) place ∙ h.1 in
+    let one : g.0 ≡ h.0 = same_Some g.0 h.0 both in
+    sym (equal_names g.0.name a g.2) ∙ ap (λ (x : Group). x.name) one ∙ equal_names h.0.name b h.2
+
+-- the number of a process's user is that of an owner
+abbrev pub is_number : Option ℕ → ℕ → Bool
+is_number None i = false
+is_number (Some j) i = nat_eq i j
+
+pub is_owner : (session : Session) (name owner : Name) (i : ℕ) → user_number session owner ≡ Some i → is_number (user_number session name) i ≡ same name owner
+is_owner session name owner i numbered = by (user_number session name) refl
+  where
+    by : (o : Option ℕ) → user_number session name ≡ o → is_number o i ≡ same name owner
+    by None e = sym (other (same_name_found name owner))
+      where
+        other : ((same name owner ≡ true) × (name ≡ owner)) ⊎ ((same name owner ≡ false) × (name ≢ owner)) → same name owner ≡ false
+        other (inl k) = absurd (none-some i (sym e ∙ ap (user_number session) k.1 ∙ numbered))
+        other (inr k) = k.0
+    by (Some j) e = same_truth (nat_eq i j) (same name owner)
+        (λ k. elim (eqb_tells i j) [
+          | inl is ↦ equal_tested name owner (one_user session name owner i (e ∙ ap Some (sym is.1)) numbered)
+          | inr is ↦ absurd (true≢false (sym k ∙ is.0))
+        ])
+        (λ k. let both : Some j ≡ Some i = sym e ∙ ap (user_number session) (equal_names name owner k) ∙ numbered in
+        elim (eqb_tells i j) [ inl is ↦ is.0 | inr is ↦ absurd (is.1 (sym (same_Some j i both))) ])
+
+-- a list of numbers has this one
+abbrev pub has_number : List ℕ → ℕ → Bool
+has_number ks k = list_any (nat_eq k) ks
+
+-- what a group in a list of groups is found by
+abbrev pub IsFound : ℕ → List Group → Name → ℕ → Type 0
+IsFound m groups name k = (i : ℕ) × (g : Group) × (slice_get groups i ≡ Some g) × (has g.members name ≡ true) × (k ≡ m + i)
+
+-- which groups have a member
+numbers_by : (m : ℕ) (g : Group) (groups : List Group) (name : Name) (k : ℕ) (b : Bool) → has g.members name ≡ b
+    → has_number (if b then m ∷ numbers_with (m + 1) groups name else numbers_with (m + 1) groups name) k ≡ true
+    → (has_number (numbers_with (m + 1) groups name) k ≡ true → IsFound (m + 1) groups name k) → IsFound m (g ∷ groups) name k
+numbers_by m g groups name k false is e later = let at = later e in (suc at.0, at.1, at.2, at.3, omega (arith, at.4))
+numbers_by m g groups name k true is e later = elim (or_either (nat_eq k m) (has_number (numbers_with (m + 1) groups name) k) e) [
+  | inl here ↦ elim (eqb_tells k m) [ inl same_k ↦ (0, g, refl, is, omega (arith, same_k.1)) | inr other ↦ absurd (true≢false (sym here ∙ other.0)) ]
+  | inr further ↦ let at = later further in (suc at.0, at.1, at.2, at.3, omega (arith, at.4))
+]
+
+pub from_numbers : (m : ℕ) (groups : List Group) (name : Name) (k : ℕ) → has_number (numbers_with m groups name) k ≡ true → IsFound m groups name k
+from_numbers m [] name k e = absurd (true≢false (sym e))
+from_numbers m (g ∷ groups) name k e = numbers_by m g groups name k (has g.members name) refl e (from_numbers (m + 1) groups name k)
+
+to_numbers : (m : ℕ) (groups : List Group) (name : Name) (i : ℕ) (g : Group) → slice_get groups i ≡ Some g → has g.members name ≡ true → has_number (numbers_with m groups name) (m + i) ≡ true
+to_numbers m [] name i g at is = absurd (none-some g at)
+to_numbers m (h ∷ groups) name zero g at is =
+    let same_g : h ≡ g = same_Some h g at in
+    let here : has h.members name ≡ true = ap (λ (x : Group). has x.members name) same_g ∙ is in
+    ap (λ b. has_number (if b then m ∷ numbers_with (m + 1) groups name else numbers_with (m + 1) groups name) (m + 0)) here
+    ∙ or_first (nat_eq (m + 0) m) (has_number (numbers_with (m + 1) groups name) (m + 0)) (grind (arith, nat_tests))
+to_numbers m (h ∷ groups) name (suc i) g at is =
+    let later : has_number (numbers_with (m + 1) groups name) (m + 1 + i) ≡ true = to_numbers (m + 1) groups name i g at is in
+    let number : m + suc i ≡ m + 1 + i = omega arith in
+    ap (has_number (numbers_with m (h ∷ groups) name)) number ∙ by (has h.members name) later
+  where
+    by : (b : Bool) → has_number (numbers_with (m + 1) groups name) (m + 1 + i) ≡ true → has_number (if b then m ∷ numbers_with (m + 1) groups name else numbers_with (m + 1) groups name) (m + 1 + i) ≡ true
+    by true later = or_second (nat_eq (m + 1 + i) m) (has_number (numbers_with (m + 1) groups name) (m + 1 + i)) later
+    by false later = later
+
+-- a member of a group of this name
+from_members : (groups : List Group) (name group : Name) → list_any (λ (g : Group). same g.name group && has g.members name) groups ≡ true
+    → (i : ℕ) × (g : Group) × (slice_get groups i ≡ Some g) × (same g.name group ≡ true) × (has g.members name ≡ true)
+from_members [] name group e = absurd (true≢false (sym e))
+from_members (g ∷ groups) name group e = elim (or_either (same g.name group && has g.members name) (list_any (λ (h : Group). same h.name group && has h.members name) groups) e) [
+  | inl here ↦ (0, g, refl, first_of (same g.name group) (has g.members name) here, second_of (same g.name group) (has g.members name) here)
+  | inr later ↦ let at = from_members groups name group later in (suc at.0, at.1, at.2, at.3, at.4)
+]
+
+to_members : (groups : List Group) (name group : Name) (i : ℕ) (g : Group) → slice_get groups i ≡ Some g → same g.name group ≡ true → has g.members name ≡ true
+    → list_any (λ (h : Group). same h.name group && has h.members name) groups ≡ true
+to_members [] name group i g at is member = absurd (none-some g at)
+to_members (h ∷ groups) name group zero g at is member =
+    or_first (same h.name group && has h.members name) _ (subst (λ (x : Group). (same x.name group && has x.members name) ≡ true) (sym (same_Some h g at)) (and_both is member))
+to_members (h ∷ groups) name group (suc i) g at is member = or_second (same h.name group && has h.members name) _ (to_members groups name group i g at is member)
+
+-- a user is a member of a group exactly where the group's number is among those of the user's groups
+pub is_member_number : (session : Session) → IsSession session → (name group : Name) (k : ℕ) → group_number session group ≡ Some k → has_number (groups_of session name) k ≡ is_member session name group
+is_member_number session ok name group k numbered =
+    let place = from_place (position (λ (g : Group). same g.name group) session.groups) k numbered in
+    let at = placed (λ (g : Group). same g.name group) session.groups place.0 place.1 in
+    same_truth (has_number (groups_of session name) k) (is_member session name group)
+    (λ e.
+    let found = from_numbers 1 session.groups name k e in
+    let same_place : found.0 ≡ place.0 = omega (arith, found.4, place.2) in
+    let one : found.1 ≡ at.0 = same_Some found.1 at.0 (sym found.2 ∙ ap (slice_get session.groups) same_place ∙ at.1) in
+    to_members session.groups name group found.0 found.1 found.2 (ap (λ (g : Group). same g.name group) one ∙ at.2) found.3)
+    (λ e.
+    let found = from_members session.groups name group e in
+    let alike : same found.1.name at.0.name ≡ true = equal_tested found.1.name at.0.name (equal_names found.1.name group found.3 ∙ sym (equal_names at.0.name group at.2)) in
+    let same_place : found.0 ≡ place.0 = ok.groups_differ found.0 place.0 found.1 at.0 found.2 at.1 alike in
+    ap (has_number (groups_of session name)) (omega (arith, same_place, place.2)) ∙ to_numbers 1 session.groups name found.0 found.1 found.2 found.4)

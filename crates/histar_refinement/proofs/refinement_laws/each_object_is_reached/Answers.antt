@@ -1,0 +1,5 @@
+use Rattle.histar_refinement.proofs.ReachedObjects.{objects_reached}
+use Rattle.histar_refinement.proofs.refinement_laws.each_object_is_reached.Goals as goal
+
+pub returns : goal.returns
+returns c = λ session s f l. objects_reached session s f l.laid

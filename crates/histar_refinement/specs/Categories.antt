@@ -1,0 +1,110 @@
+-- Categories by name: what each one that was made is for, and the numbers that they have.
+use Rattle.std.specs.Prelude.{◌≡◌, ℕ, ◌+◌, ◌*◌, ◌<◌, ◌≤◌, Bool, true, false, cond, ◌&&◌, ◌⊎◌, ◌==◌, nat_le, List, [], ◌∷◌, length, Option, None, Some, is_some, unwrap_or, if◌then◌else◌}
+use Rattle.std.specs.List.{list_any}
+use Rattle.histar_flat.specs.Words.{Path, ProcName}
+use Rattle.histar_flat.specs.PathOrder.{same}
+use Rattle.histar_flat.specs.Files.{get}
+use Rattle.histar_flat.specs.Sessions.{Session, has}
+use Rattle.histar_flat.specs.Classes.{Class, Process, knows}
+use Rattle.histar_flat.specs.Classes.Class.{Private, Readable, Open, Scratch, Grouped}
+use Rattle.histar_flat.specs.FlatState.{Node, Flat}
+
+-- what a category is for
+pub data CategoryName : Type 0 where
+  -- the one of the empty kernel, which nobody owns once the boot thread is gone
+  OfBoot : CategoryName
+  -- to read what is a user's, and to write it: users by their numbers, of which 0 is nobody's
+  ReadsUser : ℕ → CategoryName
+  WritesUser : ℕ → CategoryName
+  -- to read what is a group's, and to write it
+  ReadsGroup : ℕ → CategoryName
+  WritesGroup : ℕ → CategoryName
+  -- a process's own two
+  ReadsProcess : ProcName → CategoryName
+  WritesProcess : ProcName → CategoryName
+  -- the one of a job, which is named by its first process
+  OfJob : ProcName → CategoryName
+
+-- a name as the number of its kind, and the number or the name that it has
+abbrev pub split_category : CategoryName → ℕ × List ℕ
+split_category OfBoot = (0, [])
+split_category (ReadsUser i) = (1, i ∷ [])
+split_category (WritesUser i) = (2, i ∷ [])
+split_category (ReadsGroup k) = (3, k ∷ [])
+split_category (WritesGroup k) = (4, k ∷ [])
+split_category (ReadsProcess p) = (5, p)
+split_category (WritesProcess p) = (6, p)
+split_category (OfJob job) = (7, job)
+
+-- the same name
+abbrev pub same_category : CategoryName → CategoryName → Bool
+same_category x y = (split_category x).0 == (split_category y).0 && same (split_category x).1 (split_category y).1
+
+-- the name is among these
+abbrev pub among : List CategoryName → CategoryName → Bool
+among names c = list_any (same_category c) names
+
+-- the number of each category; a name that is not used has a number too, of which nothing is said
+abbrev pub Categories : Type 0
+Categories = CategoryName → ℕ
+
+-- no two names have one number
+abbrev pub AreDifferent : Categories → Type 0
+AreDifferent category = (c d : CategoryName) → category c ≡ category d → c ≡ d
+
+-- the number was made
+abbrev pub IsMade : ℕ → ℕ → Type 0
+IsMade next q = (0 < q) × (q < next)
+
+-- the number that boot gave: 1 is the empty kernel's, then come two for nobody, for each user, for each group, and for process 0
+abbrev pub boot_category : Session → CategoryName → Option ℕ
+boot_category session OfBoot = Some 1
+boot_category session (ReadsUser i) = cond (nat_le i (length session.users)) (Some (2 + 2 * i)) None
+boot_category session (WritesUser i) = cond (nat_le i (length session.users)) (Some (3 + 2 * i)) None
+boot_category session (ReadsGroup k) = cond (nat_le 1 k && nat_le k (length session.groups)) (Some (2 + 2 * length session.users + 2 * k)) None
+boot_category session (WritesGroup k) = cond (nat_le 1 k && nat_le k (length session.groups)) (Some (3 + 2 * length session.users + 2 * k)) None
+boot_category session (ReadsProcess []) = Some (4 + 2 * length session.users + 2 * length session.groups)
+boot_category session (ReadsProcess (n ∷ p)) = None
+boot_category session (WritesProcess []) = Some (5 + 2 * length session.users + 2 * length session.groups)
+boot_category session (WritesProcess (n ∷ p)) = None
+boot_category session (OfJob job) = None
+
+-- the number that boot gave, and 0 where it gave none
+abbrev pub booted : Session → Categories
+booted session c = unwrap_or (boot_category session c) 0
+
+-- a file or directory is for processes of this job
+abbrev pub is_for : Class → ProcName → Bool
+is_for (Private owner) job = false
+is_for (Readable owner) job = false
+is_for Open job = false
+is_for (Scratch owner jobs) job = has jobs job
+is_for (Grouped group) job = false
+
+-- some process is in the job or holds it
+abbrev pub IsKnown : Flat → ProcName → Type 0
+IsKnown f job = (me : ProcName) × (p : Process) × (f.processes me ≡ Some p) × (knows p job ≡ true)
+
+-- some file or directory is for it
+abbrev pub IsServed : Flat → ProcName → Type 0
+IsServed f job = (q : Path) × (there : Node) × (get f.files q ≡ Some there) × (is_for there.class job ≡ true)
+
+-- The names that are used: those of boot, of users and groups, of the processes that are there, and of the jobs that some process
+-- knows or some file is for. The categories of what was killed stay made, and have no name any more.
+abbrev pub IsUsed : Session → Flat → CategoryName → Type 0
+IsUsed session f OfBoot = Unit {0}
+IsUsed session f (ReadsUser i) = i ≤ length session.users
+IsUsed session f (WritesUser i) = i ≤ length session.users
+IsUsed session f (ReadsGroup k) = (1 ≤ k) × (k ≤ length session.groups)
+IsUsed session f (WritesGroup k) = (1 ≤ k) × (k ≤ length session.groups)
+IsUsed session f (ReadsProcess me) = is_some (f.processes me) ≡ true
+IsUsed session f (WritesProcess me) = is_some (f.processes me) ≡ true
+IsUsed session f (OfJob job) = IsKnown f job ⊎ IsServed f job
+
+-- two numbers change places
+abbrev pub swapped : ℕ → ℕ → ℕ → ℕ
+swapped x y q = if q == x then y else (if q == y then x else q)
+
+-- the naming in which the next category is this one; what had its number before has the old number of the name
+abbrev pub naming_next : Categories → ℕ → CategoryName → Categories
+naming_next category next c d = swapped (category c) next (category d)

@@ -1,0 +1,126 @@
+-- What a flat state asks for at each address: the object that stands there, but for its links.
+use Rattle.std.specs.Prelude.{ℕ, List, [], ◌∷◌, Option, None, Some, option_map}
+use Rattle.std.specs.FinSet as set
+use Rattle.histar_flat.specs.Words.{Path, ProcName}
+use Rattle.histar_flat.specs.Sessions.{Session}
+use Rattle.histar_flat.specs.Files.{get}
+use Rattle.histar_flat.specs.Classes.{Process}
+use Rattle.histar_flat.specs.FlatState.{Node, Content, Flat}
+use Rattle.histar_flat.specs.FlatState.Content.{Dir, File}
+use Rattle.histar_label.specs.Levels.{Levels}
+use Rattle.histar_object.specs.declared.objects.Kind.{Kind}
+use Rattle.histar_object.specs.declared.objects.Kind.TheVariants.{Segment, Container}
+use Rattle.histar_object.specs.Objects.{thread_of}
+use Rattle.histar_object.specs.State.{Found}
+use Rattle.histar_container.specs.Tree.{Address}
+use Rattle.histar_layout.specs.Directory.{spelling}
+use Rattle.histar_refinement.specs.Categories.{Categories, booted}
+use Rattle.histar_refinement.specs.Guards.{Guard, guard_label, rights_label, rights_clearance}
+use Rattle.histar_refinement.specs.Labels.{boot_guard, class_guard, process_guard, inside_guard, thread_rights}
+use Rattle.histar_refinement.specs.LeftByBoot.{left_by_boot}
+use Rattle.histar_refinement.specs.Addresses.{Step, Numbers, if_at, path_at, process_at, inside_at}
+use Rattle.histar_refinement.specs.Addresses.Step.{Left, Slash, Listing, Named, Home, Status, Inside, Runner, Child}
+use Rattle.histar_refinement.specs.Processes.{process_bytes}
+use Rattle.histar_refinement.specs.Directories.{directory_of}
+
+-- a container with this label, which links nothing
+abbrev pub container : Levels → Found
+container label = Some (record { label = label; kind = Container set.empty })
+
+-- a segment with this label and these bytes
+abbrev pub segment : Levels → List ℕ → Found
+segment label bytes = Some (record { label = label; kind = Segment bytes })
+
+-- a directory is a container, and a file a segment with its bytes
+abbrev pub content_kind : Content → Kind Levels
+content_kind Dir = Container set.empty
+content_kind (File bytes) = Segment bytes
+
+module _ (session : Session) (category : Categories) where
+  -- an object of this kind that is guarded so
+  abbrev pub guarded_object : Kind Levels → Option Guard → Found
+  guarded_object kind guard = option_map (λ (g : Guard). record { label = guard_label category g; kind = kind }) guard
+
+  -- what stands at a path, with the label of its class
+  abbrev pub node_object : Option Node → Found
+  node_object None = None
+  node_object (Some there) = guarded_object (content_kind there.content) (class_guard session there.class)
+
+  -- the directory segment of a directory: it has the directory's label, and spells its entries; a file has none
+  abbrev pub listing_object : List ℕ → Option Node → Found
+  listing_object bytes None = None
+  listing_object bytes (Some there) = elim there.content [ Dir ↦ guarded_object (Segment bytes) (class_guard session there.class) | File old ↦ None ]
+
+  -- the container of a process that is there
+  abbrev pub home_object : ProcName → Option Process → Found
+  home_object me None = None
+  home_object me (Some p) = container (guard_label category (process_guard me p))
+
+  -- its process segment, with the container's label
+  abbrev pub status_object : List ℕ → ProcName → Option Process → Found
+  status_object bytes me None = None
+  status_object bytes me (Some p) = segment (guard_label category (process_guard me p)) bytes
+
+  -- its internal container, which a process that has exited has no more
+  abbrev pub inside_object : ProcName → Option Process → Found
+  inside_object me None = None
+  inside_object me (Some p) = elim p.exited [ None ↦ container (guard_label category (inside_guard me p)) | Some n ↦ None ]
+
+  -- its thread, which a process that has exited has no more
+  abbrev pub thread_object : ProcName → Option Process → Found
+  thread_object me None = None
+  thread_object me (Some p) = elim p.exited [
+    | None ↦ Some (thread_of (rights_label category (thread_rights session me p)) (rights_clearance category (thread_rights session me p)))
+    | Some n ↦ None
+  ]
+
+  module _ (f : Flat) (number : Numbers) where
+    -- what stands at a path
+    abbrev pub node_at : Option Path → Found
+    node_at None = None
+    node_at (Some q) = node_object (get f.files q)
+
+    -- the directory segment of the directory at a path
+    abbrev pub listing_at : Option Path → Found
+    listing_at None = None
+    listing_at (Some d) = listing_object (spelling (directory_of f.files number d)) (get f.files d)
+
+    -- the container of a process
+    abbrev pub home_at : Option ProcName → Found
+    home_at None = None
+    home_at (Some me) = home_object me (f.processes me)
+
+    -- the bytes of its process segment
+    abbrev pub bytes_for : ProcName → Option Process → List ℕ
+    bytes_for me None = []
+    bytes_for me (Some p) = process_bytes f.processes number me p
+
+    -- its process segment
+    abbrev pub status_at : Option ProcName → Found
+    status_at None = None
+    status_at (Some me) = status_object (bytes_for me (f.processes me)) me (f.processes me)
+
+    -- its internal container
+    abbrev pub container_inside : Option ProcName → Found
+    container_inside None = None
+    container_inside (Some me) = inside_object me (f.processes me)
+
+    -- its thread
+    abbrev pub thread_at : Option ProcName → Found
+    thread_at None = None
+    thread_at (Some me) = thread_object me (f.processes me)
+
+    -- What the flat state asks for at each address, but for links. In the root container stand what boot left, `/` and process 0;
+    -- in a directory its directory segment and its entries; in a process's container its process segment, the containers of its
+    -- children and its internal container, and in that the thread.
+    abbrev pub expected : Address Step → Found
+    expected [] = container (guard_label (booted session) boot_guard)
+    expected (Left q ∷ a) = if_at [] a (left_by_boot session q)
+    expected (Slash ∷ a) = node_at (path_at (Slash ∷ a))
+    expected (Listing ∷ a) = listing_at (path_at a)
+    expected (Named n ∷ a) = node_at (path_at (Named n ∷ a))
+    expected (Home ∷ a) = home_at (process_at (Home ∷ a))
+    expected (Status ∷ a) = status_at (process_at a)
+    expected (Inside ∷ a) = container_inside (process_at a)
+    expected (Runner ∷ a) = thread_at (inside_at a)
+    expected (Child n ∷ a) = home_at (process_at (Child n ∷ a))

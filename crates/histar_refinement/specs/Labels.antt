@@ -1,0 +1,74 @@
+-- The labels of files, processes, threads and gates, by the names of their categories.
+use Rattle.std.specs.Prelude.{ℕ, List, [], ◌∷◌, ◌++◌, map, Option, None, Some, option_map, if◌then◌else◌}
+use Rattle.histar_flat.specs.Words.{Name, ProcName}
+use Rattle.histar_flat.specs.Sessions.{Session, user_number, group_number, groups_of}
+use Rattle.histar_flat.specs.Classes.{Class, Process, is_free}
+use Rattle.histar_flat.specs.Classes.Class.{Private, Readable, Open, Scratch, Grouped}
+use Rattle.histar_refinement.specs.Categories.{CategoryName}
+use Rattle.histar_refinement.specs.Categories.CategoryName.{OfBoot, ReadsUser, WritesUser, ReadsGroup, WritesGroup, ReadsProcess, WritesProcess, OfJob}
+use Rattle.histar_refinement.specs.Guards.{Guard, Rights}
+
+-- what boot alone wrote: the root container and the user table
+abbrev pub boot_guard : Guard
+boot_guard = record { secret = []; written = OfBoot ∷ [] }
+
+-- of what is private to user i, as the user's password
+abbrev pub private_guard : ℕ → Guard
+private_guard i = record { secret = ReadsUser i ∷ []; written = WritesUser i ∷ [] }
+
+-- of what everyone may read and user i may write
+abbrev pub readable_guard : ℕ → Guard
+readable_guard i = record { secret = []; written = WritesUser i ∷ [] }
+
+-- of what is for user i in these jobs
+abbrev pub scratch_guard : List ProcName → ℕ → Guard
+scratch_guard jobs i = record { secret = ReadsUser i ∷ map OfJob jobs; written = [] }
+
+-- of what is for the members of group k
+abbrev pub group_guard : ℕ → Guard
+group_guard k = record { secret = ReadsGroup k ∷ []; written = WritesGroup k ∷ [] }
+
+-- of what everyone may read and write
+abbrev pub open_guard : Guard
+open_guard = record { secret = []; written = [] }
+
+-- how what is of a class is guarded; there is no guard where no user or group has the name
+abbrev pub class_guard : Session → Class → Option Guard
+class_guard session (Private owner) = option_map private_guard (user_number session owner)
+class_guard session (Readable owner) = option_map readable_guard (user_number session owner)
+class_guard session Open = Some open_guard
+class_guard session (Scratch owner jobs) = option_map (scratch_guard jobs) (user_number session owner)
+class_guard session (Grouped group) = option_map group_guard (group_number session group)
+
+-- a process's container and its process segment are written by the process alone, and are secret to its jobs
+abbrev pub process_guard : ProcName → Process → Guard
+process_guard me p = record { secret = map OfJob p.chain; written = WritesProcess me ∷ [] }
+
+-- its internal container is secret to the process too
+abbrev pub inside_guard : ProcName → Process → Guard
+inside_guard me p = record { secret = ReadsProcess me ∷ map OfJob p.chain; written = WritesProcess me ∷ [] }
+
+-- the categories by which user i reads: its own and those of its groups
+abbrev pub reading : Session → Name → ℕ → List CategoryName
+reading session name i = ReadsUser i ∷ map ReadsGroup (groups_of session name)
+
+-- the categories by which user i writes: its own and those of its groups
+abbrev pub writing : Session → Name → ℕ → List CategoryName
+writing session name i = WritesUser i ∷ map WritesGroup (groups_of session name)
+
+-- what a process owns as its user, by the user's number: nothing as nobody, and in a job what the user reads by alone
+abbrev pub owned_as : Session → Process → Option ℕ → List CategoryName
+owned_as session p None = []
+owned_as session p (Some i) = reading session p.user i ++ (if is_free p then writing session p.user i else [])
+
+-- the rights of the thread of a process: it owns its own two categories, what its user does, and the jobs that it holds, and has
+-- those of its jobs at 3
+abbrev pub thread_rights : Session → ProcName → Process → Rights
+thread_rights session me p = record {
+  owned = ReadsProcess me ∷ WritesProcess me ∷ owned_as session p (user_number session p.user) ++ map OfJob p.held;
+  tainted = map OfJob p.chain;
+}
+
+-- the rights that the gate of user i gives
+abbrev pub gate_rights : Session → Name → ℕ → Rights
+gate_rights session name i = record { owned = reading session name i ++ writing session name i; tainted = [] }

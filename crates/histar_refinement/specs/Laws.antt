@@ -1,0 +1,78 @@
+-- What it comes to that a state lays out a flat state: who observes and modifies what, what is reached and found, that there is one
+-- such flat state at most, and the start.
+use Rattle.std.specs.Prelude.{◌≡◌, ℕ, ◌<◌, ◌≤◌, ◌⊎◌, ◌↔◌, true, List, [], ◌∷◌, length, Option, None, Some}
+use Rattle.histar_flat.specs.declared.calls.User.{User}
+use Rattle.histar_flat.specs.Words.{Path, ProcName}
+use Rattle.histar_flat.specs.Sessions.{Session, user_number}
+use Rattle.histar_flat.specs.Files.{get}
+use Rattle.histar_flat.specs.Classes.{Process, nobody, may_read, may_write}
+use Rattle.histar_flat.specs.FlatState.{Node, Flat, is_dir_at}
+use Rattle.histar_flat.specs.Meaning.{boot}
+use Rattle.histar_object.specs.Objects.{is_there}
+use Rattle.histar_object.specs.State.{State, observes, modifies}
+use Rattle.histar_container.specs.Tree.{Reached}
+use Rattle.histar_rules.specs.Rules.{greatest}
+use Rattle.histar_rules.specs.Sound.{root_number}
+use Rattle.histar_login.specs.Start.{start_state}
+use Rattle.histar_refinement.specs.Sessions.{IsSession}
+use Rattle.histar_refinement.specs.Categories.{CategoryName}
+use Rattle.histar_refinement.specs.Addresses.{address_of, home_of}
+use Rattle.histar_refinement.specs.Addresses.Step.{Listing, Inside, Runner}
+use Rattle.histar_refinement.specs.LaysOut.{Laid, LaysOut}
+use Rattle.histar_refinement.specs.Lines.{IsThreadOf, IsDirectoryAt}
+
+module _ (session : Session) (s : State) (f : Flat) (l : Laid session s f) where
+  -- the object is what stands at the path, or the directory segment of the directory there
+  abbrev pub StandsFor : Path → ℕ → Type 0
+  StandsFor q o = (l.naming.number (address_of q) ≡ Some o) ⊎ (l.naming.number (Listing ∷ address_of q) ≡ Some o)
+
+  -- the thread is that of the process, which runs
+  abbrev pub RunsAs : ProcName → Process → ℕ → Type 0
+  RunsAs me p t = (f.processes me ≡ Some p) × (p.exited ≡ None) × (l.naming.number (Runner ∷ Inside ∷ home_of me) ≡ Some t)
+
+-- a thread may observe what is of a class exactly where its process may read it
+abbrev pub ThreadsObserveWhatIsRead : Type 0
+ThreadsObserveWhatIsRead = (session : Session) (s : State) (f : Flat) (l : Laid session s f) → IsSession session
+    → (me : ProcName) (p : Process) (t : ℕ) → RunsAs session s f l me p t
+    → (q : Path) (there : Node) (o : ℕ) → get f.files q ≡ Some there → StandsFor session s f l q o
+    → observes (s.objects t) (s.objects o) ≡ may_read session p there.class
+
+-- a thread may modify what is of a class exactly where its process may write it
+abbrev pub ThreadsModifyWhatIsWritten : Type 0
+ThreadsModifyWhatIsWritten = (session : Session) (s : State) (f : Flat) (l : Laid session s f) → IsSession session
+    → (me : ProcName) (p : Process) (t : ℕ) → RunsAs session s f l me p t
+    → (q : Path) (there : Node) (o : ℕ) → get f.files q ≡ Some there → StandsFor session s f l q o
+    → modifies (s.objects t) (s.objects o) ≡ may_write session p there.class
+
+-- each object that there is is reached from the root container by links
+abbrev pub ObjectsAreReached : Type 0
+ObjectsAreReached = (session : Session) (s : State) (f : Flat) → LaysOut session s f → (q : ℕ) → is_there (s.objects q) ≡ true → Reached s.objects root_number q
+
+-- Two processes are the same; or both have exited with the same number, were in the same jobs and had as many children, and
+-- nothing is said of their users and of the jobs that they held.
+abbrev pub AreAlike : Option Process → Option Process → Type 0
+AreAlike None None = Unit {0}
+AreAlike None (Some q) = ⊥
+AreAlike (Some p) None = ⊥
+AreAlike (Some p) (Some q) = (p.exited ≡ q.exited) × (p.born ≡ q.born) × (p.chain ≡ q.chain) × (p.exited ≡ None → (p.user ≡ q.user) × (p.held ≡ q.held))
+
+-- For one naming of its categories a state lays out one flat state at most: the same files and directories of the same classes with
+-- the same bytes, and the same processes, but for the users and the held jobs of those that have exited.
+abbrev pub OneIsLaidOut : Type 0
+OneIsLaidOut = (session : Session) (s : State) (f g : Flat) (l : LaysOut session s f) (m : LaysOut session s g) → ((c : CategoryName) → l.laid.category c ≡ m.laid.category c)
+    → ((q : Path) → get f.files q ≡ get g.files q) × ((me : ProcName) → AreAlike (f.processes me) (g.processes me))
+
+-- the thread that the process segments lead to is that of the process, which runs
+abbrev pub ThreadsAreFound : Type 0
+ThreadsAreFound = (session : Session) (s : State) (f : Flat) (l : Laid session s f) (me : ProcName) (t : ℕ) → IsThreadOf session s me t ↔ ((p : Process) × RunsAs session s f l me p t)
+
+-- the objects that the directory segments lead to are those of the directory at the path
+abbrev pub DirectoriesAreFound : Type 0
+DirectoriesAreFound = (session : Session) (s : State) (f : Flat) (l : Laid session s f) (d : Path) (container listing : ℕ)
+    → IsDirectoryAt session s d container listing ↔ ((is_dir_at f d ≡ true) × (l.naming.number (address_of d) ≡ Some container) × (l.naming.number (Listing ∷ address_of d) ≡ Some listing))
+
+-- the state in which a machine starts lays out the flat state at the start, where some users are declared, of whom none is called
+-- nobody, no group is, and the objects of boot have numbers
+abbrev pub StartIsLaidOut : Type 0
+StartIsLaidOut = (users : List User) → 0 < length users → user_number (record { users = users; groups = [] }) nobody ≡ None → (start_state users).next_object ≤ greatest
+    → LaysOut (record { users = users; groups = [] }) (start_state users) (boot (record { users = users; groups = [] }))

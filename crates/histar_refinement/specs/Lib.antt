@@ -1,0 +1,13 @@
+pub mod Sessions
+pub mod Categories
+pub mod Guards
+pub mod Labels
+pub mod LeftByBoot
+pub mod Addresses
+pub mod Processes
+pub mod Directories
+pub mod Expected
+pub mod Stands
+pub mod LaysOut
+pub mod Lines
+pub mod Laws

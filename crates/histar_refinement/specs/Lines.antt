@@ -1,0 +1,76 @@
+-- What the process segments and the directory segments of a state tell, from those that boot made on.
+use Rattle.std.specs.Prelude.{◌≡◌, ℕ, ◌+◌, ◌*◌, ◌<◌, ◌^◌, ◌==◌, cond, List, [], ◌∷◌, ◌++◌, length, Option, None, Some}
+use Rattle.std.specs.Int.{w64, to_be_bytes}
+use Rattle.std.specs.List.{flat_map, AllByRecursion}
+use Rattle.std.specs.FinMap as map
+use Rattle.histar_flat.specs.Words.{Path, ProcName}
+use Rattle.histar_object.specs.Objects.{bytes_in}
+use Rattle.histar_object.specs.State.{State}
+use Rattle.histar_layout.specs.Directory.{Entries, IsDirectory}
+use Rattle.histar_layout.specs.declared.entry.Target.TheVariants as targets
+use Rattle.histar_flat.specs.Sessions.{Session}
+use Rattle.histar_refinement.specs.Addresses.{slash_number, slash_listing_number, home_number, status_number}
+use Rattle.histar_refinement.specs.Processes.{life_bytes}
+
+-- a child in a process segment: its number, its container and its process segment
+pub record Listed : Type 0 where
+  pub number : ℕ
+  pub container : ℕ
+  pub segment : ℕ
+
+-- what a process segment tells: what the process has exited with, if it has, how many children were born, its internal container
+-- and its thread, and its children
+pub record ProcessStatus : Type 0 where
+  pub exited : Option ℕ
+  pub born : ℕ
+  pub internal : ℕ
+  pub thread : ℕ
+  pub children : List Listed
+
+-- a child in the bytes of a process segment
+abbrev pub listed_bytes : Listed → List ℕ
+listed_bytes l = (l.number ∷ to_be_bytes w64 l.container) ++ to_be_bytes w64 l.segment
+
+-- the bytes of a process segment that tells this
+abbrev pub status_bytes : ProcessStatus → List ℕ
+status_bytes t = life_bytes t.exited ++ (t.born ∷ to_be_bytes w64 t.internal) ++ to_be_bytes w64 t.thread ++ flat_map listed_bytes t.children
+
+-- both numbers of a child's objects are numbers of 64 bits
+abbrev pub IsListed : Listed → Type 0
+IsListed l = (l.container < 2 ^ 64) × (l.segment < 2 ^ 64)
+
+-- the bytes tell this of a process
+pub record IsStatus (bytes : List ℕ) (status : ProcessStatus) : Type 0 where
+  pub internal : status.internal < 2 ^ 64
+  pub thread : status.thread < 2 ^ 64
+  pub each : AllByRecursion IsListed status.children
+  pub spelled : bytes ≡ status_bytes status
+
+-- the child with this number
+abbrev pub listed_at : List Listed → ℕ → Option Listed
+listed_at [] n = None
+listed_at (l ∷ more) n = cond (l.number == n) (Some l) (listed_at more n)
+
+-- The container and the process segment of a process: those of process 0 boot made, and those of a child the process segment above
+-- it lists.
+abbrev pub IsStatusSegment : Session → State → ProcName → ℕ → ℕ → Type 0
+IsStatusSegment session s [] container segment = (container ≡ home_number (length session.users)) × (segment ≡ status_number (length session.users))
+IsStatusSegment session s (n ∷ p) container segment =
+    (above : ℕ) × (listing : ℕ) × (status : ProcessStatus)
+    × IsStatusSegment session s p above listing × IsStatus (bytes_in (s.objects listing)) status
+    × (listed_at status.children n ≡ Some (record { number = n; container = container; segment = segment }))
+
+-- the thread is the one that the process segment of this process, which runs, names
+abbrev pub IsThreadOf : Session → State → ProcName → ℕ → Type 0
+IsThreadOf session s process thread =
+    (container : ℕ) × (segment : ℕ) × (status : ProcessStatus)
+    × IsStatusSegment session s process container segment × IsStatus (bytes_in (s.objects segment)) status × (status.exited ≡ None) × (status.thread ≡ thread)
+
+-- The container and the directory segment of a directory: those of `/` boot made, and those of another the directory segment above
+-- it lists.
+abbrev pub IsDirectoryAt : Session → State → Path → ℕ → ℕ → Type 0
+IsDirectoryAt session s [] container segment = (container ≡ slash_number (length session.users)) × (segment ≡ slash_listing_number (length session.users))
+IsDirectoryAt session s (name ∷ d) container segment =
+    (above : ℕ) × (listing : ℕ) × (dir : Entries)
+    × IsDirectoryAt session s d above listing × IsDirectory (bytes_in (s.objects listing)) dir
+    × (map.get dir name ≡ Some (targets.Directory container segment))
