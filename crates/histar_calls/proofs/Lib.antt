@@ -1,5 +1,7 @@
 pub mod LabellingLemmas
-pub mod Files
-pub mod NewFiles
 pub mod Owners
-pub mod Telling
+pub mod UserOf
+pub mod Running
+pub mod Directories
+pub mod Finding
+pub mod Making
