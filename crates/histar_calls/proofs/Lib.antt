@@ -5,3 +5,5 @@ pub mod Running
 pub mod Directories
 pub mod Finding
 pub mod Making
+pub mod Telling
+pub mod TellingPrograms

@@ -2,7 +2,6 @@
 #![tactic(auto)]
 
 mod booting;
-mod logging_in;
+pub mod login;
 
 pub use booting::boot;
-pub use logging_in::login;

@@ -1,21 +1,20 @@
 //! Logging in, by raw calls of the thread that logs in.
-ghost use Rattle.std.specs.Prelude.{◌≡◌, ◌+◌, ◌<◌, ◌≤◌, [], ◌∷◌, length, IfOk, OnOk, OnErr, Some};
+ghost use Rattle.std.specs.Prelude.{◌≡◌, ◌+◌, ◌<◌, ◌≤◌, length, IfOk};
 ghost use Rattle.std.specs.Str.{bytes_eq};
-ghost use Rattle.histar_rules.specs.declared.raw.RawCall.TheVariants as calls;
 ghost use Rattle.histar_rules.specs.Sound.{root_number};
-ghost use Rattle.histar_syscall.specs.Traced.{state};
-ghost use Rattle.histar_syscall.specs.Runs.{Granted};
 ghost use Rattle.histar_calls.specs.Categories.{read_category, write_category};
-ghost use Rattle.histar_calls.specs.Replies.{Replies};
-ghost use Rattle.histar_login.specs.Login.{place_of, user_label, user_clearance, gate_of, password_of, entering, label_if, clearance_if, reply_if, LogsIn, LogsInAs, BecomesUser, BecomesUserAt, EntersGate, TakesLabels};
 ghost use Rattle.histar_calls.specs.Labelling.{owner_of, cleared_of};
+ghost use Rattle.histar_calls.specs.Parts.{ask};
+ghost use Rattle.histar_calls.specs.Programs.{Runs, RunsPart};
+ghost use Rattle.histar_calls.specs.Refusals.{settled};
+ghost use Rattle.histar_login.specs.Login.{place_of, user_label, user_clearance, gate_of, password_of, entering, label_if, clearance_if, reply_if, login_program, login_as_program};
 
 use crate::booting::{own_read_category, own_write_category};
 use histar_base::Bytes;
-use histar_calls::{Stopped, label_of, read_category, told, write_category};
+use histar_calls::{Ending, Stopped, label_of, read_category, settle, write_category};
 use histar_flat::{Errno, Name, Password, Reply, User};
 use histar_label::{Label, LabelStore, Level};
-use histar_object::ObjId;
+use histar_object::{Entry, ObjId};
 use histar_syscall::Kernel;
 use std::alloc::{AllocError, Global};
 
@@ -72,6 +71,13 @@ fn number_of(place: usize) -> u8
     place as u8 + 1
 }
 
+/// The segment with a user's password.
+fn password_segment(number: u8) -> ObjId
+    ensures { result ≡ password_of number }
+{
+    ObjId::new(1 + 2 * u64::from(number))
+}
+
 /// Enters the gate of a user with all that the thread owns and all that the gate gives. EACCES where
 /// the gate doesn't let it in.
 fn enter_gate<S: LabelStore + Drop>(
@@ -81,36 +87,16 @@ fn enter_gate<S: LabelStore + Drop>(
     number: u8,
     own: &Label,
     most: &Label,
-) -> Result<Option<Errno>, Stopped>
-    ensures { EntersGate kernel.old kernel.new thread (entering number own.now most.now) result }
+) -> Result<Entry, Ending>
+    ensures { RunsPart (ask (entering number own.now most.now)) kernel.old kernel.new thread result }
 {
     let (given, limit) = gate_labels(alloc, number)?;
     let wanted = own.floor(&given)?;
     let clearance = most.join(&limit)?;
     let root = ObjId::new(1);
     let gate = ObjId::new(2 + 2 * u64::from(number));
-    match kernel.enter(thread, root, gate, wanted, clearance, own.copy()?) {
-        Ok(_) => Ok(None),
-        Err(refusal) => Ok(Some(told(refusal)?)),
-    }
-}
-
-/// Gives the thread this label and this clearance, one after the other.
-fn take_labels<S: LabelStore + Drop>(
-    kernel: &mut Kernel<S>,
-    thread: ObjId,
-    label: Label,
-    clearance: Label,
-) -> Result<(), Stopped>
-    ensures { TakesLabels kernel.old kernel.new thread (calls.SetLabel label ∷ calls.SetClearance clearance ∷ []) result }
-{
-    let Ok(()) = kernel.set_label(thread, label) else {
-        return Err(Stopped);
-    };
-    let Ok(()) = kernel.set_clearance(thread, clearance) else {
-        return Err(Stopped);
-    };
-    Ok(())
+    let entry = kernel.enter(thread, root, gate, wanted, clearance, own.copy()?)?;
+    Ok(entry)
 }
 
 /// The labels that a thread takes behind the gate: the user's where the password is right, and else its
@@ -149,39 +135,9 @@ fn is_password(kept: &Bytes, password: Password) -> bool
     kept.as_slice() == password.as_bytes()
 }
 
-/// Logs in as a user of this number.
-fn login_as<S: LabelStore + Drop>(
-    kernel: &mut Kernel<S>,
-    alloc: Global,
-    users: u64,
-    number: u8,
-    thread: ObjId,
-    password: Password,
-) -> Result<Reply, Stopped>
-    requires few { users ≤ 16 }
-    ensures follows { LogsInAs users number kernel.old kernel.new thread password result }
-    ensures becomes { IfOk result (BecomesUser users number thread (state kernel.old) (state kernel.new)) }
-    ensures told { IfOk result (Replies kernel.old kernel.new thread) }
-{
-    let Ok((own, most)) = kernel.own_label(thread) else {
-        return Err(Stopped);
-    };
-    if let Some(errno) = enter_gate(kernel, alloc, thread, number, &own, &most)? {
-        return Ok(Reply::Refused(errno));
-    }
-    let segment = ObjId::new(1 + 2 * u64::from(number));
-    let Ok(kept) = kernel.read_copy(alloc, thread, ObjId::new(1), segment) else {
-        return Err(Stopped);
-    };
-    let right = is_password(&kept, password);
-    let (label, clearance) = due_labels(alloc, right, users, number, own, most)?;
-    take_labels(kernel, thread, label, clearance)?;
-    Ok(reply_if(right))
-}
-
-/// Gives process 0 the label and the clearance of a user, by the user's password: ENOENT where no user
-/// has the name, EACCES where the user's gate doesn't let the thread in, EAUTH where the password is
-/// another; the thread has then its own label and clearance again.
+/// Gives a thread of process 0 the label and the clearance of a user, by the user's password: ENOENT where
+/// no user has the name, EACCES where the user's gate doesn't let the thread in, EAUTH where the
+/// password is another; the thread has then its own label and clearance again.
 pub fn login<S: LabelStore + Drop>(
     kernel: &mut Kernel<S>,
     alloc: Global,
@@ -191,15 +147,33 @@ pub fn login<S: LabelStore + Drop>(
     password: Password,
 ) -> Result<Reply, Stopped>
     requires { length users.now ≤ 16 }
-    ensures follows { LogsIn users.now kernel.old kernel.new thread name password result }
-    ensures becomes { IfOk result (BecomesUserAt (place_of users.now name) (length users.now) thread (state kernel.old) (state kernel.new)) }
-    ensures told { IfOk result (Replies kernel.old kernel.new thread) }
+    ensures { Runs (login_program users.now name password) kernel.old kernel.new thread result }
 {
-    match place_of(users, name) {
-        Some(at) => {
-            let count = users.len() as u64;
-            login_as(kernel, alloc, count, number_of(at), thread, password)
-        }
-        None => Ok(Reply::Refused(Errno::ENOENT)),
-    }
+    let Some(at) = place_of(users, name) else {
+        return Ok(Reply::Refused(Errno::ENOENT));
+    };
+    let count = users.len() as u64;
+    settle(login_as(kernel, alloc, count, number_of(at), thread, password))
+}
+
+/// Logs in as a user of this number.
+fn login_as<S: LabelStore + Drop>(
+    kernel: &mut Kernel<S>,
+    alloc: Global,
+    users: u64,
+    number: u8,
+    thread: ObjId,
+    password: Password,
+) -> Result<Reply, Ending>
+    requires { users ≤ 16 }
+    ensures { Runs (login_as_program users number password) kernel.old kernel.new thread (settled result) }
+{
+    let (own, most) = kernel.own_label(thread)?;
+    enter_gate(kernel, alloc, thread, number, &own, &most)?;
+    let kept = kernel.read_copy(alloc, thread, ObjId::new(1), password_segment(number))?;
+    let right = is_password(&kept, password);
+    let (label, clearance) = due_labels(alloc, right, users, number, own, most)?;
+    kernel.set_label(thread, label)?;
+    kernel.set_clearance(thread, clearance)?;
+    Ok(reply_if(right))
 }
