@@ -49,7 +49,7 @@ told_of_write NoThread = tt
 told_of_write BadKind = tt
 told_of_write TooBig = (refl, refl)
 
-told_for : (call : RawCall) (d : Denied) → TellsDenial d (refused_with (errno_for call d))
+pub told_for : (call : RawCall) (d : Denied) → TellsDenial d (refused_with (errno_for call d))
 told_for MakeCategory d = told d
 told_for OwnLabel d = told d
 told_for (SetLabel label) d = told d

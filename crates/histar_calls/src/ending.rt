@@ -11,6 +11,18 @@ use std::alloc::{AllocError, AllocFailed};
 #[derive(Clone, Copy, Debug, PartialEq, Eq)]
 pub struct Stopped;
 
+impl From<AllocError> for Stopped {
+    fn from(_error: AllocError) -> Self {
+        Stopped
+    }
+}
+
+impl<T: Drop> From<AllocFailed<T>> for Stopped {
+    fn from(_error: AllocFailed<T>) -> Self {
+        Stopped
+    }
+}
+
 /// Why a call ends before it has made all its raw calls.
 #[derive(Clone, Copy, Debug, PartialEq, Eq)]
 pub enum Ending {

@@ -7,3 +7,4 @@ pub mod Stages
 pub mod StartLemmas
 pub mod Tables
 pub mod LoginRuns
+pub mod TellingLogins

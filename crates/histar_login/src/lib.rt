@@ -3,5 +3,6 @@
 
 mod booting;
 pub mod login;
+pub mod program_laws;
 
 pub use booting::boot;
