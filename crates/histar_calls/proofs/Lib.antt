@@ -1,5 +1,9 @@
 pub mod LabellingLemmas
-pub mod Files
-pub mod NewFiles
 pub mod Owners
+pub mod UserOf
+pub mod Running
+pub mod Directories
+pub mod Finding
+pub mod Making
 pub mod Telling
+pub mod TellingPrograms

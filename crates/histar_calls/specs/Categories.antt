@@ -1,5 +1,5 @@
 -- The categories of users, the user of a thread, and the labels of files.
-use Rattle.std.specs.Prelude.{◌≡◌, ℕ, ◌+◌, ◌*◌, ◌<◌, ◌≤◌, Bool, true, false}
+use Rattle.std.specs.Prelude.{◌≡◌, ℕ, zero, suc, ◌+◌, ◌*◌, ◌<◌, ◌≤◌, Bool, true, false, if◌then◌else◌}
 use Rattle.histar_flat.specs.declared.calls.Mode.{Mode}
 use Rattle.histar_flat.specs.declared.calls.Mode.TheVariants.{Private, Readable, Open, Group}
 use Rattle.histar_label.specs.Level.{is_star}
@@ -33,3 +33,16 @@ file_label Readable user = written_by (write_category user)
 file_label Private user = secret_of (read_category user) (write_category user)
 file_label Open user = constant L1
 file_label (Group name) user = secret_of (read_category 0) (write_category 0)
+
+-- the first of n users from k on whose read category the label owns, or nobody
+abbrev pub owner_from : Levels → ℕ → ℕ → ℕ
+owner_from own k zero = 0
+owner_from own k (suc n) = if owns own k then k else owner_from own (suc k) n
+
+-- the user of a thread of this label, of so many
+unfoldable pub user_of : Levels → ℕ → ℕ
+user_of own users = owner_from own 1 users
+
+-- the label of a file that a thread of this label makes, where there are so many users: it is a file of the thread's user
+abbrev pub label_made : ℕ → Levels → Mode → Levels
+label_made users own mode = file_label mode (user_of own users)

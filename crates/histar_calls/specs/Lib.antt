@@ -1,6 +1,10 @@
 pub mod Labelling
 pub mod Categories
-pub mod Plans
-pub mod Follows
+pub mod Refusals
 pub mod Replies
-pub mod Walks
+pub mod Programs
+pub mod Parts
+pub mod Read
+pub mod Write
+pub mod Create
+pub mod Laws

@@ -1,6 +1,6 @@
 //! Labels by their exceptions, and the labels of files.
 ghost use Rattle.std.specs.Prelude.{◌≡◌, ℕ, IfOk};
-ghost use Rattle.histar_calls.specs.Categories.{IsUserOf, file_label};
+ghost use Rattle.histar_calls.specs.Categories.{IsUserOf, label_made};
 ghost use Rattle.histar_calls.specs.Labelling.{labelled};
 
 use crate::places::{read_category, write_category};
@@ -42,7 +42,7 @@ fn user_of(own: &Label, users: u8) -> u8
 /// The label of a file that a thread of this label makes. Nobody's categories are owned by no
 /// thread, so nobody may make no file with them.
 pub fn label_made(alloc: Global, own: &Label, users: u8, mode: Mode) -> Result<Label, AllocError>
-    ensures { IfOk result (λ label. (user : ℕ) × IsUserOf own.now users user × (label ≡ file_label mode user)) }
+    ensures { IfOk result (λ label. label ≡ label_made users own.now mode) }
 {
     let user = user_of(own, users);
     let (read, write) = (read_category(user), write_category(user));

@@ -1,17 +1,20 @@
 //! The file calls of the Unix library, each made of raw calls that the kernel grants or refuses.
+//!
+//! Each call runs its program, of the same name in `specs/`: what it asks the kernel, one raw call after
+//! another, and what it replies. [`program_laws`] says what the kernel's refusals come to in every
+//! program.
 #![tactic(auto)]
 
+pub mod create;
+mod directory;
+mod ending;
+mod find;
 mod labels;
-mod making;
 mod places;
-mod refusals;
-mod stopping;
-mod using;
-mod walking;
+pub mod program_laws;
+pub mod read;
+pub mod write;
 
+pub use ending::{Ending, Stopped, settle, written};
 pub use labels::label_of;
-pub use making::create;
-pub use places::{Places, read_category, write_category};
-pub use refusals::told;
-pub use stopping::Stopped;
-pub use using::{read, write};
+pub use places::{Place, Places, read_category, write_category};

@@ -5,13 +5,20 @@ ghost use Rattle.histar_calls.specs.Categories.{read_category, write_category};
 use histar_label::Category;
 use histar_object::ObjId;
 
+/// Where a directory is found.
+#[derive(Clone, Copy, Debug)]
+pub struct Place {
+    /// Its container, which links its directory segment and what its entries lead to.
+    pub container: ObjId,
+    /// Its directory segment, which spells its entries.
+    pub listing: ObjId,
+}
+
 /// Where the calls of the Unix library find `/`, and how many users there are.
 #[derive(Clone, Copy, Debug)]
 pub struct Places {
-    /// The container of `/`.
-    pub root: ObjId,
-    /// The directory segment of `/`.
-    pub listing: ObjId,
+    /// The place of `/`.
+    pub slash: Place,
     /// How many users the machine has; they are numbered from 1 on, and nobody is number 0.
     pub users: u8,
 }

@@ -6,4 +6,5 @@ pub mod ProcessStage
 pub mod Stages
 pub mod StartLemmas
 pub mod Tables
-pub mod LoginSteps
+pub mod LoginRuns
+pub mod TellingLogins

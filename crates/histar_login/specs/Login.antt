@@ -1,8 +1,7 @@
--- Logging in: the raw calls of a login, what it answers, and whose the thread is then.
-use Rattle.std.specs.Prelude.{◌≡◌, ℕ, ◌+◌, ◌*◌, Bool, true, false, List, [], ◌∷◌, ◌++◌, length, Option, None, Some, option_map, position, Result, Ok, Err}
+-- Logging in: the program of a login, and the labels that it asks for.
+use Rattle.std.specs.Prelude.{ℕ, ◌+◌, ◌*◌, Bool, true, false, List, [], ◌∷◌, length, Option, None, Some, position}
 use Rattle.std.specs.Str.{bytes_eq}
 use Rattle.histar_flat.specs.declared.calls.User.{User}
-use Rattle.histar_flat.specs.declared.replies.Errno.{Errno}
 use Rattle.histar_flat.specs.declared.replies.Errno.TheVariants.{ENOENT, EAUTH}
 use Rattle.histar_flat.specs.declared.replies.Reply.{Reply}
 use Rattle.histar_flat.specs.declared.replies.Reply.TheVariants.{Done, Refused}
@@ -11,18 +10,15 @@ use Rattle.histar_label.specs.declared.levels.Level.{Level}
 use Rattle.histar_label.specs.declared.levels.Level.TheVariants.{Star, L1, L2, L3}
 use Rattle.histar_label.specs.Levels.{Levels}
 use Rattle.histar_label.specs.Floors.{join_of, floor_of}
-use Rattle.histar_object.specs.Objects.{bytes_in, label_there, clearance_there}
-use Rattle.histar_object.specs.State.{State, with_own}
-use Rattle.histar_rules.specs.declared.raw.Denied.{Denied}
 use Rattle.histar_rules.specs.declared.raw.RawCall.{RawCall}
-use Rattle.histar_rules.specs.declared.raw.RawCall.TheVariants.{MakeCategory, OwnLabel, SetLabel, SetClearance, MakeSegment, MakeContainer, MakeThread, MakeGate, Enter, Read, Write, Unlink, LabelOf}
+use Rattle.histar_rules.specs.declared.raw.RawCall.TheVariants.{OwnLabel, SetLabel, SetClearance, Enter, Read}
 use Rattle.histar_rules.specs.Sound.{root_number}
-use Rattle.histar_syscall.specs.Traced.{Traced, state, IsUnchanged}
-use Rattle.histar_syscall.specs.Runs.{Made, Granted}
-use Rattle.histar_calls.specs.declared.stopping.Stopped.{Stopped}
 use Rattle.histar_calls.specs.Categories.{read_category, write_category}
-use Rattle.histar_calls.specs.Follows.{errno_of, or_no_label}
 use Rattle.histar_calls.specs.Labelling.{labelled, owner_of, cleared_of}
+use Rattle.histar_calls.specs.Laws.{TellsRefusals}
+use Rattle.histar_calls.specs.Programs.{Program}
+use Rattle.histar_calls.specs.Programs.Program.{Answers}
+use Rattle.histar_calls.specs.Parts.{◌>>=◌, ◌>>◌, ask}
 use Rattle.histar_login.specs.Start.{own_read_category, own_write_category}
 
 -- the place of the user with this name
@@ -64,112 +60,32 @@ abbrev pub clearance_if : Bool → ℕ → ℕ → Levels → Levels
 clearance_if true users i most = user_clearance users i
 clearance_if false users i most = most
 
--- The raw calls of a login as user i by a thread with this label and this clearance: it asks for its own labels, enters the
--- gate of the user, reads the user's password, which the gate lets it read, and takes the labels that are its due.
-abbrev pub login_calls : Bool → ℕ → ℕ → Levels → Levels → List RawCall
-login_calls right users i own most =
-    OwnLabel
-    ∷ entering i own most
-    ∷ Read root_number (password_of i)
-    ∷ SetLabel (label_if right users i own)
-    ∷ SetClearance (clearance_if right users i most)
-    ∷ []
-
--- what it answers behind the gate
+-- what is replied behind the gate
 abbrev pub reply_if : Bool → Reply
 reply_if true = Done
 reply_if false = Refused EAUTH
 
--- the label and the clearance of a thread; a number that is no thread's has none, and enters nothing
-abbrev pub own_of : State → ℕ → Levels
-own_of s thread = or_no_label (label_there (s.objects thread))
+-- A login as user i, where there are so many: the thread asks for its own labels, enters the gate of the user, reads the user's
+-- password, which the gate lets it read, and takes the labels that are its due.
+unfoldable pub login_as_program : ℕ → ℕ → List ℕ → Program
+login_as_program users i password = do
+  own ← ask OwnLabel
+  entry ← ask (entering i own.0 own.1)
+  kept ← ask (Read root_number (password_of i))
+  let right = bytes_eq kept password in do
+    ask (SetLabel (label_if right users i own.0))
+    ask (SetClearance (clearance_if right users i own.1))
+    Answers (reply_if right)
 
-abbrev pub most_of : State → ℕ → Levels
-most_of s thread = or_no_label (clearance_there (s.objects thread))
+-- a login as the user at a place, if there is one
+abbrev pub login_at : ℕ → List ℕ → Option ℕ → Program
+login_at users password None = Answers (Refused ENOENT)
+login_at users password (Some place) = login_as_program users (place + 1) password
 
--- the password is the one that the segment of user i holds
-abbrev pub is_password : State → ℕ → List ℕ → Bool
-is_password s i password = bytes_eq (bytes_in (s.objects (password_of i))) password
+-- the program of `login NAME PASSWORD`
+abbrev pub login_program : List User → Name → List ℕ → Program
+login_program users name password = login_at (length users) password (place_of users name)
 
--- what a refusal is told as: that of the gate, and no other
-abbrev pub gate_errno : RawCall → Denied → Option Errno
-gate_errno MakeCategory denied = None
-gate_errno OwnLabel denied = None
-gate_errno (SetLabel label) denied = None
-gate_errno (SetClearance clearance) denied = None
-gate_errno (MakeSegment container label bytes) denied = None
-gate_errno (MakeContainer container label) denied = None
-gate_errno (MakeThread container label clearance) denied = None
-gate_errno (MakeGate container label clearance entry) denied = None
-gate_errno (Enter container gate wanted clearance shown) denied = errno_of denied
-gate_errno (Read container segment) denied = None
-gate_errno (Write container segment keep bytes) denied = None
-gate_errno (Unlink container object) denied = None
-gate_errno (LabelOf container object) denied = None
-
--- a refusal that is told, if there is one
-abbrev pub refusal_told : Option (RawCall × Denied) → Option Errno
-refusal_told None = None
-refusal_told (Some refusal) = gate_errno refusal.0 refusal.1
-
--- what is answered: the reply where all raw calls were granted, and else the refusal
-abbrev pub login_answer : Reply → Option (RawCall × Denied) → Option Reply
-login_answer reply None = Some reply
-login_answer reply (Some refusal) = option_map Refused (gate_errno refusal.0 refusal.1)
-
--- the login made these raw calls, one after another up to the first that was refused, and answers so
-pub record LoginCompletes (old new : Traced) (thread : ℕ) (calls : List RawCall) (reply told : Reply) : Type 0 where
-  pub refusal : Option (RawCall × Denied)
-  pub made : Made old new thread calls refusal
-  pub answers : login_answer reply refusal ≡ Some told
-
--- the login ended before its answer: it made the first of these raw calls and no other, and the gate refused none of them
-pub record LoginStops (old new : Traced) (thread : ℕ) (calls : List RawCall) : Type 0 where
-  pub front : List RawCall
-  pub rest : List RawCall
-  pub parts : calls ≡ front ++ rest
-  pub refusal : Option (RawCall × Denied)
-  pub made : Made old new thread front refusal
-  pub untold : refusal_told refusal ≡ None
-
--- A login as user i: it makes its raw calls up to the first that is refused. What it answers behind the gate is by the password
--- that the user's segment holds.
-abbrev pub LogsInAs : ℕ → ℕ → Traced → Traced → ℕ → List ℕ → Result Reply Stopped → Type 0
-LogsInAs users i old new thread password (Ok reply) =
-    let right = is_password (state old) i password in
-    LoginCompletes old new thread (login_calls right users i (own_of (state old) thread) (most_of (state old) thread)) (reply_if right) reply
-LogsInAs users i old new thread password (Err stopped) =
-    let right = is_password (state old) i password in
-    LoginStops old new thread (login_calls right users i (own_of (state old) thread) (most_of (state old) thread))
-
--- a login as the user at a place: ENOENT with no raw call where no user has the name
-abbrev pub LogsInAt : Option ℕ → ℕ → Traced → Traced → ℕ → List ℕ → Result Reply Stopped → Type 0
-LogsInAt None users old new thread password result = (result ≡ Ok (Refused ENOENT)) × IsUnchanged old new
-LogsInAt (Some place) users old new thread password result = LogsInAs users (place + 1) old new thread password result
-
--- a login as the user with this name
-abbrev pub LogsIn : List User → Traced → Traced → ℕ → Name → List ℕ → Result Reply Stopped → Type 0
-LogsIn users old new thread name password result = LogsInAt (place_of users name) (length users) old new thread password result
-
--- Whose the thread is then: after `ok` it has the label and the clearance of user i and nothing else has changed; after every
--- refusal it has its own, to the last level, and nothing has changed. A login answers nothing else.
-abbrev pub BecomesUser : ℕ → ℕ → ℕ → State → State → Reply → Type 0
-BecomesUser users i thread old new Done = new ≡ with_own old thread (user_label users i) (user_clearance users i)
-BecomesUser users i thread old new (Refused errno) = new ≡ old
-BecomesUser users i thread old new _ = ⊥
-
-abbrev pub BecomesUserAt : Option ℕ → ℕ → ℕ → State → State → Reply → Type 0
-BecomesUserAt None users thread old new reply = new ≡ old
-BecomesUserAt (Some place) users thread old new reply = BecomesUser users (place + 1) thread old new reply
-
--- a thread enters a gate: it was granted, or it was refused and the refusal is told, or memory ran out or the refusal is none
--- that is told
-abbrev pub EntersGate : Traced → Traced → ℕ → RawCall → Result (Option Errno) Stopped → Type 0
-EntersGate old new thread call (Ok None) = Granted old new thread (call ∷ [])
-EntersGate old new thread call (Ok (Some errno)) = (denied : Denied) × Made old new thread (call ∷ []) (Some (call, denied)) × (errno_of denied ≡ Some errno)
-EntersGate old new thread call (Err stopped) = LoginStops old new thread (call ∷ [])
-
--- these raw calls were all granted, or the login ended among them
-abbrev pub TakesLabels : Traced → Traced → ℕ → List RawCall → Result (Unit {0}) Stopped → Type 0
-TakesLabels old new thread calls (Ok done) = Granted old new thread calls
-TakesLabels old new thread calls (Err stopped) = LoginStops old new thread calls
+-- the programs of logins tell their refusals
+abbrev pub LoginsTellRefusals : Type 0
+LoginsTellRefusals = (users : List User) (name : Name) (password : List ℕ) → TellsRefusals (login_program users name password)

@@ -110,7 +110,7 @@ start_state users = state_with (start_objects users) (6 + 2 * length users)
 
 -- where `/` is found: its container, its directory segment, and how many users there are
 abbrev pub places_of : ℕ → Places
-places_of users = record { root = 4 + 2 * users; listing = 5 + 2 * users; users = users }
+places_of users = record { slash = record { container = 4 + 2 * users; listing = 5 + 2 * users }; users = users }
 
 -- the thread of process 0
 abbrev pub thread_number : ℕ → ℕ

@@ -7,7 +7,7 @@ ghost use Rattle.histar_login.specs.Booting.{BootsOn, Tells, IsAnywhere, IsBefor
 ghost use Rattle.histar_login.specs.Start.{own_read_category, own_write_category, user_entry, user_table, process_bytes, start_state, places_of, thread_number};
 
 use histar_base::Bytes;
-use histar_calls::{Places, Stopped, label_of, read_category, write_category};
+use histar_calls::{Place, Places, Stopped, label_of, read_category, write_category};
 use histar_flat::User;
 use histar_label::{Category, Label, LabelStore, Level};
 use histar_object::{Entry, ObjId};
@@ -178,13 +178,12 @@ fn make_directory<S: LabelStore + Drop>(
     let readable = label_of(alloc, Level::L1, &[(write_category(1), Level::L0)])?;
     let same = readable.copy()?;
     let container = kernel.make_container(alloc, boot_thread(), root_container(), same);
-    let root = granted(container)?;
+    let container = granted(container)?;
     let empty = Bytes::new(alloc);
-    let segment = kernel.make_segment(alloc, boot_thread(), root, readable, empty);
+    let segment = kernel.make_segment(alloc, boot_thread(), container, readable, empty);
     let listing = granted(segment)?;
     Ok(Places {
-        root,
-        listing,
+        slash: Place { container, listing },
         users: users.len() as u8,
     })
 }

@@ -2,7 +2,7 @@
 #![tactic(auto)]
 
 mod booting;
-mod logging_in;
+pub mod login;
+pub mod program_laws;
 
 pub use booting::boot;
-pub use logging_in::login;

@@ -1,0 +1,126 @@
+-- The programs of the calls tell their refusals.
+use Rattle.std.proofs.Common.{◌≡◌, ℕ, Bool, true, false, List, [], ◌∷◌, Option, None, Some, Result, Ok, Err, refl, sym, ap, ◌∙◌}
+use Rattle.std.specs.Prelude.{◌==◌}
+use Rattle.std.specs.FinMap as map
+use Rattle.histar_flat.specs.Words.{Path}
+use Rattle.histar_flat.specs.declared.calls.Mode.{Mode}
+use Rattle.histar_flat.specs.declared.replies.Errno.{Errno}
+use Rattle.histar_flat.specs.declared.replies.Errno.TheVariants.{EACCES, EPERM, EFBIG}
+use Rattle.histar_flat.specs.declared.replies.Reply.TheVariants.{Done, Data, Refused}
+use Rattle.histar_rules.specs.declared.raw.Denied.{Denied}
+use Rattle.histar_rules.specs.declared.raw.Denied.TheVariants.{Observe, Modify, Range, Gate, NoEntry, NoThread, BadKind, TooBig}
+use Rattle.histar_rules.specs.declared.raw.RawCall.{RawCall}
+use Rattle.histar_rules.specs.declared.raw.RawCall.TheVariants.{MakeCategory, OwnLabel, SetLabel, SetClearance, MakeSegment, MakeContainer, MakeThread, MakeGate, Enter, Read, Write, Unlink, LabelOf}
+use Rattle.histar_layout.specs.Directory.{Entries, most_entries}
+use Rattle.histar_layout.specs.declared.entry.Target.{Target}
+use Rattle.histar_layout.specs.declared.entry.Target.TheVariants as targets
+use Rattle.histar_calls.specs.declared.places.Place.{Place}
+use Rattle.histar_calls.specs.declared.places.Places.{Places}
+use Rattle.histar_calls.specs.declared.directory.Directory.{Directory}
+use Rattle.histar_calls.specs.declared.find.FoundFile.{FoundFile}
+use Rattle.histar_calls.specs.declared.find.Room.{Room}
+use Rattle.histar_calls.specs.Refusals.{errno_of, write_errno_of, errno_for}
+use Rattle.histar_calls.specs.Programs.{AnswerOf, Program}
+use Rattle.histar_calls.specs.Programs.Program.{Answers}
+use Rattle.histar_calls.specs.Parts.{refused_with, ask, if_there, read_directory, directory_at, file_at, room_at, target_of, given, walk, find_file, find_room, write_entries}
+use Rattle.histar_calls.specs.Read.{read_program}
+use Rattle.histar_calls.specs.Write.{write_program}
+use Rattle.histar_calls.specs.Create.{create_program}
+use Rattle.histar_calls.specs.Laws.{TellsDenial, TellsRefusals, CallsTellRefusals}
+
+-- each denial is told by its errno
+told : (d : Denied) → TellsDenial d (refused_with (errno_of d))
+told Observe = (refl, refl)
+told Modify = (refl, refl)
+told Range = (refl, refl)
+told Gate = (refl, refl)
+told NoEntry = tt
+told NoThread = tt
+told BadKind = tt
+told TooBig = tt
+
+told_of_write : (d : Denied) → TellsDenial d (refused_with (write_errno_of d))
+told_of_write Observe = (refl, refl)
+told_of_write Modify = (refl, refl)
+told_of_write Range = (refl, refl)
+told_of_write Gate = (refl, refl)
+told_of_write NoEntry = tt
+told_of_write NoThread = tt
+told_of_write BadKind = tt
+told_of_write TooBig = (refl, refl)
+
+pub told_for : (call : RawCall) (d : Denied) → TellsDenial d (refused_with (errno_for call d))
+told_for MakeCategory d = told d
+told_for OwnLabel d = told d
+told_for (SetLabel label) d = told d
+told_for (SetClearance clearance) d = told d
+told_for (MakeSegment container label bytes) d = told d
+told_for (MakeContainer container label) d = told d
+told_for (MakeThread container label clearance) d = told d
+told_for (MakeGate container label clearance entry) d = told d
+told_for (Enter container gate wanted clearance shown) d = told d
+told_for (Read container segment) d = told d
+told_for (Write container segment keep bytes) d = told_of_write d
+told_for (Unlink container object) d = told d
+told_for (LabelOf container object) d = told d
+
+-- a raw call that is asked, where what follows its answer tells its refusals
+pub ask_tells : (call : RawCall) (rest : AnswerOf call → Program) → ((answer : AnswerOf call) → TellsRefusals (rest answer)) → TellsRefusals (ask call rest)
+ask_tells call rest tells = (tells, told_for call)
+
+read_tells : (place : Place) (rest : Directory → Program) → ((directory : Directory) → TellsRefusals (rest directory)) → TellsRefusals (read_directory place rest)
+unfolding read_directory
+read_tells place rest tells = ((λ bytes listed. by listed), told_for (Read place.container place.listing))
+  where
+    by : (listed : Option Entries) → TellsRefusals (if_there (λ (entries : Entries). rest (record { place = place; entries = entries })) listed)
+    by None = tt
+    by (Some entries) = tells (record { place = place; entries = entries })
+
+into_tells : (target : Option Target) (rest : Directory → Program) → ((directory : Directory) → TellsRefusals (rest directory)) → TellsRefusals (given (directory_at target) (λ place. read_directory place rest))
+into_tells None rest tells = (refl, refl)
+into_tells (Some (targets.File file)) rest tells = (refl, refl)
+into_tells (Some (targets.Directory container listing)) rest tells = read_tells (record { container = container; listing = listing }) rest tells
+
+-- a walk tells its refusals
+pub walk_tells : (places : Places) (path : Path) (rest : Directory → Program) → ((directory : Directory) → TellsRefusals (rest directory)) → TellsRefusals (walk places path rest)
+unfolding walk
+walk_tells places [] rest tells = read_tells places.slash rest tells
+walk_tells places (name ∷ parent) rest tells = walk_tells places parent _ (λ above. into_tells (target_of above name) rest tells)
+
+-- and so does the search for a file
+pub file_tells : (places : Places) (path : Path) (rest : FoundFile → Program) → ((file : FoundFile) → TellsRefusals (rest file)) → TellsRefusals (find_file places path rest)
+unfolding find_file
+file_tells places [] rest tells = (refl, refl)
+file_tells places (name ∷ parent) rest tells = walk_tells places parent _ (λ directory. by directory (target_of directory name))
+  where
+    by : (directory : Directory) (target : Option Target) → TellsRefusals (given (file_at target) (λ segment. rest (record { container = directory.place.container; segment = segment })))
+    by directory None = (refl, refl)
+    by directory (Some (targets.File file)) = tells (record { container = directory.place.container; segment = file })
+    by directory (Some (targets.Directory container listing)) = (refl, refl)
+
+-- and for room
+pub room_tells : (places : Places) (path : Path) (rest : Room → Program) → ((room : Room) → TellsRefusals (rest room)) → TellsRefusals (find_room places path rest)
+unfolding find_room
+room_tells places [] rest tells = (refl, refl)
+room_tells places (name ∷ parent) rest tells = walk_tells places parent _ (λ directory. by directory (target_of directory name) (map.len directory.entries == most_entries))
+  where
+    by : (directory : Directory) (target : Option Target) (full : Bool) → TellsRefusals (given (room_at target full) (λ _. rest (record { place = directory.place; entries = directory.entries; name = name })))
+    by directory (Some target) full = (refl, refl)
+    by directory None true = (refl, refl)
+    by directory None false = tells (record { place = directory.place; entries = directory.entries; name = name })
+
+read_program_tells : (places : Places) (path : Path) → TellsRefusals (read_program places path)
+unfolding read_program
+read_program_tells places path = file_tells places path _ (λ file. ((λ bytes. (refl, refl)), told))
+
+write_program_tells : (places : Places) (path : Path) (bytes : List ℕ) → TellsRefusals (write_program places path bytes)
+unfolding write_program
+write_program_tells places path bytes = file_tells places path _ (λ file. ((λ done. (refl, refl)), told_of_write))
+
+create_program_tells : (places : Places) (path : Path) (mode : Mode) → TellsRefusals (create_program places path mode)
+unfolding create_program
+create_program_tells places path mode = room_tells places path _ (λ room. ((λ own. ((λ file. ((λ done. (refl, refl)), told_of_write)), told)), told))
+
+-- the programs of the calls tell their refusals
+pub calls_tell_refusals : CallsTellRefusals
+calls_tell_refusals = record { read = read_program_tells; write = write_program_tells; create = create_program_tells }

@@ -1,0 +1,50 @@
+-- The user of a label is the first one whose read category it owns.
+use Rattle.std.specs.Prelude.{IfOk}
+use Rattle.std.proofs.Common.{Result, Ok, Err, ◌≡◌, ℕ, zero, suc, ◌+◌, ◌<◌, ◌≤◌, ◌⊎◌, inl, inr, Bool, true, false, refl, sym, ap, ◌∙◌, arith, if◌then◌else◌}
+use Rattle.std.proofs.lemmas.Bool.{cases_lt}
+use mathlib.Core.Bool.{true≢false}
+use Rattle.histar_label.specs.Levels.{Levels}
+use Rattle.histar_flat.specs.declared.calls.Mode.{Mode}
+use Rattle.histar_calls.specs.Categories.{IsUserOf, owns, owner_from, user_of, file_label, label_made}
+
+by_case : (x k user : ℕ) (b c : Bool) → (c ≡ true → k ≡ user) → (c ≡ false → x ≡ user) → c ≡ b → (if b then k else x) ≡ user
+by_case x k user true c holds fails e = holds e
+by_case x k user false c holds fails e = fails e
+
+module _ (own : Levels) (users user : ℕ) (is : IsUserOf own users user) where
+  next_at : (k : ℕ) → 0 < k → (user ≡ 0) ⊎ (k ≤ user) → owns own k ≡ false → (user ≡ 0) ⊎ (suc k ≤ user)
+  next_at k positive at e = elim at [
+    | inl none ↦ inl none
+    | inr later ↦ elim (cases_lt k user) [
+      | inl less ↦ inr (omega arith)
+      | inr most ↦
+          let same : user ≡ k = omega arith in
+          let above : 0 < user = omega arith in
+          absurd (true≢false (sym (is.owner above) ∙ ap (owns own) same ∙ e))
+    ]
+  ]
+
+  here_at : (n k : ℕ) → 0 < k → k + suc n ≡ users + 1 → (user ≡ 0) ⊎ (k ≤ user) → owns own k ≡ true → k ≡ user
+  here_at n k positive end at e = elim at [
+    | inl none ↦ let known : k ≤ users = omega arith in absurd (true≢false (sym e ∙ is.nobody none k positive known))
+    | inr later ↦ elim (cases_lt k user) [
+      | inl less ↦ absurd (true≢false (sym e ∙ is.first k positive less))
+      | inr most ↦ omega arith
+    ]
+  ]
+
+  from : (n k : ℕ) → 0 < k → k + n ≡ users + 1 → (user ≡ 0) ⊎ (k ≤ user) → owner_from own k n ≡ user
+  from zero k positive end at = elim at [
+    | inl none ↦ sym none
+    | inr later ↦ let most : user ≤ users = is.known in absurd (omega arith)
+  ]
+  from (suc n) k positive end at = by_case (owner_from own (suc k) n) k user (owns own k) (owns own k) (here_at n k positive end at) (λ e. from n (suc k) (omega arith) (omega arith) (next_at k positive at e)) refl
+
+  pub user_is : user_of own users ≡ user
+  unfolding user_of
+  user_is = from users 1 (omega arith) (omega arith) (elim (cases_lt 0 user) [ inl less ↦ inr less | inr none ↦ inl (omega arith) ])
+
+-- a label that is that of a file of the thread's user is the one that is made
+pub made_as : {E : Type 0} (result : Result Levels E) (own made : Levels) (users user : ℕ) (mode : Mode) → IsUserOf own users user → made ≡ file_label mode user → IfOk result (λ v. v ≡ made) → IfOk result (λ label. label ≡ label_made users own mode)
+made_as (Ok label) own made users user mode is same right = right ∙ same ∙ ap (file_label mode) (sym (user_is own users user is))
+made_as (Err error) own made users user mode is same right = right

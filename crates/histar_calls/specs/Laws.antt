@@ -1,0 +1,46 @@
+-- What the kernel's refusals come to in a program.
+use Rattle.std.specs.Prelude.{◌≡◌, ◌≢◌, ℕ, Bool, true, false, Option, None, Some, Result, Ok, Err, List, [], ◌∷◌}
+use Rattle.std.specs.List.{AllByRecursion}
+use Rattle.histar_flat.specs.Words.{Path}
+use Rattle.histar_flat.specs.declared.calls.Mode.{Mode}
+use Rattle.histar_flat.specs.declared.replies.Reply.{Reply}
+use Rattle.histar_rules.specs.declared.raw.Denied.{Denied}
+use Rattle.histar_rules.specs.declared.raw.RawCall.{RawCall}
+use Rattle.histar_rules.specs.declared.raw.RawCall.TheVariants as raw
+use Rattle.histar_layout.specs.Directory.{Entries}
+use Rattle.histar_syscall.specs.Traced.{Traced}
+use Rattle.histar_syscall.specs.Runs.{is_label_refusal, is_range_refusal}
+use Rattle.histar_calls.specs.declared.places.Places.{Places}
+use Rattle.histar_calls.specs.Replies.{is_no_access, is_no_permission, sets_labels, Replies}
+use Rattle.histar_calls.specs.Programs.{AnswerOf, Program, Completes}
+use Rattle.histar_calls.specs.Programs.Program.{Answers, Asks, Lists, Stops}
+use Rattle.histar_calls.specs.Read.{read_program}
+use Rattle.histar_calls.specs.Write.{write_program}
+use Rattle.histar_calls.specs.Create.{create_program}
+
+-- After this denial a program replies EACCES exactly where it was by label and EPERM exactly where it was by range; before its reply it
+-- only gives the thread labels, and stops where it may not.
+abbrev pub TellsDenial : Denied → Program → Type 0
+TellsDenial denied (Answers reply) = (is_label_refusal (Some denied) ≡ is_no_access reply) × (is_range_refusal (Some denied) ≡ is_no_permission reply)
+TellsDenial denied (Asks call next) =
+    (sets_labels call ≡ true) × ((answer : AnswerOf call) → TellsDenial denied (next (Ok answer))) × ((other : Denied) → next (Err other) ≡ Stops)
+TellsDenial denied (Lists bytes next) = ⊥
+TellsDenial denied Stops = Unit {0}
+
+-- A program tells its refusals: each denial is told, and where none came its reply is neither EACCES nor EPERM.
+abbrev pub TellsRefusals : Program → Type 0
+TellsRefusals (Answers reply) = (is_no_access reply ≡ false) × (is_no_permission reply ≡ false)
+TellsRefusals (Asks call next) = ((answer : AnswerOf call) → TellsRefusals (next (Ok answer))) × ((denied : Denied) → TellsDenial denied (next (Err denied)))
+TellsRefusals (Lists bytes next) = (listed : Option Entries) → TellsRefusals (next listed)
+TellsRefusals Stops = Unit {0}
+
+-- Where a program that tells its refusals was run to its reply, the reply is EACCES exactly where a raw call was refused by label, EPERM
+-- exactly where one was refused by range, at most one was refused, and after it the thread was only given labels.
+abbrev pub RefusalsAreTold : Type 0
+RefusalsAreTold = (program : Program) → TellsRefusals program → (old new : Traced) (thread : ℕ) (reply : Reply) → Completes program old new thread reply → Replies old new thread reply
+
+-- the programs of the calls tell their refusals
+pub record CallsTellRefusals : Type 0 where
+  pub read : (places : Places) (path : Path) → TellsRefusals (read_program places path)
+  pub write : (places : Places) (path : Path) (bytes : List ℕ) → TellsRefusals (write_program places path bytes)
+  pub create : (places : Places) (path : Path) (mode : Mode) → TellsRefusals (create_program places path mode)

@@ -1,0 +1,109 @@
+-- A call of the Unix library as a program of raw calls: what it asks the kernel next, by what the kernel answered so far.
+use Rattle.std.specs.Prelude.{◌≡◌, ℕ, List, Option, None, Some, Result, Ok, Err, MatchOption, ◌⊎◌}
+use Rattle.histar_flat.specs.declared.replies.Errno.{Errno}
+use Rattle.histar_flat.specs.declared.replies.Reply.{Reply}
+use Rattle.histar_flat.specs.declared.replies.Reply.TheVariants as replies
+use Rattle.histar_label.specs.Levels.{Levels}
+use Rattle.histar_object.specs.declared.objects.Entry.{Entry}
+use Rattle.histar_object.specs.Objects.{bytes_in, label_there, clearance_there, entry_there}
+use Rattle.histar_object.specs.State.{State}
+use Rattle.histar_rules.specs.declared.raw.Denied.{Denied}
+use Rattle.histar_rules.specs.declared.raw.RawCall.{RawCall}
+use Rattle.histar_rules.specs.declared.raw.RawCall.TheVariants.{MakeCategory, OwnLabel, SetLabel, SetClearance, MakeSegment, MakeContainer, MakeThread, MakeGate, Enter, Read, Write, Unlink, LabelOf}
+use Rattle.histar_syscall.specs.Traced.{Traced, state, Called, IsUnchanged}
+use Rattle.histar_layout.specs.Directory.{Entries, IsDirectory}
+use Rattle.histar_calls.specs.declared.ending.Ending.{Ending}
+use Rattle.histar_calls.specs.declared.ending.Ending.TheVariants.{Refused, Stopped as HasStopped}
+use Rattle.histar_calls.specs.declared.ending.Stopped.{Stopped}
+
+-- what a raw call answers where it is granted: a number, labels, an entry, bytes, or nothing
+abbrev pub AnswerOf : RawCall → Type 0
+AnswerOf MakeCategory = ℕ
+AnswerOf OwnLabel = Levels × Levels
+AnswerOf (SetLabel label) = Unit {0}
+AnswerOf (SetClearance clearance) = Unit {0}
+AnswerOf (MakeSegment d label bytes) = ℕ
+AnswerOf (MakeContainer d label) = ℕ
+AnswerOf (MakeThread d label clearance) = ℕ
+AnswerOf (MakeGate d label clearance entry) = ℕ
+AnswerOf (Enter d o wanted clearance shown) = Entry
+AnswerOf (Read d o) = List ℕ
+AnswerOf (Write d o keep bytes) = Unit {0}
+AnswerOf (Unlink d o) = Unit {0}
+AnswerOf (LabelOf d o) = Levels
+
+-- the answer is the one that the state before the call gives to the thread
+abbrev pub IsAnswer : State → ℕ → (call : RawCall) → AnswerOf call → Type 0
+IsAnswer s t MakeCategory category = category ≡ s.next_category
+IsAnswer s t OwnLabel own = (Some own.0 ≡ label_there (s.objects t)) × (Some own.1 ≡ clearance_there (s.objects t))
+IsAnswer s t (SetLabel label) done = Unit {0}
+IsAnswer s t (SetClearance clearance) done = Unit {0}
+IsAnswer s t (MakeSegment d label bytes) number = number ≡ s.next_object
+IsAnswer s t (MakeContainer d label) number = number ≡ s.next_object
+IsAnswer s t (MakeThread d label clearance) number = number ≡ s.next_object
+IsAnswer s t (MakeGate d label clearance entry) number = number ≡ s.next_object
+IsAnswer s t (Enter d o wanted clearance shown) entry = Some entry ≡ entry_there (s.objects o)
+IsAnswer s t (Read d o) bytes = bytes ≡ bytes_in (s.objects o)
+IsAnswer s t (Write d o keep bytes) done = Unit {0}
+IsAnswer s t (Unlink d o) done = Unit {0}
+IsAnswer s t (LabelOf d o) label = Some label ≡ label_there (s.objects o)
+
+-- what a raw call comes to: its answer, or why it is denied
+abbrev pub Outcome : RawCall → Type 0
+Outcome call = Result (AnswerOf call) Denied
+
+-- A program replies; or it asks the kernel, and goes on by the outcome; or it looks which directory bytes are, if they are one,
+-- and goes on by that; or it stops without a reply.
+pub data Program : Type 0 where
+  Answers : Reply → Program
+  Asks : (call : RawCall) → (Outcome call → Program) → Program
+  Lists : List ℕ → (Option Entries → Program) → Program
+  Stops : Program
+
+-- the thread made this raw call, with this outcome
+abbrev pub Asked : Traced → Traced → ℕ → (call : RawCall) → Outcome call → Type 0
+Asked old new thread call (Ok answer) = Called old new thread call None × IsAnswer (state old) thread call answer
+Asked old new thread call (Err denied) = Called old new thread call (Some denied)
+
+-- bytes are this directory, or no directory at all
+abbrev pub IsListed : List ℕ → Option Entries → Type 0
+IsListed bytes listed = MatchOption listed ((dir : Entries) → IsDirectory bytes dir → ⊥) (IsDirectory bytes)
+
+-- The thread made the raw calls of the program, one after another, each with the outcome that the rules give at that point, and
+-- did nothing else; and this is the program's reply.
+abbrev pub Completes : Program → Traced → Traced → ℕ → Reply → Type 0
+Completes (Answers said) old new thread reply = IsUnchanged old new × (reply ≡ said)
+Completes (Asks call next) old new thread reply =
+    (mid : Traced) × (outcome : Outcome call) × Asked old mid thread call outcome × Completes (next outcome) mid new thread reply
+Completes (Lists bytes next) old new thread reply = (listed : Option Entries) × IsListed bytes listed × Completes (next listed) old new thread reply
+Completes Stops old new thread reply = ⊥
+
+-- The thread made the first raw calls of the program so, and ended without a reply: memory ran out with something still to do, or
+-- the program stops. A program that has only its reply left doesn't end so.
+abbrev pub Begins : Program → Traced → Traced → ℕ → Type 0
+Begins (Answers said) old new thread = ⊥
+Begins (Asks call next) old new thread =
+    IsUnchanged old new ⊎ ((mid : Traced) × (outcome : Outcome call) × Asked old mid thread call outcome × Begins (next outcome) mid new thread)
+Begins (Lists bytes next) old new thread = IsUnchanged old new ⊎ ((listed : Option Entries) × IsListed bytes listed × Begins (next listed) old new thread)
+Begins Stops old new thread = IsUnchanged old new
+
+-- a call runs its program: up to its reply, or a beginning of it
+unfoldable pub Runs : Program → Traced → Traced → ℕ → Result Reply Stopped → Type 0
+Runs program old new thread (Ok reply) = Completes program old new thread reply
+Runs program old new thread (Err stopped) = Begins program old new thread
+
+-- a part of a program: it hands what it has found to what comes after it
+abbrev pub Part : Type 0 → Type 0
+Part A = (A → Program) → Program
+
+-- the thread led the one program to the other: however that goes on, the first has gone on so
+pub record LeadsTo (first : Program) (old : Traced) (later : Program) (mid : Traced) (thread : ℕ) : Type 0 where
+  pub completes : (new : Traced) (reply : Reply) → Completes later mid new thread reply → Completes first old new thread reply
+  pub begins : (new : Traced) → Begins later mid new thread → Begins first old new thread
+
+-- Code runs a part of a program: it has made the raw calls of the part and hands this on; or it has made them and the call is
+-- refused; or it has made a beginning of them and the call stops.
+unfoldable pub RunsPart : {A : Type 0} → Part A → Traced → Traced → ℕ → Result A Ending → Type 0
+RunsPart {A} part old new thread (Ok found) = (rest : A → Program) → LeadsTo (part rest) old (rest found) new thread
+RunsPart {A} part old new thread (Err (Refused errno)) = (rest : A → Program) → LeadsTo (part rest) old (Answers (replies.Refused errno)) new thread
+RunsPart {A} part old new thread (Err HasStopped) = (rest : A → Program) → Begins (part rest) old new thread

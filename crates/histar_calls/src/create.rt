@@ -1,0 +1,57 @@
+//! Making a file.
+ghost use Rattle.histar_calls.specs.Programs.{Runs};
+ghost use Rattle.histar_calls.specs.Create.{create_program};
+ghost use Rattle.histar_calls.specs.Refusals.{settled};
+
+use crate::directory::write_entries;
+use crate::ending::{Ending, Stopped, settle};
+use crate::find::{Room, find_room};
+use crate::labels::label_made;
+use crate::places::Places;
+use histar_base::Bytes;
+use histar_flat::{Mode, Path, Reply};
+use histar_label::LabelStore;
+use histar_layout::Target;
+use histar_object::ObjId;
+use histar_syscall::Kernel;
+use std::alloc::Global;
+
+/// Makes an empty file. EEXIST where the path is `/` or something stands there, ENOSPC at 64
+/// entries, EACCES where the kernel doesn't let the thread modify the directory, EPERM where it
+/// doesn't let it make a file of this mode.
+pub fn create<S: LabelStore + Drop>(
+    kernel: &mut Kernel<S>,
+    alloc: Global,
+    places: &Places,
+    thread: ObjId,
+    path: &Path,
+    mode: Mode,
+) -> Result<Reply, Stopped>
+    ensures { Runs (create_program places.now path.now mode) kernel.old kernel.new thread result }
+{
+    settle(create_file(kernel, alloc, places, thread, path, mode))
+}
+
+fn create_file<S: LabelStore + Drop>(
+    kernel: &mut Kernel<S>,
+    alloc: Global,
+    places: &Places,
+    thread: ObjId,
+    path: &Path,
+    mode: Mode,
+) -> Result<Reply, Ending>
+    ensures { Runs (create_program places.now path.now mode) kernel.old kernel.new thread (settled result) }
+{
+    let Room {
+        place,
+        mut entries,
+        name,
+    } = find_room(kernel, alloc, places, thread, path)?;
+    let (own, _) = kernel.own_label(thread)?;
+    let label = label_made(alloc, &own, places.users, mode)?;
+    let empty = Bytes::new(alloc);
+    let file = kernel.make_segment(alloc, thread, place.container, label, empty)?;
+    entries.insert(name, Target::File(file))?;
+    write_entries(kernel, alloc, thread, place, &entries)?;
+    Ok(Reply::Done)
+}

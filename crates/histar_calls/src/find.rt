@@ -1,0 +1,80 @@
+//! What the calls on paths look for: a file, or room for a new entry.
+ghost use Rattle.std.specs.Prelude.{◌<◌, ◌==◌, IfOk};
+ghost use Rattle.std.specs.FinMap as map;
+ghost use Rattle.histar_layout.specs.Directory.{most_entries};
+ghost use Rattle.histar_calls.specs.Programs.{RunsPart};
+ghost use Rattle.histar_calls.specs.Parts.{find_file, find_room};
+
+use crate::directory::{Directory, walk};
+use crate::ending::Ending;
+use crate::places::{Place, Places};
+use histar_flat::{Errno, Name, Path};
+use histar_label::LabelStore;
+use histar_layout::Dir;
+use histar_object::ObjId;
+use histar_syscall::Kernel;
+use std::alloc::Global;
+
+/// A file that was found.
+#[derive(Clone, Copy)]
+pub struct FoundFile {
+    /// The container of its directory, which links it.
+    pub container: ObjId,
+    /// Its segment, which holds its bytes.
+    pub segment: ObjId,
+}
+
+/// A directory that has room for an entry of a name that it hasn't.
+#[derive(Drop)]
+pub struct Room {
+    pub place: Place,
+    pub entries: Dir,
+    pub name: Name,
+}
+
+/// The file of a path: EISDIR where the path is `/` or leads to a directory, ENOENT where nothing
+/// stands there, and what refuses the walk.
+pub fn find_file<S: LabelStore + Drop>(
+    kernel: &mut Kernel<S>,
+    alloc: Global,
+    places: &Places,
+    thread: ObjId,
+    path: &Path,
+) -> Result<FoundFile, Ending>
+    ensures { RunsPart (find_file places.now path.now) kernel.old kernel.new thread result }
+{
+    let [name, parent @ ..] = path.names() else {
+        return Err(Ending::Refused(Errno::EISDIR));
+    };
+    let directory = walk(kernel, alloc, places, thread, parent)?;
+    let segment = directory.file_at(name)?;
+    Ok(FoundFile {
+        container: directory.place.container,
+        segment,
+    })
+}
+
+/// The place of a new entry: EEXIST where the path is `/` or something stands there, ENOSPC at 64
+/// entries, and what refuses the walk.
+pub fn find_room<S: LabelStore + Drop>(
+    kernel: &mut Kernel<S>,
+    alloc: Global,
+    places: &Places,
+    thread: ObjId,
+    path: &Path,
+) -> Result<Room, Ending>
+    ensures runs { RunsPart (find_room places.now path.now) kernel.old kernel.new thread result }
+    ensures room { IfOk result (λ room. map.len room.entries < most_entries) }
+{
+    let [name, parent @ ..] = path.names() else {
+        return Err(Ending::Refused(Errno::EEXIST));
+    };
+    let directory = walk(kernel, alloc, places, thread, parent)?;
+    directory.room_at(name)?;
+    let Directory { place, entries } = directory;
+    Ok(Room {
+        place,
+        entries,
+        name: *name,
+    })
+}

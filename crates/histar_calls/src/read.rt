@@ -1,0 +1,41 @@
+//! Reading a file.
+ghost use Rattle.histar_calls.specs.Programs.{Runs};
+ghost use Rattle.histar_calls.specs.Read.{read_program};
+ghost use Rattle.histar_calls.specs.Refusals.{settled};
+
+use crate::ending::{Ending, Stopped, settle};
+use crate::find::find_file;
+use crate::places::Places;
+use histar_flat::{Path, Reply};
+use histar_label::LabelStore;
+use histar_object::ObjId;
+use histar_syscall::Kernel;
+use std::alloc::Global;
+
+/// The bytes of a file. EISDIR for `/` and for a directory, EACCES where the kernel doesn't let the
+/// thread observe the file.
+pub fn read<S: LabelStore + Drop>(
+    kernel: &mut Kernel<S>,
+    alloc: Global,
+    places: &Places,
+    thread: ObjId,
+    path: &Path,
+) -> Result<Reply, Stopped>
+    ensures { Runs (read_program places.now path.now) kernel.old kernel.new thread result }
+{
+    settle(read_file(kernel, alloc, places, thread, path))
+}
+
+fn read_file<S: LabelStore + Drop>(
+    kernel: &mut Kernel<S>,
+    alloc: Global,
+    places: &Places,
+    thread: ObjId,
+    path: &Path,
+) -> Result<Reply, Ending>
+    ensures { Runs (read_program places.now path.now) kernel.old kernel.new thread (settled result) }
+{
+    let file = find_file(kernel, alloc, places, thread, path)?;
+    let bytes = kernel.read_copy(alloc, thread, file.container, file.segment)?;
+    Ok(Reply::Data(bytes))
+}

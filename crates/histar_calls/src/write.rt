@@ -1,0 +1,44 @@
+//! Writing a file.
+ghost use Rattle.histar_calls.specs.Programs.{Runs};
+ghost use Rattle.histar_calls.specs.Write.{write_program};
+ghost use Rattle.histar_calls.specs.Refusals.{settled};
+
+use crate::ending::{Ending, Stopped, settle, written};
+use crate::find::find_file;
+use crate::places::Places;
+use histar_base::Bytes;
+use histar_flat::{Path, Reply};
+use histar_label::LabelStore;
+use histar_object::ObjId;
+use histar_syscall::Kernel;
+use std::alloc::Global;
+
+/// Puts bytes in the place of what a file holds. EISDIR for `/` and for a directory, EACCES where the
+/// kernel doesn't let the thread modify the file, EFBIG at more than 4,096 bytes.
+pub fn write<S: LabelStore + Drop>(
+    kernel: &mut Kernel<S>,
+    alloc: Global,
+    places: &Places,
+    thread: ObjId,
+    path: &Path,
+    bytes: Bytes,
+) -> Result<Reply, Stopped>
+    ensures { Runs (write_program places.now path.now bytes) kernel.old kernel.new thread result }
+{
+    settle(write_file(kernel, alloc, places, thread, path, bytes))
+}
+
+fn write_file<S: LabelStore + Drop>(
+    kernel: &mut Kernel<S>,
+    alloc: Global,
+    places: &Places,
+    thread: ObjId,
+    path: &Path,
+    bytes: Bytes,
+) -> Result<Reply, Ending>
+    ensures { Runs (write_program places.now path.now bytes) kernel.old kernel.new thread (settled result) }
+{
+    let file = find_file(kernel, alloc, places, thread, path)?;
+    written(kernel.write(alloc, thread, file.container, file.segment, 0, bytes))?;
+    Ok(Reply::Done)
+}

@@ -1,0 +1,12 @@
+use Rattle.std.proofs.Common.{◌≡◌, ℕ, Option, None, Some, Ok, refl, sym, ap, ◌∙◌, length}
+use Rattle.histar_flat.specs.declared.replies.Errno.TheVariants.{ENOENT}
+use Rattle.histar_flat.specs.declared.replies.Reply.TheVariants.{Refused}
+use Rattle.histar_calls.specs.Programs.Program.{Answers}
+use Rattle.histar_calls.proofs.Running.{says, runs_as}
+use Rattle.histar_login.specs.Login.{place_of, login_at, login_program}
+use Rattle.histar_login.proofs.login.login.Goals as goal
+
+pub returns-in_default : goal.returns-in_default
+returns-in_default g c =
+    runs_as c.args.thread (login_program c.args.users.now c.args.name c.args.password) (Answers (Refused ENOENT)) c.args.kernel.now c.args.kernel.now (Ok (Refused ENOENT))
+    (ap (login_at (length c.args.users.now) c.args.password) (sym c.in_default.ensures)) (says c.args.thread c.args.kernel.now (Refused ENOENT))
