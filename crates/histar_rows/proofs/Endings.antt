@@ -1,0 +1,202 @@
+-- How a call ends: it has replied what its flat rule says, or it was refused nowhere.
+use Rattle.std.proofs.Common.{◌≡◌, ◌≢◌, ℕ, Bool, true, false, List, [], ◌∷◌, ◌++◌, Option, None, Some, Ok, refl, sym, ap, ◌∙◌, subst}
+use Rattle.std.proofs.lemmas.List.{map-append}
+use Rattle.std.specs.Prelude.{option_map}
+use Rattle.std.specs.List.{AllByRecursion}
+use Rattle.histar_flat.specs.declared.calls.UnixCall.{UnixCall}
+use Rattle.histar_flat.specs.declared.replies.Errno.{Errno}
+use Rattle.histar_flat.specs.declared.replies.Reply.{Reply}
+use Rattle.histar_flat.specs.declared.replies.Reply.TheVariants.{Done, Data, Refused, Gone}
+use Rattle.histar_flat.specs.Sessions.{Session}
+use Rattle.histar_flat.specs.Classes.{Process}
+use Rattle.histar_flat.specs.FlatState.{Flat, is_some_and}
+use Rattle.histar_flat.specs.FlatCalls as flat
+use Rattle.histar_flat.specs.FlatCalls.{refused, changed, reply_or, flat_or, if_running, running, reply_by, flat_by, reply_to, flat_after}
+use Rattle.histar_object.specs.Objects.{bytes_in}
+use Rattle.histar_object.specs.State.{State}
+use Rattle.histar_rules.specs.declared.raw.Denied.{Denied}
+use Rattle.histar_rules.specs.declared.raw.Denied.TheVariants.{Observe, TooBig}
+use Rattle.histar_rules.specs.declared.raw.RawCall.{RawCall}
+use Rattle.histar_rules.specs.declared.raw.RawCall.TheVariants.{Read, Write}
+use Rattle.histar_syscall.specs.declared.trace.TraceEntry.{TraceEntry}
+use Rattle.histar_syscall.specs.Traced.{Traced, state}
+use Rattle.histar_syscall.specs.Runs.{is_label_refusal, is_range_refusal, some_label_refusal, some_range_refusal}
+use Rattle.histar_syscall.proofs.Runs.{entry_of}
+use Rattle.histar_container.proofs.Addresses.{or_false}
+use Rattle.histar_calls.specs.Refusals.{errno_for, errno_of, write_errno_of}
+use Rattle.histar_calls.specs.Replies.{is_access, is_permission, is_no_access, is_no_permission, IsRefusedOnce}
+use Rattle.histar_refinement.specs.LaysOut.{LaysOut}
+use Rattle.histar_refinement.specs.Lines.{IsThreadOf}
+use Rattle.histar_rows.specs.Rows.{IsFirstAlone, IsDenialTold, EndsWithRead, HasReads, HasReadsOf, IsLine, IsAnswered, IsUnanswered, IsRunUnlessExhausted, DoesItsRow}
+use Rattle.histar_rows.proofs.Chains.{Step, all_granted, entries_of, Chain, chain_run, chain_own}
+
+-- a chain that was refused nowhere else ends without a reply
+pub chain_unanswered : (old new : Traced) (t : ℕ) (steps : List Step) → Chain old t steps new → IsRunUnlessExhausted (state old) (entries_of old.line t steps) (state new) → IsUnanswered old new t
+chain_unanswered old new t steps chain run =
+    let part = chain_run t old new steps chain in
+    record {
+      entries = entries_of old.line t steps;
+      trace = part.trace;
+      line = part.line;
+      run = run;
+      own = chain_own t old.line steps;
+    }
+
+-- what a reply needs where no raw call was refused: bytes were read last, and an errno is neither EACCES nor EPERM
+abbrev pub IsBacked : State → List TraceEntry → Reply → Type 0
+IsBacked s entries Done = Unit {0}
+IsBacked s entries (Data bytes) = EndsWithRead s entries bytes
+IsBacked s entries (Refused errno) = (is_access errno ≡ false) × (is_permission errno ≡ false)
+IsBacked s entries _ = ⊥
+
+module _ (s : State) (entries : List TraceEntry) where
+  backed_plain : (r : Reply) → IsBacked s entries r → (is_no_access r ≡ false) × (is_no_permission r ≡ false)
+  backed_plain (Refused errno) backed = backed
+  backed_plain r backed = (refl, refl)
+
+  backed_runs : (r : Reply) → IsBacked s entries r → r ≢ Gone
+  backed_runs Gone backed e = backed
+  backed_runs r backed e = absurd cc
+
+  backed_told : (r : Reply) → IsBacked s entries r → (bytes : List ℕ) → r ≡ Data bytes → EndsWithRead s entries bytes
+  backed_told (Data held) backed bytes e = let same : held ≡ bytes = cc in subst (EndsWithRead s entries) same backed
+  backed_told r backed bytes e = absurd cc
+
+-- a reply that tells a refusal is EACCES exactly where the refusal is by label, and EPERM exactly where it is by range
+told_by : (denied : Denied) → (is_label_refusal (Some denied) ≡ is_some_and (write_errno_of denied) is_access) × (is_range_refusal (Some denied) ≡ is_some_and (write_errno_of denied) is_permission)
+told_by Observe = (refl, refl)
+told_by denied = (refl, refl)
+
+-- what any raw call's refusal is told as, a write's is told as too
+shown_by : (denied : Denied) (errno : Errno) → errno_of denied ≡ Some errno → write_errno_of denied ≡ Some errno
+shown_by TooBig errno told = absurd cc
+shown_by denied errno told = told
+
+pub told_shown : (call : RawCall) (denied : Denied) (errno : Errno) → errno_for call denied ≡ Some errno → write_errno_of denied ≡ Some errno
+told_shown (Write container segment keep bytes) denied errno told = told
+told_shown call denied errno told = shown_by denied errno told
+
+-- the refusals among these entries are what the reply tells
+pub record Agrees (r : Reply) (entries : List TraceEntry) : Type 0 where
+  pub access : some_label_refusal entries ≡ is_no_access r
+  pub permission : some_range_refusal entries ≡ is_no_permission r
+  pub denials : AllByRecursion (λ (e : TraceEntry). IsDenialTold r e.denied) entries
+  pub once : IsRefusedOnce entries
+
+module _ (line t : ℕ) where
+  -- a granted raw call more before them changes nothing
+  after_granted : (r : Reply) (call : RawCall) (entries : List TraceEntry) → Agrees r entries → Agrees r (entry_of line t call None ∷ entries)
+  after_granted r call entries a = record { access = a.access; permission = a.permission; denials = (tt, a.denials); once = a.once }
+
+  -- granted raw calls agree with a reply that is neither EACCES nor EPERM
+  granted_agree : (r : Reply) → (is_no_access r ≡ false) × (is_no_permission r ≡ false) → (calls : List RawCall) → Agrees r (entries_of line t (all_granted calls))
+  granted_agree r plain [] = record { access = sym plain.0; permission = sym plain.1; denials = tt; once = tt }
+  granted_agree r plain (call ∷ calls) = after_granted r call (entries_of line t (all_granted calls)) (granted_agree r plain calls)
+
+  -- granted raw calls and behind them one that was refused agree with what that refusal is told as
+  refused_agree : (last : RawCall) (denied : Denied) (errno : Errno) → write_errno_of denied ≡ Some errno → (calls : List RawCall) → Agrees (Refused errno) (entries_of line t (all_granted calls ++ (last, Some denied) ∷ []))
+  refused_agree last denied errno told [] = record {
+    access = or_false (is_label_refusal (Some denied)) ∙ (told_by denied).0 ∙ ap (λ (o : Option Errno). is_some_and o is_access) told;
+    permission = or_false (is_range_refusal (Some denied)) ∙ (told_by denied).1 ∙ ap (λ (o : Option Errno). is_some_and o is_permission) told;
+    denials = (ap (option_map Refused) told, tt);
+    once = tt;
+  }
+  refused_agree last denied errno told (call ∷ calls) = after_granted (Refused errno) call (entries_of line t (all_granted calls ++ (last, Some denied) ∷ [])) (refused_agree last denied errno told calls)
+
+-- granted raw calls, and behind them a read that is granted too: what it tells is what the segment held then
+pub read_last : (old mid : Traced) (t : ℕ) (calls : List RawCall) → Chain old t (all_granted calls) mid → (container segment : ℕ)
+    → EndsWithRead (state old) (entries_of old.line t (all_granted calls ++ (Read container segment, None) ∷ [])) (bytes_in ((state mid).objects segment))
+read_last old mid t calls chain container segment = record {
+  front = entries_of old.line t (all_granted calls);
+  last = entry_of old.line t (Read container segment) None;
+  parts = map-append (λ (s : Step). entry_of old.line t s.0 s.1) (all_granted calls) ((Read container segment, None) ∷ []);
+  before = state mid;
+  run = (chain_run t old mid (all_granted calls) chain).run;
+  granted = refl;
+  answers = refl;
+}
+
+module _ (session : Session) (f : Flat) (alone : IsFirstAlone f) (call : UnixCall) (old new : Traced) (t : ℕ) (named : IsThreadOf session (state old) [] t) where
+  -- process 0 runs
+  runs : running f [] ≡ Some alone.process
+  runs = ap if_running alone.stands ∙ ap (λ (x : Option ℕ). elim x as (λ _. Option Process) [ None ↦ Some alone.process | Some n ↦ None ]) alone.runs
+
+  -- so its call is answered by its flat rule, and the state after it is the rule's too
+  reply_is : (refusal : Option Errno) → refused session f [] alone.process call ≡ refusal → reply_to session f [] call ≡ reply_or refusal (flat.answer f [] alone.process call)
+  reply_is refusal e = ap (λ (r : Option Process). reply_by session f [] r call) runs ∙ ap (λ (r : Option Errno). reply_or r (flat.answer f [] alone.process call)) e
+
+  after_is : (refusal : Option Errno) → refused session f [] alone.process call ≡ refusal → flat_after session f [] call ≡ flat_or refusal f (changed session f [] alone.process call)
+  after_is refusal e = ap (λ (r : Option Process). flat_by session f [] r call) runs ∙ ap (λ (r : Option Errno). flat_or r f (changed session f [] alone.process call)) e
+
+  -- the reads that the call cannot do without, where it is answered so, are among these raw calls
+  abbrev pub ReadsAmong : List Step → Reply → Type 0
+  ReadsAmong steps r = HasReads session (state old) f alone.process call r (entries_of old.line t steps)
+
+  -- what the flat rules answer where they allow the call
+  abbrev pub allowed : Reply
+  allowed = flat.answer f [] alone.process call
+
+  -- each entry is of the line's thread
+  all_own : (line : ℕ) (steps : List Step) → AllByRecursion (λ (e : TraceEntry). (e.line ≡ line) × IsThreadOf session (state old) [] e.thread) (entries_of line t steps)
+  all_own line [] = tt
+  all_own line (s ∷ steps) = ((refl, named), all_own line steps)
+
+  -- where the raw calls agree with the reply of the flat rules, and the state lays out the flat state after the call, a call is answered so
+  agreed_row : (steps : List Step) → Chain old t steps new → (refusal : Option Errno) → refused session f [] alone.process call ≡ refusal → (r : Reply) → reply_or refusal allowed ≡ r
+      → Agrees r (entries_of old.line t steps) → ((bytes : List ℕ) → r ≡ Data bytes → EndsWithRead (state old) (entries_of old.line t steps) bytes) → ReadsAmong steps r → r ≢ Gone
+      → LaysOut session (state new) (flat_or refusal f (changed session f [] alone.process call)) → IsThreadOf session (state new) [] t → DoesItsRow session f call old new t (Ok r)
+  agreed_row steps chain refusal is r r_is agrees told reads lives lays_out thread =
+      let part = chain_run t old new steps chain in
+      let reply = reply_is refusal is ∙ r_is in
+      let entries = entries_of old.line t steps in
+      let is_line : IsLine session (state old) old.line [] r entries (state new) = record {
+        run = part.run;
+        own = all_own old.line steps;
+        access = agrees.access;
+        permission = agrees.permission;
+        denials = agrees.denials;
+        once = agrees.once;
+        told = told;
+        gone = λ e. absurd (lives e);
+      } in (
+        sym reply,
+        record {
+          entries = entries;
+          trace = part.trace;
+          line = part.line;
+          row = record {
+            line = subst (λ (x : Reply). IsLine session (state old) old.line [] x entries (state new)) (sym reply) is_line;
+            reads = subst (λ (o : Option Process). HasReadsOf session (state old) f o call (reply_to session f [] call) entries) (sym runs)
+                (subst (λ (x : Reply). HasReads session (state old) f alone.process call x entries) (sym reply) reads);
+            lays_out = subst (LaysOut session (state new)) (sym (after_is refusal is)) lays_out;
+          };
+          thread = thread;
+        },
+      )
+
+  -- where every raw call was granted, a call that the flat rules allow is answered what they answer
+  pub granted_row : (calls : List RawCall) → Chain old t (all_granted calls) new → refused session f [] alone.process call ≡ None → IsBacked (state old) (entries_of old.line t (all_granted calls)) allowed → ReadsAmong (all_granted calls) allowed
+      → LaysOut session (state new) (changed session f [] alone.process call) → IsThreadOf session (state new) [] t → DoesItsRow session f call old new t (Ok allowed)
+  granted_row calls chain is backed reads lays_out thread =
+      let entries = entries_of old.line t (all_granted calls) in
+      agreed_row (all_granted calls) chain None is allowed refl (granted_agree old.line t allowed (backed_plain (state old) entries allowed backed) calls)
+      (backed_told (state old) entries allowed backed) reads (backed_runs (state old) entries allowed backed) lays_out thread
+
+  module _ (stays : state new ≡ state old) (lays_out : LaysOut session (state old) f) where
+    still : LaysOut session (state new) f
+    still = subst (λ (s : State). LaysOut session s f) (sym stays) lays_out
+
+    same_thread : IsThreadOf session (state new) [] t
+    same_thread = subst (λ (s : State). IsThreadOf session s [] t) (sym stays) named
+
+    -- where every raw call was granted and nothing has changed, a call that the flat rules refuse is answered their errno, if it is neither EACCES nor EPERM
+    pub unchanged_row : (calls : List RawCall) → Chain old t (all_granted calls) new → (errno : Errno) → is_access errno ≡ false → is_permission errno ≡ false → refused session f [] alone.process call ≡ Some errno
+        → ReadsAmong (all_granted calls) (Refused errno) → DoesItsRow session f call old new t (Ok (Refused errno))
+    unchanged_row calls chain errno no_access no_permission is reads =
+        agreed_row (all_granted calls) chain (Some errno) is (Refused errno) refl (granted_agree old.line t (Refused errno) (no_access, no_permission) calls) (λ bytes e. absurd cc) reads (λ e. absurd cc) still same_thread
+
+    -- where the last raw call was refused, the others granted and nothing has changed, a call that the flat rules refuse as that refusal is told is answered so
+    pub refused_row : (calls : List RawCall) (last : RawCall) (denied : Denied) → Chain old t (all_granted calls ++ (last, Some denied) ∷ []) new
+        → (errno : Errno) → write_errno_of denied ≡ Some errno → refused session f [] alone.process call ≡ Some errno → ReadsAmong (all_granted calls ++ (last, Some denied) ∷ []) (Refused errno) → DoesItsRow session f call old new t (Ok (Refused errno))
+    refused_row calls last denied chain errno told is reads =
+        agreed_row (all_granted calls ++ (last, Some denied) ∷ []) chain (Some errno) is (Refused errno) refl (refused_agree old.line t last denied errno told calls) (λ bytes e. absurd cc) reads (λ e. absurd cc) still same_thread

@@ -1,0 +1,47 @@
+-- What it means that the calls of process 0 are the rows of the flat rules.
+use Rattle.std.specs.Prelude.{ℕ, List, length, IsTrue, Result}
+use Rattle.histar_flat.specs.declared.calls.User.{User}
+use Rattle.histar_flat.specs.declared.calls.Mode.{Mode}
+use Rattle.histar_flat.specs.declared.calls.UnixCall.TheVariants.{Create, Write, Read, Login}
+use Rattle.histar_flat.specs.declared.replies.Reply.{Reply}
+use Rattle.histar_flat.specs.Words.{Name, Password, Path, is_path}
+use Rattle.histar_flat.specs.Modes.{is_line_mode}
+use Rattle.histar_flat.specs.Sessions.{Session, session_of}
+use Rattle.histar_flat.specs.FlatState.{Flat}
+use Rattle.histar_syscall.specs.Traced.{Traced, state}
+use Rattle.histar_calls.specs.declared.ending.Stopped.{Stopped}
+use Rattle.histar_calls.specs.Programs.{Program, Runs}
+use Rattle.histar_calls.specs.Read.{read_program}
+use Rattle.histar_calls.specs.Write.{write_program}
+use Rattle.histar_calls.specs.Create.{create_program}
+use Rattle.histar_login.specs.Login.{login_program}
+use Rattle.histar_login.specs.Start.{places_of}
+use Rattle.histar_refinement.specs.Sessions.{IsSession}
+use Rattle.histar_flat.specs.declared.calls.UnixCall.{UnixCall}
+use Rattle.histar_rows.specs.Rows.{IsReady, DoesItsRow}
+
+-- Whoever runs the program as the thread of process 0, in a state that lays out a flat state, does what the flat rule of the call says.
+abbrev pub IsRowOf : Session → UnixCall → Program → Type 0
+IsRowOf session call program =
+    (old new : Traced) (f : Flat) (t : ℕ) (result : Result Reply Stopped) → IsReady session (state old) f t → Runs program old new t result → DoesItsRow session f call old new t result
+
+abbrev pub ReadsAreRows : Type 0
+ReadsAreRows = (session : Session) → IsSession session → (path : Path) → IsTrue (is_path path) → IsRowOf session (Read path) (read_program (places_of (length session.users)) path)
+
+abbrev pub WritesAreRows : Type 0
+WritesAreRows = (session : Session) → IsSession session → (path : Path) (bytes : List ℕ) → IsTrue (is_path path) → IsRowOf session (Write path bytes) (write_program (places_of (length session.users)) path bytes)
+
+abbrev pub CreatesAreRows : Type 0
+CreatesAreRows = (session : Session) → IsSession session → (path : Path) (mode : Mode) → IsTrue (is_path path) → IsTrue (is_line_mode mode)
+    → IsRowOf session (Create path mode) (create_program (places_of (length session.users)) path mode)
+
+-- a login, where no group is declared
+abbrev pub LoginsAreRows : Type 0
+LoginsAreRows = (users : List User) → IsSession (session_of users) → (name : Name) (password : Password) → IsRowOf (session_of users) (Login name password) (login_program users name password)
+
+-- the calls that a line can make are rows
+pub record CallsAreRows : Type 0 where
+  pub read : ReadsAreRows
+  pub write : WritesAreRows
+  pub create : CreatesAreRows
+  pub login : LoginsAreRows

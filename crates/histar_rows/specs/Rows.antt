@@ -1,0 +1,184 @@
+-- What one line of a script does to the kernel, and what all lines do.
+use Rattle.std.specs.Prelude.{◌≡◌, ◌≢◌, ℕ, ◌+◌, Bool, true, false, ◌&&◌, not, ◌⊎◌, IsTrue, List, [], ◌∷◌, ◌++◌, length, Option, None, Some, is_some, option_map, Result, Ok, Err, if◌then◌else◌}
+use Rattle.std.specs.List.{AllByRecursion}
+use Rattle.histar_flat.specs.declared.calls.CallLine.{CallLine}
+use Rattle.histar_flat.specs.declared.calls.UnixCall.{UnixCall}
+use Rattle.histar_flat.specs.declared.calls.UnixCall.TheVariants.{Create, Write, Read, Login}
+use Rattle.histar_flat.specs.declared.replies.Errno.TheVariants.{EAUTH}
+use Rattle.histar_flat.specs.declared.replies.Reply.{Reply}
+use Rattle.histar_flat.specs.declared.replies.Reply.TheVariants.{Done, Data, Refused, Gone}
+use Rattle.histar_flat.specs.Words.{Path, ProcName, is_path}
+use Rattle.histar_flat.specs.Modes.{is_line_mode}
+use Rattle.histar_flat.specs.Sessions.{Session}
+use Rattle.histar_flat.specs.Classes.{Process}
+use Rattle.histar_flat.specs.FlatState.{Flat, is_dir_at, into}
+use Rattle.histar_flat.specs.FlatCalls.{running, reply_to, flat_after}
+use Rattle.histar_object.specs.State.{State}
+use Rattle.histar_rules.specs.declared.raw.Denied.{Denied}
+use Rattle.histar_rules.specs.declared.raw.Denied.TheVariants.{TooBig}
+use Rattle.histar_rules.specs.declared.raw.RawCall.{RawCall}
+use Rattle.histar_rules.specs.declared.raw.RawCall.TheVariants as raw
+use Rattle.histar_rules.specs.Rules.{check, Leaves, has_number}
+use Rattle.histar_rules.specs.Sound.{root_number}
+use Rattle.histar_syscall.specs.declared.trace.TraceEntry.{TraceEntry}
+use Rattle.histar_syscall.specs.declared.calling.Answer.TheVariants as answers
+use Rattle.histar_syscall.specs.Answers.{answer}
+use Rattle.histar_syscall.specs.Traced.{Traced, state}
+use Rattle.histar_syscall.specs.Runs.{IsBy, IsRun, some_label_refusal, some_range_refusal}
+use Rattle.histar_calls.specs.declared.ending.Stopped.{Stopped}
+use Rattle.histar_calls.specs.Refusals.{write_errno_of}
+use Rattle.histar_calls.specs.Replies.{is_no_access, is_no_permission, IsRefusedOnce}
+use Rattle.histar_login.specs.Login.{place_of, password_of}
+use Rattle.histar_refinement.specs.LaysOut.{LaysOut}
+use Rattle.histar_refinement.specs.Lines.{IsThreadOf, IsDirectoryAt}
+
+-- a call that a line of a script can make: one of these, of a mode that a line can name; a path that it names is an entry of `/`
+abbrev pub IsScriptable : UnixCall → Type 0
+IsScriptable (Create path mode) = IsTrue (is_path path) × IsTrue (is_line_mode mode)
+IsScriptable (Write path bytes) = IsTrue (is_path path)
+IsScriptable (Read path) = IsTrue (is_path path)
+IsScriptable (Login name password) = Unit {0}
+IsScriptable _ = ⊥
+
+-- Process 0 runs, alone, in no job, and holds none: so it is in the sessions of these calls.
+pub record IsFirstAlone (f : Flat) : Type 0 where
+  pub process : Process
+  pub stands : f.processes [] ≡ Some process
+  pub runs : process.exited ≡ None
+  pub free : process.chain ≡ []
+  pub holds_none : process.held ≡ []
+  pub others : (n : ℕ) (p : ProcName) → f.processes (n ∷ p) ≡ None
+
+-- from this state on, the last of the entries is a read that the kernel answers with these bytes
+pub record EndsWithRead (s : State) (entries : List TraceEntry) (bytes : List ℕ) : Type 0 where
+  pub front : List TraceEntry
+  pub last : TraceEntry
+  pub parts : entries ≡ front ++ last ∷ []
+  pub before : State
+  pub run : IsRun s front before
+  pub granted : last.denied ≡ None
+  pub answers : answer before last.thread last.call ≡ Some (answers.Bytes bytes)
+
+-- these raw calls are among the entries, in their order
+abbrev pub AreAmong : List RawCall → List TraceEntry → Type 0
+AreAmong [] entries = Unit {0}
+AreAmong (call ∷ calls) [] = ⊥
+AreAmong (call ∷ calls) (e ∷ entries) = ((e.call ≡ call) × AreAmong calls entries) ⊎ AreAmong (call ∷ calls) entries
+
+module _ (session : Session) where
+  -- the directories that the way into a directory looks whether it may read, from `/` on
+  abbrev pub tested : Flat → Process → Path → List Path
+  tested f p [] = [] ∷ []
+  tested f p (n ∷ d) = tested f p d ++ (if not (is_some (into session f p d)) && is_dir_at f (n ∷ d) then (n ∷ d) ∷ [] else [])
+
+  module _ (s : State) where
+    -- these raw calls read the directory segments of these directories, one after another
+    abbrev pub AreReadsOf : List Path → List RawCall → Type 0
+    AreReadsOf [] calls = calls ≡ []
+    AreReadsOf (d ∷ more) calls =
+        (container : ℕ) × (listing : ℕ) × (later : List RawCall)
+        × IsDirectoryAt session s d container listing × (calls ≡ raw.Read container listing ∷ later) × AreReadsOf more later
+
+    -- among the entries are reads of the directories that the walk to a path looks at; to `/` there is no walk
+    abbrev pub HasWalk : Flat → Process → Path → List TraceEntry → Type 0
+    HasWalk f p [] entries = Unit {0}
+    HasWalk f p (n ∷ d) entries = (calls : List RawCall) × AreReadsOf (tested f p d) calls × AreAmong calls entries
+
+  -- the password was looked at
+  abbrev pub is_compared : Reply → Bool
+  is_compared Done = true
+  is_compared (Refused EAUTH) = true
+  is_compared _ = false
+
+  -- a login whose password was looked at reads the user's password segment
+  abbrev pub reads_of_login : Option ℕ → Bool → List RawCall
+  reads_of_login None compared = []
+  reads_of_login (Some place) false = []
+  reads_of_login (Some place) true = raw.Read root_number (password_of (place + 1)) ∷ []
+
+  -- among the entries are the reads that the call of a process cannot do without, so that what it tells was asked of the kernel
+  abbrev pub HasReads : State → Flat → Process → UnixCall → Reply → List TraceEntry → Type 0
+  HasReads s f p (Create path mode) reply entries = HasWalk s f p path entries
+  HasReads s f p (Write path bytes) reply entries = HasWalk s f p path entries
+  HasReads s f p (Read path) reply entries = HasWalk s f p path entries
+  HasReads s f p (Login name password) reply entries = AreAmong (reads_of_login (place_of session.users name) (is_compared reply)) entries
+  HasReads s f p _ reply entries = Unit {0}
+
+  -- the same of a process that runs
+  abbrev pub HasReadsOf : State → Flat → Option Process → UnixCall → Reply → List TraceEntry → Type 0
+  HasReadsOf s f None call reply entries = Unit {0}
+  HasReadsOf s f (Some p) call reply entries = HasReads s f p call reply entries
+
+-- a denial that the reply tells: EACCES one by label, EPERM one by range, EFBIG one of bytes that are too many; no other is told
+abbrev pub IsDenialTold : Reply → Option Denied → Type 0
+IsDenialTold reply None = Unit {0}
+IsDenialTold reply (Some denied) = option_map Refused (write_errno_of denied) ≡ Some reply
+
+-- The entries of a line that was answered so, between the state before the line and the one after it. They are a run of the
+-- kernel; each is of the line and of the thread that the process segment of the line's process names before it. Some is refused by
+-- comparing labels exactly where the reply is EACCES, and by range exactly where it is EPERM; at most one is refused, the reply tells
+-- it, and after it the thread is only given labels. What was read is what the last of them reads. A line that is answered `gone` has
+-- none.
+pub record IsLine (session : Session) (before : State) (line : ℕ) (process : ProcName) (reply : Reply) (entries : List TraceEntry) (after : State) : Type 0 where
+  pub run : IsRun before entries after
+  pub own : AllByRecursion (λ e. (e.line ≡ line) × IsThreadOf session before process e.thread) entries
+  pub access : some_label_refusal entries ≡ is_no_access reply
+  pub permission : some_range_refusal entries ≡ is_no_permission reply
+  pub denials : AllByRecursion (λ e. IsDenialTold reply e.denied) entries
+  pub once : IsRefusedOnce entries
+  pub told : (bytes : List ℕ) → reply ≡ Data bytes → EndsWithRead before entries bytes
+  pub gone : reply ≡ Gone → entries ≡ []
+
+-- The line is the row of its call: it is answered what the flat state says, it has the reads that the call cannot do without, and the
+-- state after it lays out the flat state after the call.
+pub record IsRow (session : Session) (before : State) (f : Flat) (asked : CallLine) (entries : List TraceEntry) (after : State) : Type 0 where
+  pub line : IsLine session before asked.line asked.process (reply_to session f asked.process asked.call) entries after
+  pub reads : HasReadsOf session before f (running f asked.process) asked.call (reply_to session f asked.process asked.call) entries
+  pub lays_out : LaysOut session after (flat_after session f asked.process asked.call)
+
+-- the lines of a script, one after another, from a state that lays out this flat state: each is the row of its call
+abbrev pub AreRows : Session → State → Flat → List CallLine → List TraceEntry → State → Type 0
+AreRows session s f [] entries end = (entries ≡ []) × (end ≡ s)
+AreRows session s f (asked ∷ more) entries end =
+    (own : List TraceEntry) × (later : List TraceEntry) × (mid : State)
+    × (entries ≡ own ++ later) × IsRow session s f asked own mid × AreRows session mid (flat_after session f asked.process asked.call) more later end
+
+-- a denial that may end a line without an answer: the next object has no number any more
+abbrev pub IsExhausted : State → Option Denied → Type 0
+IsExhausted s None = Unit {0}
+IsExhausted s (Some denied) = (denied ≡ TooBig) × (has_number s ≡ false)
+
+-- the entries are a run of the kernel, of which none is refused but where a counter has its greatest value
+abbrev pub IsRunUnlessExhausted : State → List TraceEntry → State → Type 0
+IsRunUnlessExhausted s [] end = end ≡ s
+IsRunUnlessExhausted s (e ∷ entries) end =
+    (mid : State) × (check s e.thread e.call ≡ e.denied) × Leaves e.denied s e.thread e.call mid × IsExhausted s e.denied × IsRunUnlessExhausted mid entries end
+
+-- A call of process 0 has added these entries to the trace, on the line that was begun; they are the row of the call, and the
+-- process's thread is the one that it was.
+pub record IsAnswered (session : Session) (f : Flat) (call : UnixCall) (old new : Traced) (t : ℕ) : Type 0 where
+  pub entries : List TraceEntry
+  pub trace : new.trace ≡ old.trace ++ entries
+  pub line : new.line ≡ old.line
+  pub row : IsRow session (state old) f (record { line = old.line; process = []; call = call }) entries (state new)
+  pub thread : IsThreadOf session (state new) [] t
+
+-- The raw calls that were made are a run of the kernel by the thread, of which none was refused but where a counter has its greatest
+-- value.
+pub record IsUnanswered (old new : Traced) (t : ℕ) : Type 0 where
+  pub entries : List TraceEntry
+  pub trace : new.trace ≡ old.trace ++ entries
+  pub line : new.line ≡ old.line
+  pub run : IsRunUnlessExhausted (state old) entries (state new)
+  pub own : AllByRecursion (IsBy old.line t) entries
+
+-- a call of process 0 does what its flat rule says, or it ends without a reply
+abbrev pub DoesItsRow : Session → Flat → UnixCall → Traced → Traced → ℕ → Result Reply Stopped → Type 0
+DoesItsRow session f call old new t (Ok reply) = (reply ≡ reply_to session f [] call) × IsAnswered session f call old new t
+DoesItsRow session f call old new t (Err stopped) = IsUnanswered old new t
+
+-- Where a call of process 0 is made: the state lays out this flat state, in which process 0 is alone, and the thread is its own.
+pub record IsReady (session : Session) (s : State) (f : Flat) (t : ℕ) : Type 0 where
+  pub lays_out : LaysOut session s f
+  pub alone : IsFirstAlone f
+  pub thread : IsThreadOf session s [] t
