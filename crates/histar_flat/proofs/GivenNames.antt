@@ -16,6 +16,7 @@ use Rattle.histar_flat.specs.FlatCalls.{next_child, inner_chain, flat_after}
 use Rattle.histar_flat.specs.Meaning.{first_user, first_process, boot, flat_end}
 use Rattle.histar_flat.specs.Laws.{NamesAreGiven, NamesAreGivenOnce}
 use Rattle.histar_flat.proofs.FileLemmas.{same_name_found, same_path_found, same_itself, get_other, get_new, get-keep}
+use Rattle.histar_flat.proofs.Choices.{chosen, left, kept}
 use Rattle.histar_flat.proofs.Under.{or_true, true_or_false}
 use Rattle.histar_flat.proofs.Renaming.{get_renamed}
 use Rattle.histar_flat.proofs.Changes.{EachChange, by_line, runs_is_there}
@@ -41,18 +42,6 @@ more_given p q n more h =
     let parts = and_parts (nat_le 1 n) (nat_le n p.born) h in
     let enough = leb-true n p.born parts.1 in
     (λ i. parts.0 i && nat_le n q.born) ∙ le-leb n q.born (omega arith)
-
--- a value that is left by a test
-chosen : {A : Type 0} (b : Bool) (x y : A) (o : Option A) → b ≡ true → cond b (Some x) o ≡ Some y → x ≡ y
-chosen b x y o t e = let k : Some x ≡ Some y = sym (ap (λ c. cond c (Some x) o) t) ∙ e in cc
-
-left : {A : Type 0} (b : Bool) (o : Option A) (y : A) → cond b None o ≡ Some y → o ≡ Some y
-left true o y e = absurd (cc)
-left false o y e = e
-
-kept : {A : Type 0} (b : Bool) (o : Option A) (y : A) → cond b o None ≡ Some y → o ≡ Some y
-kept true o y e = e
-kept false o y e = absurd (cc)
 
 -- names that are gone were given
 gone_was_given : (b : Bool) (o : Option Process) (n : ℕ) → was_given o n ≡ true → was_given (cond b None o) n ≡ true

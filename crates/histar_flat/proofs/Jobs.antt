@@ -1,5 +1,5 @@
 -- Who is nobody, or no declared user, has no job.
-use Rattle.std.specs.Prelude.{◌≡◌, ◌+◌, Bool, true, false, cond, List, [], ◌∷◌, ◌++◌, Option, Some, None, is_some, refl}
+use Rattle.std.specs.Prelude.{◌≡◌, ◌+◌, Bool, true, false, cond, List, [], ◌∷◌, ◌++◌, Some, None, is_some, refl}
 use Rattle.std.proofs.Common.{ap, ◌⊎◌, inl, inr, sym, ◌∙◌, subst}
 use Rattle.std.proofs.lemmas.Bool.{true≢false}
 use Rattle.histar_flat.specs.declared.calls.CallLine.{CallLine}
@@ -12,7 +12,8 @@ use Rattle.histar_flat.specs.FlatState.{Flat, with_process, with_child}
 use Rattle.histar_flat.specs.FlatCalls.{next_child, inner_chain, flat_after}
 use Rattle.histar_flat.specs.Meaning.{first_process, boot, flat_end}
 use Rattle.histar_flat.specs.Laws.{HasNoJob, NobodyHasAJob}
-use Rattle.histar_flat.proofs.FileLemmas.{same_itself}
+use Rattle.histar_flat.proofs.FileLemmas.{same_name_found, same_itself}
+use Rattle.histar_flat.proofs.Choices.{chosen, left}
 use Rattle.histar_flat.proofs.Changes.{EachChange, by_line, runs_is_there}
 
 -- the process is nobody's, with no job, or a declared user's
@@ -24,14 +25,6 @@ record IsPlaced (session : Session) (p : Process) : Type 0 where
 abbrev ArePlaced : Session → Flat → Type 0
 ArePlaced session f = (q : ProcName) (p : Process) → f.processes q ≡ Some p → IsPlaced session p
 
-chosen : (b : Bool) (p q : Process) (o : Option Process) → cond b (Some p) o ≡ Some q → (p ≡ q) ⊎ (o ≡ Some q)
-chosen true p q o e = let one : p ≡ q = cc in inl one
-chosen false p q o e = inr e
-
-left : (b : Bool) (o : Option Process) (p : Process) → cond b None o ≡ Some p → o ≡ Some p
-left true o p e = absurd (cc)
-left false o p e = e
-
 -- a process of no job
 in_no_job : (p : Process) → is_free p ≡ true → p.chain ≡ []
 in_no_job p h = by p.chain h
@@ -42,9 +35,9 @@ in_no_job p h = by p.chain h
 
 module _ (session : Session) where
   placed_with : (f : Flat) (me : ProcName) (p : Process) → ArePlaced session f → IsPlaced session p → ArePlaced session (with_process f me p)
-  placed_with f me p placed new q x e = elim (chosen (same me q) p x (f.processes q) e) [
-    | inl i ↦ subst (IsPlaced session) i new
-    | inr i ↦ placed q x i
+  placed_with f me p placed new q x e = elim (same_name_found me q) [
+    | inl i ↦ subst (IsPlaced session) (chosen (same me q) p x (f.processes q) i.0 e) new
+    | inr i ↦ placed q x (sym (ap (λ b. cond b (Some p) (f.processes q)) i.0) ∙ e)
   ]
 
   placed_with_child : (f : Flat) (me : ProcName) (p : Process) (chain : List ProcName) → ArePlaced session f → IsPlaced session (record p { born = p.born + 1 })

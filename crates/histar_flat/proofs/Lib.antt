@@ -4,6 +4,7 @@ pub mod Refusals
 pub mod Finding
 pub mod FileLemmas
 pub mod Entries
+pub mod Choices
 pub mod Under
 pub mod Renaming
 pub mod Changes
