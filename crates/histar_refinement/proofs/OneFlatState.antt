@@ -28,7 +28,7 @@ use Rattle.histar_refinement.specs.Stands.{bare}
 use Rattle.histar_refinement.specs.Expected.{content_kind, home_object, expected}
 use Rattle.histar_refinement.specs.LaysOut.{IsInOrder, IsProcess, Laid}
 use Rattle.histar_refinement.specs.Laws.{AreAlike}
-use Rattle.histar_refinement.specs.Lines.{ProcessStatus}
+use Rattle.histar_refinement.specs.Processes.{ProcessStatus, or_zero, status_by}
 use Rattle.histar_refinement.proofs.Steps.{step_tells}
 use Rattle.histar_refinement.proofs.Moving.{at_number}
 use Rattle.histar_refinement.proofs.Places.{asked_home}
@@ -38,7 +38,7 @@ use Rattle.histar_refinement.proofs.Making.{entry_leads}
 use Rattle.histar_refinement.proofs.Standing.{some_of, thread_found, guard_at, path_stands, root_is_dir, parent_is_dir, some_unless_none}
 use Rattle.histar_refinement.proofs.LinesLaid.{leads_to, node_there, holds_directory}
 use Rattle.histar_refinement.proofs.SameLines.{listing_in, same_status}
-use Rattle.histar_refinement.proofs.StatusLaid.{or_zero, status_by, holds_status}
+use Rattle.histar_refinement.proofs.StatusLaid.{holds_status}
 use Rattle.histar_refinement.proofs.StatusFound.{zero_there, numbered_home, numbered_status, numbered_runner, status_found, status_back}
 use Rattle.histar_refinement.proofs.OneChain.{one_chain}
 use Rattle.histar_refinement.proofs.OneProcess.{one_user, one_held}
