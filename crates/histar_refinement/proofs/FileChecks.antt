@@ -11,7 +11,7 @@ use Rattle.histar_flat.specs.Files.{get}
 use Rattle.histar_flat.specs.Classes.{Class, Process, may_read, may_write}
 use Rattle.histar_flat.specs.FlatState.{Flat}
 use Rattle.histar_flat.specs.FlatState.Content.{Dir, File}
-use Rattle.histar_label.specs.Levels.{Levels, is_below, is_below_raised}
+use Rattle.histar_label.specs.Levels.{Levels, is_below, is_below_raised, has_star}
 use Rattle.histar_layout.specs.Directory.{Entries, IsListable, spelling}
 use Rattle.histar_object.specs.declared.objects.Kind.TheVariants.{Segment, Container, Thread}
 use Rattle.histar_object.specs.Objects.{Numbers as Links, links_in}
@@ -103,6 +103,25 @@ module _ (session : Session) (s : State) (f : Flat) (l : Laid session s f) (ok :
     -- the first tests of a making in the directory
     pub making_said : no_making s t D ≡ unless (may_write session p class) Modify
     making_said = making_check s t label clearance thread D above links holder observed ∙ ap (λ b. unless b Modify) may_change
+
+    -- a label that the thread may not hand in is refused for that, where the directory may be written
+    refused_range : (g : Guard) → is_made_within session l.category l.different me p g ≡ false → in_range (s.objects t) (guard_label l.category g) ≡ false
+    refused_range g outside = ap (λ (o : Found). in_range o (guard_label l.category g)) thread ∙ outside
+
+    pub segment_out_of_range : (g : Guard) → is_made_within session l.category l.different me p g ≡ false → (bytes : List ℕ) → check s t (MakeSegment D (guard_label l.category g) bytes) ≡ (unless (may_write session p class) Modify orelse Some Range)
+    segment_out_of_range g outside bytes = λ i. making_said i
+        orelse unless (refused_range g outside i) Range
+        orelse unless (known s (guard_label l.category g)) Range
+        orelse unless (not (has_star (guard_label l.category g))) Range
+        orelse unless (fits_segment (length bytes)) TooBig
+        orelse unless (has_number s) TooBig
+
+    pub container_out_of_range : (g : Guard) → is_made_within session l.category l.different me p g ≡ false → check s t (MakeContainer D (guard_label l.category g)) ≡ (unless (may_write session p class) Modify orelse Some Range)
+    container_out_of_range g outside = λ i. making_said i
+        orelse unless (refused_range g outside i) Range
+        orelse unless (known s (guard_label l.category g)) Range
+        orelse unless (not (has_star (guard_label l.category g))) Range
+        orelse unless (has_number s) TooBig
 
     -- a segment or a container is made in the directory for what is of a class, unless the directory may not be written, the thread may
     -- not hand in the label, or there is no number for it

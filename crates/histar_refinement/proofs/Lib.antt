@@ -45,3 +45,4 @@ pub mod RawChecks
 pub mod FileChecks
 pub mod LeftObjects
 pub mod LoginChecks
+pub mod CallLabels
