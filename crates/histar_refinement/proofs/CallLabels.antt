@@ -1,27 +1,33 @@
 -- The labels that calls hand in by the numbers of users are those of names: what is private or readable, and a thread as a user's.
-use Rattle.std.proofs.Common.{◌≡◌, ℕ, ◌+◌, ◌*◌, ◌≤◌, ◌==◌, Bool, true, false, ◌||◌, cond, List, [], ◌∷◌, ◌++◌, length, Option, None, Some, arith, refl, sym, ap, ◌∙◌, subst}
-use Rattle.std.specs.Prelude.{position, nat_le, option_map}
+use Rattle.std.proofs.Common.{◌≡◌, ℕ, ◌+◌, ◌*◌, ◌<◌, ◌≤◌, ◌==◌, Bool, true, false, ◌||◌, cond, List, [], ◌∷◌, ◌++◌, length, Option, None, Some, arith, refl, sym, ap, ◌∙◌}
+use Rattle.std.specs.Prelude.{map, position, nat_eq, nat_le, option_map}
 use Rattle.std.specs.Str.{bytes_eq}
 use Rattle.std.proofs.lemmas.Bool.Decides.{nat_tests}
 use Rattle.std.proofs.lemmas.Slice.Eq.{bytes_eq-Decides}
 use Rattle.histar_flat.specs.declared.calls.User.{User}
-use Rattle.histar_flat.specs.Words.{Name}
+use Rattle.histar_flat.specs.Words.{Name, ProcName}
 use Rattle.histar_flat.specs.PathOrder.{same}
 use Rattle.histar_flat.specs.Sessions.{Session, user_number}
 use Rattle.histar_flat.specs.Classes.{Process}
 use Rattle.histar_flat.specs.FlatState.{Flat}
+use Rattle.histar_label.specs.Level.{is_star}
+use Rattle.histar_label.specs.Levels.{level_of}
 use Rattle.histar_object.specs.State.{State}
-use Rattle.histar_calls.specs.Categories.{read_category, write_category}
+use Rattle.histar_calls.specs.Categories.{read_category, write_category, owns, IsUserOf}
 use Rattle.histar_calls.specs.Labelling.{written_by, secret_of}
 use Rattle.histar_login.specs.Start.{own_read_category, own_write_category}
 use Rattle.histar_login.specs.Login.{place_of, user_label, user_clearance}
-use Rattle.histar_refinement.specs.Categories.CategoryName.{ReadsUser, WritesUser, ReadsProcess, WritesProcess}
+use Rattle.histar_refinement.specs.Categories.CategoryName.{ReadsUser, WritesUser, ReadsProcess, WritesProcess, OfJob}
+use Rattle.histar_refinement.specs.Categories.{among}
+use Rattle.histar_refinement.specs.Processes.{or_zero}
 use Rattle.histar_refinement.specs.Guards.{guarded_by, owning, cleared_at, guard_label, rights_label, rights_clearance}
 use Rattle.histar_refinement.specs.Labels.{private_guard, readable_guard, owned_as, thread_rights}
 use Rattle.histar_refinement.specs.LaysOut.{Laid}
 use Rattle.histar_refinement.proofs.Members.{is_in, same_truth}
-use Rattle.histar_refinement.proofs.Levelled.{same_owning, same_cleared}
-use Rattle.histar_refinement.proofs.SessionLemmas.{equal_names, equal_tested, user_range}
+use Rattle.histar_refinement.proofs.Levelled.{owning_level, at_owning, same_owning, same_cleared}
+use Rattle.histar_refinement.proofs.CategoryTests.{among_none, is_in_names}
+use Rattle.histar_refinement.proofs.ClassTests.{owns_read_of}
+use Rattle.histar_refinement.proofs.SessionLemmas.{is_number, equal_names, equal_tested, user_range}
 
 -- a user's place is looked for by equal bytes
 equal_bytes : (a b : Name) → bytes_eq a b ≡ same a b
@@ -48,6 +54,49 @@ module _ (session : Session) (s : State) (f : Flat) (l : Laid session s f) where
 
   pub readable_label : (i : ℕ) → i ≤ length session.users → guard_label l.category (readable_guard i) ≡ written_by (write_category i)
   readable_label i h = λ k. guarded_by [] (writes_numbered i h k ∷ [])
+
+-- star tells what is owned
+star_told : (b : Bool) → is_star (owning_level b false) ≡ b
+unfolding is_star
+star_told true = refl
+star_told false = refl
+
+module _ (session : Session) (s : State) (f : Flat) (l : Laid session s f) (me : ProcName) (p : Process) where
+  -- a process's thread owns a user's first category where the process is that user's
+  pub owns_reads : (j : ℕ) → j ≤ length session.users → owns (rights_label l.category (thread_rights session me p)) j ≡ is_number (user_number session p.user) j
+  owns_reads j h =
+      ap (λ (q : ℕ). is_star (level_of (rights_label l.category (thread_rights session me p)) q)) (sym (reads_numbered session s f l j h))
+      ∙ ap is_star (at_owning (map l.category (thread_rights session me p).owned) (map l.category (map OfJob p.chain)) (l.category (ReadsUser j))
+      ∙ (λ k. owning_level (is_in_names l.category l.different (thread_rights session me p).owned (ReadsUser j) k) ((is_in_names l.category l.different (map OfJob p.chain) (ReadsUser j) ∙ among_none OfJob (ReadsUser j) (λ job. refl) p.chain) k)))
+      ∙ star_told (among (thread_rights session me p).owned (ReadsUser j)) ∙ owns_read_of session me p j
+
+  -- so its label tells the user
+  pub user_of_thread : IsUserOf (rights_label l.category (thread_rights session me p)) (length session.users) (or_zero (user_number session p.user))
+  user_of_thread = by (user_number session p.user) refl
+    where
+      other_number : (i j : ℕ) → j < i → nat_eq j i ≡ false
+      other_number i j lt = grind (arith, nat_tests, lt)
+
+      itself : (i : ℕ) → nat_eq i i ≡ true
+      itself i = grind (arith, nat_tests)
+
+      by : (o : Option ℕ) → user_number session p.user ≡ o → IsUserOf (rights_label l.category (thread_rights session me p)) (length session.users) (or_zero o)
+      by None is = record {
+        owner = λ lt. absurd (omega (arith, lt));
+        first = λ j low lt. absurd (omega (arith, lt));
+        nobody = λ e j low high. owns_reads j high ∙ ap (λ (x : Option ℕ). is_number x j) is;
+        known = omega arith;
+      }
+      by (Some i) is =
+          let range = user_range session p.user i is in
+          let low = range.0 in
+          let high = range.1 in
+          record {
+            owner = λ lt. owns_reads i high ∙ ap (λ (x : Option ℕ). is_number x i) is ∙ itself i;
+            first = λ j positive lt. owns_reads j (omega (arith, lt, high)) ∙ ap (λ (x : Option ℕ). is_number x j) is ∙ other_number i j lt;
+            nobody = λ e. absurd (omega (arith, low, e));
+            known = high;
+          }
 
 -- two tests before two others
 turned_four : (a b c d : Bool) → (a || (b || (c || (d || false)))) ≡ (c || (d || (a || (b || false))))
