@@ -12,7 +12,7 @@ use Rattle.histar_container.proofs.Addresses.{Tells}
 use Rattle.histar_flat.specs.Sessions.{has}
 use Rattle.histar_refinement.specs.Categories.{CategoryName, Categories, AreDifferent, split_category, same_category, among}
 use Rattle.histar_refinement.specs.Categories.CategoryName.{OfBoot, ReadsUser, WritesUser, ReadsGroup, WritesGroup, ReadsProcess, WritesProcess, OfJob}
-use Rattle.histar_refinement.proofs.Members.{is_in, or_assoc, or_first, all_mapped, all_same}
+use Rattle.histar_refinement.proofs.Members.{is_in, or_assoc, or_first, all_mapped, all_same, or_second, equal_itself}
 
 -- the name of a kind, with its number or its name
 join_category : ℕ → List ℕ → CategoryName
@@ -55,6 +55,12 @@ category_tells x y = elim (eqb_tells (split_category x).0 (split_category y).0) 
   | inr kind ↦ inr (and_left _ _ kind.0, λ same. kind.1 (ap (λ z. (split_category z).0) same))
 ]
 
+pub same_itself : (c : CategoryName) → same_category c c ≡ true
+same_itself c = elim (category_tells c c) [ inl e ↦ e.0 | inr e ↦ absurd (e.1 refl) ]
+
+pub same_told : (c d : CategoryName) → same_category c d ≡ true → c ≡ d
+same_told c d e = elim (category_tells c d) [ inl k ↦ k.1 | inr k ↦ absurd (true≢false (sym e ∙ k.0)) ]
+
 -- what is among names before others
 pub among-append : (xs ys : List CategoryName) (c : CategoryName) → among (xs ++ ys) c ≡ (among xs c || among ys c)
 among-append [] ys c = refl
@@ -75,13 +81,10 @@ module _ (category : Categories) (different : AreDifferent category) where
   -- the numbers of two names are equal exactly where the names are the same
   pub same_number : (c d : CategoryName) → (category c == category d) ≡ same_category c d
   same_number c d = elim (category_tells c d) [
-    | inl e ↦ ap (λ x. category c == category x) (sym e.1) ∙ itself (category c) ∙ sym e.0
+    | inl e ↦ ap (λ x. category c == category x) (sym e.1) ∙ equal_itself (category c) ∙ sym e.0
     | inr e ↦ by (eqb_tells (category c) (category d)) e.1 ∙ sym e.0
   ]
     where
-      itself : (q : ℕ) → (q == q) ≡ true
-      itself q = elim (eqb_tells q q) [ inl e ↦ e.0 | inr e ↦ absurd (e.1 refl) ]
-
       by : (((category c == category d) ≡ true) × (category c ≡ category d)) ⊎ (((category c == category d) ≡ false) × (category c ≢ category d)) → c ≢ d → (category c == category d) ≡ false
       by (inl e) other = absurd (other (different c d e.1))
       by (inr e) other = e.0
@@ -99,13 +102,6 @@ module _ (category : Categories) (different : AreDifferent category) where
 pub named_in : (category : Categories) (names : List CategoryName) (q : ℕ) → is_in (map category names) q ≡ true → (c : CategoryName) × (q ≡ category c) × (among names c ≡ true)
 named_in category [] q e = absurd (true≢false (sym e))
 named_in category (x ∷ names) q e = elim (eqb_tells q (category x)) [
-  | inl k ↦ (x, k.1, or_first (same_category x x) (among names x) (itself x))
-  | inr k ↦ let later = named_in category names q (sym (ap (λ b. b || is_in (map category names) q) k.0) ∙ e) in (later.0, later.1, or_later (same_category later.0 x) (among names later.0) later.2)
+  | inl k ↦ (x, k.1, or_first (same_category x x) (among names x) (same_itself x))
+  | inr k ↦ let later = named_in category names q (sym (ap (λ b. b || is_in (map category names) q) k.0) ∙ e) in (later.0, later.1, or_second (same_category later.0 x) (among names later.0) later.2)
 ]
-  where
-    itself : (c : CategoryName) → same_category c c ≡ true
-    itself c = elim (category_tells c c) [ inl e ↦ e.0 | inr e ↦ absurd (e.1 refl) ]
-
-    or_later : (a b : Bool) → b ≡ true → (a || b) ≡ true
-    or_later true b e = refl
-    or_later false b e = e

@@ -1,8 +1,8 @@
 -- What the labels of a process's thread let it observe and modify is what its process may read and write.
 use Rattle.std.proofs.Common.{◌≡◌, ℕ, Bool, true, false, ◌&&◌, ◌||◌, List, [], ◌∷◌, Option, None, Some, if◌then◌else◌, refl, sym, ap, ◌∙◌}
-use Rattle.std.specs.Prelude.{map, nat_eq, is_some, option_map}
+use Rattle.std.specs.Prelude.{map, nat_eq, is_some}
 use Rattle.std.specs.List.{list_all}
-use Rattle.std.proofs.lemmas.Option.{same_Some, none-some}
+use Rattle.std.proofs.lemmas.Option.{same_Some}
 use mathlib.Core.Bool.{true≢false}
 use Rattle.histar_flat.specs.Words.{Name, ProcName}
 use Rattle.histar_flat.specs.PathOrder.{same}
@@ -14,15 +14,11 @@ use Rattle.histar_refinement.specs.Categories.{CategoryName, Categories, AreDiff
 use Rattle.histar_refinement.specs.Categories.CategoryName.{OfBoot, ReadsUser, WritesUser, ReadsGroup, WritesGroup, ReadsProcess, WritesProcess, OfJob}
 use Rattle.histar_refinement.specs.Guards.{Guard, Rights, guard_label, rights_label}
 use Rattle.histar_refinement.specs.Labels.{class_guard, private_guard, readable_guard, scratch_guard, group_guard, open_guard, process_guard, reading, writing, owned_as, thread_rights}
-use Rattle.histar_refinement.proofs.Members.{or_false}
+use Rattle.histar_refinement.proofs.Members.{or_false, and_true, and_false, mapped_from}
 use Rattle.histar_refinement.proofs.CategoryTests.{among-append, among_none, among_jobs}
 use Rattle.histar_refinement.proofs.Tested.{NamesApart, observes_by_names, below_by_names}
 use Rattle.histar_refinement.specs.Sessions.{IsSession}
 use Rattle.histar_refinement.proofs.SessionLemmas.{is_number, is_owner, has_number, is_member_number}
-
-and_true : (b : Bool) → (b && true) ≡ b
-and_true true = refl
-and_true false = refl
 
 -- among the numbers of groups
 among_groups : (f : ℕ → CategoryName) → ((k m : ℕ) → same_category (f k) (f m) ≡ nat_eq k m) → (ks : List ℕ) (k : ℕ) → among (map f ks) (f k) ≡ has_number ks k
@@ -33,10 +29,6 @@ among_groups f tells (m ∷ ks) k = (λ i. tells k m i || among_groups f tells k
 picked_names : (b : Bool) (names : List CategoryName) (c : CategoryName) → among (if b then names else []) c ≡ (b && among names c)
 picked_names true names c = refl
 picked_names false names c = refl
-
-and_false : (b : Bool) → (b && false) ≡ false
-and_false true = refl
-and_false false = refl
 
 -- to read and to write what is a user's or a group's are two categories
 pub user_apart : (i : ℕ) → NamesApart (ReadsUser i ∷ []) (WritesUser i ∷ [])
@@ -270,25 +262,20 @@ module _ (session : Session) (me : ProcName) (p : Process) where
       owner : (name : Name) (i : ℕ) → user_number session name ≡ Some i → is_number (user_number session p.user) i ≡ same p.user name
       owner name i numbered = is_owner session p.user name i numbered
 
-      -- by the number of a user or of a group
-      by_number : {A : Type 0} (f : A → Guard) (o : Option A) (g : Guard) → option_map f o ≡ Some g → (x : A) × (o ≡ Some x) × (f x ≡ g)
-      by_number f None g e = absurd (none-some g e)
-      by_number f (Some x) g e = (x, refl, same_Some (f x) g e)
-
       -- what a thread observes is what its process may read
       pub observes_class : (class : Class) (g : Guard) → class_guard session class ≡ Some g → is_below_raised (guard_label category g) (rights_label category own) ≡ may_read session p class
       observes_class (Private name) g e =
-          let at = by_number private_guard (user_number session name) g e in
+          let at = mapped_from private_guard (user_number session name) g e in
           ap (λ (x : Guard). is_below_raised (guard_label category x) (rights_label category own)) (sym at.2) ∙ sees_private at.0 ∙ owner name at.0 at.1
       observes_class (Readable name) g e =
-          let at = by_number readable_guard (user_number session name) g e in
+          let at = mapped_from readable_guard (user_number session name) g e in
           ap (λ (x : Guard). is_below_raised (guard_label category x) (rights_label category own)) (sym at.2) ∙ sees_unguarded (readable_guard at.0) refl
       observes_class Open g e = ap (λ (x : Guard). is_below_raised (guard_label category x) (rights_label category own)) (sym (same_Some open_guard g e)) ∙ sees_unguarded open_guard refl
       observes_class (Scratch name jobs) g e =
-          let at = by_number (scratch_guard jobs) (user_number session name) g e in
+          let at = mapped_from (scratch_guard jobs) (user_number session name) g e in
           ap (λ (x : Guard). is_below_raised (guard_label category x) (rights_label category own)) (sym at.2) ∙ sees_scratch jobs at.0 ∙ ap (λ b. b && list_all (knows p) jobs) (owner name at.0 at.1)
       observes_class (Grouped group) g e =
-          let at = by_number group_guard (group_number session group) g e in
+          let at = mapped_from group_guard (group_number session group) g e in
           ap (λ (x : Guard). is_below_raised (guard_label category x) (rights_label category own)) (sym at.2) ∙ sees_group at.0 ∙ member group at.0 at.1
 
       -- what it modifies is what its process may write
@@ -315,24 +302,24 @@ module _ (session : Session) (me : ProcName) (p : Process) where
       pub modifies_class : (class : Class) (g : Guard) → class_guard session class ≡ Some g
           → (is_below (rights_label category own) (guard_label category g) && is_below_raised (guard_label category g) (rights_label category own)) ≡ may_write session p class
       modifies_class (Private name) g e =
-          let at = by_number private_guard (user_number session name) g e in
+          let at = mapped_from private_guard (user_number session name) g e in
           (λ i. is_below (rights_label category own) (guard_label category (sym at.2 i)) && observes_class (Private name) g e i)
           ∙ (λ i. (below_private at.0 ∙ ap (λ b. is_free p && (b && is_free p)) (owner name at.0 at.1)) i && same p.user name)
           ∙ alike (is_free p) (same p.user name)
       modifies_class (Readable name) g e =
-          let at = by_number readable_guard (user_number session name) g e in
+          let at = mapped_from readable_guard (user_number session name) g e in
           (λ i. is_below (rights_label category own) (guard_label category (sym at.2 i)) && observes_class (Readable name) g e i)
           ∙ (λ i. (below_readable at.0 ∙ ap (λ b. is_free p && (b && is_free p)) (owner name at.0 at.1)) i && true)
           ∙ alike_readable (is_free p) (same p.user name)
       modifies_class Open g e =
           (λ i. is_below (rights_label category own) (guard_label category (sym (same_Some open_guard g e) i)) && observes_class Open g e i) ∙ and_true _ ∙ below_open
       modifies_class (Scratch name jobs) g e =
-          let at = by_number (scratch_guard jobs) (user_number session name) g e in
+          let at = mapped_from (scratch_guard jobs) (user_number session name) g e in
           (λ i. is_below (rights_label category own) (guard_label category (sym at.2 i)) && observes_class (Scratch name jobs) g e i)
           ∙ ap (λ b. b && (same p.user name && list_all (knows p) jobs)) (below_scratch jobs at.0)
           ∙ alike_scratch (same p.user name) (list_all (knows p) jobs) (list_all (has jobs) p.chain)
       modifies_class (Grouped group) g e =
-          let at = by_number group_guard (group_number session group) g e in
+          let at = mapped_from group_guard (group_number session group) g e in
           (λ i. is_below (rights_label category own) (guard_label category (sym at.2 i)) && observes_class (Grouped group) g e i)
           ∙ (λ i. (below_group at.0 ∙ ap (λ b. is_free p && (b && is_free p)) (member group at.0 at.1)) i && is_member session p.user group)
           ∙ alike (is_free p) (is_member session p.user group)

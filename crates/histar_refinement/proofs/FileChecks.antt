@@ -1,6 +1,6 @@
 -- What the kernel says to the raw calls on a directory that is laid out, and on a file in it, by the thread of a process: a read is
 -- refused Observe exactly where the process may not read, and a write, an unlink and a making Modify exactly where it may not write.
-use Rattle.std.proofs.Common.{◌≡◌, ℕ, ◌+◌, ◌≤◌, ◌&&◌, Bool, true, false, List, [], ◌∷◌, length, None, Some, arith, refl, sym, ap, ◌∙◌}
+use Rattle.std.proofs.Common.{◌≡◌, ℕ, ◌+◌, ◌≤◌, ◌&&◌, Bool, true, false, List, [], ◌∷◌, length, Some, arith, refl, sym, ap, ◌∙◌}
 use Rattle.std.specs.Prelude.{min, not}
 use Rattle.std.specs.FinSet as set
 use Rattle.std.proofs.lemmas.Bool.Decides.{nat_tests}
@@ -11,7 +11,7 @@ use Rattle.histar_flat.specs.Files.{get}
 use Rattle.histar_flat.specs.Classes.{Class, Process, may_read, may_write}
 use Rattle.histar_flat.specs.FlatState.{Flat}
 use Rattle.histar_flat.specs.FlatState.Content.{Dir, File}
-use Rattle.histar_label.specs.Levels.{Levels, is_below, is_below_raised}
+use Rattle.histar_label.specs.Levels.{Levels, is_below, is_below_raised, has_star}
 use Rattle.histar_layout.specs.Directory.{Entries, IsListable, spelling}
 use Rattle.histar_object.specs.declared.objects.Kind.TheVariants.{Segment, Container, Thread}
 use Rattle.histar_object.specs.Objects.{Numbers as Links, links_in}
@@ -30,7 +30,7 @@ use Rattle.histar_refinement.specs.LaysOut.{Laid}
 use Rattle.histar_refinement.specs.Laws.{RunsAs}
 use Rattle.histar_refinement.proofs.ClassTests.{observes_class, modifies_class}
 use Rattle.histar_refinement.proofs.DirectoryLaws.{spelling_fits}
-use Rattle.histar_refinement.proofs.RawChecks.{object, read_blocked, read_check, write_check, unlink_check, making_check}
+use Rattle.histar_refinement.proofs.RawChecks.{object, read_blocked, read_check, write_check, unlink_check, making_check, or_none}
 use Rattle.histar_refinement.proofs.MakingRanges.{is_made_within}
 use Rattle.histar_refinement.proofs.Growing.{GuardHas}
 use Rattle.histar_refinement.proofs.Tested.{guard_made, guard_owns_nothing}
@@ -93,20 +93,35 @@ module _ (session : Session) (s : State) (f : Flat) (l : Laid session s f) (ok :
     observed : is_below_raised above label ≡ true
     observed = sees ∙ may
 
-    or_none : (b : Bool) → (unless b Modify orelse None) ≡ unless b Modify
-    or_none true = refl
-    or_none false = refl
-
     -- the write of the directory segment, with a directory that can be listed
     pub write_listing_said : (dir : Entries) → IsListable dir → check s t (Write D N 0 (spelling dir)) ≡ unless (may_write session p class) Modify
     write_listing_said dir h =
         write_check s t label clearance thread D above links holder observed N listing_inside above (spelling (directory_of f.files l.naming.number d)) listing (spelling dir)
         ∙ (λ i. unless (may_change i) Modify orelse unless (fits (spelling (directory_of f.files l.naming.number d)) (spelling dir) (spelling_fits dir h) i) TooBig)
-        ∙ or_none (may_write session p class)
+        ∙ or_none (may_write session p class) Modify
 
     -- the first tests of a making in the directory
     pub making_said : no_making s t D ≡ unless (may_write session p class) Modify
     making_said = making_check s t label clearance thread D above links holder observed ∙ ap (λ b. unless b Modify) may_change
+
+    -- a label that the thread may not hand in is refused for that, where the directory may be written
+    refused_range : (g : Guard) → is_made_within session l.category l.different me p g ≡ false → in_range (s.objects t) (guard_label l.category g) ≡ false
+    refused_range g outside = ap (λ (o : Found). in_range o (guard_label l.category g)) thread ∙ outside
+
+    pub segment_out_of_range : (g : Guard) → is_made_within session l.category l.different me p g ≡ false → (bytes : List ℕ) → check s t (MakeSegment D (guard_label l.category g) bytes) ≡ (unless (may_write session p class) Modify orelse Some Range)
+    segment_out_of_range g outside bytes = λ i. making_said i
+        orelse unless (refused_range g outside i) Range
+        orelse unless (known s (guard_label l.category g)) Range
+        orelse unless (not (has_star (guard_label l.category g))) Range
+        orelse unless (fits_segment (length bytes)) TooBig
+        orelse unless (has_number s) TooBig
+
+    pub container_out_of_range : (g : Guard) → is_made_within session l.category l.different me p g ≡ false → check s t (MakeContainer D (guard_label l.category g)) ≡ (unless (may_write session p class) Modify orelse Some Range)
+    container_out_of_range g outside = λ i. making_said i
+        orelse unless (refused_range g outside i) Range
+        orelse unless (known s (guard_label l.category g)) Range
+        orelse unless (not (has_star (guard_label l.category g))) Range
+        orelse unless (has_number s) TooBig
 
     -- a segment or a container is made in the directory for what is of a class, unless the directory may not be written, the thread may
     -- not hand in the label, or there is no number for it

@@ -1,8 +1,7 @@
 -- What every row of files shares: the processes are the same, and what is asked for differs at paths and directory segments alone.
-use Rattle.std.proofs.Common.{◌≡◌, ◌≢◌, ℕ, ◌≤◌, ◌⊎◌, inl, inr, Bool, true, false, List, [], ◌∷◌, ◌++◌, length, Option, None, Some, refl, sym, ap, ◌∙◌, subst, if◌then◌else◌}
-use Rattle.std.specs.Prelude.{is_some, option_map, option_and_then, nat_eq}
-use Rattle.std.specs.List.{flat_map}
-use Rattle.std.specs.FinMap as map
+use Rattle.std.proofs.Common.{◌≡◌, ◌≢◌, ℕ, ◌≤◌, ◌⊎◌, inl, inr, Bool, true, false, List, [], ◌∷◌, length, Option, None, Some, refl, sym, ap, ◌∙◌, subst, if◌then◌else◌}
+use Rattle.std.specs.Prelude.{map, is_some, option_map, option_and_then, nat_eq}
+use Rattle.std.specs.FinMap as finmap
 use Rattle.std.specs.Cmp.Lexicographic.{nat_list_cmp_total}
 use Rattle.std.proofs.lemmas.Option.{none-some, same_Some}
 use mathlib.Core.Bool.{true≢false}
@@ -33,7 +32,7 @@ use Rattle.histar_refinement.specs.Guards.{Guard, guard_label}
 use Rattle.histar_refinement.specs.Labels.{class_guard, process_guard}
 use Rattle.histar_refinement.specs.Addresses.{Step, Numbers, same_step, address_of, home_of, path_at, boot_number}
 use Rattle.histar_refinement.specs.Addresses.Step.{Listing, Named, Status, Inside, Runner}
-use Rattle.histar_refinement.specs.Processes.{number_bytes, children, child_bytes, written_process, process_bytes}
+use Rattle.histar_refinement.specs.Processes.{Listed, or_zero, children, listed_by, status_bytes, process_bytes}
 use Rattle.histar_refinement.specs.Directories.{both_numbers, target_for, directory_of}
 use Rattle.histar_refinement.specs.Stands.{Stands}
 use Rattle.histar_refinement.specs.Expected.{segment, guarded_object, content_kind, node_object, listing_object, status_object, bytes_for, status_at, expected}
@@ -58,10 +57,16 @@ pub record SameNumbers (number numbers : Numbers) : Type 0 where
 
 -- they tell the bytes of each process segment
 pub same_process_bytes : (number numbers : Numbers) → SameNumbers number numbers → (processes : ProcName → Option Process) (q : ProcName) (x : Process) → process_bytes processes number q x ≡ process_bytes processes numbers q x
-same_process_bytes number numbers same processes q x = λ i. written_process x.exited x.born (same.inside q i) (same.runner q i) (flat_map (bytes_alike i) (children processes q x.born))
+same_process_bytes number numbers same processes q x = λ i. status_bytes (record {
+  exited = x.exited;
+  born = x.born;
+  internal = or_zero (same.inside q i);
+  thread = or_zero (same.runner q i);
+  children = map {B = Listed} (listed_alike i) (children processes q x.born);
+})
   where
-    bytes_alike : child_bytes number q ≡ child_bytes numbers q
-    bytes_alike = λ i k. (k ∷ number_bytes (same.home (k ∷ q) i)) ++ number_bytes (same.status (k ∷ q) i)
+    listed_alike : listed_by number q ≡ listed_by numbers q
+    listed_alike = λ i k. record { number = k; container = or_zero (same.home (k ∷ q) i); segment = or_zero (same.status (k ∷ q) i) }
 
 -- ---- addresses of paths
 
@@ -110,7 +115,7 @@ leads_at files number p = option_and_then (λ (there : Node). target_for number 
 -- two directories are the same, where their entries lead to the same
 pub directories_alike : (files other : Files Node) (number numbers : Numbers) (d e : Path) → ((n : Name) → leads_at files number (n ∷ d) ≡ leads_at other numbers (n ∷ e)) → directory_of files number d ≡ directory_of other numbers e
 directories_alike files other number numbers d e alike =
-    map.same_map nat_list_cmp_total antisymmetric _ _ (λ n. get_directory files number d n ∙ alike n ∙ sym (get_directory other numbers e n))
+    finmap.same_map nat_list_cmp_total antisymmetric _ _ (λ n. get_directory files number d n ∙ alike n ∙ sym (get_directory other numbers e n))
 
 -- where an entry leads is told by two numbers
 pub same_leads : (files other : Files Node) (number numbers : Numbers) (p q : Path) → get files p ≡ get other q → number (address_of p) ≡ numbers (address_of q) → number (Listing ∷ address_of p) ≡ numbers (Listing ∷ address_of q)

@@ -1,7 +1,6 @@
 -- A category is made: the naming grows, and labels that are told by used names stay.
 use Rattle.std.proofs.Common.{◌≡◌, ◌≢◌, ℕ, ◌<◌, ◌==◌, ◌⊎◌, inl, inr, Bool, true, false, ◌||◌, List, [], ◌∷◌, ◌++◌, if◌then◌else◌, arith, refl, sym, ap, ◌∙◌}
 use Rattle.std.specs.Prelude.{map}
-use Rattle.std.specs.List.{list_all}
 use Rattle.std.proofs.lemmas.Bool.Decides.{eqb_tells, nat_tests}
 use mathlib.Core.Bool.{true≢false}
 use Rattle.histar_label.specs.declared.levels.Level.TheVariants.{Star, L3}
@@ -9,9 +8,10 @@ use Rattle.histar_label.specs.Levels.{with_level, level_of-with_level, same_leve
 use Rattle.histar_calls.specs.Labelling.{written_by, secret_of, owner_of, cleared_of}
 use Rattle.histar_refinement.specs.Categories.{CategoryName, Categories, AreDifferent, IsMade, same_category, among, swapped, naming_next}
 use Rattle.histar_refinement.specs.Guards.{Guard, Rights, guarded_by, owning, cleared_at, guard_label, rights_label, rights_clearance}
-use Rattle.histar_refinement.proofs.Members.{is_in, and_both, or_first, or_second, or_either}
+use Rattle.histar_refinement.proofs.AmongNames.{each_append}
+use Rattle.histar_refinement.proofs.Members.{is_in, or_first, or_second}
 use Rattle.histar_refinement.proofs.Levelled.{owning_level, cleared_level, at_owning, at_cleared}
-use Rattle.histar_refinement.proofs.CategoryTests.{category_tells, named_in}
+use Rattle.histar_refinement.proofs.CategoryTests.{named_in, same_itself}
 
 -- the labels of the code are of these kinds
 pub written_is : (w : ℕ) → written_by w ≡ guarded_by [] (w ∷ [])
@@ -25,17 +25,6 @@ owner_is r w = refl
 
 pub cleared_is : (r w : ℕ) → cleared_of r w ≡ cleared_at (r ∷ w ∷ [])
 cleared_is r w = refl
-
-pub same_itself : (c : CategoryName) → same_category c c ≡ true
-same_itself c = elim (category_tells c c) [ inl e ↦ e.0 | inr e ↦ absurd (e.1 refl) ]
-
-pub same_told : (c d : CategoryName) → same_category c d ≡ true → c ≡ d
-same_told c d e = elim (category_tells c d) [ inl k ↦ k.1 | inr k ↦ absurd (true≢false (sym e ∙ k.0)) ]
-
--- each of these names is among those
-pub covers : (names others : List CategoryName) → ((c : CategoryName) → among others c ≡ true → among names c ≡ true) → list_all (among names) others ≡ true
-covers names [] each = refl
-covers names (x ∷ others) each = and_both (each x (or_first (same_category x x) (among others x) (same_itself x))) (covers names others (λ c e. each c (or_second (same_category c x) (among others c) e)))
 
 -- names that keep their numbers
 pub same_numbers : (category other : Categories) (names : List CategoryName) → ((c : CategoryName) → among names c ≡ true → other c ≡ category c) → map other names ≡ map category names
@@ -60,16 +49,8 @@ same_guard_label category other g keeps = λ i. guarded_by (same_numbers categor
 pub same_rights_label : (category other : Categories) (r : Rights) → RightsHave (KeepsNumber category other) r → rights_label other r ≡ rights_label category r
 same_rights_label category other r keeps = λ i. owning (same_numbers category other r.owned keeps.0 i) (same_numbers category other r.tainted keeps.1 i)
 
--- what is among either list
-either_has : (P : CategoryName → Type 0) (xs ys : List CategoryName) → ((c : CategoryName) → among xs c ≡ true → P c) → ((c : CategoryName) → among ys c ≡ true → P c) → (c : CategoryName) → among (xs ++ ys) c ≡ true → P c
-either_has P [] ys first second c e = second c e
-either_has P (x ∷ xs) ys first second c e = elim (or_either (same_category c x) (among (xs ++ ys) c) e) [
-  | inl k ↦ first c (or_first (same_category c x) (among xs c) k)
-  | inr k ↦ either_has P xs ys (λ d i. first d (or_second (same_category d x) (among xs d) i)) second c k
-]
-
 pub same_rights_clearance : (category other : Categories) (r : Rights) → RightsHave (KeepsNumber category other) r → rights_clearance other r ≡ rights_clearance category r
-same_rights_clearance category other r keeps = ap cleared_at (same_numbers category other (r.owned ++ r.tainted) (either_has (KeepsNumber category other) r.owned r.tainted keeps.0 keeps.1))
+same_rights_clearance category other r keeps = ap cleared_at (same_numbers category other (r.owned ++ r.tainted) (each_append (KeepsNumber category other) r.owned r.tainted keeps.0 keeps.1))
 
 module _ (category : Categories) (different : AreDifferent category) (next : ℕ) (c : CategoryName) where
   -- the naming in which c is the next category
@@ -148,4 +129,4 @@ module _ (category : Categories) (different : AreDifferent category) (next : ℕ
       ∙ ap (λ l. if q == next then L3 else l) (at_cleared (map category (r.owned ++ r.tainted)) q)
       ∙ three_here (q == next) (is_in (map category (r.owned ++ r.tainted)) q)
       ∙ sym (at_cleared (next ∷ map category (r.owned ++ r.tainted)) q))
-      ∙ (λ i. cleared_at (sym new_number i ∷ sym (same_numbers category grown (r.owned ++ r.tainted) (λ d e. old_keeps d (either_has IsOld r.owned r.tainted old.0 old.1 d e))) i))
+      ∙ (λ i. cleared_at (sym new_number i ∷ sym (same_numbers category grown (r.owned ++ r.tainted) (λ d e. old_keeps d (each_append IsOld r.owned r.tainted old.0 old.1 d e))) i))

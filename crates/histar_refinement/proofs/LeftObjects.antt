@@ -1,6 +1,6 @@
 -- What boot left stands for good: each user's password and gate, with the numbers of categories that the state has.
-use Rattle.std.proofs.Common.{◌≡◌, ℕ, zero, suc, ◌+◌, ◌*◌, ◌<◌, ◌≤◌, Bool, true, false, cond, List, [], ◌∷◌, ◌++◌, length, get_or, Option, None, Some, arith, refl, sym, ap, ◌∙◌, subst}
-use Rattle.std.specs.Prelude.{is_some, map, option_map, position, slice_get, nat_le, unwrap_or}
+use Rattle.std.proofs.Common.{◌≡◌, ℕ, zero, suc, ◌+◌, ◌*◌, ◌≤◌, Bool, true, false, cond, List, [], ◌∷◌, ◌++◌, length, get_or, Option, None, Some, arith, refl, sym, ap, ◌∙◌, subst}
+use Rattle.std.specs.Prelude.{map, position, slice_get, nat_le, unwrap_or}
 use Rattle.std.specs.List.{find, position_or_len}
 use Rattle.std.specs.FinSet as set
 use Rattle.std.proofs.lemmas.Bool.Decides.{nat_tests}
@@ -21,19 +21,20 @@ use Rattle.histar_object.specs.State.{State, Found}
 use Rattle.histar_rules.specs.Sound.{root_number}
 use Rattle.histar_login.specs.Start.{numbered}
 use Rattle.histar_login.specs.Login.{password_of, gate_of}
-use Rattle.histar_refinement.specs.Categories.{CategoryName, Categories, boot_category, booted, among}
+use Rattle.histar_refinement.specs.Categories.{CategoryName, boot_category, booted, among}
 use Rattle.histar_refinement.specs.Categories.CategoryName.{OfBoot, ReadsUser, WritesUser, ReadsGroup, WritesGroup}
 use Rattle.histar_refinement.specs.Guards.{guard_label, rights_label, rights_clearance}
 use Rattle.histar_refinement.specs.Labels.{boot_guard, private_guard, gate_rights, reading, writing}
 use Rattle.histar_refinement.specs.LeftByBoot.{left_for_user, left_by_boot}
-use Rattle.histar_refinement.specs.Addresses.{same_step, first_left, table_number, boot_number}
+use Rattle.histar_refinement.specs.Addresses.{same_step, first_left, table_number}
 use Rattle.histar_refinement.specs.Addresses.Step.{Left}
 use Rattle.histar_refinement.specs.Stands.{bare}
 use Rattle.histar_refinement.specs.Expected.{expected}
 use Rattle.histar_refinement.specs.LaysOut.{Laid}
-use Rattle.histar_refinement.proofs.SessionLemmas.{placed, from_place, equal_names, user_range}
-use Rattle.histar_refinement.proofs.Growing.{GuardHas, RightsHave, KeepsNumber, same_told, same_guard_label, same_rights_label, same_rights_clearance}
-use Rattle.histar_refinement.proofs.Ranges.{each_head, each_append}
+use Rattle.histar_refinement.proofs.AmongNames.{each_head, each_append}
+use Rattle.histar_refinement.proofs.Members.{mapped_from}
+use Rattle.histar_refinement.proofs.SessionLemmas.{placed, equal_names, user_range}
+use Rattle.histar_refinement.proofs.Growing.{GuardHas, RightsHave, KeepsNumber, same_guard_label, same_rights_label, same_rights_clearance}
 use Rattle.histar_refinement.proofs.Uses.{group_among, groups_within}
 use Rattle.histar_refinement.proofs.Steps.{step_tells}
 use Rattle.histar_refinement.proofs.Moving.{bare_is, at_number}
@@ -59,7 +60,7 @@ place_told false k m e = absurd (none-some m e)
 -- a user who has a number is the one of this name, and stands at its place
 pub numbered_user : (session : Session) (name : Name) (i : ℕ) → user_number session name ≡ Some i → (k : ℕ) × (u : User) × (k + 1 ≡ i) × (slice_get session.users k ≡ Some u) × (user_named session.users name ≡ Some u) × (u.name ≡ name)
 numbered_user session name i e =
-    let k = from_place (position (λ (u : User). same u.name name) session.users) i e in
+    let k = mapped_from (λ k. k + 1) (position (λ (u : User). same u.name name) session.users) i e in
     let at = placed (λ (u : User). same u.name name) session.users k.0 k.1 in
     (k.0, at.0, k.2, at.1, named_at session.users name ∙ ap (slice_get session.users) (place_told _ (position_or_len (λ (u : User). same u.name name) session.users) k.0 k.1) ∙ at.1, equal_names at.0.name name at.2)
 

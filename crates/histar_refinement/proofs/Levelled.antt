@@ -13,7 +13,7 @@ use Rattle.histar_label.proofs.Stars.{has_star-none}
 use Rattle.histar_calls.specs.Labelling.{with_levels}
 use Rattle.histar_refinement.specs.Guards.{each_at, guarded_by, owning, cleared_at}
 use Rattle.histar_refinement.specs.Categories.{IsMade}
-use Rattle.histar_refinement.proofs.Members.{is_in, same_truth, and_both, first_of, second_of, or_first, all_from, each_of, AreApart}
+use Rattle.histar_refinement.proofs.Members.{is_in, same_truth, and_both, first_of, second_of, or_first, all_from, each_of, AreApart, or_second}
 
 -- by the test of the first category and that of the others
 either_level : (a b : Bool) (l m : Level) → (if b then l else (if a then l else m)) ≡ (if a || b then l else m)
@@ -211,11 +211,7 @@ made_at : (next : ℕ) (L : Levels) (cs : List ℕ) (l : Level) → is_made next
 made_at next L [] l made each = made
 made_at next L (c ∷ cs) l made each =
     let here : IsMade next c = each c (or_first (c == c) (is_in cs c) (grind (arith, nat_tests))) in
-    made_at next (with_level L c l) cs l (is_made-with_level next L c l here.0 here.1 made) (λ q e. each q (or_later (q == c) (is_in cs q) e))
-  where
-    or_later : (a b : Bool) → b ≡ true → (a || b) ≡ true
-    or_later true b e = refl
-    or_later false b e = e
+    made_at next (with_level L c l) cs l (is_made-with_level next L c l here.0 here.1 made) (λ q e. each q (or_second (q == c) (is_in cs q) e))
 
 pub guarded_made : (next : ℕ) (S W : List ℕ) → ((q : ℕ) → is_in S q ≡ true → IsMade next q) → ((q : ℕ) → is_in W q ≡ true → IsMade next q) → is_made next (guarded_by S W) ≡ true
 guarded_made next S W secret written =

@@ -1,6 +1,7 @@
 pub mod Members
 pub mod Levelled
 pub mod CategoryTests
+pub mod AmongNames
 pub mod Tested
 pub mod SessionLemmas
 pub mod ClassTests
@@ -44,3 +45,4 @@ pub mod RawChecks
 pub mod FileChecks
 pub mod LeftObjects
 pub mod LoginChecks
+pub mod CallLabels

@@ -1,46 +1,44 @@
 -- What the kernel says to the raw calls of a login: the user's gate lets in exactly who is in no job; and behind it the password is
 -- read, and the labels are taken of any rights that are no more than the thread has there.
-use Rattle.std.proofs.Common.{◌≡◌, ◌≢◌, ℕ, ◌≤◌, Bool, true, false, ◌&&◌, ◌||◌, List, [], ◌∷◌, ◌++◌, length, Option, None, Some, arith, refl, sym, ap, ◌∙◌, subst, if◌then◌else◌}
-use Rattle.std.specs.Prelude.{is_some, map, option_map}
+use Rattle.std.proofs.Common.{◌≡◌, ◌≢◌, ℕ, ◌≤◌, Bool, true, false, ◌&&◌, List, [], ◌∷◌, ◌++◌, length, Option, None, Some, arith, refl, sym, ap, ◌∙◌, subst, if◌then◌else◌}
+use Rattle.std.specs.Prelude.{map, option_map}
 use Rattle.std.specs.List.{list_all}
 use Rattle.std.specs.FinSet as set
 use mathlib.Core.Bool.{true≢false}
 use Rattle.histar_base.specs.Refusals.{◌orelse◌, unless}
-use Rattle.histar_flat.specs.declared.calls.User.{User}
 use Rattle.histar_flat.specs.Words.{Name, ProcName}
-use Rattle.histar_flat.specs.Sessions.{Session, user_named, user_number, groups_of}
+use Rattle.histar_flat.specs.Sessions.{Session, user_number, groups_of}
 use Rattle.histar_flat.specs.Classes.{Process, is_free}
 use Rattle.histar_flat.specs.FlatState.{Flat}
 use Rattle.histar_label.specs.Floors.{floor_of, join_of}
-use Rattle.histar_label.specs.Levels.{Levels, is_below, is_below_raised, is_below_join, is_below_join_raised}
+use Rattle.histar_label.specs.Levels.{Levels, is_below, is_below_raised, is_below_join}
 use Rattle.histar_label.proofs.Floors.{grades-join_of}
 use Rattle.histar_label.proofs.Orders.{is_below-law, is_below_join-law, is_below_join_raised-law, is_below-refl}
 use Rattle.histar_object.specs.declared.objects.Entry.TheVariants.{Login}
 use Rattle.histar_object.specs.declared.objects.Kind.TheVariants.{Segment, Container, Thread, Gate}
-use Rattle.histar_object.specs.Objects.{Numbers as Links, links_in, is_thread, is_gate, thread_of}
+use Rattle.histar_object.specs.Objects.{links_in, is_thread, is_gate, thread_of}
 use Rattle.histar_object.specs.Rights.{relabelled, with_changed, is_let_in, is_under, in_gate, may_clear}
 use Rattle.histar_object.specs.State.{State, Found, in_range, with_own}
 use Rattle.histar_container.proofs.TableMoves.{put_here, put_other, changed_here}
-use Rattle.histar_rules.specs.declared.raw.Denied.{Denied}
 use Rattle.histar_rules.specs.declared.raw.Denied.TheVariants as denials
 use Rattle.histar_rules.specs.declared.raw.RawCall.TheVariants.{Enter, Read, SetLabel, SetClearance}
 use Rattle.histar_rules.specs.Rules.{no_link, known, check}
 use Rattle.histar_rules.specs.Sound.{root_number}
 use Rattle.histar_login.specs.Login.{password_of, gate_of}
-use Rattle.histar_refinement.specs.Categories.{CategoryName, Categories, IsUsed, booted, among}
+use Rattle.histar_refinement.specs.Categories.{CategoryName, IsUsed, booted, among}
 use Rattle.histar_refinement.specs.Categories.CategoryName.{ReadsUser, WritesUser, ReadsGroup, WritesGroup, ReadsProcess, WritesProcess, OfJob}
 use Rattle.histar_refinement.specs.Guards.{Rights, cleared_at, guard_label, rights_label, rights_clearance}
 use Rattle.histar_refinement.specs.Labels.{boot_guard, private_guard, gate_rights, reading, writing, owned_as, thread_rights}
 use Rattle.histar_refinement.specs.LaysOut.{Laid}
 use Rattle.histar_refinement.specs.Laws.{RunsAs}
+use Rattle.histar_refinement.proofs.AmongNames.{covers, in_first, in_second, at_head, later, each_head, each_append}
 use Rattle.histar_refinement.proofs.Members.{and_both, or_first}
 use Rattle.histar_refinement.proofs.SessionLemmas.{user_range}
 use Rattle.histar_refinement.proofs.Tested.{AreMade, observes_by_names, rights_by_names, capped_by_names, clearances_by_names, rights_made, clearance_made}
 use Rattle.histar_refinement.proofs.ClassTests.{user_apart, sees_unguarded}
-use Rattle.histar_refinement.proofs.Growing.{covers}
-use Rattle.histar_refinement.proofs.Ranges.{in_first, in_second, at_head, later, each_head, each_append, let_in, floor_behind, join_behind}
+use Rattle.histar_refinement.proofs.Ranges.{let_in, floor_behind, join_behind}
 use Rattle.histar_refinement.proofs.Uses.{group_among, groups_within, rights_used}
-use Rattle.histar_refinement.proofs.RawChecks.{object, link_passes, read_check}
+use Rattle.histar_refinement.proofs.RawChecks.{object, link_passes, read_check, or_none}
 use Rattle.histar_refinement.proofs.Standing.{thread_found}
 use Rattle.histar_refinement.proofs.LeftObjects.{root_found, root_label, password_found, gate_found, password_linked, gate_linked}
 
@@ -152,10 +150,6 @@ module _ (session : Session) (s : State) (f : Flat) (l : Laid session s f) (me :
   ranges : in_gate (s.objects t) (s.objects (gate_of i)) wanted limit ≡ true
   ranges = (λ j. in_gate (thread j) (gate_is j) wanted limit) ∙ (λ j. is_below-refl wanted j && below_limit j && join_within j)
 
-  or_none : (b : Bool) → (unless b denials.Gate orelse None) ≡ unless b denials.Gate
-  or_none true = refl
-  or_none false = refl
-
   -- The gate lets in exactly who is in no job.
   pub enter_said : check s t (Enter root_number (gate_of i) wanted limit (rights_label l.category (thread_rights session me p))) ≡ unless (is_free p) denials.Gate
   enter_said = (λ j. (found j orelse unless (is_gate (gate_is j)) denials.BadKind)
@@ -165,7 +159,7 @@ module _ (session : Session) (s : State) (f : Flat) (l : Laid session s f) (me :
       orelse unless (wanted_known j) denials.Range
       orelse unless (limit_known j) denials.Range
       orelse unless (own_known j) denials.Range)
-      ∙ or_none (is_free p)
+      ∙ or_none (is_free p) denials.Gate
 
   -- ---- behind it
 

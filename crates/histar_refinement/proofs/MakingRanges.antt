@@ -1,7 +1,7 @@
 -- Which labels a thread may hand in for what it makes: those of the classes that its process makes, and no others of these kinds.
-use Rattle.std.proofs.Common.{◌≡◌, ℕ, Bool, true, false, ◌&&◌, ◌||◌, List, [], ◌∷◌, ◌++◌, Option, None, Some, arith, refl, sym, ap, ◌∙◌, subst, if◌then◌else◌}
-use Rattle.std.specs.Prelude.{map, is_some, option_map, nat_eq}
-use Rattle.std.specs.List.{list_any, list_all}
+use Rattle.std.proofs.Common.{◌≡◌, ℕ, Bool, true, false, ◌&&◌, ◌||◌, List, [], ◌∷◌, ◌++◌, Option, None, Some, arith, refl, sym, ap, ◌∙◌, if◌then◌else◌}
+use Rattle.std.specs.Prelude.{map, is_some, nat_eq}
+use Rattle.std.specs.List.{list_all}
 use Rattle.std.proofs.lemmas.Bool.Decides.{nat_tests}
 use Rattle.std.proofs.lemmas.Option.{none-some, same_Some}
 use mathlib.Core.Bool.{true≢false}
@@ -15,10 +15,10 @@ use Rattle.histar_flat.specs.Classes.Class.{Private, Readable, Open, Scratch, Gr
 use Rattle.histar_label.specs.Levels.{is_below}
 use Rattle.histar_refinement.specs.Sessions.{IsSession}
 use Rattle.histar_refinement.specs.Categories.{CategoryName, Categories, AreDifferent, among}
-use Rattle.histar_refinement.specs.Categories.CategoryName.{ReadsUser, WritesUser, ReadsGroup, WritesGroup, OfJob}
+use Rattle.histar_refinement.specs.Categories.CategoryName.{ReadsUser, ReadsGroup, OfJob}
 use Rattle.histar_refinement.specs.Guards.{Guard, Rights, guard_label, rights_label, rights_clearance}
 use Rattle.histar_refinement.specs.Labels.{class_guard, private_guard, readable_guard, scratch_guard, group_guard, open_guard, thread_rights}
-use Rattle.histar_refinement.proofs.Members.{and_both, or_first, or_second}
+use Rattle.histar_refinement.proofs.Members.{and_both, or_first, or_second, and_true, mapped_from}
 use Rattle.histar_refinement.proofs.CategoryTests.{among-append}
 use Rattle.histar_refinement.proofs.Tested.{cleared_exactly_by_names}
 use Rattle.histar_refinement.proofs.SessionLemmas.{is_number, has_number, equal_tested}
@@ -49,10 +49,6 @@ module _ (session : Session) (category : Categories) (different : AreDifferent c
 
   abbrev both : List CategoryName
   both = own.owned ++ own.tainted
-
-  and_true : (b : Bool) → (b && true) ≡ b
-  and_true true = refl
-  and_true false = refl
 
   passed : (c : CategoryName) → among both c ≡ (among own.owned c || among own.tainted c)
   passed c = among-append own.owned own.tainted c
@@ -114,22 +110,18 @@ module _ (session : Session) (category : Categories) (different : AreDifferent c
         itself : nat_eq i i ≡ true
         itself = grind (arith, nat_tests)
 
-    by_number : (make : ℕ → Guard) (o : Option ℕ) (g : Guard) → option_map make o ≡ Some g → (i : ℕ) × (o ≡ Some i) × (make i ≡ g)
-    by_number make None g e = absurd (none-some g e)
-    by_number make (Some i) g e = (i, refl, same_Some (make i) g e)
-
     -- The label of what a process makes, whatever mode it names, lies in its thread's range.
     pub made_in_range : (mode : Mode) (class : Class) (g : Guard) → class_made session p mode ≡ Some class → class_guard session class ≡ Some g → is_made_within g ≡ true
     made_in_range mode class g made guard = by (is_free p) refl made
       where
         of_private : is_free p ≡ true → class ≡ Private p.user → is_made_within g ≡ true
         of_private free is =
-            let at = by_number private_guard (user_number session p.user) g (ap (class_guard session) (sym is) ∙ guard) in
+            let at = mapped_from private_guard (user_number session p.user) g (ap (class_guard session) (sym is) ∙ guard) in
             ap is_made_within (sym at.2) ∙ private_range at.0 ∙ and_both free (number_itself (user_number session p.user) at.0 at.1)
 
         of_readable : is_free p ≡ true → class ≡ Readable p.user → is_made_within g ≡ true
         of_readable free is =
-            let at = by_number readable_guard (user_number session p.user) g (ap (class_guard session) (sym is) ∙ guard) in
+            let at = mapped_from readable_guard (user_number session p.user) g (ap (class_guard session) (sym is) ∙ guard) in
             ap is_made_within (sym at.2) ∙ readable_range at.0 ∙ and_both free (number_itself (user_number session p.user) at.0 at.1)
 
         of_open : is_free p ≡ true → class ≡ Open → is_made_within g ≡ true
@@ -137,12 +129,12 @@ module _ (session : Session) (category : Categories) (different : AreDifferent c
 
         of_group : (group : Name) → is_free p ≡ true → is_member session p.user group ≡ true → class ≡ Grouped group → is_made_within g ≡ true
         of_group group free in_it is =
-            let at = by_number group_guard (group_number session group) g (ap (class_guard session) (sym is) ∙ guard) in
+            let at = mapped_from group_guard (group_number session group) g (ap (class_guard session) (sym is) ∙ guard) in
             ap is_made_within (sym at.2) ∙ group_range at.0 ∙ and_both free (member session me p category different ok group at.0 at.1 ∙ in_it)
 
         of_scratch : class ≡ Scratch p.user p.chain → is_made_within g ≡ true
         of_scratch is =
-            let at = by_number (scratch_guard p.chain) (user_number session p.user) g (ap (class_guard session) (sym is) ∙ guard) in
+            let at = mapped_from (scratch_guard p.chain) (user_number session p.user) g (ap (class_guard session) (sym is) ∙ guard) in
             ap is_made_within (sym at.2) ∙ scratch_range p.chain at.0 ∙ and_both (all_had p.chain) (and_both (number_itself (user_number session p.user) at.0 at.1) (all_known p))
 
         not_nobody : (b : Bool) (c : Class) → (if b then None else Some c) ≡ Some class → class ≡ c

@@ -14,7 +14,7 @@ use Rattle.histar_refinement.specs.Categories.CategoryName.{WritesProcess, OfJob
 use Rattle.histar_refinement.specs.Guards.{guard_label}
 use Rattle.histar_refinement.specs.Labels.{process_guard}
 use Rattle.histar_refinement.specs.LaysOut.{IsRisingFrom, AreInOrder}
-use Rattle.histar_refinement.proofs.Members.{is_in, or_first, same_truth}
+use Rattle.histar_refinement.proofs.Members.{is_in, or_first, same_truth, equal_itself}
 use Rattle.histar_refinement.proofs.Levelled.{guarded_level, at_guarded}
 use Rattle.histar_refinement.proofs.CategoryTests.{among_jobs, is_in_names, named_in}
 use Rattle.histar_refinement.proofs.Uses.{job_among}
@@ -27,9 +27,6 @@ not_smaller n (x ∷ xs) q rising e = elim (eqb_tells q x) [
   | inr k ↦ let low = rising.0 in let more = not_smaller (x + 1) xs q rising.1 (sym (ap (λ b. b || is_in xs q) k.0) ∙ e) in omega (arith, low, more)
 ]
 
-itself : (q : ℕ) → (q == q) ≡ true
-itself q = elim (eqb_tells q q) [ inl e ↦ e.0 | inr e ↦ absurd (e.1 refl) ]
-
 not_among : (n : ℕ) (xs : List ℕ) (q : ℕ) → IsRisingFrom n xs → q < n → is_in xs q ≡ false
 not_among n xs q rising below = by (is_in xs q) refl
   where
@@ -40,15 +37,15 @@ not_among n xs q rising below = by (is_in xs q) refl
 -- rising lists with the same members are the same
 pub one_rising : (n m : ℕ) (xs ys : List ℕ) → IsRisingFrom n xs → IsRisingFrom m ys → ((q : ℕ) → is_in xs q ≡ is_in ys q) → xs ≡ ys
 one_rising n m [] [] a b alike = refl
-one_rising n m [] (y ∷ ys) a b alike = absurd (true≢false (sym (or_first (y == y) (is_in ys y) (itself y)) ∙ sym (alike y)))
-one_rising n m (x ∷ xs) [] a b alike = absurd (true≢false (sym (or_first (x == x) (is_in xs x) (itself x)) ∙ alike x))
+one_rising n m [] (y ∷ ys) a b alike = absurd (true≢false (sym (or_first (y == y) (is_in ys y) (equal_itself y)) ∙ sym (alike y)))
+one_rising n m (x ∷ xs) [] a b alike = absurd (true≢false (sym (or_first (x == x) (is_in xs x) (equal_itself x)) ∙ alike x))
 one_rising n m (x ∷ xs) (y ∷ ys) a b alike = (λ i. same i ∷ one_rising (x + 1) (y + 1) xs ys a.1 b.1 rest i)
   where
     x_there : y ≤ x
-    x_there = not_smaller y (y ∷ ys) x (omega arith, b.1) (sym (alike x) ∙ or_first (x == x) (is_in xs x) (itself x))
+    x_there = not_smaller y (y ∷ ys) x (omega arith, b.1) (sym (alike x) ∙ or_first (x == x) (is_in xs x) (equal_itself x))
 
     y_there : x ≤ y
-    y_there = not_smaller x (x ∷ xs) y (omega arith, a.1) (alike y ∙ or_first (y == y) (is_in ys y) (itself y))
+    y_there = not_smaller x (x ∷ xs) y (omega arith, a.1) (alike y ∙ or_first (y == y) (is_in ys y) (equal_itself y))
 
     same : x ≡ y
     same = let low = x_there in let high = y_there in omega (arith, low, high)

@@ -1,7 +1,7 @@
 -- A part of 'one flat state at most': the label of what is of a class tells the class.
-use Rattle.std.proofs.Common.{◌≡◌, ℕ, inl, inr, Bool, true, false, List, [], ◌∷◌, Option, None, Some, arith, refl, sym, ap, subst, ◌∙◌}
-use Rattle.std.specs.Prelude.{map, option_map}
-use Rattle.std.proofs.lemmas.Option.{none-some, same_Some}
+use Rattle.std.proofs.Common.{◌≡◌, ℕ, inl, inr, Bool, true, false, List, [], ◌∷◌, Some, arith, refl, sym, ap, subst, ◌∙◌}
+use Rattle.std.specs.Prelude.{map}
+use Rattle.std.proofs.lemmas.Option.{same_Some}
 use mathlib.Core.Bool.{true≢false}
 use Rattle.histar_flat.specs.Words.{Name, ProcName}
 use Rattle.histar_flat.specs.Sessions.{Session, user_number, group_number}
@@ -15,11 +15,11 @@ use Rattle.histar_refinement.specs.Categories.CategoryName.{OfBoot, ReadsUser, W
 use Rattle.histar_refinement.specs.Guards.{Guard, guard_label}
 use Rattle.histar_refinement.specs.Labels.{class_guard, private_guard, readable_guard, scratch_guard, group_guard, open_guard}
 use Rattle.histar_refinement.specs.LaysOut.{IsInOrder}
-use Rattle.histar_refinement.proofs.Members.{or_first, or_either}
+use Rattle.histar_refinement.proofs.AmongNames.{at_head, told_one}
+use Rattle.histar_refinement.proofs.Members.{or_either, mapped_from}
 use Rattle.histar_refinement.proofs.Levelled.{guarded_level, at_guarded}
-use Rattle.histar_refinement.proofs.CategoryTests.{category_tells, among_none, among_jobs, is_in_names}
+use Rattle.histar_refinement.proofs.CategoryTests.{among_none, among_jobs, is_in_names, same_told}
 use Rattle.histar_refinement.proofs.SessionLemmas.{one_user, one_group}
-use Rattle.histar_refinement.proofs.Growing.{same_told}
 use Rattle.histar_refinement.proofs.OneChain.{one_jobs}
 
 -- ---- the sets of two guards whose labels are the same
@@ -73,23 +73,12 @@ data View (session : Session) (c : Class) (g : Guard) : Type 0 where
   ViewScratch : (name : Name) (jobs : List ProcName) (i : ℕ) → user_number session name ≡ Some i → c ≡ Scratch name jobs → g ≡ scratch_guard jobs i → View session c g
   ViewGroup : (name : Name) (k : ℕ) → group_number session name ≡ Some k → c ≡ Grouped name → g ≡ group_guard k → View session c g
 
-by_number : (f : ℕ → Guard) (o : Option ℕ) (g : Guard) → option_map f o ≡ Some g → (x : ℕ) × (o ≡ Some x) × (g ≡ f x)
-by_number f None g e = absurd (none-some g e)
-by_number f (Some x) g e = (x, refl, sym (same_Some (f x) g e))
-
 view : (session : Session) (c : Class) (g : Guard) → class_guard session c ≡ Some g → View session c g
-view session (Private name) g e = let at = by_number private_guard (user_number session name) g e in ViewPrivate name at.0 at.1 refl at.2
-view session (Readable name) g e = let at = by_number readable_guard (user_number session name) g e in ViewReadable name at.0 at.1 refl at.2
+view session (Private name) g e = let at = mapped_from private_guard (user_number session name) g e in ViewPrivate name at.0 at.1 refl (sym at.2)
+view session (Readable name) g e = let at = mapped_from readable_guard (user_number session name) g e in ViewReadable name at.0 at.1 refl (sym at.2)
 view session Open g e = ViewOpen refl (sym (same_Some open_guard g e))
-view session (Scratch name jobs) g e = let at = by_number (scratch_guard jobs) (user_number session name) g e in ViewScratch name jobs at.0 at.1 refl at.2
-view session (Grouped name) g e = let at = by_number group_guard (group_number session name) g e in ViewGroup name at.0 at.1 refl at.2
-
--- what is among one name is this one
-told_one : (d c : CategoryName) → among (d ∷ []) c ≡ true → c ≡ d
-told_one d c e = elim (or_either (same_category c d) false e) [ inl k ↦ same_told c d k | inr k ↦ absurd (true≢false (sym k)) ]
-
-among_first : (d : CategoryName) (more : List CategoryName) → among (d ∷ more) d ≡ true
-among_first d more = or_first (same_category d d) (among more d) (elim (category_tells d d) [ inl e ↦ e.0 | inr e ↦ absurd (e.1 refl) ])
+view session (Scratch name jobs) g e = let at = mapped_from (scratch_guard jobs) (user_number session name) g e in ViewScratch name jobs at.0 at.1 refl (sym at.2)
+view session (Grouped name) g e = let at = mapped_from group_guard (group_number session name) g e in ViewGroup name at.0 at.1 refl (sym at.2)
 
 -- what is secret is not written
 class_apart : (session : Session) (c : Class) (g : Guard) → View session c g → IsApart g
@@ -133,40 +122,40 @@ module _ (session : Session) (category : Categories) (different : AreDifferent c
   one_view : (c e : Class) (a b : Guard) → View session c a → View session e b → AreAlike a b → IsInOrder category c → IsInOrder category e → c ≡ e
   unfolding number_of
   one_view c e a b (ViewPrivate n i x is like) (ViewPrivate m j y it at) alike order_c order_e =
-      let number : i ≡ j = ap number_of (told_one (ReadsUser j) (ReadsUser i) (sym ((sets like at alike).secret (ReadsUser i)) ∙ among_first (ReadsUser i) [])) in
+      let number : i ≡ j = ap number_of (told_one (ReadsUser j) (ReadsUser i) (sym ((sets like at alike).secret (ReadsUser i)) ∙ at_head (ReadsUser i) [])) in
       is ∙ ap Private (one_user session n m j (x ∙ ap Some number) y) ∙ sym it
-  one_view c e a b (ViewPrivate n i x is like) (ViewReadable m j y it at) alike order_c order_e = absurd (clash ((sets like at alike).secret (ReadsUser i)) (among_first (ReadsUser i) []) refl)
-  one_view c e a b (ViewPrivate n i x is like) (ViewOpen it at) alike order_c order_e = absurd (clash ((sets like at alike).secret (ReadsUser i)) (among_first (ReadsUser i) []) refl)
-  one_view c e a b (ViewPrivate n i x is like) (ViewScratch m others j y it at) alike order_c order_e = absurd (clash ((sets like at alike).written (WritesUser i)) (among_first (WritesUser i) []) refl)
-  one_view c e a b (ViewPrivate n i x is like) (ViewGroup m j y it at) alike order_c order_e = absurd (clash ((sets like at alike).secret (ReadsUser i)) (among_first (ReadsUser i) []) refl)
-  one_view c e a b (ViewReadable n i x is like) (ViewPrivate m j y it at) alike order_c order_e = absurd (clash (sym ((sets like at alike).secret (ReadsUser j))) (among_first (ReadsUser j) []) refl)
+  one_view c e a b (ViewPrivate n i x is like) (ViewReadable m j y it at) alike order_c order_e = absurd (clash ((sets like at alike).secret (ReadsUser i)) (at_head (ReadsUser i) []) refl)
+  one_view c e a b (ViewPrivate n i x is like) (ViewOpen it at) alike order_c order_e = absurd (clash ((sets like at alike).secret (ReadsUser i)) (at_head (ReadsUser i) []) refl)
+  one_view c e a b (ViewPrivate n i x is like) (ViewScratch m others j y it at) alike order_c order_e = absurd (clash ((sets like at alike).written (WritesUser i)) (at_head (WritesUser i) []) refl)
+  one_view c e a b (ViewPrivate n i x is like) (ViewGroup m j y it at) alike order_c order_e = absurd (clash ((sets like at alike).secret (ReadsUser i)) (at_head (ReadsUser i) []) refl)
+  one_view c e a b (ViewReadable n i x is like) (ViewPrivate m j y it at) alike order_c order_e = absurd (clash (sym ((sets like at alike).secret (ReadsUser j))) (at_head (ReadsUser j) []) refl)
   one_view c e a b (ViewReadable n i x is like) (ViewReadable m j y it at) alike order_c order_e =
-      let number : i ≡ j = ap number_of (told_one (WritesUser j) (WritesUser i) (sym ((sets like at alike).written (WritesUser i)) ∙ among_first (WritesUser i) [])) in
+      let number : i ≡ j = ap number_of (told_one (WritesUser j) (WritesUser i) (sym ((sets like at alike).written (WritesUser i)) ∙ at_head (WritesUser i) [])) in
       is ∙ ap Readable (one_user session n m j (x ∙ ap Some number) y) ∙ sym it
-  one_view c e a b (ViewReadable n i x is like) (ViewOpen it at) alike order_c order_e = absurd (clash ((sets like at alike).written (WritesUser i)) (among_first (WritesUser i) []) refl)
-  one_view c e a b (ViewReadable n i x is like) (ViewScratch m others j y it at) alike order_c order_e = absurd (clash ((sets like at alike).written (WritesUser i)) (among_first (WritesUser i) []) refl)
-  one_view c e a b (ViewReadable n i x is like) (ViewGroup m j y it at) alike order_c order_e = absurd (clash ((sets like at alike).written (WritesUser i)) (among_first (WritesUser i) []) refl)
-  one_view c e a b (ViewOpen is like) (ViewPrivate m j y it at) alike order_c order_e = absurd (clash (sym ((sets like at alike).secret (ReadsUser j))) (among_first (ReadsUser j) []) refl)
-  one_view c e a b (ViewOpen is like) (ViewReadable m j y it at) alike order_c order_e = absurd (clash (sym ((sets like at alike).written (WritesUser j))) (among_first (WritesUser j) []) refl)
+  one_view c e a b (ViewReadable n i x is like) (ViewOpen it at) alike order_c order_e = absurd (clash ((sets like at alike).written (WritesUser i)) (at_head (WritesUser i) []) refl)
+  one_view c e a b (ViewReadable n i x is like) (ViewScratch m others j y it at) alike order_c order_e = absurd (clash ((sets like at alike).written (WritesUser i)) (at_head (WritesUser i) []) refl)
+  one_view c e a b (ViewReadable n i x is like) (ViewGroup m j y it at) alike order_c order_e = absurd (clash ((sets like at alike).written (WritesUser i)) (at_head (WritesUser i) []) refl)
+  one_view c e a b (ViewOpen is like) (ViewPrivate m j y it at) alike order_c order_e = absurd (clash (sym ((sets like at alike).secret (ReadsUser j))) (at_head (ReadsUser j) []) refl)
+  one_view c e a b (ViewOpen is like) (ViewReadable m j y it at) alike order_c order_e = absurd (clash (sym ((sets like at alike).written (WritesUser j))) (at_head (WritesUser j) []) refl)
   one_view c e a b (ViewOpen is like) (ViewOpen it at) alike order_c order_e = is ∙ sym it
-  one_view c e a b (ViewOpen is like) (ViewScratch m others j y it at) alike order_c order_e = absurd (clash (sym ((sets like at alike).secret (ReadsUser j))) (among_first (ReadsUser j) (map OfJob others)) refl)
-  one_view c e a b (ViewOpen is like) (ViewGroup m j y it at) alike order_c order_e = absurd (clash (sym ((sets like at alike).secret (ReadsGroup j))) (among_first (ReadsGroup j) []) refl)
-  one_view c e a b (ViewScratch n jobs i x is like) (ViewPrivate m j y it at) alike order_c order_e = absurd (clash (sym ((sets like at alike).written (WritesUser j))) (among_first (WritesUser j) []) refl)
-  one_view c e a b (ViewScratch n jobs i x is like) (ViewReadable m j y it at) alike order_c order_e = absurd (clash (sym ((sets like at alike).written (WritesUser j))) (among_first (WritesUser j) []) refl)
-  one_view c e a b (ViewScratch n jobs i x is like) (ViewOpen it at) alike order_c order_e = absurd (clash ((sets like at alike).secret (ReadsUser i)) (among_first (ReadsUser i) (map OfJob jobs)) refl)
+  one_view c e a b (ViewOpen is like) (ViewScratch m others j y it at) alike order_c order_e = absurd (clash (sym ((sets like at alike).secret (ReadsUser j))) (at_head (ReadsUser j) (map OfJob others)) refl)
+  one_view c e a b (ViewOpen is like) (ViewGroup m j y it at) alike order_c order_e = absurd (clash (sym ((sets like at alike).secret (ReadsGroup j))) (at_head (ReadsGroup j) []) refl)
+  one_view c e a b (ViewScratch n jobs i x is like) (ViewPrivate m j y it at) alike order_c order_e = absurd (clash (sym ((sets like at alike).written (WritesUser j))) (at_head (WritesUser j) []) refl)
+  one_view c e a b (ViewScratch n jobs i x is like) (ViewReadable m j y it at) alike order_c order_e = absurd (clash (sym ((sets like at alike).written (WritesUser j))) (at_head (WritesUser j) []) refl)
+  one_view c e a b (ViewScratch n jobs i x is like) (ViewOpen it at) alike order_c order_e = absurd (clash ((sets like at alike).secret (ReadsUser i)) (at_head (ReadsUser i) (map OfJob jobs)) refl)
   one_view c e a b (ViewScratch n jobs i x is like) (ViewScratch m others j y it at) alike order_c order_e =
       let same = sets like at alike in
-      let number : i ≡ j = user_read others i j (sym (same.secret (ReadsUser i)) ∙ among_first (ReadsUser i) (map OfJob jobs)) in
+      let number : i ≡ j = user_read others i j (sym (same.secret (ReadsUser i)) ∙ at_head (ReadsUser i) (map OfJob jobs)) in
       let name : n ≡ m = one_user session n m j (x ∙ ap Some number) y in
       let list : jobs ≡ others = one_jobs category different jobs others (subst (IsInOrder category) is order_c) (subst (IsInOrder category) it order_e) (λ job. sym (among_jobs jobs job) ∙ same.secret (OfJob job) ∙ among_jobs others job) in
       is ∙ (λ k. Scratch (name k) (list k)) ∙ sym it
-  one_view c e a b (ViewScratch n jobs i x is like) (ViewGroup m j y it at) alike order_c order_e = absurd (clash ((sets like at alike).secret (ReadsUser i)) (among_first (ReadsUser i) (map OfJob jobs)) refl)
-  one_view c e a b (ViewGroup n i x is like) (ViewPrivate m j y it at) alike order_c order_e = absurd (clash (sym ((sets like at alike).secret (ReadsUser j))) (among_first (ReadsUser j) []) refl)
-  one_view c e a b (ViewGroup n i x is like) (ViewReadable m j y it at) alike order_c order_e = absurd (clash (sym ((sets like at alike).written (WritesUser j))) (among_first (WritesUser j) []) refl)
-  one_view c e a b (ViewGroup n i x is like) (ViewOpen it at) alike order_c order_e = absurd (clash ((sets like at alike).secret (ReadsGroup i)) (among_first (ReadsGroup i) []) refl)
-  one_view c e a b (ViewGroup n i x is like) (ViewScratch m others j y it at) alike order_c order_e = absurd (clash (sym ((sets like at alike).secret (ReadsUser j))) (among_first (ReadsUser j) (map OfJob others)) refl)
+  one_view c e a b (ViewScratch n jobs i x is like) (ViewGroup m j y it at) alike order_c order_e = absurd (clash ((sets like at alike).secret (ReadsUser i)) (at_head (ReadsUser i) (map OfJob jobs)) refl)
+  one_view c e a b (ViewGroup n i x is like) (ViewPrivate m j y it at) alike order_c order_e = absurd (clash (sym ((sets like at alike).secret (ReadsUser j))) (at_head (ReadsUser j) []) refl)
+  one_view c e a b (ViewGroup n i x is like) (ViewReadable m j y it at) alike order_c order_e = absurd (clash (sym ((sets like at alike).written (WritesUser j))) (at_head (WritesUser j) []) refl)
+  one_view c e a b (ViewGroup n i x is like) (ViewOpen it at) alike order_c order_e = absurd (clash ((sets like at alike).secret (ReadsGroup i)) (at_head (ReadsGroup i) []) refl)
+  one_view c e a b (ViewGroup n i x is like) (ViewScratch m others j y it at) alike order_c order_e = absurd (clash (sym ((sets like at alike).secret (ReadsUser j))) (at_head (ReadsUser j) (map OfJob others)) refl)
   one_view c e a b (ViewGroup n i x is like) (ViewGroup m j y it at) alike order_c order_e =
-      let number : i ≡ j = ap number_of (told_one (ReadsGroup j) (ReadsGroup i) (sym ((sets like at alike).secret (ReadsGroup i)) ∙ among_first (ReadsGroup i) [])) in
+      let number : i ≡ j = ap number_of (told_one (ReadsGroup j) (ReadsGroup i) (sym ((sets like at alike).secret (ReadsGroup i)) ∙ at_head (ReadsGroup i) [])) in
       is ∙ ap Grouped (one_group session n m j (x ∙ ap Some number) y) ∙ sym it
 
   -- The label of what is of a class tells the class.

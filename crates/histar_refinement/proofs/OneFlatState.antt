@@ -1,5 +1,5 @@
 -- A state lays out one flat state at most, for one naming of its categories.
-use Rattle.std.proofs.Common.{◌≡◌, ◌≢◌, ℕ, ◌+◌, ◌*◌, true, [], ◌∷◌, length, Option, None, Some, refl, sym, ap, ◌∙◌, subst}
+use Rattle.std.proofs.Common.{◌≡◌, ℕ, ◌+◌, ◌*◌, true, [], ◌∷◌, length, Option, None, Some, refl, sym, ap, ◌∙◌, subst}
 use Rattle.std.specs.Prelude.{is_some, option_map, option_and_then}
 use Rattle.std.specs.FinMap as map
 use Rattle.std.proofs.lemmas.Option.{none-some, same_Some}
@@ -28,17 +28,17 @@ use Rattle.histar_refinement.specs.Stands.{bare}
 use Rattle.histar_refinement.specs.Expected.{content_kind, home_object, expected}
 use Rattle.histar_refinement.specs.LaysOut.{IsInOrder, IsProcess, Laid}
 use Rattle.histar_refinement.specs.Laws.{AreAlike}
-use Rattle.histar_refinement.specs.Lines.{ProcessStatus}
+use Rattle.histar_refinement.specs.Processes.{ProcessStatus, or_zero, status_by}
 use Rattle.histar_refinement.proofs.Steps.{step_tells}
 use Rattle.histar_refinement.proofs.Moving.{at_number}
 use Rattle.histar_refinement.proofs.Places.{asked_home}
 use Rattle.histar_refinement.proofs.DirectoryLaws.{get_directory}
 use Rattle.histar_refinement.proofs.FileRows.{leads_at}
 use Rattle.histar_refinement.proofs.Making.{entry_leads}
-use Rattle.histar_refinement.proofs.Standing.{some_of, thread_found, guard_at, path_stands, root_is_dir, parent_is_dir}
+use Rattle.histar_refinement.proofs.Standing.{some_of, thread_found, guard_at, path_stands, root_is_dir, parent_is_dir, some_unless_none}
 use Rattle.histar_refinement.proofs.LinesLaid.{leads_to, node_there, holds_directory}
 use Rattle.histar_refinement.proofs.SameLines.{listing_in, same_status}
-use Rattle.histar_refinement.proofs.StatusLaid.{or_zero, status_by, holds_status}
+use Rattle.histar_refinement.proofs.StatusLaid.{holds_status}
 use Rattle.histar_refinement.proofs.StatusFound.{zero_there, numbered_home, numbered_status, numbered_runner, status_found, status_back}
 use Rattle.histar_refinement.proofs.OneChain.{one_chain}
 use Rattle.histar_refinement.proofs.OneProcess.{one_user, one_held}
@@ -67,11 +67,6 @@ kind_there (Some o) = o.kind
 abbrev first_number : Target → ℕ
 first_number (targets.File file) = file
 first_number (targets.Directory container listing) = container
-
--- something is led to
-some_target : (o : Option Target) → o ≢ None → (t : Target) × (o ≡ Some t)
-some_target None some = absurd (some refl)
-some_target (Some t) some = (t, refl)
 
 module _ (number : Numbers) (q : Path) where
   first_of_both : (c k : Option ℕ) (t : Target) → both_numbers c k ≡ Some t → c ≡ Some (first_number t)
@@ -125,7 +120,7 @@ module _ (session : Session) (s : State) (f g : Flat) (l : Laid session s f) (m 
       by None (Some y) i j e = absurd (entry_leads session s g m q y j (sym e))
       by (Some x) None i j e = absurd (entry_leads session s f l q x i e)
       by (Some x) (Some y) i j e =
-          let t = some_target (target_for l.naming.number (q, x)) (entry_leads session s f l q x i) in
+          let t = some_unless_none (target_for l.naming.number (q, x)) (entry_leads session s f l q x i) in
           ap Some (one_entry q q x y (first_number t.0) i j (led_to l.naming.number q x.class x.content t.0 t.1) (led_to m.naming.number q y.class y.content t.0 (sym e ∙ t.1)))
 
   -- a directory that a path leads to in both has the same entries in both
@@ -133,7 +128,7 @@ module _ (session : Session) (s : State) (f g : Flat) (l : Laid session s f) (m 
   same_entries d alike dir =
       let dir_too : is_dir_at g d ≡ true = ap (λ (o : Option Node). is_some_and o is_dir) (sym (same_at d alike)) ∙ dir in
       let x = node_there (get f.files d) dir in
-      let t = some_target (target_for l.naming.number (d, x.0)) (entry_leads session s f l d x.0 x.1) in
+      let t = some_unless_none (target_for l.naming.number (d, x.0)) (entry_leads session s f l d x.0 x.1) in
       let left : both_numbers (l.naming.number (address_of d)) (l.naming.number (Listing ∷ address_of d)) ≡ Some t.0 =
       sym (leads_to l.naming.number d (get f.files d) dir) ∙ ap (option_and_then (λ (z : Node). target_for l.naming.number (d, z))) x.1 ∙ t.1 in
       let right : both_numbers (m.naming.number (address_of d)) (m.naming.number (Listing ∷ address_of d)) ≡ Some t.0 =

@@ -1,5 +1,5 @@
 -- The ranges of labels in a birth and in a login: what a process owns covers what it hands in.
-use Rattle.std.proofs.Common.{◌≡◌, ℕ, inl, inr, Bool, true, false, ◌||◌, max, List, [], ◌∷◌, ◌++◌, None, arith, refl, sym, ap, ◌∙◌, subst}
+use Rattle.std.proofs.Common.{◌≡◌, ℕ, Bool, true, false, ◌||◌, max, List, [], ◌∷◌, ◌++◌, None, arith, refl, sym, ap, ◌∙◌}
 use Rattle.std.specs.Prelude.{map}
 use Rattle.std.specs.List.{list_all}
 use mathlib.Core.Bool.{true≢false}
@@ -12,39 +12,16 @@ use Rattle.histar_label.proofs.Floors.{level_of-combined_of}
 use Rattle.histar_label.proofs.Orders.{is_below-law, is_below_join_raised-law}
 use Rattle.histar_flat.specs.Sessions.{Session, user_number, groups_of}
 use Rattle.histar_flat.specs.Classes.{Process, is_free}
-use Rattle.histar_refinement.specs.Categories.{CategoryName, Categories, AreDifferent, same_category, among}
+use Rattle.histar_refinement.specs.Categories.{CategoryName, Categories, AreDifferent, among}
 use Rattle.histar_refinement.specs.Categories.CategoryName.{ReadsGroup, WritesGroup, ReadsProcess, WritesProcess, OfJob}
 use Rattle.histar_refinement.specs.Guards.{Rights, owning, cleared_at, guard_label, rights_label, rights_clearance}
 use Rattle.histar_refinement.specs.Labels.{process_guard, inside_guard, reading, writing, owned_as, thread_rights, gate_rights}
-use Rattle.histar_refinement.proofs.Members.{is_in, is_in-append, and_both, or_first, or_second, or_either}
+use Rattle.histar_refinement.proofs.AmongNames.{covers, in_first, in_second, at_head, later, each_head, each_append}
+use Rattle.histar_refinement.proofs.Members.{is_in, is_in-append, and_both}
 use Rattle.histar_refinement.proofs.Levelled.{owning_level, cleared_level, at_owning, at_cleared}
 use Rattle.histar_refinement.proofs.CategoryTests.{among-append, among_none, is_in_names, named_in}
 use Rattle.histar_refinement.proofs.Tested.{below_by_names, cleared_by_names, rights_by_names, capped_by_names, clearances_by_names}
 use Rattle.histar_refinement.proofs.ClassTests.{jobs_apart, tainted_in_none}
-use Rattle.histar_refinement.proofs.Growing.{same_itself, same_told, covers}
-
--- what is among some names is among more
-pub in_first : (xs ys : List CategoryName) (c : CategoryName) → among xs c ≡ true → among (xs ++ ys) c ≡ true
-in_first xs ys c e = among-append xs ys c ∙ or_first (among xs c) (among ys c) e
-
-pub in_second : (xs ys : List CategoryName) (c : CategoryName) → among ys c ≡ true → among (xs ++ ys) c ≡ true
-in_second xs ys c e = among-append xs ys c ∙ or_second (among xs c) (among ys c) e
-
-pub at_head : (d : CategoryName) (names : List CategoryName) → among (d ∷ names) d ≡ true
-at_head d names = or_first (same_category d d) (among names d) (same_itself d)
-
-pub later : (d : CategoryName) (names : List CategoryName) (c : CategoryName) → among names c ≡ true → among (d ∷ names) c ≡ true
-later d names c e = or_second (same_category c d) (among names c) e
-
--- a name among others, by its place
-pub each_head : (P : CategoryName → Type 0) (d : CategoryName) (names : List CategoryName) → P d → ((c : CategoryName) → among names c ≡ true → P c) → (c : CategoryName) → among (d ∷ names) c ≡ true → P c
-each_head P d names first others c e = elim (or_either (same_category c d) (among names c) e) [
-  | inl k ↦ subst P (sym (same_told c d k)) first
-  | inr k ↦ others c k
-]
-
-pub each_append : (P : CategoryName → Type 0) (xs ys : List CategoryName) → ((c : CategoryName) → among xs c ≡ true → P c) → ((c : CategoryName) → among ys c ≡ true → P c) → (c : CategoryName) → among (xs ++ ys) c ≡ true → P c
-each_append P xs ys first second c e = elim (or_either (among xs c) (among ys c) (sym (among-append xs ys c) ∙ e)) [ inl k ↦ first c k | inr k ↦ second c k ]
 
 module _ (session : Session) (category : Categories) (different : AreDifferent category) (me : ProcName) (p : Process) (child : ProcName) where
   -- the rights of the thread once it has made the child's two categories

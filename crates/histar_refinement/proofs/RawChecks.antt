@@ -1,5 +1,5 @@
 -- What the kernel checks of a raw call on a container and what it links, where the caller and the objects are known.
-use Rattle.std.proofs.Common.{◌≡◌, ℕ, ◌+◌, ◌&&◌, Bool, true, false, List, length, Option, None, Some, ap, ◌∙◌}
+use Rattle.std.proofs.Common.{◌≡◌, ℕ, ◌+◌, ◌&&◌, Bool, true, false, List, length, Option, None, Some, refl, ap, ◌∙◌}
 use Rattle.std.specs.Prelude.{min}
 use Rattle.std.specs.FinSet as set
 use Rattle.histar_base.specs.Refusals.{◌orelse◌, unless}
@@ -16,6 +16,11 @@ use Rattle.histar_rules.specs.Rules.{no_thread, no_container, no_link, no_segmen
 -- an object with a label and a kind
 abbrev pub object : Levels → Kind Levels → Found
 object label kind = Some (record { label = label; kind = kind })
+
+-- a test after which nothing refuses
+pub or_none : (b : Bool) (denied : Denied) → (unless b denied orelse None) ≡ unless b denied
+or_none true denied = refl
+or_none false denied = refl
 
 module _ (s : State) (t : ℕ) (label clearance : Levels) (thread : s.objects t ≡ object label (Thread clearance)) where
   -- a thread may call

@@ -28,7 +28,7 @@ use Rattle.histar_refinement.specs.Addresses.Step.{Left, Slash, Listing, Named, 
 use Rattle.histar_refinement.specs.Directories.{directory_of}
 use Rattle.histar_refinement.specs.Stands.{Stands}
 use Rattle.histar_refinement.specs.Expected.{node_object, listing_object, node_at, listing_at, home_at, status_at, container_inside, thread_at, expected}
-use Rattle.histar_refinement.specs.LaysOut.{AreJobsGiven, Laid}
+use Rattle.histar_refinement.specs.LaysOut.{AreJobsGiven, Laid, LaysOut}
 use Rattle.histar_refinement.proofs.Places.{address_path, address_process, address_inside, asked_listing}
 use Rattle.histar_refinement.proofs.Steps.{step_tells}
 use Rattle.histar_refinement.proofs.Moving.{stands_cut, no_address}
@@ -278,3 +278,7 @@ module _ (session : Session) (s : State) (f : Flat) (l : Laid session s f) (m : 
         | inl t ↦ subst (λ (z : Path). IsListable (directory_of after.files naming.number z)) t.1 (subst IsListable (sym directory_smaller) (listable_remove (directory_of f.files l.naming.number d) m (l.listable d dir)))
         | inr t ↦ dir_kept e t.1 (under_path (m ∷ d) e) refl is
       ]
+
+  -- and so the kernel lays out the flat state without the entry
+  pub lays_out_removed : AreJobsGiven f → is_dir_at f d ≡ true → LaysOut session (with_bytes mid N (spelling smaller)) after
+  lays_out_removed given dir = record { laid = (laid_removed dir).0; jobs_given = jobs_removed given }

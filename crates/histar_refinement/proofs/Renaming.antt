@@ -27,7 +27,7 @@ use Rattle.histar_refinement.specs.LeftByBoot.{left_by_boot}
 use Rattle.histar_refinement.specs.Directories.{directory_of}
 use Rattle.histar_refinement.specs.Stands.{Stands}
 use Rattle.histar_refinement.specs.Expected.{node_object, listing_object, node_at, listing_at, home_at, status_at, container_inside, thread_at, expected}
-use Rattle.histar_refinement.specs.LaysOut.{AreJobsGiven, Laid}
+use Rattle.histar_refinement.specs.LaysOut.{AreJobsGiven, Laid, LaysOut}
 use Rattle.histar_refinement.proofs.Places.{address_path, asked_listing}
 use Rattle.histar_refinement.proofs.Steps.{step_tells}
 use Rattle.histar_refinement.proofs.DirectoryLaws.{get_directory}
@@ -251,3 +251,7 @@ module _ (session : Session) (s : State) (f : Flat) (l : Laid session s f) where
             | inl t ↦ subst (λ (z : Path). IsListable (directory_of after.files naming.number z)) t.1 (subst IsListable (sym directory_renamed) (listable_renamed name (l.listable d dir)))
             | inr t ↦ subst IsListable (directory_else e t.1) (l.listable (turned n k d e) (ap (λ (o : Option Node). is_some_and o is_dir) (sym (got e)) ∙ is))
           ]
+
+      -- and so the kernel lays out the flat state with the entry renamed
+      pub lays_out_renamed : AreJobsGiven f → IsTrue (is_name k) → is_dir_at f d ≡ true → LaysOut session (with_bytes s N (spelling renamed_directory)) after
+      lays_out_renamed given name dir = record { laid = (laid_renamed name dir).0; jobs_given = jobs_renamed given }

@@ -14,8 +14,8 @@ use Rattle.histar_layout.specs.declared.entry.Target.{Target}
 use Rattle.histar_layout.specs.declared.entry.Target.TheVariants as targets
 use Rattle.histar_layout.proofs.DirectoryLemmas.{same_directory}
 use Rattle.histar_flat.specs.Sessions.{Session}
-use Rattle.histar_refinement.specs.Processes.{life_bytes}
-use Rattle.histar_refinement.specs.Lines.{Listed, ProcessStatus, listed_bytes, status_bytes, IsListed, IsStatus, listed_at, IsStatusSegment, IsThreadOf, IsDirectoryAt}
+use Rattle.histar_refinement.specs.Processes.{life_bytes, Listed, ProcessStatus, listed_bytes, status_bytes}
+use Rattle.histar_refinement.specs.Lines.{IsListed, IsStatus, listed_at, IsStatusSegment, IsThreadOf, IsDirectoryAt}
 
 -- a number at the front of bytes, and the rest
 one_number : (a b : ℕ) (x y : List ℕ) → a < 2 ^ 64 → b < 2 ^ 64 → to_be_bytes w64 a ++ x ≡ to_be_bytes w64 b ++ y → (a ≡ b) × (x ≡ y)

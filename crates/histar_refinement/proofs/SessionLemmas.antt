@@ -1,6 +1,6 @@
 -- Users and groups by their names and numbers.
 use Rattle.std.proofs.Common.{◌≡◌, ◌≢◌, ℕ, zero, suc, ◌+◌, ◌<◌, ◌≤◌, ◌⊎◌, inl, inr, Bool, true, false, ◌&&◌, cond, if◌then◌else◌, List, [], ◌∷◌, length, Option, None, Some, arith, refl, sym, ap, ◌∙◌, subst}
-use Rattle.std.specs.Prelude.{option_map, not, slice_get, nat_lt, nat_eq, position}
+use Rattle.std.specs.Prelude.{not, slice_get, nat_lt, nat_eq, position}
 use Rattle.std.specs.List.{list_any, position_or_len}
 use Rattle.std.proofs.lemmas.Bool.Decides.{nat_tests, eqb_tells}
 use Rattle.std.proofs.lemmas.Option.{same_Some, none-some}
@@ -10,7 +10,7 @@ use Rattle.histar_flat.specs.Words.{Name}
 use Rattle.histar_flat.specs.PathOrder.{same}
 use Rattle.histar_flat.proofs.FileLemmas.{same_name_found}
 use Rattle.histar_flat.specs.Sessions.{Group, Session, has, user_number, group_number, numbers_with, groups_of, is_member}
-use Rattle.histar_refinement.proofs.Members.{same_truth, and_both, first_of, second_of, or_first, or_second, or_either}
+use Rattle.histar_refinement.proofs.Members.{same_truth, and_both, first_of, second_of, or_first, or_second, or_either, mapped_from}
 use Rattle.histar_refinement.specs.Sessions.{IsSession}
 
 pub equal_names : (a b : Name) → same a b ≡ true → a ≡ b
@@ -48,22 +48,17 @@ module _ {A : Type 0} (test : A → Bool) where
       let at = first_place xs below in
       (at.0, ap (slice_get xs) (sym is.1) ∙ at.1, at.2, omega (arith, below, is.1))
 
--- what a number comes from
-pub from_place : (o : Option ℕ) (i : ℕ) → option_map (λ k. k + 1) o ≡ Some i → (k : ℕ) × (o ≡ Some k) × (k + 1 ≡ i)
-from_place None i e = absurd (none-some i e)
-from_place (Some k) i e = (k, refl, same_Some (k + 1) i e)
-
 -- users and groups have the numbers from 1 on
 pub user_range : (session : Session) (name : Name) (i : ℕ) → user_number session name ≡ Some i → (1 ≤ i) × (i ≤ length session.users)
 user_range session name i e =
-    let k = from_place (position (λ (u : User). same u.name name) session.users) i e in
+    let k = mapped_from (λ k. k + 1) (position (λ (u : User). same u.name name) session.users) i e in
     let at = placed (λ (u : User). same u.name name) session.users k.0 k.1 in
     let below : k.0 < length session.users = at.3 in
     (omega (arith, k.2), omega (arith, k.2, below))
 
 pub group_range : (session : Session) (name : Name) (i : ℕ) → group_number session name ≡ Some i → (1 ≤ i) × (i ≤ length session.groups)
 group_range session name i e =
-    let k = from_place (position (λ (g : Group). same g.name name) session.groups) i e in
+    let k = mapped_from (λ k. k + 1) (position (λ (g : Group). same g.name name) session.groups) i e in
     let at = placed (λ (g : Group). same g.name name) session.groups k.0 k.1 in
     let below : k.0 < length session.groups = at.3 in
     (omega (arith, k.2), omega (arith, k.2, below))
@@ -71,8 +66,8 @@ group_range session name i e =
 -- two users' names with one number are one
 pub one_user : (session : Session) (a b : Name) (i : ℕ) → user_number session a ≡ Some i → user_number session b ≡ Some i → a ≡ b
 one_user session a b i is_a is_b =
-    let k = from_place (position (λ (u : User). same u.name a) session.users) i is_a in
-    let m = from_place (position (λ (u : User). same u.name b) session.users) i is_b in
+    let k = mapped_from (λ k. k + 1) (position (λ (u : User). same u.name a) session.users) i is_a in
+    let m = mapped_from (λ k. k + 1) (position (λ (u : User). same u.name b) session.users) i is_b in
     let place : k.0 ≡ m.0 = omega (arith, k.2, m.2) in
     let u = placed (λ (u : User). same u.name a) session.users k.0 k.1 in
     let v = placed (λ (u : User). same u.name b) session.users m.0 m.1 in
@@ -83,8 +78,8 @@ one_user session a b i is_a is_b =
 -- and so are two groups' names
 pub one_group : (session : Session) (a b : Name) (i : ℕ) → group_number session a ≡ Some i → group_number session b ≡ Some i → a ≡ b
 one_group session a b i is_a is_b =
-    let k = from_place (position (λ (g : Group). same g.name a) session.groups) i is_a in
-    let m = from_place (position (λ (g : Group). same g.name b) session.groups) i is_b in
+    let k = mapped_from (λ k. k + 1) (position (λ (g : Group). same g.name a) session.groups) i is_a in
+    let m = mapped_from (λ k. k + 1) (position (λ (g : Group). same g.name b) session.groups) i is_b in
     let place : k.0 ≡ m.0 = omega (arith, k.2, m.2) in
     let g = placed (λ (g : Group). same g.name a) session.groups k.0 k.1 in
     let h = placed (λ (g : Group). same g.name b) session.groups m.0 m.1 in
@@ -171,7 +166,7 @@ to_members (h ∷ groups) name group (suc i) g at is member = or_second (same h.
 -- a user is a member of a group exactly where the group's number is among those of the user's groups
 pub is_member_number : (session : Session) → IsSession session → (name group : Name) (k : ℕ) → group_number session group ≡ Some k → has_number (groups_of session name) k ≡ is_member session name group
 is_member_number session ok name group k numbered =
-    let place = from_place (position (λ (g : Group). same g.name group) session.groups) k numbered in
+    let place = mapped_from (λ k. k + 1) (position (λ (g : Group). same g.name group) session.groups) k numbered in
     let at = placed (λ (g : Group). same g.name group) session.groups place.0 place.1 in
     same_truth (has_number (groups_of session name) k) (is_member session name group)
     (λ e.

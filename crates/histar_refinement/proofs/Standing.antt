@@ -51,9 +51,9 @@ pub some_of : {A : Type 0} (o : Option A) → is_some o ≡ true → (x : A) × 
 some_of None e = absurd (true≢false (sym e))
 some_of (Some x) e = (x, refl)
 
-pub some_guard : (x : Option Guard) → x ≢ None → (g : Guard) × (x ≡ Some g)
-some_guard None e = absurd (e refl)
-some_guard (Some g) e = (g, refl)
+pub some_unless_none : {A : Type 0} (o : Option A) → o ≢ None → (x : A) × (o ≡ Some x)
+some_unless_none None e = absurd (e refl)
+some_unless_none (Some x) e = (x, refl)
 
 module _ (session : Session) (s : State) (f : Flat) (l : Laid session s f) where
   abbrev asked : Address Step → Found
@@ -69,7 +69,7 @@ module _ (session : Session) (s : State) (f : Flat) (l : Laid session s f) where
 
   -- how what stands at a path is guarded
   pub guard_at : (q : Path) (there : Node) → get f.files q ≡ Some there → (g : Guard) × (class_guard session there.class ≡ Some g)
-  guard_at q there at = some_guard (class_guard session there.class) (l.guarded q there at)
+  guard_at q there at = some_unless_none (class_guard session there.class) (l.guarded q there at)
 
   -- what stands at a path, but for its links
   pub path_stands : (q : Path) (there : Node) → get f.files q ≡ Some there → (g : Guard) → class_guard session there.class ≡ Some g → (o : ℕ) → l.naming.number (address_of q) ≡ Some o

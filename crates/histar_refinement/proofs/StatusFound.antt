@@ -16,12 +16,13 @@ use Rattle.histar_refinement.specs.Addresses.{Numbers, home_of}
 use Rattle.histar_refinement.specs.Addresses.Step.{Home, Status, Inside, Runner, Child}
 use Rattle.histar_refinement.specs.Expected.{home_object, status_object, thread_object, bytes_for}
 use Rattle.histar_refinement.specs.LaysOut.{Laid}
-use Rattle.histar_refinement.specs.Lines.{Listed, ProcessStatus, listed_at, IsStatusSegment, IsThreadOf}
+use Rattle.histar_refinement.specs.Lines.{listed_at, IsStatusSegment, IsThreadOf}
+use Rattle.histar_refinement.specs.Processes.{Listed, ProcessStatus, or_zero, listed_by, status_by}
 use Rattle.histar_refinement.proofs.Members.{first_of, second_of}
 use Rattle.histar_refinement.proofs.Places.{asked_home, asked_status, asked_runner}
 use Rattle.histar_refinement.proofs.Standing.{some_of}
 use Rattle.histar_refinement.proofs.SameLines.{same_status}
-use Rattle.histar_refinement.proofs.StatusLaid.{or_zero, listed_by, status_by, holds_status}
+use Rattle.histar_refinement.proofs.StatusLaid.{holds_status}
 
 -- ---- a child in the list of children
 

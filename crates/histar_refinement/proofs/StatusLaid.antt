@@ -1,8 +1,7 @@
 -- In a state that is laid out, the segment of a process is the status that the naming tells.
-use Rattle.std.proofs.Common.{◌≡◌, ℕ, ◌^◌, ◌<◌, List, [], ◌∷◌, ◌++◌, map, Option, None, Some, inl, inr, refl, sym, ap, ◌∙◌, arith}
+use Rattle.std.proofs.Common.{◌≡◌, ℕ, ◌^◌, ◌<◌, List, [], ◌∷◌, map, Option, None, Some, inl, inr, refl, sym, ap, ◌∙◌, arith}
 use Rattle.std.specs.Prelude.{option_and_then}
-use Rattle.std.specs.Int.{w64, to_be_bytes}
-use Rattle.std.specs.List.{flat_map, AllByRecursion}
+use Rattle.std.specs.List.{AllByRecursion}
 use Rattle.std.proofs.lemmas.Bool.{cases_lt}
 use Rattle.std.proofs.lemmas.Option.{none-some}
 use Rattle.histar_flat.specs.Words.{ProcName}
@@ -12,46 +11,15 @@ use Rattle.histar_container.specs.Tree.{Address}
 use Rattle.histar_flat.specs.Sessions.{Session}
 use Rattle.histar_flat.specs.Classes.{Process}
 use Rattle.histar_flat.specs.FlatState.{Flat}
-use Rattle.histar_refinement.specs.Addresses.{Step, Numbers, home_of}
+use Rattle.histar_refinement.specs.Addresses.{Step, home_of}
 use Rattle.histar_refinement.specs.Addresses.Step.{Status, Inside, Runner}
 use Rattle.histar_refinement.specs.Stands.{bare}
-use Rattle.histar_refinement.specs.Processes.{number_bytes, life_bytes, children, child_bytes, process_bytes}
+use Rattle.histar_refinement.specs.Processes.{or_zero, listed_by, status_by, children}
 use Rattle.histar_refinement.specs.Expected.{bytes_for, status_object}
 use Rattle.histar_refinement.specs.LaysOut.{Laid}
-use Rattle.histar_refinement.specs.Lines.{Listed, ProcessStatus, listed_bytes, status_bytes, IsListed, IsStatus, IsStatusSegment, IsThreadOf}
+use Rattle.histar_refinement.specs.Lines.{IsListed, IsStatus, IsStatusSegment, IsThreadOf}
 use Rattle.histar_refinement.proofs.Places.{asked_status}
 use Rattle.histar_refinement.proofs.LinesLaid.{bytes_bare}
-
-abbrev pub or_zero : Option ℕ → ℕ
-or_zero None = 0
-or_zero (Some q) = q
-
-number_spelled : (o : Option ℕ) → number_bytes o ≡ to_be_bytes w64 (or_zero o)
-number_spelled None = refl
-number_spelled (Some q) = refl
-
--- a child, and a process, as a naming tells it
-abbrev pub listed_by : Numbers → ProcName → ℕ → Listed
-listed_by number me n = record { number = n; container = or_zero (number (home_of (n ∷ me))); segment = or_zero (number (Status ∷ home_of (n ∷ me))) }
-
-abbrev pub status_by : (ProcName → Option Process) → Numbers → ProcName → Process → ProcessStatus
-status_by processes number me p = record {
-  exited = p.exited;
-  born = p.born;
-  internal = or_zero (number (Inside ∷ home_of me));
-  thread = or_zero (number (Runner ∷ Inside ∷ home_of me));
-  children = map (listed_by number me) (children processes me p.born);
-}
-
-children_spelled : (number : Numbers) (me : ProcName) (ns : List ℕ) → flat_map (child_bytes number me) ns ≡ flat_map listed_bytes (map (listed_by number me) ns)
-children_spelled number me [] = refl
-children_spelled number me (n ∷ ns) = λ i.
-    ((n ∷ number_spelled (number (home_of (n ∷ me))) i) ++ number_spelled (number (Status ∷ home_of (n ∷ me))) i) ++ children_spelled number me ns i
-
-status_spelled : (processes : ProcName → Option Process) (number : Numbers) (me : ProcName) (p : Process) → process_bytes processes number me p ≡ status_bytes (status_by processes number me p)
-status_spelled processes number me p = λ i.
-    life_bytes p.exited ++ (p.born ∷ number_spelled (number (Inside ∷ home_of me)) i) ++ number_spelled (number (Runner ∷ Inside ∷ home_of me)) i
-    ++ children_spelled number me (children processes me p.born) i
 
 module _ (session : Session) (s : State) (f : Flat) (l : Laid session s f) where
   number_small : (a : Address Step) → or_zero (l.naming.number a) < 2 ^ 64
@@ -79,8 +47,7 @@ module _ (session : Session) (s : State) (f : Flat) (l : Laid session s f) where
         sym (bytes_bare (s.objects g))
         ∙ ap (λ (q : Option ℕ). bytes_in (bare (option_and_then s.objects q))) (sym at)
         ∙ ap bytes_in (l.stands.objects (Status ∷ home_of me) ∙ asked_status session l.category f l.naming.number me)
-        ∙ ap (λ (o : Option Process). bytes_in (status_object session l.category (bytes_for session l.category f l.naming.number me o) me o)) is
-        ∙ status_spelled f.processes l.naming.number me p;
+        ∙ ap (λ (o : Option Process). bytes_in (status_object session l.category (bytes_for session l.category f l.naming.number me o) me o)) is;
   }
 
   -- a running process whose segment is found has its thread

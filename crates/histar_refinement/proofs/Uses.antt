@@ -1,6 +1,6 @@
 -- Labels in a state that lays out a flat state are told by names that are used; a naming that keeps the used ones keeps the labels.
 use Rattle.std.proofs.Common.{◌≡◌, ℕ, zero, suc, ◌<◌, ◌≤◌, inl, inr, Bool, true, false, List, [], ◌∷◌, ◌++◌, length, Option, None, Some, arith, refl, sym, ap, ◌∙◌, subst, if◌then◌else◌}
-use Rattle.std.specs.Prelude.{map, option_map, is_some, nat_eq, slice_get}
+use Rattle.std.specs.Prelude.{map, is_some, nat_eq, slice_get}
 use Rattle.std.proofs.lemmas.Bool.Decides.{nat_tests}
 use Rattle.std.proofs.lemmas.Option.{none-some, same_Some}
 use mathlib.Core.Bool.{true≢false}
@@ -23,8 +23,10 @@ use Rattle.histar_refinement.specs.Guards.{Guard, guard_label, rights_label, rig
 use Rattle.histar_refinement.specs.Labels.{class_guard, private_guard, readable_guard, scratch_guard, group_guard, open_guard, process_guard, inside_guard, reading, writing, owned_as, thread_rights}
 use Rattle.histar_refinement.specs.Expected.{container, guarded_object, content_kind, node_object, listing_object, home_object, inside_object, thread_object}
 use Rattle.histar_refinement.specs.LaysOut.{AreInOrder, IsRisingFrom}
-use Rattle.histar_refinement.proofs.Members.{or_first, or_second, or_either}
-use Rattle.histar_refinement.proofs.Growing.{same_told, GuardHas, RightsHave, same_guard_label, same_rights_label, same_rights_clearance}
+use Rattle.histar_refinement.proofs.CategoryTests.{same_told}
+use Rattle.histar_refinement.proofs.AmongNames.{each_none, each_one, each_head, each_append}
+use Rattle.histar_refinement.proofs.Members.{or_first, or_second, or_either, mapped_from}
+use Rattle.histar_refinement.proofs.Growing.{GuardHas, RightsHave, same_guard_label, same_rights_label, same_rights_clearance}
 use Rattle.histar_refinement.proofs.SessionLemmas.{user_range, group_range, equal_tested, has_number, from_numbers}
 
 -- a name among those of jobs is a job's
@@ -59,56 +61,28 @@ module _ (session : Session) (f : Flat) where
   abbrev pub Used : CategoryName → Type 0
   Used = IsUsed session f
 
-  -- by the number of a user or a group
-  from_number : (make : ℕ → Guard) (o : Option ℕ) (g : Guard) → option_map make o ≡ Some g → (i : ℕ) × (o ≡ Some i) × (make i ≡ g)
-  from_number make None g e = absurd (none-some g e)
-  from_number make (Some i) g e = (i, refl, same_Some (make i) g e)
-
-  -- one name, and one before others
-  one_of : (d c : CategoryName) → Used d → among (d ∷ []) c ≡ true → Used c
-  one_of d c used e = elim (or_either (same_category c d) false e) [
-    | inl k ↦ subst Used (sym (same_told c d k)) used
-    | inr k ↦ absurd (true≢false (sym k))
-  ]
-
-  none_of : (c : CategoryName) → among [] c ≡ true → Used c
-  none_of c e = absurd (true≢false (sym e))
-
-  before : (d : CategoryName) (names : List CategoryName) → Used d → ((c : CategoryName) → among names c ≡ true → Used c) → (c : CategoryName) → among (d ∷ names) c ≡ true → Used c
-  before d names used others c e = elim (or_either (same_category c d) (among names c) e) [
-    | inl k ↦ subst Used (sym (same_told c d k)) used
-    | inr k ↦ others c k
-  ]
-
-  both_of : (xs ys : List CategoryName) → ((c : CategoryName) → among xs c ≡ true → Used c) → ((c : CategoryName) → among ys c ≡ true → Used c) → (c : CategoryName) → among (xs ++ ys) c ≡ true → Used c
-  both_of [] ys first second c e = second c e
-  both_of (x ∷ xs) ys first second c e = elim (or_either (same_category c x) (among (xs ++ ys) c) e) [
-    | inl k ↦ first c (or_first (same_category c x) (among xs c) k)
-    | inr k ↦ both_of xs ys (λ d i. first d (or_second (same_category d x) (among xs d) i)) second c k
-  ]
-
   -- what guards what is of a class, where its jobs are known or served
   pub names_used : (class : Class) → ((job : ProcName) → is_for class job ≡ true → Used (OfJob job)) → (g : Guard) → class_guard session class ≡ Some g → GuardHas Used g
   names_used (Private owner) known g e =
-      let n = from_number private_guard (user_number session owner) g e in
+      let n = mapped_from private_guard (user_number session owner) g e in
       let within = (user_range session owner n.0 n.1).1 in
-      subst (GuardHas Used) n.2 (λ c. one_of (ReadsUser n.0) c within, λ c. one_of (WritesUser n.0) c within)
+      subst (GuardHas Used) n.2 (each_one Used (ReadsUser n.0) within, each_one Used (WritesUser n.0) within)
   names_used (Readable owner) known g e =
-      let n = from_number readable_guard (user_number session owner) g e in
-      subst (GuardHas Used) n.2 (λ c. none_of c, λ c. one_of (WritesUser n.0) c (user_range session owner n.0 n.1).1)
-  names_used Open known g e = subst (GuardHas Used) (same_Some open_guard g e) (λ c. none_of c, λ c. none_of c)
+      let n = mapped_from readable_guard (user_number session owner) g e in
+      subst (GuardHas Used) n.2 (each_none Used, each_one Used (WritesUser n.0) (user_range session owner n.0 n.1).1)
+  names_used Open known g e = subst (GuardHas Used) (same_Some open_guard g e) (each_none Used, each_none Used)
   names_used (Scratch owner jobs) known g e =
-      let n = from_number (scratch_guard jobs) (user_number session owner) g e in
+      let n = mapped_from (scratch_guard jobs) (user_number session owner) g e in
       subst (GuardHas Used) n.2 (
-        λ c. before (ReadsUser n.0) (map OfJob jobs) (user_range session owner n.0 n.1).1 (λ d k.
+        each_head Used (ReadsUser n.0) (map OfJob jobs) (user_range session owner n.0 n.1).1 (λ d k.
             let found = job_among jobs d k in
-            subst Used (sym found.1) (known found.0 found.2)) c,
-        λ c. none_of c,
+            subst Used (sym found.1) (known found.0 found.2)),
+        each_none Used,
       )
   names_used (Grouped group) known g e =
-      let n = from_number group_guard (group_number session group) g e in
+      let n = mapped_from group_guard (group_number session group) g e in
       let within = group_range session group n.0 n.1 in
-      subst (GuardHas Used) n.2 (λ c. one_of (ReadsGroup n.0) c within, λ c. one_of (WritesGroup n.0) c within)
+      subst (GuardHas Used) n.2 (each_one Used (ReadsGroup n.0) within, each_one Used (WritesGroup n.0) within)
 
   -- and so what guards a file or a directory
   pub class_used : (q : Path) (there : Node) → get f.files q ≡ Some there → (class : Class) → there.class ≡ class → (g : Guard) → class_guard session class ≡ Some g → GuardHas Used g
@@ -126,32 +100,32 @@ module _ (session : Session) (f : Flat) where
 
     -- what guards a process
     pub process_used : GuardHas Used (process_guard me p)
-    process_used = (chain_used, λ c. one_of (WritesProcess me) c there)
+    process_used = (chain_used, each_one Used (WritesProcess me) there)
 
     pub inside_used : GuardHas Used (inside_guard me p)
-    inside_used = (before (ReadsProcess me) (map OfJob p.chain) there chain_used, λ c. one_of (WritesProcess me) c there)
+    inside_used = (each_head Used (ReadsProcess me) (map OfJob p.chain) there chain_used, each_one Used (WritesProcess me) there)
 
     groups_used : (make : ℕ → CategoryName) → ((k : ℕ) → (1 ≤ k) × (k ≤ length session.groups) → Used (make k)) → (c : CategoryName) → among (map make (groups_of session p.user)) c ≡ true → Used c
     groups_used make used c e = let found = group_among make (groups_of session p.user) c e in subst Used (sym found.1) (used found.0 (groups_within session p.user found.0 found.2))
 
     user_used : (number : Option ℕ) → user_number session p.user ≡ number → (c : CategoryName) → among (owned_as session p number) c ≡ true → Used c
-    user_used None is = none_of
-    user_used (Some i) is = both_of (reading session p.user i) (if is_free p then writing session p.user i else [])
-        (before (ReadsUser i) (map ReadsGroup (groups_of session p.user)) within (groups_used ReadsGroup (λ k h. h)))
+    user_used None is = each_none Used
+    user_used (Some i) is = each_append Used (reading session p.user i) (if is_free p then writing session p.user i else [])
+        (each_head Used (ReadsUser i) (map ReadsGroup (groups_of session p.user)) within (groups_used ReadsGroup (λ k h. h)))
         (by (is_free p))
       where
         within : i ≤ length session.users
         within = (user_range session p.user i is).1
 
         by : (b : Bool) → (c : CategoryName) → among (if b then writing session p.user i else []) c ≡ true → Used c
-        by true = before (WritesUser i) (map WritesGroup (groups_of session p.user)) within (groups_used WritesGroup (λ k h. h))
-        by false = none_of
+        by true = each_head Used (WritesUser i) (map WritesGroup (groups_of session p.user)) within (groups_used WritesGroup (λ k h. h))
+        by false = each_none Used
 
     pub rights_used : RightsHave Used (thread_rights session me p)
     rights_used = (
-      before (ReadsProcess me) (WritesProcess me ∷ owned_as session p (user_number session p.user) ++ map OfJob p.held) there
-          (before (WritesProcess me) (owned_as session p (user_number session p.user) ++ map OfJob p.held) there
-          (both_of (owned_as session p (user_number session p.user)) (map OfJob p.held) (user_used (user_number session p.user) refl) held_used)),
+      each_head Used (ReadsProcess me) (WritesProcess me ∷ owned_as session p (user_number session p.user) ++ map OfJob p.held) there
+          (each_head Used (WritesProcess me) (owned_as session p (user_number session p.user) ++ map OfJob p.held) there
+          (each_append Used (owned_as session p (user_number session p.user)) (map OfJob p.held) (user_used (user_number session p.user) refl) held_used)),
       chain_used,
     )
 

@@ -22,7 +22,7 @@ use Rattle.histar_refinement.specs.Addresses.{Step, same_step, address_of}
 use Rattle.histar_refinement.specs.Directories.{target_for, directory_of}
 use Rattle.histar_refinement.specs.Stands.{Stands}
 use Rattle.histar_refinement.specs.Expected.{node_object, listing_object, listing_at, expected}
-use Rattle.histar_refinement.specs.LaysOut.{AreJobsGiven, Laid}
+use Rattle.histar_refinement.specs.LaysOut.{AreJobsGiven, Laid, LaysOut}
 use Rattle.histar_refinement.proofs.Steps.{step_tells}
 use Rattle.histar_refinement.proofs.Moving.{bare_held, stands_changed, stands_same}
 use Rattle.histar_refinement.proofs.Places.{asked_path}
@@ -106,3 +106,7 @@ module _ (session : Session) (s : State) (f : Flat) (l : Laid session s f) (q : 
   -- the numbers in the names of jobs were given as before
   pub jobs_overwritten : AreJobsGiven f → AreJobsGiven (with_file_bytes f q bytes)
   jobs_overwritten = subst (λ (c : Class). AreJobsGiven f → AreJobsGiven (with_node f q c (File bytes))) (sym (ap class_of at)) (jobs_kept session s f l after.files all_fit)
+
+  -- and so the kernel lays out the flat state with the new bytes
+  pub lays_out_overwritten : AreJobsGiven f → LaysOut session (with_bytes s O bytes) (with_file_bytes f q bytes)
+  lays_out_overwritten given = record { laid = laid_overwritten.0; jobs_given = jobs_overwritten given }

@@ -1,7 +1,6 @@
 -- What the process segments and the directory segments of a state tell, from those that boot made on.
-use Rattle.std.specs.Prelude.{◌≡◌, ℕ, ◌+◌, ◌*◌, ◌<◌, ◌^◌, ◌==◌, cond, List, [], ◌∷◌, ◌++◌, length, Option, None, Some}
-use Rattle.std.specs.Int.{w64, to_be_bytes}
-use Rattle.std.specs.List.{flat_map, AllByRecursion}
+use Rattle.std.specs.Prelude.{◌≡◌, ℕ, ◌<◌, ◌^◌, ◌==◌, cond, List, [], ◌∷◌, length, Option, None, Some}
+use Rattle.std.specs.List.{AllByRecursion}
 use Rattle.std.specs.FinMap as map
 use Rattle.histar_flat.specs.Words.{Path, ProcName}
 use Rattle.histar_object.specs.Objects.{bytes_in}
@@ -10,30 +9,7 @@ use Rattle.histar_layout.specs.Directory.{Entries, IsDirectory}
 use Rattle.histar_layout.specs.declared.entry.Target.TheVariants as targets
 use Rattle.histar_flat.specs.Sessions.{Session}
 use Rattle.histar_refinement.specs.Addresses.{slash_number, slash_listing_number, home_number, status_number}
-use Rattle.histar_refinement.specs.Processes.{life_bytes}
-
--- a child in a process segment: its number, its container and its process segment
-pub record Listed : Type 0 where
-  pub number : ℕ
-  pub container : ℕ
-  pub segment : ℕ
-
--- what a process segment tells: what the process has exited with, if it has, how many children were born, its internal container
--- and its thread, and its children
-pub record ProcessStatus : Type 0 where
-  pub exited : Option ℕ
-  pub born : ℕ
-  pub internal : ℕ
-  pub thread : ℕ
-  pub children : List Listed
-
--- a child in the bytes of a process segment
-abbrev pub listed_bytes : Listed → List ℕ
-listed_bytes l = (l.number ∷ to_be_bytes w64 l.container) ++ to_be_bytes w64 l.segment
-
--- the bytes of a process segment that tells this
-abbrev pub status_bytes : ProcessStatus → List ℕ
-status_bytes t = life_bytes t.exited ++ (t.born ∷ to_be_bytes w64 t.internal) ++ to_be_bytes w64 t.thread ++ flat_map listed_bytes t.children
+use Rattle.histar_refinement.specs.Processes.{Listed, ProcessStatus, status_bytes}
 
 -- both numbers of a child's objects are numbers of 64 bits
 abbrev pub IsListed : Listed → Type 0
