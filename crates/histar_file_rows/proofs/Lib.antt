@@ -1,0 +1,4 @@
+pub mod Scenes
+pub mod Files
+pub mod Read
+pub mod Write
