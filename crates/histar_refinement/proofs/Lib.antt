@@ -53,3 +53,7 @@ pub mod Spawning
 pub mod Spawned
 pub mod Killing
 pub mod Exiting
+pub mod JobLists
+pub mod JobBorn
+pub mod WrapRefused
+pub mod WrapTests
