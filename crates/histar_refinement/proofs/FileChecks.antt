@@ -35,7 +35,7 @@ use Rattle.histar_refinement.proofs.MakingRanges.{is_made_within}
 use Rattle.histar_refinement.proofs.Growing.{GuardHas}
 use Rattle.histar_refinement.proofs.Tested.{guard_made, guard_owns_nothing}
 use Rattle.histar_refinement.proofs.Uses.{names_used}
-use Rattle.histar_refinement.proofs.FileRows.{ClassFits}
+use Rattle.histar_refinement.proofs.FileRows.{AreKnown}
 use Rattle.histar_refinement.proofs.Standing.{thread_found, guard_at, file_found, container_found, listing_found, step_linked}
 
 -- bytes that fit, where nothing is kept
@@ -125,9 +125,9 @@ module _ (session : Session) (s : State) (f : Flat) (l : Laid session s f) (ok :
 
     -- a segment or a container is made in the directory for what is of a class, unless the directory may not be written, the thread may
     -- not hand in the label, or there is no number for it
-    module _ (of : Class) (fitting : ClassFits session s f l of) (g : Guard) (is : class_guard session of ≡ Some g) where
+    module _ (of : Class) (known_jobs : AreKnown session s f l of) (g : Guard) (is : class_guard session of ≡ Some g) where
       names : GuardHas (IsUsed session f) g
-      names = names_used session f of fitting.known g is
+      names = names_used session f of known_jobs g is
 
       is_known : known s (guard_label l.category g) ≡ true
       is_known = guard_made s.next_category l.category g (λ c e. l.made c (names.0 c e)) (λ c e. l.made c (names.1 c e))

@@ -173,57 +173,70 @@ module _ (session : Session) (s : State) (f : Flat) (l : Laid session s f) where
       by None at = refl
       by (Some there) at = absurd (true≢false (sym (l.stands.tree.held (Named n) (address_of d) (numbered_path (n ∷ d) there at)) ∙ nothing_unnumbered d nothing))
 
-  -- a class that can be laid out: it has a guard, its jobs stand in order, and each is known
+  -- a class that can be laid out: it has a guard, its jobs stand in order, and the category of each was made
   pub record ClassFits (class : Class) : Type 0 where
     pub guard : class_guard session class ≢ None
     pub order : IsInOrder l.category class
-    pub known : (job : ProcName) → is_for class job ≡ true → IsKnown f job ⊎ IsServed f job
+    pub made : (job : ProcName) → is_for class job ≡ true → IsMade s.next_category (l.category (OfJob job))
+
+  -- each job of the class is known, or some file or directory is for it
+  abbrev pub AreKnown : Class → Type 0
+  AreKnown class = (job : ProcName) → is_for class job ≡ true → IsKnown f job ⊎ IsServed f job
 
   -- what was there is of such a class
+  pub old_known : (q : Path) (there : Node) → get f.files q ≡ Some there → AreKnown there.class
+  old_known q there at job is = inr (q, there, at, is)
+
   pub old_fits : (q : Path) (there : Node) → get f.files q ≡ Some there → ClassFits there.class
   old_fits q there at = record {
     guard = l.guarded q there at;
     order = l.in_order q there at;
-    known = λ job is. inr (q, there, at, is);
+    made = λ job is. l.made (OfJob job) (old_known q there at job is);
   }
 
   -- and so is what a process makes, where its class has a guard: a Scratch class has the jobs of the process
+  pub made_known : (me : ProcName) (p : Process) → f.processes me ≡ Some p → (class : Class) → ((owner : Name) (jobs : List ProcName) → class ≡ Scratch owner jobs → jobs ≡ p.chain) → AreKnown class
+  made_known me p here (Private owner) own job is = absurd (true≢false (sym is))
+  made_known me p here (Readable owner) own job is = absurd (true≢false (sym is))
+  made_known me p here Open own job is = absurd (true≢false (sym is))
+  made_known me p here (Grouped group) own job is = absurd (true≢false (sym is))
+  made_known me p here (Scratch owner jobs) own job is = inl (me, p, here, or_first (has p.chain job) (has p.held job) (ap (λ (js : List ProcName). has js job) (sym (own owner jobs refl)) ∙ is))
+
+  made_order : (me : ProcName) (p : Process) → f.processes me ≡ Some p → (class : Class) → ((owner : Name) (jobs : List ProcName) → class ≡ Scratch owner jobs → jobs ≡ p.chain) → IsInOrder l.category class
+  made_order me p here (Private owner) own = tt
+  made_order me p here (Readable owner) own = tt
+  made_order me p here Open own = tt
+  made_order me p here (Grouped group) own = tt
+  made_order me p here (Scratch owner jobs) own = subst (λ (js : List ProcName). IsInOrder l.category (Scratch owner js)) (sym (own owner jobs refl)) (l.processes me p here).chain
+
   pub made_fits : (me : ProcName) (p : Process) → f.processes me ≡ Some p → (class : Class) → class_guard session class ≢ None
       → ((owner : Name) (jobs : List ProcName) → class ≡ Scratch owner jobs → jobs ≡ p.chain) → ClassFits class
-  made_fits me p here (Private owner) some own = record { guard = some; order = tt; known = λ job is. absurd (true≢false (sym is)) }
-  made_fits me p here (Readable owner) some own = record { guard = some; order = tt; known = λ job is. absurd (true≢false (sym is)) }
-  made_fits me p here Open some own = record { guard = some; order = tt; known = λ job is. absurd (true≢false (sym is)) }
-  made_fits me p here (Grouped group) some own = record { guard = some; order = tt; known = λ job is. absurd (true≢false (sym is)) }
-  made_fits me p here (Scratch owner jobs) some own =
-      let same_jobs = own owner jobs refl in
-      record {
-        guard = some;
-        order = subst (λ (js : List ProcName). IsInOrder l.category (Scratch owner js)) (sym same_jobs) (l.processes me p here).chain;
-        known = λ job is. inl (me, p, here, or_first (has p.chain job) (has p.held job) (ap (λ (js : List ProcName). has js job) (sym same_jobs) ∙ is));
-      }
+  made_fits me p here class some own = record {
+    guard = some;
+    order = made_order me p here class own;
+    made = λ job is. l.made (OfJob job) (made_known me p here class own job is);
+  }
 
   module _ (files : Files Node) where
     abbrev pub refiled : Flat
     refiled = with_files f files
 
+    -- the numbers in the names of jobs were given as before, where each job of a class is known
+    pub jobs_kept : ((q : Path) (there : Node) → get files q ≡ Some there → AreKnown there.class) → AreJobsGiven f → AreJobsGiven refiled
+    jobs_kept known given job (inl k) = given job (inl k)
+    jobs_kept known given job (inr served) = given job (known served.0 served.1 served.2 job served.3)
+
     module _ (fits : (q : Path) (there : Node) → get files q ≡ Some there → ClassFits there.class) where
-      served_then : (job : ProcName) → IsKnown refiled job ⊎ IsServed refiled job → IsKnown f job ⊎ IsServed f job
-      served_then job (inl k) = inl k
-      served_then job (inr served) = (fits served.0 served.1 served.2).known job served.3
-
-      used_then : (c : CategoryName) → IsUsed session refiled c → IsUsed session f c
-      used_then OfBoot u = u
-      used_then (ReadsUser i) u = u
-      used_then (WritesUser i) u = u
-      used_then (ReadsGroup k) u = u
-      used_then (WritesGroup k) u = u
-      used_then (ReadsProcess x) u = u
-      used_then (WritesProcess x) u = u
-      used_then (OfJob job) u = served_then job u
-
-      -- the numbers in the names of jobs were given as before
-      pub jobs_kept : AreJobsGiven f → AreJobsGiven refiled
-      jobs_kept given job u = given job (served_then job u)
+      made_then : (c : CategoryName) → IsUsed session refiled c → IsMade s.next_category (l.category c)
+      made_then OfBoot u = l.made OfBoot u
+      made_then (ReadsUser i) u = l.made (ReadsUser i) u
+      made_then (WritesUser i) u = l.made (WritesUser i) u
+      made_then (ReadsGroup k) u = l.made (ReadsGroup k) u
+      made_then (WritesGroup k) u = l.made (WritesGroup k) u
+      made_then (ReadsProcess x) u = l.made (ReadsProcess x) u
+      made_then (WritesProcess x) u = l.made (WritesProcess x) u
+      made_then (OfJob job) (inl k) = l.made (OfJob job) (inl k)
+      made_then (OfJob job) (inr served) = (fits served.0 served.1 served.2).made job served.3
 
       -- A state in which what is asked for stands, and whose directories can be listed, has the objects of the flat state with these
       -- files.
@@ -240,7 +253,7 @@ module _ (session : Session) (s : State) (f : Flat) (l : Laid session s f) where
           numbered = numbered;
           as_booted = booted;
           different = l.different;
-          made = λ c u. subst (λ (m : ℕ). IsMade m (l.category c)) (sym same_next) (l.made c (used_then c u));
+          made = λ c u. subst (λ (m : ℕ). IsMade m (l.category c)) (sym same_next) (made_then c u);
           as_made = l.as_made;
           guarded = λ q there at. (fits q there at).guard;
           in_order = λ q there at. (fits q there at).order;

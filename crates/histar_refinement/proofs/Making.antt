@@ -35,7 +35,7 @@ use Rattle.histar_refinement.proofs.Places.{process_address, asked_path, asked_l
 use Rattle.histar_refinement.proofs.Steps.{step_tells}
 use Rattle.histar_refinement.proofs.Moving.{number_below}
 use Rattle.histar_refinement.proofs.DirectoryLaws.{get_directory, len_directory}
-use Rattle.histar_refinement.proofs.FileRows.{SameNumbers, not_home, not_begun, same_address_path, asked_same, leads_at, directories_alike, same_leads, numbered_path, numbered_listing, nothing_in, ClassFits, old_fits, jobs_kept, laid_listed}
+use Rattle.histar_refinement.proofs.FileRows.{SameNumbers, not_home, not_begun, same_address_path, asked_same, leads_at, directories_alike, same_leads, numbered_path, numbered_listing, nothing_in, ClassFits, AreKnown, old_known, old_fits, jobs_kept, laid_listed}
 
 -- a directory segment's address is no process's
 pub listing_not_home : (a : Address Step) (q : ProcName) → Listing ∷ a ≢ home_of q
@@ -103,9 +103,17 @@ module _ (session : Session) (s : State) (f : Flat) (l : Laid session s f) where
       | inr e ↦ old_fits session s f l q there (sym (got_else q e.1) ∙ at)
     ]
 
-    -- the numbers in the names of jobs were given as before
-    pub jobs_made : AreJobsGiven f → AreJobsGiven after
-    jobs_made = jobs_kept session s f l after.files all_fit
+    -- the numbers in the names of jobs were given as before, where each job of the class is known
+    pub jobs_made : AreKnown session s f l class → AreJobsGiven f → AreJobsGiven after
+    jobs_made known = jobs_kept session s f l after.files all_known
+      where
+        all_known : (q : Path) (there : Node) → get after.files q ≡ Some there → AreKnown session s f l there.class
+        all_known q there at = elim (same_path_found q (m ∷ d)) [
+          | inl e ↦
+              let same : made ≡ there = same_Some made there (sym got_new ∙ ap (get after.files) (sym e.1) ∙ at) in
+              subst (λ (x : Node). AreKnown session s f l x.class) same known
+          | inr e ↦ old_known session s f l q there (sym (got_else q e.1) ∙ at)
+        ]
 
     -- What stands once the objects are there: as before but for the new one and, for a directory, its segment.
     pub record Standing (mid : State) (naming : Naming Step) (asked : Address Step → Found) : Type 0 where

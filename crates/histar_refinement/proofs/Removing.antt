@@ -33,7 +33,7 @@ use Rattle.histar_refinement.proofs.Places.{address_path, address_process, addre
 use Rattle.histar_refinement.proofs.Steps.{step_tells}
 use Rattle.histar_refinement.proofs.Moving.{stands_cut, no_address}
 use Rattle.histar_refinement.proofs.DirectoryLaws.{get_directory}
-use Rattle.histar_refinement.proofs.FileRows.{SameNumbers, not_begun, same_address_path, asked_same, leads_at, directories_alike, same_leads, old_fits, ClassFits, laid_listed, jobs_kept}
+use Rattle.histar_refinement.proofs.FileRows.{SameNumbers, not_begun, same_address_path, asked_same, leads_at, directories_alike, same_leads, old_known, old_fits, ClassFits, laid_listed, jobs_kept}
 
 -- ---- what lies below a path, as an address
 
@@ -261,7 +261,7 @@ module _ (session : Session) (s : State) (f : Flat) (l : Laid session s f) (m : 
 
   -- the numbers in the names of jobs were given as before
   pub jobs_removed : AreJobsGiven f → AreJobsGiven after
-  jobs_removed = jobs_kept session s f l after.files fits_all
+  jobs_removed = jobs_kept session s f l after.files (λ r there at. old_known session s f l r there (was_there r there at))
 
   -- The kernel has the objects of the flat state without the path and all below it: `unlink`, `rmdir` and `rmtree` at any depth.
   pub laid_removed : is_dir_at f d ≡ true → (later : Laid session (with_bytes mid N (spelling smaller)) after) × (later.naming ≡ naming) × (later.category ≡ l.category)

@@ -32,7 +32,7 @@ use Rattle.histar_refinement.proofs.Places.{address_path, asked_listing}
 use Rattle.histar_refinement.proofs.Steps.{step_tells}
 use Rattle.histar_refinement.proofs.DirectoryLaws.{get_directory}
 use Rattle.histar_refinement.proofs.Renamings.{renamed_naming, stands_renamed}
-use Rattle.histar_refinement.proofs.FileRows.{SameNumbers, same_status, leads_at, directories_alike, same_leads, nothing_in, old_fits, ClassFits, laid_listed, jobs_kept}
+use Rattle.histar_refinement.proofs.FileRows.{SameNumbers, same_status, leads_at, directories_alike, same_leads, nothing_in, old_known, old_fits, ClassFits, laid_listed, jobs_kept}
 use Rattle.histar_refinement.proofs.Turning.{turned_name, turned_step, turned_n, turned_k, turned_else, turned, turned_address, address_back, directory_stays, address_stays, same_tests, turned_path_address, turned_home, process_turned, inside_turned, path_turned, get_renamed}
 
 -- an entry that is found is one
@@ -189,7 +189,7 @@ module _ (session : Session) (s : State) (f : Flat) (l : Laid session s f) where
 
     -- the numbers in the names of jobs were given as before
     pub jobs_renamed : AreJobsGiven f → AreJobsGiven after
-    jobs_renamed = jobs_kept session s f l after.files fits_all
+    jobs_renamed = jobs_kept session s f l after.files (λ q there at. old_known session s f l (turned n k d q) there (sym (got q) ∙ at))
 
     -- ---- the renamed directory
 

@@ -26,7 +26,7 @@ use Rattle.histar_refinement.specs.LaysOut.{AreJobsGiven, Laid, LaysOut}
 use Rattle.histar_refinement.proofs.Steps.{step_tells}
 use Rattle.histar_refinement.proofs.Moving.{bare_held, stands_changed, stands_same}
 use Rattle.histar_refinement.proofs.Places.{asked_path}
-use Rattle.histar_refinement.proofs.FileRows.{asked_same, held_node, leads_at, directories_alike, same_leads, ClassFits, old_fits, jobs_kept, laid_files}
+use Rattle.histar_refinement.proofs.FileRows.{asked_same, held_node, leads_at, directories_alike, same_leads, ClassFits, AreKnown, old_known, old_fits, jobs_kept, laid_files}
 
 module _ (session : Session) (s : State) (f : Flat) (l : Laid session s f) (q : Path) (class : Class) (old bytes : List ℕ) (at : get f.files q ≡ Some (record { class = class; content = File old })) (O : ℕ) (at_file : l.naming.number (address_of q) ≡ Some O) where
   abbrev after : Flat
@@ -103,9 +103,17 @@ module _ (session : Session) (s : State) (f : Flat) (l : Laid session s f) (q : 
       (stands_same same_step (with_bytes s O bytes) (with_bytes s O bytes) l.naming _ (expected session l.category after l.naming.number) stands_then asks (λ k. refl) refl) l.numbered
       l.as_booted (λ d is. subst IsListable (directory_all d) (l.listable d (was_dir d is))) refl (by_bytes s.objects boot_thread_number l.boot_thread_gone))
 
+  all_known : (p : Path) (there : Node) → get after.files p ≡ Some there → AreKnown session s f l there.class
+  all_known p there is = elim (same_path_found p q) [
+    | inl e ↦
+        let same : written ≡ there = same_Some written there (sym got_new ∙ ap (get after.files) (sym e.1) ∙ is) in
+        subst (λ (x : Node). AreKnown session s f l x.class) same (old_known session s f l q (record { class = class; content = File old }) at)
+    | inr e ↦ old_known session s f l p there (sym (got_else p e.1) ∙ is)
+  ]
+
   -- the numbers in the names of jobs were given as before
   pub jobs_overwritten : AreJobsGiven f → AreJobsGiven (with_file_bytes f q bytes)
-  jobs_overwritten = subst (λ (c : Class). AreJobsGiven f → AreJobsGiven (with_node f q c (File bytes))) (sym (ap class_of at)) (jobs_kept session s f l after.files all_fit)
+  jobs_overwritten = subst (λ (c : Class). AreJobsGiven f → AreJobsGiven (with_node f q c (File bytes))) (sym (ap class_of at)) (jobs_kept session s f l after.files all_known)
 
   -- and so the kernel lays out the flat state with the new bytes
   pub lays_out_overwritten : AreJobsGiven f → LaysOut session (with_bytes s O bytes) (with_file_bytes f q bytes)
