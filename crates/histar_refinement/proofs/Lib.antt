@@ -57,3 +57,4 @@ pub mod JobLists
 pub mod JobBorn
 pub mod WrapRefused
 pub mod WrapTests
+pub mod Wrapping
