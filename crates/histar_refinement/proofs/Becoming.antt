@@ -1,7 +1,6 @@
 -- A thread takes another label and another clearance: its process is another user's, or holds other jobs.
 use Rattle.std.proofs.Common.{◌≡◌, ◌≢◌, ℕ, ◌≤◌, ◌⊎◌, inl, inr, Bool, true, false, ◌&&◌, ◌||◌, cond, if◌then◌else◌, List, [], ◌∷◌, Option, None, Some, arith, refl, sym, ap, ◌∙◌, subst}
-use Rattle.std.specs.Prelude.{is_some, map, option_map}
-use Rattle.std.specs.List.{filter, range_with_len}
+use Rattle.std.specs.Prelude.{is_some, option_map}
 use Rattle.std.proofs.lemmas.Bool.Decides.{eqb_tells}
 use Rattle.std.proofs.lemmas.Option.{none-some, same_Some}
 use Rattle.histar_flat.specs.Words.{Name, ProcName}
@@ -27,10 +26,11 @@ use Rattle.histar_refinement.specs.Guards.{guard_label, rights_label, rights_cle
 use Rattle.histar_refinement.specs.Labels.{process_guard, thread_rights}
 use Rattle.histar_refinement.specs.Addresses.{Step, same_step, home_of}
 use Rattle.histar_refinement.specs.Addresses.Step.{Inside, Runner}
-use Rattle.histar_refinement.specs.Processes.{or_zero, listed_by, status_bytes, process_bytes}
+use Rattle.histar_refinement.specs.Processes.{process_bytes}
 use Rattle.histar_refinement.specs.Stands.{kind_bare, bare}
 use Rattle.histar_refinement.specs.Expected.{segment, home_object, status_object, inside_object, thread_object, bytes_for, status_at, expected}
 use Rattle.histar_refinement.specs.LaysOut.{AreInOrder, IsProcess, Laid}
+use Rattle.histar_refinement.proofs.ProcessBytes.{alike_bytes}
 use Rattle.histar_refinement.proofs.Members.{or_first, or_either}
 use Rattle.histar_refinement.proofs.Places.{AsksAlike, asked_alike, asked_runner}
 use Rattle.histar_refinement.proofs.Steps.{step_tells}
@@ -114,13 +114,7 @@ module _ (session : Session) (s : State) (f : Flat) (l : Laid session s f) (me :
   ]
 
   same_bytes : (q : ProcName) (x : Process) → process_bytes f.processes l.naming.number q x ≡ process_bytes after.processes l.naming.number q x
-  same_bytes q x = λ i. status_bytes (record {
-    exited = x.exited;
-    born = x.born;
-    internal = or_zero (l.naming.number (Inside ∷ home_of q));
-    thread = or_zero (l.naming.number (Runner ∷ Inside ∷ home_of q));
-    children = map (listed_by l.naming.number q) (filter (λ k. there_alike (k ∷ q) i) (range_with_len 1 x.born));
-  })
+  same_bytes q x = alike_bytes f.processes after.processes l.naming.number l.naming.number q x refl refl (λ k. refl) (λ k. refl) (λ k. there_alike (k ∷ q))
 
   -- what stands for a process but its thread
   object_alike : (object : ProcName → Option Process → Found) → object me (Some p) ≡ object me (Some changed) → (q : ProcName) → object q (f.processes q) ≡ object q (after.processes q)

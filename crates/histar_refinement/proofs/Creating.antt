@@ -35,8 +35,8 @@ use Rattle.histar_refinement.specs.LaysOut.{AreJobsGiven, Laid, LaysOut}
 use Rattle.histar_refinement.proofs.Steps.{step_tells}
 use Rattle.histar_refinement.proofs.Moving.{number_below, stands_added, number_new, number_old}
 use Rattle.histar_refinement.proofs.Places.{asked_path, asked_listing}
-use Rattle.histar_refinement.proofs.FileRows.{ClassFits, AreKnown}
-use Rattle.histar_refinement.proofs.Making.{boot_thread_below, Standing, jobs_made, laid_made}
+use Rattle.histar_refinement.proofs.FileRows.{SameNumbers, ClassFits, AreKnown}
+use Rattle.histar_refinement.proofs.Making.{boot_thread_below, Standing, same_numbers, jobs_made, laid_made}
 
 -- what was nothing and is not the next number stays nothing
 gone_added : (s : State) (d b : ℕ) (o : Object Levels) → s.objects b ≡ None → b ≢ s.next_object → (added s d o).objects b ≡ None
@@ -181,6 +181,10 @@ module _ (session : Session) (s : State) (f : Flat) (l : Laid session s f) (d : 
     gone = gone_added with_container s.next_object boot_thread_number empty_segment (gone_added s D boot_thread_number empty_container l.boot_thread_gone not_boot)
         (λ e. let low = boot_thread_below session s f l in absurd (omega (arith, low, e)));
   }
+
+  -- what processes have keeps its numbers
+  pub directory_numbers : s.next_object + 1 < greatest → SameNumbers l.naming.number directory_naming.number
+  directory_numbers few = same_numbers session s f l d m class Dir absent fits with_directory directory_naming directory_asked (directory_stands few) N at_listing
 
   -- The directory is made, and the parent's segment is written: `mkdir` at any depth.
   pub laid_directory_created : IsTrue (is_name m) → length (entries_in f d) < most_entries → s.next_object + 1 < greatest

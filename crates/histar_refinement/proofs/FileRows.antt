@@ -1,6 +1,6 @@
 -- What every row of files shares: the processes are the same, and what is asked for differs at paths and directory segments alone.
 use Rattle.std.proofs.Common.{◌≡◌, ◌≢◌, ℕ, ◌≤◌, ◌⊎◌, inl, inr, Bool, true, false, List, [], ◌∷◌, length, Option, None, Some, refl, sym, ap, ◌∙◌, subst, if◌then◌else◌}
-use Rattle.std.specs.Prelude.{map, is_some, option_map, option_and_then, nat_eq}
+use Rattle.std.specs.Prelude.{is_some, option_map, option_and_then, nat_eq}
 use Rattle.std.specs.FinMap as finmap
 use Rattle.std.specs.Cmp.Lexicographic.{nat_list_cmp_total}
 use Rattle.std.proofs.lemmas.Option.{none-some, same_Some}
@@ -32,11 +32,12 @@ use Rattle.histar_refinement.specs.Guards.{Guard, guard_label}
 use Rattle.histar_refinement.specs.Labels.{class_guard, process_guard}
 use Rattle.histar_refinement.specs.Addresses.{Step, Numbers, same_step, address_of, home_of, path_at, boot_number}
 use Rattle.histar_refinement.specs.Addresses.Step.{Listing, Named, Status, Inside, Runner}
-use Rattle.histar_refinement.specs.Processes.{Listed, or_zero, children, listed_by, status_bytes, process_bytes}
+use Rattle.histar_refinement.specs.Processes.{process_bytes}
 use Rattle.histar_refinement.specs.Directories.{both_numbers, target_for, directory_of}
 use Rattle.histar_refinement.specs.Stands.{Stands}
 use Rattle.histar_refinement.specs.Expected.{segment, guarded_object, content_kind, node_object, listing_object, status_object, bytes_for, status_at, expected}
 use Rattle.histar_refinement.specs.LaysOut.{IsInOrder, AreJobsGiven, Laid}
+use Rattle.histar_refinement.proofs.ProcessBytes.{alike_bytes}
 use Rattle.histar_refinement.proofs.Members.{or_first}
 use Rattle.histar_refinement.proofs.Places.{path_address, AsksAlikeAt, asked_alike_at, asked_path, asked_listing}
 use Rattle.histar_refinement.proofs.Steps.{step_tells}
@@ -57,16 +58,8 @@ pub record SameNumbers (number numbers : Numbers) : Type 0 where
 
 -- they tell the bytes of each process segment
 pub same_process_bytes : (number numbers : Numbers) → SameNumbers number numbers → (processes : ProcName → Option Process) (q : ProcName) (x : Process) → process_bytes processes number q x ≡ process_bytes processes numbers q x
-same_process_bytes number numbers same processes q x = λ i. status_bytes (record {
-  exited = x.exited;
-  born = x.born;
-  internal = or_zero (same.inside q i);
-  thread = or_zero (same.runner q i);
-  children = map {B = Listed} (listed_alike i) (children processes q x.born);
-})
-  where
-    listed_alike : listed_by number q ≡ listed_by numbers q
-    listed_alike = λ i k. record { number = k; container = or_zero (same.home (k ∷ q) i); segment = or_zero (same.status (k ∷ q) i) }
+same_process_bytes number numbers same processes q x =
+    alike_bytes processes processes number numbers q x (same.inside q) (same.runner q) (λ k. same.home (k ∷ q)) (λ k. same.status (k ∷ q)) (λ k. refl)
 
 -- ---- addresses of paths
 

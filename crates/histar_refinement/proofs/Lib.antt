@@ -22,6 +22,7 @@ pub mod Beside
 pub mod Becoming
 pub mod LoggingIn
 pub mod DirectoryLaws
+pub mod ProcessBytes
 pub mod FileRows
 pub mod Standing
 pub mod ClassLaws
@@ -46,3 +47,14 @@ pub mod FileChecks
 pub mod LeftObjects
 pub mod LoginChecks
 pub mod CallLabels
+pub mod Counting
+pub mod Birth
+pub mod Spawning
+pub mod Spawned
+pub mod Killing
+pub mod Exiting
+pub mod JobLists
+pub mod JobBorn
+pub mod WrapRefused
+pub mod WrapTests
+pub mod Wrapping

@@ -127,7 +127,7 @@ module _ (session : Session) (s : State) (f : Flat) (l : Laid session s f) where
       pub gone : mid.objects boot_thread_number ≡ None
 
     module _ (mid : State) (naming : Naming Step) (asked : Address Step → Found) (st : Standing mid naming asked) (N : ℕ) (at_listing : l.naming.number (Listing ∷ address_of d) ≡ Some N) where
-      same_numbers : SameNumbers l.naming.number naming.number
+      pub same_numbers : SameNumbers l.naming.number naming.number
       same_numbers = record {
         home = λ q. sym (st.elsewhere (home_of q) (not_home (m ∷ d) q) (listing_not_home new_address q));
         status = λ q. sym (st.elsewhere (Status ∷ home_of q) (not_begun (m ∷ d) (home_of q) Status refl) (λ e. cc));

@@ -1,0 +1,152 @@
+-- A job is born: the child of a process that is in one job more, which its parent then holds. A file or directory is for the job before
+-- it has a process.
+use Rattle.std.proofs.Common.{◌≡◌, ℕ, ◌+◌, ◌<◌, ◌≤◌, ◌⊎◌, inl, inr, true, false, List, [], ◌∷◌, ◌++◌, None, Some, arith, refl, sym, ap, ◌∙◌, subst}
+use Rattle.std.specs.Prelude.{is_some}
+use Rattle.std.specs.FinSet as set
+use mathlib.Core.Bool.{true≢false}
+use Rattle.histar_flat.specs.Words.{ProcName}
+use Rattle.histar_label.specs.Levels.{Levels}
+use Rattle.histar_object.specs.declared.objects.Kind.TheVariants.{Segment, Container}
+use Rattle.histar_object.specs.Objects.{thread_of}
+use Rattle.histar_object.specs.Rights.{with_category}
+use Rattle.histar_object.specs.State.{State, with_own, counting}
+use Rattle.histar_flat.specs.Sessions.{Session, has, user_number}
+use Rattle.histar_flat.specs.Classes.{Process}
+use Rattle.histar_flat.specs.FlatState.{Flat, with_child, with_process, is_given}
+use Rattle.histar_refinement.specs.Categories.{Categories, IsKnown, IsServed, IsUsed}
+use Rattle.histar_refinement.specs.Categories.CategoryName.{OfJob}
+use Rattle.histar_refinement.specs.Guards.{rights_label, rights_clearance}
+use Rattle.histar_refinement.specs.Labels.{thread_rights}
+use Rattle.histar_refinement.specs.Addresses.{home_of}
+use Rattle.histar_refinement.specs.Addresses.Step.{Status, Inside, Runner}
+use Rattle.histar_refinement.specs.LaysOut.{AreInOrder, Laid}
+use Rattle.histar_rules.specs.Rules.{greatest}
+use Rattle.histar_refinement.proofs.Members.{or_first, or_second}
+use Rattle.histar_refinement.proofs.JobLists.{has_added, not_added}
+use Rattle.histar_refinement.proofs.Uses.{keep_order}
+use Rattle.histar_refinement.proofs.Beside.{Beside, beside_uncounted, own_set, own_taken}
+use Rattle.histar_refinement.proofs.Spawned.{births, beside_births}
+use Rattle.histar_refinement.proofs.Spawning.{outer, inner, label, clearance, child_written, own_written, naming, category, child_not_me, at_me, keeps, kept_runner, laid_born as laid_with_child, job_used, given_then, child_given}
+use Rattle.histar_refinement.proofs.Becoming.{becomes, job_used as job_used_then, given_then as given_later}
+
+module _ (session : Session) (s : State) (f : Flat) (l : Laid session s f) (me : ProcName) (p : Process) (here : f.processes me ≡ Some p) (runs : p.exited ≡ None) (room : p.born < 64)
+    (declared : is_some (user_number session p.user) ≡ true) (served : IsServed f ((p.born + 1) ∷ me)) (stranger : has p.chain ((p.born + 1) ∷ me) ≡ false)
+    (jobs_ordered : AreInOrder l.category (p.chain ++ ((p.born + 1) ∷ me) ∷ [])) (held_ordered : AreInOrder l.category (p.held ++ ((p.born + 1) ∷ me) ∷ []))
+    (C S T : ℕ) (at_home : l.naming.number (home_of me) ≡ Some C) (at_status : l.naming.number (Status ∷ home_of me) ≡ Some S) (at_thread : l.naming.number (Runner ∷ Inside ∷ home_of me) ≡ Some T) (few : s.next_object + 3 < greatest) where
+  abbrev child : ProcName
+  child = (p.born + 1) ∷ me
+
+  -- the jobs that the child is in, and those that its parent holds then
+  abbrev pub jobs : List ProcName
+  jobs = p.chain ++ child ∷ []
+
+  abbrev pub held : List ProcName
+  held = p.held ++ child ∷ []
+
+  pub jobs_used : (job : ProcName) → has jobs job ≡ true → IsUsed session f (OfJob job)
+  jobs_used job e = elim (has_added p.chain child job e) [
+    | inl k ↦ inl (me, p, here, or_first (has p.chain job) (has p.held job) k)
+    | inr is ↦ inr (subst (IsServed f) (sym is) served)
+  ]
+
+  pub jobs_free : is_some (user_number session p.user) ≡ false → jobs ≡ []
+  jobs_free e = absurd (true≢false (sym declared ∙ e))
+
+  -- the flat state with the child
+  abbrev born : Flat
+  born = with_child f me p jobs
+
+  abbrev parent : Process
+  parent = record { user = p.user; chain = p.chain; held = p.held; exited = p.exited; born = p.born + 1 }
+
+  abbrev pub holder : Process
+  holder = record { user = p.user; chain = p.chain; held = held; exited = p.exited; born = p.born + 1 }
+
+  -- what the birth makes and writes
+  abbrev pub births_of : State → State
+  births_of t = births t C S
+      (record { label = outer session s f l me p here runs room jobs jobs_used jobs_ordered jobs_free C S at_home at_status; kind = Container set.empty })
+      (record { label = inner session s f l me p here runs room jobs jobs_used jobs_ordered jobs_free C S at_home at_status; kind = Container set.empty })
+      (thread_of (label session s f l me p here runs room jobs jobs_used jobs_ordered jobs_free C S at_home at_status) (clearance session s f l me p here runs room jobs jobs_used jobs_ordered jobs_free C S at_home at_status))
+      (record { label = outer session s f l me p here runs room jobs jobs_used jobs_ordered jobs_free C S at_home at_status; kind = Segment (child_written session s f l me p here runs room jobs jobs_used jobs_ordered jobs_free C S at_home at_status) })
+      (own_written session s f l me p here runs room jobs jobs_used jobs_ordered jobs_free C S at_home at_status)
+
+  abbrev state_born_two : State
+  state_born_two = counting (counting (births_of s))
+
+  laid_born : (later : Laid session state_born_two born) × (later.naming ≡ naming session s f l me p here runs room jobs jobs_used jobs_ordered jobs_free C S at_home at_status) × (later.category ≡ category session s f l me p here runs room jobs jobs_used jobs_ordered jobs_free C S at_home at_status)
+  laid_born = laid_with_child session s f l me p here runs room jobs jobs_used jobs_ordered jobs_free C S at_home at_status state_born_two (λ q. refl) refl (omega arith) few
+
+  abbrev b : Laid session state_born_two born
+  b = laid_born.0
+
+  parent_there : born.processes me ≡ Some parent
+  parent_there = at_me session s f l me p here runs room jobs jobs_used jobs_ordered jobs_free C S at_home at_status
+
+  thread_there : b.naming.number (Runner ∷ Inside ∷ home_of me) ≡ Some T
+  thread_there = ap (λ nm. nm.number (Runner ∷ Inside ∷ home_of me)) laid_born.1 ∙ sym (kept_runner session s f l me p here runs room jobs jobs_used jobs_ordered jobs_free C S at_home at_status me (λ e. child_not_me session s f l me p here runs room jobs jobs_used jobs_ordered jobs_free C S at_home at_status (sym e))) ∙ at_thread
+
+  held_used : (job : ProcName) → has held job ≡ true → IsUsed session born (OfJob job)
+  held_used job e = elim (has_added p.held child job e) [
+    | inl k ↦ inl (me, parent, parent_there, or_second (has p.chain job) (has p.held job) k)
+    | inr is ↦ inr (subst (IsServed born) (sym is) served)
+  ]
+
+  held_before : (job : ProcName) → has held job ≡ true → IsUsed session f (OfJob job)
+  held_before job e = elim (has_added p.held child job e) [
+    | inl k ↦ inl (me, p, here, or_second (has p.chain job) (has p.held job) k)
+    | inr is ↦ inr (subst (IsServed f) (sym is) served)
+  ]
+
+  held_ordered_then : AreInOrder b.category held
+  held_ordered_then = subst (λ (c : Categories). AreInOrder c held) (sym laid_born.2) (keep_order session f l.category (category session s f l me p here runs room jobs jobs_used jobs_ordered jobs_free C S at_home at_status) (keeps session s f l me p here runs room jobs jobs_used jobs_ordered jobs_free C S at_home at_status) held held_before held_ordered)
+
+  held_apart : (job : ProcName) → has p.chain job ≡ true → has held job ≡ false
+  held_apart job e = not_added p.held child job ((l.processes me p here).apart runs job e) (λ is. true≢false (sym e ∙ ap (has p.chain) is ∙ stranger))
+
+  held_free : is_some (user_number session p.user) ≡ false → (p.chain ≡ []) × (held ≡ [])
+  held_free e = absurd (true≢false (sym declared ∙ e))
+
+  -- the flat state in which the parent holds the job
+  abbrev pub after : Flat
+  after = with_process born me holder
+
+  abbrev pub final_label : Levels
+  final_label = rights_label (category session s f l me p here runs room jobs jobs_used jobs_ordered jobs_free C S at_home at_status) (thread_rights session me holder)
+
+  abbrev pub final_clearance : Levels
+  final_clearance = rights_clearance (category session s f l me p here runs room jobs jobs_used jobs_ordered jobs_free C S at_home at_status) (thread_rights session me holder)
+
+  -- who is given a number stays so, and so does the child
+  given_held : (job : ProcName) → is_given born.processes job ≡ is_given after.processes job
+  given_held = given_later session state_born_two born b me parent parent_there runs p.user (inr declared) held held_used held_ordered_then held_apart held_free T thread_there
+
+  pub given_after : (job : ProcName) → is_given f.processes job ≡ true → is_given after.processes job ≡ true
+  given_after job e = sym (given_held job) ∙ given_then session s f l me p here runs room jobs jobs_used jobs_ordered jobs_free C S at_home at_status job e
+
+  pub given_child : is_given after.processes child ≡ true
+  given_child = sym (given_held child) ∙ child_given session s f l me p here runs room jobs jobs_used jobs_ordered jobs_free C S at_home at_status
+
+  pub used_before : (job : ProcName) → IsKnown after job ⊎ IsServed after job → IsUsed session f (OfJob job)
+  used_before job u = job_used session s f l me p here runs room jobs jobs_used jobs_ordered jobs_free C S at_home at_status job (job_used_then session state_born_two born b me parent parent_there runs p.user (inr declared) held held_used held_ordered_then held_apart held_free T thread_there job u)
+
+  -- Of another state, which is the same but for the thread: it makes the child's two categories, makes and writes what a birth does, and
+  -- the thread takes its label and clearance with the job.
+  module _ (own most : Levels) (t : State) (beside : Beside T own most t s) (counted : s.next_category ≤ t.next_category) where
+    abbrev pub owning_two : State
+    owning_two = with_category (with_category t T) T
+
+    abbrev pub state_held : State
+    state_held = own_set T (births_of owning_two) final_label final_clearance
+
+    two : Beside T own most owning_two s
+    two = beside_uncounted T own most (with_category t T) s (beside_uncounted T own most t s beside)
+
+    pub laid_held : Laid session state_held after
+    laid_held =
+        let same = two.next in
+        (becomes session state_born_two born b me parent parent_there runs p.user (inr declared) held held_used held_ordered_then held_apart held_free T thread_there state_held
+        (λ q.
+        own_taken T own most (births_of owning_two) (births_of s) final_label final_clearance (beside_births T own most owning_two s C S _ _ _ _ _ two) q
+        ∙ ap (λ (c : Categories). (with_own (births_of s) T (rights_label c (thread_rights session me holder)) (rights_clearance c (thread_rights session me holder))).objects q) (sym laid_born.2))
+        (ap (λ (m : ℕ). m + 1 + 1 + 1 + 1) same) (omega (arith, counted))).0

@@ -1,0 +1,336 @@
+-- The label tests of a wrap's raw calls, by names: they pass exactly where the flat rule says, which is where the directory may be written and
+-- the caller is a declared user.
+use Rattle.std.proofs.Common.{◌≡◌, ℕ, ◌+◌, ◌≤◌, ◌⊎◌, inl, inr, Bool, true, false, ◌&&◌, ◌||◌, List, [], ◌∷◌, ◌++◌, Option, None, Some, if◌then◌else◌, arith, refl, sym, ap, ◌∙◌, subst}
+use Rattle.std.specs.Prelude.{map}
+use Rattle.std.specs.List.{list_all}
+use Rattle.std.proofs.lemmas.Bool.Decides.{eqb_tells}
+use mathlib.Core.Bool.{true≢false}
+use Rattle.histar_flat.specs.Words.{ProcName}
+use Rattle.histar_flat.specs.PathOrder.{same}
+use Rattle.histar_label.specs.Level.{rank, raised}
+use Rattle.histar_label.specs.Levels.{is_below, is_below_raised, is_below_join_raised}
+use Rattle.histar_label.proofs.Orders.{is_below-law, is_below_raised-law, is_below_join_raised-law}
+use Rattle.histar_flat.specs.Sessions.{Session, has, user_number}
+use Rattle.histar_flat.specs.Classes.{Class, Process, is_free, may_write}
+use Rattle.histar_refinement.specs.Categories.{CategoryName, Categories, AreDifferent, among}
+use Rattle.histar_refinement.specs.Categories.CategoryName.{ReadsUser, ReadsProcess, WritesProcess, OfJob}
+use Rattle.histar_refinement.specs.Guards.{Guard, Rights, guarded_by, owning, guard_label, rights_label, rights_clearance}
+use Rattle.histar_refinement.specs.Labels.{class_guard, scratch_guard, process_guard, inside_guard, reading, writing, owned_as, thread_rights}
+use Rattle.histar_refinement.proofs.Members.{is_in, same_truth, and_both, or_first, or_second, or_either, or_false}
+use Rattle.histar_refinement.proofs.Levelled.{guarded_level, owning_level, at_guarded, at_owning, cleared_exactly, same_owning, same_cleared}
+use Rattle.histar_refinement.proofs.CategoryTests.{among-append, among_none, among_jobs, is_in_names, all_names, named_in}
+use Rattle.histar_refinement.proofs.Tested.{observes_by_names, below_by_names, cleared_by_names, rights_by_names, capped_by_names, clearances_by_names}
+use Rattle.histar_refinement.specs.Sessions.{IsSession}
+use Rattle.histar_refinement.proofs.SessionLemmas.{is_number}
+use Rattle.histar_refinement.proofs.ClassTests.{owns_read_of, jobs_apart, modifies_class}
+use Rattle.histar_refinement.proofs.AmongNames.{covers, in_first, in_second, at_head, later, each_head, each_append}
+use Rattle.histar_refinement.proofs.Uses.{job_among}
+use Rattle.histar_refinement.proofs.JobLists.{has_added, has_last}
+
+-- One category more that is owned changes no test on what isn't guarded by it.
+free_below : (o t s w : Bool) → t ≡ false → s ≡ false → w ≡ false → rank (owning_level o t) ≤ rank (guarded_level s w)
+free_below true false false false a b c = omega arith
+free_below false false false false a b c = omega arith
+free_below o true s w a b c = absurd (true≢false a)
+free_below o false true w a b c = absurd (true≢false b)
+free_below o false false true a b c = absurd (true≢false c)
+
+free_seen : (o t s w : Bool) → t ≡ false → s ≡ false → w ≡ false → rank (guarded_level s w) ≤ raised (owning_level o t)
+free_seen true false false false a b c = omega arith
+free_seen false false false false a b c = omega arith
+free_seen o true s w a b c = absurd (true≢false a)
+free_seen o false true w a b c = absurd (true≢false b)
+free_seen o false false true a b c = absurd (true≢false c)
+
+module _ (O T S W : List ℕ) (c : ℕ) (not_tainted : is_in T c ≡ false) (not_secret : is_in S c ≡ false) (not_written : is_in W c ≡ false) where
+  more_below : is_below (owning (c ∷ O) T) (guarded_by S W) ≡ is_below (owning O T) (guarded_by S W)
+  more_below = same_truth (is_below (owning (c ∷ O) T) (guarded_by S W)) (is_below (owning O T) (guarded_by S W))
+      (λ below. (is_below-law (owning O T) (guarded_by S W)).1 (λ q. rw (at_guarded S W q, at_owning O T q) (elim (eqb_tells q c) [
+        | inl e ↦ free_below (is_in O q) (is_in T q) (is_in S q) (is_in W q) (ap (is_in T) e.1 ∙ not_tainted) (ap (is_in S) e.1 ∙ not_secret) (ap (is_in W) e.1 ∙ not_written)
+        | inr e ↦ subst (λ b. rank (owning_level (b || is_in O q) (is_in T q)) ≤ rank (guarded_level (is_in S q) (is_in W q))) e.0 (rw (sym (at_guarded S W q), sym (at_owning (c ∷ O) T q)) ((is_below-law (owning (c ∷ O) T) (guarded_by S W)).0 below q))
+      ])))
+      (λ below. (is_below-law (owning (c ∷ O) T) (guarded_by S W)).1 (λ q. rw (at_guarded S W q, at_owning (c ∷ O) T q) (elim (eqb_tells q c) [
+        | inl e ↦ free_below (is_in (c ∷ O) q) (is_in T q) (is_in S q) (is_in W q) (ap (is_in T) e.1 ∙ not_tainted) (ap (is_in S) e.1 ∙ not_secret) (ap (is_in W) e.1 ∙ not_written)
+        | inr e ↦ subst (λ b. rank (owning_level (b || is_in O q) (is_in T q)) ≤ rank (guarded_level (is_in S q) (is_in W q))) (sym e.0) (rw (sym (at_guarded S W q), sym (at_owning O T q)) ((is_below-law (owning O T) (guarded_by S W)).0 below q))
+      ])))
+
+  more_seen : is_below_raised (guarded_by S W) (owning (c ∷ O) T) ≡ is_below_raised (guarded_by S W) (owning O T)
+  more_seen = same_truth (is_below_raised (guarded_by S W) (owning (c ∷ O) T)) (is_below_raised (guarded_by S W) (owning O T))
+      (λ below. (is_below_raised-law (guarded_by S W) (owning O T)).1 (λ q. rw (at_guarded S W q, at_owning O T q) (elim (eqb_tells q c) [
+        | inl e ↦ free_seen (is_in O q) (is_in T q) (is_in S q) (is_in W q) (ap (is_in T) e.1 ∙ not_tainted) (ap (is_in S) e.1 ∙ not_secret) (ap (is_in W) e.1 ∙ not_written)
+        | inr e ↦ subst (λ b. rank (guarded_level (is_in S q) (is_in W q)) ≤ raised (owning_level (b || is_in O q) (is_in T q))) e.0 (rw (sym (at_guarded S W q), sym (at_owning (c ∷ O) T q)) ((is_below_raised-law (guarded_by S W) (owning (c ∷ O) T)).0 below q))
+      ])))
+      (λ below. (is_below_raised-law (guarded_by S W) (owning (c ∷ O) T)).1 (λ q. rw (at_guarded S W q, at_owning (c ∷ O) T q) (elim (eqb_tells q c) [
+        | inl e ↦ free_seen (is_in (c ∷ O) q) (is_in T q) (is_in S q) (is_in W q) (ap (is_in T) e.1 ∙ not_tainted) (ap (is_in S) e.1 ∙ not_secret) (ap (is_in W) e.1 ∙ not_written)
+        | inr e ↦ subst (λ b. rank (guarded_level (is_in S q) (is_in W q)) ≤ raised (owning_level (b || is_in O q) (is_in T q))) (sym e.0) (rw (sym (at_guarded S W q), sym (at_owning O T q)) ((is_below_raised-law (guarded_by S W) (owning O T)).0 below q))
+      ])))
+
+-- a test that each name passes
+all_of : (test : CategoryName → Bool) (names : List CategoryName) → ((c : CategoryName) → among names c ≡ true → test c ≡ true) → list_all test names ≡ true
+all_of test [] each = refl
+all_of test (x ∷ names) each = and_both (each x (at_head x names)) (all_of test names (λ c e. each c (later x names c e)))
+
+-- in some job no one is free
+not_free : (chain : List ProcName) (child : ProcName) → elim (chain ++ child ∷ []) as (λ _. Bool) [ [] ↦ true | job ∷ jobs ↦ false ] ≡ false
+not_free [] child = refl
+not_free (j ∷ chain) child = refl
+
+has_old : (jobs : List ProcName) (child job : ProcName) → has jobs job ≡ true → has (jobs ++ child ∷ []) job ≡ true
+has_old [] child job e = absurd (true≢false (sym e))
+has_old (j ∷ jobs) child job e = elim (or_either (same job j) (has jobs job) e) [
+  | inl k ↦ or_first (same job j) (has (jobs ++ child ∷ []) job) k
+  | inr k ↦ or_second (same job j) (has (jobs ++ child ∷ []) job) (has_old jobs child job k)
+]
+
+module _ (session : Session) (category : Categories) (different : AreDifferent category) (me : ProcName) (p : Process) (child : ProcName) where
+  abbrev own : Rights
+  own = thread_rights session me p
+
+  abbrev pub jobs : List ProcName
+  jobs = p.chain ++ child ∷ []
+
+  -- the rights of the thread once it has made the job's category
+  abbrev pub with_job : Rights
+  with_job = record { owned = OfJob child ∷ own.owned; tainted = own.tainted }
+
+  abbrev both : List CategoryName
+  both = with_job.owned ++ with_job.tainted
+
+  -- the jobs of the process are among the child's, which are those and the child's own
+  old_job : (c : CategoryName) → among (map OfJob p.chain) c ≡ true → among (map OfJob jobs) c ≡ true
+  old_job c e = let found = job_among p.chain c e in ap (among (map OfJob jobs)) found.1 ∙ among_jobs jobs found.0 ∙ has_old p.chain child found.0 found.2
+
+  which_job : (list : List ProcName) (c : CategoryName) → among (map OfJob (list ++ child ∷ [])) c ≡ true → (among (map OfJob list) c ≡ true) ⊎ (c ≡ OfJob child)
+  which_job list c e =
+      let found = job_among (list ++ child ∷ []) c e in
+      elim (has_added list child found.0 found.2) [
+        | inl old ↦ inl (ap (among (map OfJob list)) found.1 ∙ among_jobs list found.0 ∙ old)
+        | inr is ↦ inr (found.1 ∙ ap OfJob is)
+      ]
+
+  -- The directory: its label is above the thread's own, and below its clearance exactly where the user has the number i.
+  module _ (i : ℕ) where
+    pub scratch_above : is_below (rights_label category with_job) (guard_label category (scratch_guard jobs i)) ≡ true
+    scratch_above =
+        below_by_names category different (scratch_guard jobs i) with_job (λ c e. refl)
+        ∙ and_both (covers (ReadsUser i ∷ map OfJob jobs) (map OfJob p.chain) (λ c e. later (ReadsUser i) (map OfJob jobs) c (old_job c e))) refl
+
+    reads_user : among both (ReadsUser i) ≡ is_number (user_number session p.user) i
+    reads_user = among-append own.owned (map OfJob p.chain) (ReadsUser i) ∙ (λ k. owns_read_of session me p i k || among_none OfJob (ReadsUser i) (λ job. refl) p.chain k) ∙ or_false (is_number (user_number session p.user) i)
+
+    jobs_both : list_all (among both) (map OfJob jobs) ≡ true
+    jobs_both = covers both (map OfJob jobs) (λ c e. elim (which_job p.chain c e) [
+      | inl old ↦ in_second with_job.owned with_job.tainted c old
+      | inr is ↦ subst (λ x. among both x ≡ true) (sym is) (at_head (OfJob child) (own.owned ++ with_job.tainted))
+    ])
+
+    and_true : (b : Bool) → (b && true) ≡ b
+    and_true true = refl
+    and_true false = refl
+
+    pub scratch_below : is_below (guard_label category (scratch_guard jobs i)) (rights_clearance category with_job) ≡ is_number (user_number session p.user) i
+    scratch_below =
+        cleared_exactly (map category (scratch_guard jobs i).secret) [] (map category both) (λ q e. refl)
+        ∙ all_names category different (is_in (map category both)) (among both) (is_in_names category different both) (scratch_guard jobs i).secret
+        ∙ (λ k. reads_user k && jobs_both k) ∙ and_true (is_number (user_number session p.user) i)
+
+    -- the directory segment in it: the thread may observe the directory where the user has this number
+    pub scratch_seen : is_below_raised (guard_label category (scratch_guard jobs i)) (rights_label category with_job) ≡ is_number (user_number session p.user) i
+    scratch_seen =
+        observes_by_names category different (scratch_guard jobs i) with_job (λ c e. refl)
+        ∙ (λ k. (ap (λ b. b || among (map OfJob p.chain) (ReadsUser i)) (owns_read_of session me p i) ∙ ap (λ b. is_number (user_number session p.user) i || b) (among_none OfJob (ReadsUser i) (λ job. refl) p.chain) ∙ or_false (is_number (user_number session p.user) i)) k
+        && all_of (λ c. among with_job.owned c || among with_job.tainted c) (map OfJob jobs) (λ c e. elim (which_job p.chain c e) [
+          | inl old ↦ or_second (among with_job.owned c) (among with_job.tainted c) old
+          | inr is ↦ or_first (among with_job.owned c) (among with_job.tainted c) (subst (λ x. among with_job.owned x ≡ true) (sym is) (at_head (OfJob child) own.owned))
+        ]) k)
+        ∙ and_true (is_number (user_number session p.user) i)
+
+  -- The parent directory and its directory segment are modified exactly where the flat rule lets them be written, since the new job is in no
+  -- label that stands.
+  pub modifies_parent : IsSession session → (class : Class) (g : Guard) → class_guard session class ≡ Some g → has p.chain child ≡ false → among g.secret (OfJob child) ≡ false → among g.written (OfJob child) ≡ false
+      → (is_below (rights_label category with_job) (guard_label category g) && is_below_raised (guard_label category g) (rights_label category with_job)) ≡ may_write session p class
+  modifies_parent ok class g is stranger secret written =
+      (λ k. more_below (map category own.owned) (map category own.tainted) (map category g.secret) (map category g.written) (category (OfJob child)) not_tainted not_secret not_written k
+      && more_seen (map category own.owned) (map category own.tainted) (map category g.secret) (map category g.written) (category (OfJob child)) not_tainted not_secret not_written k)
+      ∙ modifies_class session me p category different ok class g is
+    where
+      not_tainted : is_in (map category own.tainted) (category (OfJob child)) ≡ false
+      not_tainted = is_in_names category different own.tainted (OfJob child) ∙ among_jobs p.chain child ∙ stranger
+
+      not_secret : is_in (map category g.secret) (category (OfJob child)) ≡ false
+      not_secret = is_in_names category different g.secret (OfJob child) ∙ secret
+
+      not_written : is_in (map category g.written) (category (OfJob child)) ≡ false
+      not_written = is_in_names category different g.written (OfJob child) ∙ written
+
+  -- The birth, once the child's two categories are made.
+  abbrev pub grown : Rights
+  grown = record { owned = WritesProcess child ∷ ReadsProcess child ∷ OfJob child ∷ own.owned; tainted = own.tainted }
+
+  abbrev pub newborn : Process
+  newborn = record { user = p.user; chain = jobs; held = []; exited = None; born = 0 }
+
+  abbrev pub holder : Process
+  holder = record { user = p.user; chain = p.chain; held = p.held ++ child ∷ []; exited = p.exited; born = p.born + 1 }
+
+  abbrev all : List CategoryName
+  all = grown.owned ++ grown.tainted
+
+  old_owned : (c : CategoryName) → among own.owned c ≡ true → among grown.owned c ≡ true
+  old_owned c e = later (WritesProcess child) (ReadsProcess child ∷ OfJob child ∷ own.owned) c (later (ReadsProcess child) (OfJob child ∷ own.owned) c (later (OfJob child) own.owned c e))
+
+  job_owned : among grown.owned (OfJob child) ≡ true
+  job_owned = later (WritesProcess child) (ReadsProcess child ∷ OfJob child ∷ own.owned) (OfJob child) (later (ReadsProcess child) (OfJob child ∷ own.owned) (OfJob child) (at_head (OfJob child) own.owned))
+
+  reads_owned : among grown.owned (ReadsProcess child) ≡ true
+  reads_owned = later (WritesProcess child) (ReadsProcess child ∷ OfJob child ∷ own.owned) (ReadsProcess child) (at_head (ReadsProcess child) (OfJob child ∷ own.owned))
+
+  jobs_within : (c : CategoryName) → among (map OfJob jobs) c ≡ true → among all c ≡ true
+  jobs_within c e = elim (which_job p.chain c e) [
+    | inl old ↦ in_second grown.owned grown.tainted c old
+    | inr is ↦ subst (λ x. among all x ≡ true) (sym is) (in_first grown.owned grown.tainted (OfJob child) job_owned)
+  ]
+
+  job_passes : (c : CategoryName) → among (map OfJob jobs) c ≡ true → (among grown.owned c || among grown.tainted c) ≡ true
+  job_passes c e = sym (among-append grown.owned grown.tainted c) ∙ jobs_within c e
+
+  -- its own container and process segment it modifies
+  pub own_modified : (is_below (rights_label category grown) (guard_label category (process_guard me p)) && is_below_raised (guard_label category (process_guard me p)) (rights_label category grown)) ≡ true
+  own_modified = and_both
+      (below_by_names category different (process_guard me p) grown (jobs_apart session me p p.chain (WritesProcess me ∷ []) (λ job. refl))
+      ∙ and_both (covers (map OfJob p.chain) (map OfJob p.chain) (λ c e. e)) (and_both (old_owned (WritesProcess me) (later (ReadsProcess me) (WritesProcess me ∷ owned_as session p (user_number session p.user) ++ map OfJob p.held) (WritesProcess me) (at_head (WritesProcess me) (owned_as session p (user_number session p.user) ++ map OfJob p.held)))) refl))
+      (observes_by_names category different (process_guard me p) grown (jobs_apart session me p p.chain (WritesProcess me ∷ []) (λ job. refl))
+      ∙ all_of (λ c. among grown.owned c || among grown.tainted c) (map OfJob p.chain) (λ c e. or_second (among grown.owned c) (among grown.tainted c) e))
+
+  -- the child's container and process segment are in its range, and it modifies the container
+  pub outer_above : is_below (rights_label category grown) (guard_label category (process_guard child newborn)) ≡ true
+  outer_above =
+      below_by_names category different (process_guard child newborn) grown (jobs_apart session me p p.chain (WritesProcess child ∷ []) (λ job. refl))
+      ∙ and_both (covers (map OfJob jobs) (map OfJob p.chain) old_job) (and_both (at_head (WritesProcess child) (ReadsProcess child ∷ OfJob child ∷ own.owned)) refl)
+
+  pub outer_below : is_below (guard_label category (process_guard child newborn)) (rights_clearance category grown) ≡ true
+  outer_below = cleared_by_names category different (process_guard child newborn) grown (covers all (map OfJob jobs) jobs_within)
+
+  pub outer_seen : is_below_raised (guard_label category (process_guard child newborn)) (rights_label category grown) ≡ true
+  outer_seen = observes_by_names category different (process_guard child newborn) grown (jobs_apart session me p jobs (WritesProcess child ∷ []) (λ job. refl))
+      ∙ all_of (λ c. among grown.owned c || among grown.tainted c) (map OfJob jobs) job_passes
+
+  -- and so with the internal container
+  pub inner_above : is_below (rights_label category grown) (guard_label category (inside_guard child newborn)) ≡ true
+  inner_above =
+      below_by_names category different (inside_guard child newborn) grown (jobs_apart session me p p.chain (WritesProcess child ∷ []) (λ job. refl))
+      ∙ and_both (covers (ReadsProcess child ∷ map OfJob jobs) (map OfJob p.chain) (λ c e. later (ReadsProcess child) (map OfJob jobs) c (old_job c e))) (and_both (at_head (WritesProcess child) (ReadsProcess child ∷ OfJob child ∷ own.owned)) refl)
+
+  pub inner_below : is_below (guard_label category (inside_guard child newborn)) (rights_clearance category grown) ≡ true
+  inner_below = cleared_by_names category different (inside_guard child newborn) grown (and_both (in_first grown.owned grown.tainted (ReadsProcess child) reads_owned) (covers all (map OfJob jobs) jobs_within))
+
+  pub inner_seen : is_below_raised (guard_label category (inside_guard child newborn)) (rights_label category grown) ≡ true
+  inner_seen = observes_by_names category different (inside_guard child newborn) grown
+      (each_head (λ c. among (WritesProcess child ∷ []) c ≡ false) (ReadsProcess child) (map OfJob jobs) refl (jobs_apart session me p jobs (WritesProcess child ∷ []) (λ job. refl)))
+      ∙ and_both (or_first (among grown.owned (ReadsProcess child)) (among grown.tainted (ReadsProcess child)) reads_owned) (all_of (λ c. among grown.owned c || among grown.tainted c) (map OfJob jobs) job_passes)
+
+  -- the child's thread has no more than its parent's
+  abbrev pub childs : Rights
+  childs = thread_rights session child newborn
+
+  less_as_user : (number : Option ℕ) (c : CategoryName) → among (owned_as session newborn number) c ≡ true → among (owned_as session p number) c ≡ true
+  less_as_user None c e = e
+  less_as_user (Some i) c e = elim (or_either (among (reading session p.user i) c) (among (if is_free newborn then writing session p.user i else []) c) (sym (among-append (reading session p.user i) (if is_free newborn then writing session p.user i else []) c) ∙ e)) [
+    | inl k ↦ in_first (reading session p.user i) (if is_free p then writing session p.user i else []) c k
+    | inr k ↦ absurd (true≢false (sym k ∙ ap (λ b. among (if b then writing session p.user i else []) c) (not_free p.chain child)))
+  ]
+
+  childs_owned : (c : CategoryName) → among childs.owned c ≡ true → among grown.owned c ≡ true
+  childs_owned = each_head (λ c. among grown.owned c ≡ true) (ReadsProcess child) (WritesProcess child ∷ owned_as session newborn (user_number session p.user) ++ []) reads_owned
+      (each_head (λ c. among grown.owned c ≡ true) (WritesProcess child) (owned_as session newborn (user_number session p.user) ++ []) (at_head (WritesProcess child) (ReadsProcess child ∷ OfJob child ∷ own.owned))
+      (each_append (λ c. among grown.owned c ≡ true) (owned_as session newborn (user_number session p.user)) []
+      (λ c e. old_owned c (later (ReadsProcess me) (WritesProcess me ∷ owned_as session p (user_number session p.user) ++ map OfJob p.held) c (later (WritesProcess me) (owned_as session p (user_number session p.user) ++ map OfJob p.held) c (in_first (owned_as session p (user_number session p.user)) (map OfJob p.held) c (less_as_user (user_number session p.user) c e)))))
+      (λ c e. absurd (true≢false (sym e)))))
+
+  pub thread_above : is_below (rights_label category grown) (rights_label category childs) ≡ true
+  thread_above = rights_by_names category different grown childs (covers (map OfJob jobs) (map OfJob p.chain) old_job) (covers grown.owned childs.owned childs_owned)
+
+  pub thread_below : is_below (rights_label category childs) (rights_clearance category childs) ≡ true
+  thread_below = capped_by_names category different childs (childs.owned ++ childs.tainted) ∙ covers (childs.owned ++ childs.tainted) childs.tainted (in_second childs.owned childs.tainted)
+
+  pub clearance_below : is_below (rights_clearance category childs) (rights_clearance category grown) ≡ true
+  clearance_below = clearances_by_names category different childs grown
+      (covers all (childs.owned ++ childs.tainted) (each_append (λ c. among all c ≡ true) childs.owned childs.tainted (λ c e. in_first grown.owned grown.tainted c (childs_owned c e)) jobs_within))
+
+  -- its own label and clearance with the job it may have
+  abbrev pub holding : Rights
+  holding = thread_rights session me holder
+
+  held_owned : (c : CategoryName) → among holding.owned c ≡ true → among grown.owned c ≡ true
+  held_owned = each_head (λ c. among grown.owned c ≡ true) (ReadsProcess me) (WritesProcess me ∷ owned_as session p (user_number session p.user) ++ map OfJob (p.held ++ child ∷ [])) (old_owned (ReadsProcess me) (at_head (ReadsProcess me) (WritesProcess me ∷ owned_as session p (user_number session p.user) ++ map OfJob p.held)))
+      (each_head (λ c. among grown.owned c ≡ true) (WritesProcess me) (owned_as session p (user_number session p.user) ++ map OfJob (p.held ++ child ∷ [])) (old_owned (WritesProcess me) (later (ReadsProcess me) (WritesProcess me ∷ owned_as session p (user_number session p.user) ++ map OfJob p.held) (WritesProcess me) (at_head (WritesProcess me) (owned_as session p (user_number session p.user) ++ map OfJob p.held))))
+      (each_append (λ c. among grown.owned c ≡ true) (owned_as session p (user_number session p.user)) (map OfJob (p.held ++ child ∷ []))
+      (λ c e. before c (in_first (owned_as session p (user_number session p.user)) (map OfJob p.held) c e))
+      (λ c e. elim (which_job p.held c e) [
+        | inl old ↦ before c (in_second (owned_as session p (user_number session p.user)) (map OfJob p.held) c old)
+        | inr is ↦ subst (λ x. among grown.owned x ≡ true) (sym is) job_owned
+      ])))
+    where
+      before : (c : CategoryName) → among (owned_as session p (user_number session p.user) ++ map OfJob p.held) c ≡ true → among grown.owned c ≡ true
+      before c e = old_owned c (later (ReadsProcess me) (WritesProcess me ∷ owned_as session p (user_number session p.user) ++ map OfJob p.held) c (later (WritesProcess me) (owned_as session p (user_number session p.user) ++ map OfJob p.held) c e))
+
+  pub label_kept : (is_below (rights_label category grown) (rights_label category holding) ≡ true) × (is_below (rights_label category holding) (rights_clearance category grown) ≡ true)
+  label_kept = (
+    rights_by_names category different grown holding (covers (map OfJob p.chain) (map OfJob p.chain) (λ c e. e)) (covers grown.owned holding.owned held_owned),
+    capped_by_names category different holding all ∙ covers all (map OfJob p.chain) (in_second grown.owned grown.tainted),
+  )
+
+  pub clearance_kept : (is_below (rights_label category holding) (rights_clearance category holding) ≡ true) × (is_below_join_raised (rights_clearance category holding) (rights_clearance category grown) (rights_label category holding) ≡ true)
+  clearance_kept = (
+    capped_by_names category different holding (holding.owned ++ holding.tainted) ∙ covers (holding.owned ++ holding.tainted) holding.tainted (in_second holding.owned holding.tainted),
+    (is_below_join_raised-law (rights_clearance category holding) (rights_clearance category grown) (rights_label category holding)).1 (λ q.
+        let under = (is_below-law (rights_clearance category holding) (rights_clearance category grown)).0 (clearances_by_names category different holding grown
+        (covers all (holding.owned ++ holding.tainted) (each_append (λ c. among all c ≡ true) holding.owned holding.tainted (λ c e. in_first grown.owned grown.tainted c (held_owned c e)) (in_second grown.owned grown.tainted)))) q in
+        omega (arith, under)),
+  )
+
+  -- What the thread sets is its own label with the job's category owned, and its own clearance with that at 3.
+  numbers_alike : (names others : List CategoryName) → ((c : CategoryName) → among names c ≡ true → among others c ≡ true) → ((c : CategoryName) → among others c ≡ true → among names c ≡ true)
+      → (q : ℕ) → is_in (map category names) q ≡ is_in (map category others) q
+  numbers_alike names others forth back q = same_truth (is_in (map category names) q) (is_in (map category others) q)
+      (λ e. let there = named_in category names q e in ap (is_in (map category others)) there.1 ∙ is_in_names category different others there.0 ∙ forth there.0 there.2)
+      (λ e. let there = named_in category others q e in ap (is_in (map category names)) there.1 ∙ is_in_names category different names there.0 ∙ back there.0 there.2)
+
+  abbrev user_part : List CategoryName
+  user_part = owned_as session p (user_number session p.user)
+
+  within_holding : (c : CategoryName) → among (user_part ++ map OfJob (p.held ++ child ∷ [])) c ≡ true → among holding.owned c ≡ true
+  within_holding c e = later (ReadsProcess me) (WritesProcess me ∷ user_part ++ map OfJob (p.held ++ child ∷ [])) c (later (WritesProcess me) (user_part ++ map OfJob (p.held ++ child ∷ [])) c e)
+
+  held_jobs : (c : CategoryName) → among (map OfJob p.held) c ≡ true → among (map OfJob (p.held ++ child ∷ [])) c ≡ true
+  held_jobs c e = let found = job_among p.held c e in ap (among (map OfJob (p.held ++ child ∷ []))) found.1 ∙ among_jobs (p.held ++ child ∷ []) found.0 ∙ has_old p.held child found.0 found.2
+
+  owned_forth : (c : CategoryName) → among with_job.owned c ≡ true → among holding.owned c ≡ true
+  owned_forth = each_head (λ c. among holding.owned c ≡ true) (OfJob child) own.owned
+      (within_holding (OfJob child) (in_second user_part (map OfJob (p.held ++ child ∷ [])) (OfJob child) (among_jobs (p.held ++ child ∷ []) child ∙ has_last p.held child)))
+      (each_head (λ c. among holding.owned c ≡ true) (ReadsProcess me) (WritesProcess me ∷ user_part ++ map OfJob p.held) (at_head (ReadsProcess me) (WritesProcess me ∷ user_part ++ map OfJob (p.held ++ child ∷ [])))
+      (each_head (λ c. among holding.owned c ≡ true) (WritesProcess me) (user_part ++ map OfJob p.held) (later (ReadsProcess me) (WritesProcess me ∷ user_part ++ map OfJob (p.held ++ child ∷ [])) (WritesProcess me) (at_head (WritesProcess me) (user_part ++ map OfJob (p.held ++ child ∷ []))))
+      (each_append (λ c. among holding.owned c ≡ true) user_part (map OfJob p.held)
+      (λ c e. within_holding c (in_first user_part (map OfJob (p.held ++ child ∷ [])) c e))
+      (λ c e. within_holding c (in_second user_part (map OfJob (p.held ++ child ∷ [])) c (held_jobs c e))))))
+
+  within_own : (c : CategoryName) → among (user_part ++ map OfJob p.held) c ≡ true → among with_job.owned c ≡ true
+  within_own c e = later (OfJob child) own.owned c (later (ReadsProcess me) (WritesProcess me ∷ user_part ++ map OfJob p.held) c (later (WritesProcess me) (user_part ++ map OfJob p.held) c e))
+
+  owned_back : (c : CategoryName) → among holding.owned c ≡ true → among with_job.owned c ≡ true
+  owned_back = each_head (λ c. among with_job.owned c ≡ true) (ReadsProcess me) (WritesProcess me ∷ user_part ++ map OfJob (p.held ++ child ∷ [])) (later (OfJob child) own.owned (ReadsProcess me) (at_head (ReadsProcess me) (WritesProcess me ∷ user_part ++ map OfJob p.held)))
+      (each_head (λ c. among with_job.owned c ≡ true) (WritesProcess me) (user_part ++ map OfJob (p.held ++ child ∷ [])) (later (OfJob child) own.owned (WritesProcess me) (later (ReadsProcess me) (WritesProcess me ∷ user_part ++ map OfJob p.held) (WritesProcess me) (at_head (WritesProcess me) (user_part ++ map OfJob p.held))))
+      (each_append (λ c. among with_job.owned c ≡ true) user_part (map OfJob (p.held ++ child ∷ []))
+      (λ c e. within_own c (in_first user_part (map OfJob p.held) c e))
+      (λ c e. elim (which_job p.held c e) [
+        | inl old ↦ within_own c (in_second user_part (map OfJob p.held) c old)
+        | inr is ↦ subst (λ x. among with_job.owned x ≡ true) (sym is) (at_head (OfJob child) own.owned)
+      ])))
+
+  pub label_holding : rights_label category with_job ≡ rights_label category holding
+  label_holding = same_owning (map category with_job.owned) (map category own.tainted) (map category holding.owned) (map category own.tainted) (numbers_alike with_job.owned holding.owned owned_forth owned_back) (λ q. refl)
+
+  pub clearance_holding : rights_clearance category with_job ≡ rights_clearance category holding
+  clearance_holding = same_cleared (map category (with_job.owned ++ own.tainted)) (map category (holding.owned ++ own.tainted)) (numbers_alike (with_job.owned ++ own.tainted) (holding.owned ++ own.tainted)
+      (each_append (λ c. among (holding.owned ++ own.tainted) c ≡ true) with_job.owned own.tainted (λ c e. in_first holding.owned own.tainted c (owned_forth c e)) (in_second holding.owned own.tainted))
+      (each_append (λ c. among (with_job.owned ++ own.tainted) c ≡ true) holding.owned own.tainted (λ c e. in_first with_job.owned own.tainted c (owned_back c e)) (in_second with_job.owned own.tainted)))

@@ -1,0 +1,269 @@
+-- A wrap, granted: a category is made for the job, a directory is made for it, its first process is born, and its wrapper holds the job.
+use Rattle.std.proofs.Common.{◌≡◌, ℕ, ◌+◌, ◌<◌, ◌≤◌, ◌⊎◌, inl, inr, Bool, true, false, cond, List, [], ◌∷◌, ◌++◌, length, Option, None, Some, arith, refl, sym, ap, ◌∙◌, subst}
+use Rattle.std.specs.Prelude.{IsTrue, is_some, option_map}
+use mathlib.Core.Bool.{true≢false}
+use Rattle.histar_flat.specs.Words.{Name, Path, ProcName, is_name}
+use Rattle.histar_flat.specs.PathOrder.{same}
+use Rattle.histar_flat.specs.Files.{get}
+use Rattle.histar_flat.proofs.FileLemmas.{same_name_found, same_path_found, get_new, get_other}
+use Rattle.histar_label.specs.Levels.{Levels}
+use Rattle.std.specs.FinMap as map
+use Rattle.std.specs.FinSet as set
+use Rattle.std.proofs.lemmas.Option.{none-some, same_Some}
+use Rattle.histar_layout.specs.Directory.{spelling}
+use Rattle.histar_layout.specs.declared.entry.Target.TheVariants as targets
+use Rattle.histar_object.specs.declared.objects.Kind.TheVariants.{Segment, Container}
+use Rattle.histar_object.specs.declared.objects.Object.{Object}
+use Rattle.histar_rules.specs.Rules.{greatest}
+use Rattle.histar_object.specs.Rights.{with_category}
+use Rattle.histar_object.specs.State.{State, added, with_bytes, counting}
+use Rattle.histar_flat.specs.Sessions.{Session, has, user_number}
+use Rattle.histar_flat.specs.Classes.{Class, Process}
+use Rattle.histar_flat.specs.Classes.Class.{Scratch}
+use Rattle.histar_flat.specs.FlatState.{Node, Flat, entries_in, with_node, with_child, is_given}
+use Rattle.histar_flat.specs.FlatCalls.{most_entries}
+use Rattle.histar_flat.specs.FlatState.Content.{Dir}
+use Rattle.histar_refinement.specs.Categories.{CategoryName, Categories, IsMade, among, naming_next, is_for, IsKnown, IsServed, IsUsed}
+use Rattle.histar_refinement.specs.Categories.CategoryName.{OfJob}
+use Rattle.histar_refinement.specs.Guards.{Guard, guard_label}
+use Rattle.histar_refinement.specs.Labels.{class_guard, scratch_guard}
+use Rattle.histar_refinement.specs.Addresses.{address_of, home_of}
+use Rattle.histar_refinement.specs.Addresses.Step.{Listing, Status, Inside, Runner}
+use Rattle.histar_refinement.specs.Directories.{directory_of}
+use Rattle.histar_refinement.specs.LaysOut.{AreInOrder, LaysOut, Laid}
+use Rattle.histar_refinement.proofs.Members.{or_first, or_second}
+use Rattle.histar_refinement.proofs.JobLists.{has_added, has_last, in_order_last, never_given}
+use Rattle.histar_refinement.proofs.Uses.{class_used}
+use Rattle.histar_refinement.proofs.Beside.{Beside, beside_added, beside_written, beside_category}
+use Rattle.histar_refinement.proofs.Spawned.{own_label, own_clearance, beside_start}
+use Rattle.histar_refinement.proofs.Counting.{number_named, keeps_named, laid_named}
+use Rattle.histar_refinement.proofs.FileRows.{SameNumbers, ClassFits}
+use Rattle.histar_refinement.proofs.Creating.{directory_naming, laid_directory_created, directory_numbers}
+use Rattle.histar_refinement.proofs.JobBorn.{after, state_held, given_after, given_child, used_before, laid_held}
+
+module _ (session : Session) (s : State) (f : Flat) (l : LaysOut session s f) (me : ProcName) (p : Process) (here : f.processes me ≡ Some p) (runs : p.exited ≡ None) (room : p.born < 64)
+    (i : ℕ) (declared : user_number session p.user ≡ Some i) (d : Path) (n : Name) (absent : get f.files (n ∷ d) ≡ None) (above : Class) (at_parent : get f.files d ≡ Some (record { class = above; content = Dir }))
+    (C S T D N : ℕ) (at_home : l.laid.naming.number (home_of me) ≡ Some C) (at_status : l.laid.naming.number (Status ∷ home_of me) ≡ Some S) (at_thread : l.laid.naming.number (Runner ∷ Inside ∷ home_of me) ≡ Some T)
+    (at_D : l.laid.naming.number (address_of d) ≡ Some D) (at_N : l.laid.naming.number (Listing ∷ address_of d) ≡ Some N) (few : s.next_object + 5 < greatest) where
+  abbrev child : ProcName
+  child = (p.born + 1) ∷ me
+
+  abbrev pub chain : List ProcName
+  chain = p.chain ++ child ∷ []
+
+  abbrev held : List ProcName
+  held = p.held ++ child ∷ []
+
+  abbrev class : Class
+  class = Scratch p.user chain
+
+  -- the job's name was not used
+  unused : ¬ IsUsed session f (OfJob child)
+  unused u = never_given f me p here (l.jobs_given child u)
+
+  pub stranger : has p.chain child ≡ false
+  stranger = by (has p.chain child) refl
+    where
+      by : (b : Bool) → has p.chain child ≡ b → b ≡ false
+      by true e = absurd (unused (inl (me, p, here, or_first (has p.chain child) (has p.held child) e)))
+      by false e = refl
+
+  -- no class names the job yet
+  pub not_named : (q : Path) (there : Node) (x : Guard) → get f.files q ≡ Some there → class_guard session there.class ≡ Some x → (among x.secret (OfJob child) ≡ false) × (among x.written (OfJob child) ≡ false)
+  not_named q there x at is =
+      let used = class_used session f q there at there.class refl x is in
+      (never (among x.secret (OfJob child)) (used.0 (OfJob child)), never (among x.written (OfJob child)) (used.1 (OfJob child)))
+    where
+      never : (b : Bool) → (b ≡ true → IsUsed session f (OfJob child)) → b ≡ false
+      never true u = absurd (unused (u refl))
+      never false u = refl
+
+  -- once the job's category is made
+  pub named : (later : Laid session (counting s) f) × (later.naming ≡ l.laid.naming) × (later.category ≡ naming_next l.laid.category s.next_category (OfJob child))
+  named = laid_named session s f l.laid (OfJob child) unused (counting s) (λ q. refl) refl (omega arith)
+
+  abbrev pub m : Laid session (counting s) f
+  m = named.0
+
+  job_number : m.category (OfJob child) ≡ s.next_category
+  job_number = ap (λ (c : Categories). c (OfJob child)) named.2 ∙ number_named session s f l.laid (OfJob child) unused
+
+  keeps : (c : CategoryName) → IsUsed session f c → m.category c ≡ l.laid.category c
+  keeps c used = ap (λ (k : Categories). k c) named.2 ∙ keeps_named session s f l.laid (OfJob child) unused c used
+
+  -- jobs that were used have smaller numbers
+  below_job : (job : ProcName) → IsUsed session f (OfJob job) → m.category (OfJob job) < m.category (OfJob child)
+  below_job job used =
+      let old = l.laid.made (OfJob job) used in
+      let kept = keeps (OfJob job) used in
+      let new = job_number in
+      omega (arith, old.1, kept, new)
+
+  chain_known : (job : ProcName) → has p.chain job ≡ true → IsUsed session f (OfJob job)
+  chain_known job e = inl (me, p, here, or_first (has p.chain job) (has p.held job) e)
+
+  held_known : (job : ProcName) → has p.held job ≡ true → IsUsed session f (OfJob job)
+  held_known job e = inl (me, p, here, or_second (has p.chain job) (has p.held job) e)
+
+  chain_ordered : AreInOrder m.category chain
+  chain_ordered = in_order_last m.category child p.chain (λ job e. below_job job (chain_known job e)) (m.processes me p here).chain
+
+  held_ordered : AreInOrder m.category held
+  held_ordered = in_order_last m.category child p.held (λ job e. below_job job (held_known job e)) ((m.processes me p here).held runs)
+
+  class_made : (job : ProcName) → is_for class job ≡ true → IsMade (s.next_category + 1) (m.category (OfJob job))
+  class_made job e = elim (has_added p.chain child job e) [
+    | inl k ↦ m.made (OfJob job) (chain_known job k)
+    | inr is ↦
+        let first = l.laid.made CategoryName.OfBoot tt in
+        let new : m.category (OfJob job) ≡ s.next_category = ap (λ (j : ProcName). m.category (OfJob j)) is ∙ job_number in
+        (omega (arith, first.0, first.1, new), omega (arith, new))
+  ]
+
+  pub guard_is : class_guard session class ≡ Some (scratch_guard chain i)
+  guard_is = ap (option_map (scratch_guard chain)) declared
+
+  pub at_D_named : m.naming.number (address_of d) ≡ Some D
+  at_D_named = ap (λ nm. nm.number (address_of d)) named.1 ∙ at_D
+
+  pub at_N_named : m.naming.number (Listing ∷ address_of d) ≡ Some N
+  at_N_named = ap (λ nm. nm.number (Listing ∷ address_of d)) named.1 ∙ at_N
+
+  -- the flat state with the directory
+  abbrev pub with_directory : Flat
+  with_directory = with_node f (n ∷ d) class Dir
+
+  pub fits : ClassFits session (counting s) f m class
+  fits = record { guard = λ none. none_is_some (scratch_guard chain i) (sym none ∙ guard_is); order = chain_ordered; made = class_made }
+    where
+      none_is_some : (g : Guard) → ◌≡◌ {A = Option Guard} None (Some g) → ⊥
+      none_is_some g e = none-some g e
+
+  -- what is made for the job, and what is written in the directory above
+  abbrev pub new_container : Object Levels
+  new_container = record { label = guard_label m.category (scratch_guard chain i); kind = Container set.empty }
+
+  abbrev pub new_segment : Object Levels
+  new_segment = record { label = guard_label m.category (scratch_guard chain i); kind = Segment [] }
+
+  abbrev pub written : List ℕ
+  written = spelling (map.insert (directory_of f.files m.naming.number d) n (targets.Directory s.next_object (s.next_object + 1)))
+
+  abbrev pub made_state : State
+  made_state = with_bytes (added (added (counting s) D new_container) s.next_object new_segment) N written
+
+  -- Once the parent's directory has room for it.
+  module _ (is_named : IsTrue (is_name n)) (room_above : length (entries_in f d) < most_entries) where
+    pub made : (later : Laid session made_state with_directory) × (later.naming ≡ directory_naming session (counting s) f m d above at_parent D N at_D_named at_N_named n absent class fits (scratch_guard chain i) guard_is) × (later.category ≡ m.category)
+    made = laid_directory_created session (counting s) f m d above at_parent D N at_D_named at_N_named n absent class fits (scratch_guard chain i) guard_is is_named room_above (omega (arith, few))
+
+    numbers : SameNumbers m.naming.number (directory_naming session (counting s) f m d above at_parent D N at_D_named at_N_named n absent class fits (scratch_guard chain i) guard_is).number
+    numbers = directory_numbers session (counting s) f m d above at_parent D N at_D_named at_N_named n absent class fits (scratch_guard chain i) guard_is (omega (arith, few))
+
+    abbrev pub k : Laid session made_state with_directory
+    k = made.0
+
+    pub k_home : k.naming.number (home_of me) ≡ Some C
+    k_home = ap (λ nm. nm.number (home_of me)) made.1 ∙ sym (numbers.home me) ∙ ap (λ nm. nm.number (home_of me)) named.1 ∙ at_home
+
+    pub k_status : k.naming.number (Status ∷ home_of me) ≡ Some S
+    k_status = ap (λ nm. nm.number (Status ∷ home_of me)) made.1 ∙ sym (numbers.status me) ∙ ap (λ nm. nm.number (Status ∷ home_of me)) named.1 ∙ at_status
+
+    pub k_thread : k.naming.number (Runner ∷ Inside ∷ home_of me) ≡ Some T
+    k_thread = ap (λ nm. nm.number (Runner ∷ Inside ∷ home_of me)) made.1 ∙ sym (numbers.runner me) ∙ ap (λ nm. nm.number (Runner ∷ Inside ∷ home_of me)) named.1 ∙ at_thread
+
+    pub few_born : made_state.next_object + 3 < greatest
+    few_born = omega (arith, few)
+
+    pub is_declared : is_some (user_number session p.user) ≡ true
+    is_declared = ap is_some declared
+
+    pub served : IsServed with_directory child
+    served = (n ∷ d, record { class = class; content = Dir }, get_new f.files (n ∷ d) (record { class = class; content = Dir }), has_last p.chain child)
+
+    pub k_chain : AreInOrder k.category chain
+    k_chain = subst (λ (c : Categories). AreInOrder c chain) (sym made.2) chain_ordered
+
+    pub k_held : AreInOrder k.category held
+    k_held = subst (λ (c : Categories). AreInOrder c held) (sym made.2) held_ordered
+
+    -- the calls as the kernel runs them: the thread owns the job's category from the first one on
+    abbrev own : Levels
+    own = own_label session s f l.laid me p here runs T at_thread
+
+    abbrev most : Levels
+    most = own_clearance session s f l.laid me p here runs T at_thread
+
+    abbrev pub state_directory : State
+    state_directory = with_bytes (added (added (with_category s T) D new_container) s.next_object new_segment) N written
+
+    pub beside : Beside T own most state_directory made_state
+    beside =
+        beside_written T own most (added (added (with_category s T) D new_container) s.next_object new_segment) (added (added (counting s) D new_container) s.next_object new_segment) N written
+        (beside_added T own most (added (with_category s T) D new_container) (added (counting s) D new_container) s.next_object new_segment
+        (beside_added T own most (with_category s T) (counting s) D new_container
+        (beside_category T own most s s (beside_start session s f l.laid me p here runs T at_thread))))
+
+    pub counted : made_state.next_category ≤ state_directory.next_category
+    counted = omega arith
+
+    abbrev pub state_wrapped : State
+    state_wrapped = state_held session made_state with_directory k me p here runs room is_declared served stranger k_chain k_held C S T k_home k_status k_thread few_born own most state_directory beside counted
+
+    -- the flat state after it
+    abbrev pub wrapped : Flat
+    wrapped = with_child with_directory me (record { user = p.user; chain = p.chain; held = held; exited = p.exited; born = p.born }) chain
+
+    abbrev newborn : Process
+    newborn = record { user = p.user; chain = chain; held = []; exited = None; born = 0 }
+
+    abbrev wrapper : Process
+    wrapper = record { user = p.user; chain = p.chain; held = held; exited = p.exited; born = p.born + 1 }
+
+    same_process : (x : ProcName) (a b : Bool) → same me x ≡ a → same child x ≡ b → (o q : Option Process) → cond a (Some wrapper) (cond b (Some newborn) (cond a o q)) ≡ cond b (Some newborn) (cond a (Some wrapper) q)
+    same_process x true true e u o q = elim (same_name_found me x) [
+      | inl t ↦ elim (same_name_found child x) [
+        | inl r ↦ let w : length me ≡ length child = ap length (t.1 ∙ sym r.1) in absurd (omega (arith, w))
+        | inr r ↦ absurd (true≢false (sym u ∙ r.0))
+      ]
+      | inr t ↦ absurd (true≢false (sym e ∙ t.0))
+    ]
+    same_process x true false e u o q = refl
+    same_process x false true e u o q = refl
+    same_process x false false e u o q = refl
+
+    same_flat : after session made_state with_directory k me p here runs room is_declared served stranger k_chain k_held C S T k_home k_status k_thread few_born ≡ wrapped
+    same_flat = λ j. record { files = with_directory.files; processes = λ x. same_process x (same me x) (same child x) refl refl (Some (record { user = p.user; chain = p.chain; held = p.held; exited = p.exited; born = p.born + 1 })) (f.processes x) j }
+
+    -- a job that is known or served then was, or is one of the child's
+    old_or_new : (job : ProcName) → IsUsed session with_directory (OfJob job) → IsUsed session f (OfJob job) ⊎ (has chain job ≡ true)
+    old_or_new job (inl known) = inl (inl known)
+    old_or_new job (inr at) = elim (same_path_found at.0 (n ∷ d)) [
+      | inl e ↦
+          let is = same_Some (record { class = class; content = Dir }) at.1 (sym (get_new f.files (n ∷ d) (record { class = class; content = Dir })) ∙ ap (get with_directory.files) (sym e.1) ∙ at.2) in
+          inr (ap (λ (x : Node). is_for x.class job) is ∙ at.3)
+      | inr e ↦ inl (inr (at.0, at.1, sym (get_other f.files (n ∷ d) (record { class = class; content = Dir }) at.0 e.1) ∙ at.2, at.3))
+    ]
+
+    old_given : (job : ProcName) → IsUsed session f (OfJob job) → is_given (after session made_state with_directory k me p here runs room is_declared served stranger k_chain k_held C S T k_home k_status k_thread few_born).processes job ≡ true
+    old_given job u = given_after session made_state with_directory k me p here runs room is_declared served stranger k_chain k_held C S T k_home k_status k_thread few_born job (l.jobs_given job u)
+
+    given_now : (job : ProcName) → has chain job ≡ true → is_given (after session made_state with_directory k me p here runs room is_declared served stranger k_chain k_held C S T k_home k_status k_thread few_born).processes job ≡ true
+    given_now job e = elim (has_added p.chain child job e) [
+      | inl old ↦ old_given job (chain_known job old)
+      | inr is ↦ subst (λ (j : ProcName). is_given (after session made_state with_directory k me p here runs room is_declared served stranger k_chain k_held C S T k_home k_status k_thread few_born).processes j ≡ true) (sym is) (given_child session made_state with_directory k me p here runs room is_declared served stranger k_chain k_held C S T k_home k_status k_thread few_born)
+    ]
+
+    jobs_given_then : (job : ProcName) → IsKnown (after session made_state with_directory k me p here runs room is_declared served stranger k_chain k_held C S T k_home k_status k_thread few_born) job ⊎ IsServed (after session made_state with_directory k me p here runs room is_declared served stranger k_chain k_held C S T k_home k_status k_thread few_born) job → is_given (after session made_state with_directory k me p here runs room is_declared served stranger k_chain k_held C S T k_home k_status k_thread few_born).processes job ≡ true
+    jobs_given_then job u = elim (old_or_new job (used_before session made_state with_directory k me p here runs room is_declared served stranger k_chain k_held C S T k_home k_status k_thread few_born job u)) [
+      | inl old ↦ old_given job old
+      | inr e ↦ given_now job e
+    ]
+
+    -- The state after all calls of the wrap lays out the flat state with the directory and the job's first process, whose wrapper holds the job.
+    pub lays_out_wrapped : LaysOut session state_wrapped wrapped
+    lays_out_wrapped = subst (LaysOut session state_wrapped) same_flat
+        (record {
+          laid = laid_held session made_state with_directory k me p here runs room is_declared served stranger k_chain k_held C S T k_home k_status k_thread few_born own most state_directory beside counted;
+          jobs_given = jobs_given_then;
+        })
