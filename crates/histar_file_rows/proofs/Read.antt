@@ -61,7 +61,7 @@ module _ (session : Session) (ok : IsSession session) (old new : Traced) (f : Fl
     said : check (state mid) t next ≡ unless (may_read session ready.alone.process class) Observe
     said = ap (λ (s : State). check s t next) stays
         ∙ read_file_said session (state old) f ready.lays_out.laid ok [] ready.alone.process t (runs session ok (state old) f t ready) [] (slash session ok (state old) f t ready).0 (slash session ok (state old) f t ready).1
-            (slash_number (length session.users)) (slash_listing_number (length session.users)) (at_slash session ok (state old) f t ready) (at_listing session ok (state old) f t ready) seen m o numbered class bytes at
+        (slash_number (length session.users)) (slash_listing_number (length session.users)) (at_slash session ok (state old) f t ready) (at_listing session ok (state old) f t ready) seen m o numbered class bytes at
 
     right_is : reads session f ready.alone.process (m ∷ []) ≡ may_read session ready.alone.process class
     right_is = ap (λ (x : Option Node). is_some_and x (λ n. may_read session ready.alone.process n.class)) at
@@ -72,7 +72,7 @@ module _ (session : Session) (ok : IsSession session) (old new : Traced) (f : Fl
     held : bytes_in ((state mid).objects o) ≡ bytes_at f (m ∷ [])
     held = ap (λ (s : State). bytes_in (s.objects o)) stays
         ∙ ap bytes_in (file_found session (state old) f ready.lays_out.laid (m ∷ []) class bytes at (guard_at session (state old) f ready.lays_out.laid (m ∷ []) (record { class = class; content = File bytes }) at).0
-            (guard_at session (state old) f ready.lays_out.laid (m ∷ []) (record { class = class; content = File bytes }) at).1 o numbered)
+        (guard_at session (state old) f ready.lays_out.laid (m ∷ []) (record { class = class; content = File bytes }) at).1 o numbered)
         ∙ sym (ap bytes_of at)
 
     by_right : (may : Bool) → may_read session ready.alone.process class ≡ may → Runs (ask next (λ (b : List ℕ). Answers (Data b))) mid new t result → Row
@@ -82,11 +82,11 @@ module _ (session : Session) (ok : IsSession session) (old new : Traced) (f : Fl
     by_right true is on =
         granted_step session f ready.alone call old new t ready.thread result (walk ∷ []) mid chain next (λ (b : List ℕ). Answers (Data b)) (said ∙ ap (λ (b : Bool). unless b Observe) is) on
         (λ later answer called right longer end.
-            let answer_is : answer ≡ bytes_at f (m ∷ []) = right ∙ held in
-            let backed = subst (EndsWithRead (state old) (entries_of old.line t (all_granted (walk ∷ next ∷ [])))) held (read_last old mid t (walk ∷ []) chain (slash_number (length session.users)) o) in
-            let same : state later ≡ state old = called.state ∙ stays in
-            answered_step session f ready.alone call old new t ready.thread result (walk ∷ next ∷ []) later longer (Data answer) (ap Data answer_is) (refused_by true is) backed (has_walk session ok (state old) f t ready m _ (inl (refl, tt)))
-            (subst (λ (s : State). LaysOut session s f) (sym same) ready.lays_out) (subst (λ (s : State). IsThreadOf session s [] t) (sym same) ready.thread) end)
+        let answer_is : answer ≡ bytes_at f (m ∷ []) = right ∙ held in
+        let backed = subst (EndsWithRead (state old) (entries_of old.line t (all_granted (walk ∷ next ∷ [])))) held (read_last old mid t (walk ∷ []) chain (slash_number (length session.users)) o) in
+        let same : state later ≡ state old = called.state ∙ stays in
+        answered_step session f ready.alone call old new t ready.thread result (walk ∷ next ∷ []) later longer (Data answer) (ap Data answer_is) (refused_by true is) backed (has_walk session ok (state old) f t ready m _ (inl (refl, tt)))
+        (subst (λ (s : State). LaysOut session s f) (sym same) ready.lays_out) (subst (λ (s : State). IsThreadOf session s [] t) (sym same) ready.thread) end)
 
   read_is_row : Runs (read_program (places_of (length session.users)) (m ∷ [])) old new t result → Row
   unfolding read_program

@@ -136,6 +136,6 @@ module _ (session : Session) (ok : IsSession session) (old new : Traced) (f : Fl
           granted_step session f ready.alone call old new t ready.thread result [] old (same_kernel old) (walk_call session ok (state old) f t ready) _
           (walk_said session ok (state old) f t ready ∙ ap (λ (b : Bool). unless b Observe) is) runs
           (λ mid bytes called right chain on.
-              listed_step session f ready.alone call old new t ready.thread result (walk_call session ok (state old) f t ready ∷ []) mid chain bytes (entries session ok (state old) f t ready)
-              (subst (λ (b : List ℕ). IsDirectory b (entries session ok (state old) f t ready)) (sym right) (holds session ok (state old) f t ready)) _ on
-              (go_on is mid called.state chain))
+          listed_step session f ready.alone call old new t ready.thread result (walk_call session ok (state old) f t ready ∷ []) mid chain bytes (entries session ok (state old) f t ready)
+          (subst (λ (b : List ℕ). IsDirectory b (entries session ok (state old) f t ready)) (sym right) (holds session ok (state old) f t ready)) _ on
+          (go_on is mid called.state chain))

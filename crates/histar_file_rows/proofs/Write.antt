@@ -72,7 +72,7 @@ module _ (session : Session) (ok : IsSession session) (old new : Traced) (f : Fl
     said : check (state mid) t next ≡ (unless (may_write session ready.alone.process class) Modify orelse unless (nat_le (length bytes) most_bytes) TooBig)
     said = ap (λ (s : State). check s t next) stays
         ∙ write_file_said session (state old) f ready.lays_out.laid ok [] ready.alone.process t (runs session ok (state old) f t ready) [] (slash session ok (state old) f t ready).0 (slash session ok (state old) f t ready).1
-            (slash_number (length session.users)) (slash_listing_number (length session.users)) (at_slash session ok (state old) f t ready) (at_listing session ok (state old) f t ready) seen m o numbered class held at bytes
+        (slash_number (length session.users)) (slash_listing_number (length session.users)) (at_slash session ok (state old) f t ready) (at_listing session ok (state old) f t ready) seen m o numbered class held at bytes
         ∙ ap (λ (b : Bool). unless (may_write session ready.alone.process class) Modify orelse unless b TooBig) (kept_none (length held) (length bytes))
 
     right_is : writes session f ready.alone.process (m ∷ []) ≡ may_write session ready.alone.process class
@@ -108,9 +108,9 @@ module _ (session : Session) (ok : IsSession session) (old new : Traced) (f : Fl
     by_right true true is_may is_fits on =
         granted_step session f ready.alone call old new t ready.thread result (walk ∷ []) mid chain next (λ _. Answers Done) (said_by true true is_may is_fits) on
         (λ later answer called right longer end.
-            let new_state : state later ≡ with_bytes (state old) o bytes = called.state ∙ ap (λ (s : State). with_bytes s o bytes) stays in
-            answered_step session f ready.alone call old new t ready.thread result (walk ∷ next ∷ []) later longer Done refl (refused_by true true is_may is_fits) tt (has_walk session ok (state old) f t ready m _ (inl (refl, tt)))
-            (subst (λ (s : State). LaysOut session s (with_file_bytes f (m ∷ []) bytes)) (sym new_state) laid_after) (subst (λ (s : State). IsThreadOf session s [] t) (sym new_state) thread_after) end)
+        let new_state : state later ≡ with_bytes (state old) o bytes = called.state ∙ ap (λ (s : State). with_bytes s o bytes) stays in
+        answered_step session f ready.alone call old new t ready.thread result (walk ∷ next ∷ []) later longer Done refl (refused_by true true is_may is_fits) tt (has_walk session ok (state old) f t ready m _ (inl (refl, tt)))
+        (subst (λ (s : State). LaysOut session s (with_file_bytes f (m ∷ []) bytes)) (sym new_state) laid_after) (subst (λ (s : State). IsThreadOf session s [] t) (sym new_state) thread_after) end)
 
   write_is_row : Runs (write_program (places_of (length session.users)) (m ∷ []) bytes) old new t result → Row
   unfolding write_program
