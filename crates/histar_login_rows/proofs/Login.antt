@@ -34,7 +34,7 @@ use Rattle.histar_calls.specs.Categories.{read_category, write_category}
 use Rattle.histar_calls.specs.Labelling.{owner_of, cleared_of}
 use Rattle.histar_calls.specs.Programs.{Program, Runs}
 use Rattle.histar_calls.specs.Programs.Program.{Answers}
-use Rattle.histar_calls.specs.Parts.{ask}
+use Rattle.histar_calls.specs.Parts.{◌>>=◌, ◌>>◌, ask}
 use Rattle.histar_login.specs.Login.{place_of, password_of, gate_of, user_label, user_clearance, entering, label_if, clearance_if, reply_if, login_at, login_as_program}
 use Rattle.histar_refinement.specs.Categories.{CategoryName, among}
 use Rattle.histar_refinement.specs.Guards.{Rights, owning, cleared_at, rights_label, rights_clearance}
@@ -156,7 +156,14 @@ module _ (users : List User) (name : Name) (password : Password) (old new : Trac
         (λ k. check (state old) t (Enter root_number (gate_of (place + 1)) (floor_of own (sym gate_label k)) (join_of most (sym gate_clearance k)) own))
         ∙ enter_said session (state old) f l [] p t runs_as name (place + 1) numbered ∙ ap (λ (b : Bool). unless b Gate) is_alone
 
-    entered_is : with_own (state old) t (floor_of own (owner_of (read_category (place + 1)) (write_category (place + 1)))) (join_of most (cleared_of (read_category (place + 1)) (write_category (place + 1)))) ≡ behind
+    -- behind it the thread has the labels that the code asks for
+    abbrev code_label : Levels
+    code_label = floor_of own (owner_of (read_category (place + 1)) (write_category (place + 1)))
+
+    abbrev code_clearance : Levels
+    code_clearance = join_of most (cleared_of (read_category (place + 1)) (write_category (place + 1)))
+
+    entered_is : with_own (state old) t code_label code_clearance ≡ behind
     entered_is = λ k. with_own (state old) t (floor_of own (sym gate_label k)) (join_of most (sym gate_clearance k))
 
     -- the last raw calls, and the reply
@@ -185,20 +192,25 @@ module _ (users : List User) (name : Name) (password : Password) (old new : Trac
       abbrev with_label : State
       with_label = relabelled_state session (state old) f l [] p t runs_as name (place + 1) numbered r owned fewer as_many
 
-      taken : Runs (taking right) mid new t result
-          → ((later : Traced) → Chain old t (all_granted (all_calls right)) later → state later ≡ with_own (state old) t (rights_label l.category r) (rights_clearance l.category r) → Runs (Answers (reply_if right)) later new t result → Goal) → Goal
+      -- what comes after the labels were taken
+      abbrev GoesOn : Type 0
+      GoesOn = (later : Traced) → Chain old t (all_granted (all_calls right)) later → state later ≡ with_own (state old) t (rights_label l.category r) (rights_clearance l.category r) → Runs (Answers (reply_if right)) later new t result → Goal
+
+      -- the clearance behind the label
+      cleared : (labelled : Traced) → Chain old t (all_granted (OwnLabel ∷ enters ∷ reads ∷ takes_label right ∷ [])) labelled → state labelled ≡ with_label → Runs (ask (takes_clearance right) (λ _. Answers (reply_if right))) labelled new t result → GoesOn → Goal
+      cleared labelled chain is runs go_on =
+          granted_step session f ready.alone call old new t ready.thread result (OwnLabel ∷ enters ∷ reads ∷ takes_label right ∷ []) labelled chain (takes_clearance right) (λ _. Answers (reply_if right))
+          ((λ k. check (is k) t (SetClearance (clearance_is k))) ∙ set_clearance_said session (state old) f l [] p t runs_as name (place + 1) numbered r owned fewer as_many) runs
+          (λ later done called told longer answers. go_on later longer
+          (called.state ∙ (λ k. with_changed (is k) t (clearing (clearance_is k)))
+          ∙ labels_taken (state old) t (wanted session (state old) f l [] p t runs_as name (place + 1) numbered) (limit session (state old) f l [] p t runs_as name (place + 1) numbered) (rights_label l.category r) (rights_clearance l.category r))
+          answers)
+
+      taken : Runs (taking right) mid new t result → GoesOn → Goal
       taken runs go_on =
           granted_step session f ready.alone call old new t ready.thread result (OwnLabel ∷ enters ∷ reads ∷ []) mid so_far (takes_label right) (λ _. ask (takes_clearance right) (λ _. Answers (reply_if right)))
           ((λ k. check (at k) t (SetLabel (label_is k))) ∙ set_label_said session (state old) f l [] p t runs_as name (place + 1) numbered r owned fewer as_many) runs
-          (λ labelled done called told chain clears.
-              let labelled_is : state labelled ≡ with_label = called.state ∙ λ k. with_changed (at k) t (relabelled (label_is k)) in
-              granted_step session f ready.alone call old new t ready.thread result (OwnLabel ∷ enters ∷ reads ∷ takes_label right ∷ []) labelled chain (takes_clearance right) (λ _. Answers (reply_if right))
-              ((λ k. check (labelled_is k) t (SetClearance (clearance_is k))) ∙ set_clearance_said session (state old) f l [] p t runs_as name (place + 1) numbered r owned fewer as_many) clears
-              (λ later finished last says longer answers.
-                  go_on later longer
-                  (last.state ∙ (λ k. with_changed (labelled_is k) t (clearing (clearance_is k)))
-                  ∙ labels_taken (state old) t (wanted session (state old) f l [] p t runs_as name (place + 1) numbered) (limit session (state old) f l [] p t runs_as name (place + 1) numbered) (rights_label l.category r) (rights_clearance l.category r))
-                  answers))
+          (λ labelled done called told chain clears. cleared labelled chain (called.state ∙ λ k. with_changed (at k) t (relabelled (label_is k))) clears go_on)
 
     refused_by : (right : Bool) → same user.0.password password ≡ right → refused session f [] p call ≡ unless right EAUTH
     refused_by right is = refused_is (Some user.0) user.1 ∙ ap (λ (b : Bool). unless b EAUTH) is
@@ -208,22 +220,43 @@ module _ (users : List User) (name : Name) (password : Password) (old new : Trac
     ends true is mid so_far at runs =
         taken true (thread_rights session [] process_then) (user_owns_less session (state old) f l [] p t runs_as name (place + 1) numbered) (λ c e. e) (λ c e. e) user_takes user_clears mid so_far at runs
         (λ later chain later_is answers.
-            answered_step session f ready.alone call old new t ready.thread result (all_calls true) later chain Done refl (refused_by true is) tt (among_calls true)
-            (subst (λ (s : State). LaysOut session s (with_process f [] process_then)) (sym later_is) (lays_out_login session (state old) f ready.lays_out [] p runs_as.0 runs_as.1 name (ap is_some numbered) t runs_as.2))
-            (subst (λ (s : State). IsThreadOf session s [] t) (sym later_is)
-            (thread_kept (state old) t own most thread (rights_label l.category (thread_rights session [] process_then)) (rights_clearance l.category (thread_rights session [] process_then)) session t ready.thread)) answers)
+        answered_step session f ready.alone call old new t ready.thread result (all_calls true) later chain Done refl (refused_by true is) tt (among_calls true)
+        (subst (λ (s : State). LaysOut session s (with_process f [] process_then)) (sym later_is) (lays_out_login session (state old) f ready.lays_out [] p runs_as.0 runs_as.1 name (ap is_some numbered) t runs_as.2))
+        (subst (λ (s : State). IsThreadOf session s [] t) (sym later_is)
+        (thread_kept (state old) t own most thread (rights_label l.category (thread_rights session [] process_then)) (rights_clearance l.category (thread_rights session [] process_then)) session t ready.thread)) answers)
     ends false is mid so_far at runs =
         taken false (thread_rights session [] p) (own_owns_less session (state old) f l [] p t runs_as name (place + 1) numbered) (λ c e. e) (λ c e. e) refl refl mid so_far at runs
         (λ later chain later_is answers.
-            refused_at_once session f ready.alone call old new t ready.thread result (all_calls false) later chain (later_is ∙ labels_back (state old) t own most thread) ready.lays_out EAUTH (refused_by false is) refl refl (among_calls false) answers)
+        refused_at_once session f ready.alone call old new t ready.thread result (all_calls false) later chain (later_is ∙ labels_back (state old) t own most thread) ready.lays_out EAUTH (refused_by false is) refl refl (among_calls false) answers)
+
+    -- the program behind the gate
+    abbrev reading : Program
+    reading = ask reads (λ kept. taking (bytes_eq kept password))
+
+    -- the password is read
+    from_gate : (inside : Traced) → Chain old t (all_granted (OwnLabel ∷ enters ∷ [])) inside → state inside ≡ behind → Runs reading inside new t result → Goal
+    from_gate inside chain is runs =
+        granted_step session f ready.alone call old new t ready.thread result (OwnLabel ∷ enters ∷ []) inside chain reads (λ kept. taking (bytes_eq kept password))
+        (ap (λ (s : State). check s t reads) is ∙ read_password_said session (state old) f l [] p t runs_as name (place + 1) numbered) runs
+        (λ read kept called kept_is longer goes.
+        let kept_so : kept ≡ user.0.password = kept_is ∙ ap (λ (s : State). bytes_in (s.objects (password_of (place + 1)))) is ∙ password_then in
+        ends (bytes_eq kept password) (sym (ap (λ (bytes : List ℕ). bytes_eq bytes password) kept_so ∙ equal_bytes user.0.password password)) read longer (called.state ∙ is) goes)
+
+    -- the gate is entered
+    to_gate : (asked : Traced) → Chain old t (all_granted (OwnLabel ∷ [])) asked → state asked ≡ state old → Runs (ask enters (λ _. reading)) asked new t result → Goal
+    to_gate asked chain stays runs =
+        granted_step session f ready.alone call old new t ready.thread result (OwnLabel ∷ []) asked chain enters (λ _. reading) (ap (λ (s : State). check s t enters) stays ∙ enters_said) runs
+        (λ inside entry called entry_is longer goes.
+        from_gate inside longer (called.state ∙ ap (λ (s : State). with_own s t code_label code_clearance) stays ∙ entered_is) goes)
 
     -- what the program goes on with once it has the thread's own labels
     abbrev with_labels : Levels × Levels → Program
-    with_labels own =
-        ask (entering (place + 1) own.0 own.1) (λ entry. ask reads (λ kept.
-            ask (SetLabel (label_if (bytes_eq kept password) (length users) (place + 1) own.0)) (λ _.
-            ask (SetClearance (clearance_if (bytes_eq kept password) (length users) (place + 1) own.1)) (λ _.
-            Answers (reply_if (bytes_eq kept password))))))
+    with_labels own = do
+      entry ← ask (entering (place + 1) own.0 own.1)
+      kept ← ask reads
+      ask (SetLabel (label_if (bytes_eq kept password) (length users) (place + 1) own.0))
+      ask (SetClearance (clearance_if (bytes_eq kept password) (length users) (place + 1) own.1))
+      Answers (reply_if (bytes_eq kept password))
 
     -- a user has the name
     someone : Runs (login_as_program (length users) (place + 1) password) old new t result → Goal
@@ -231,18 +264,8 @@ module _ (users : List User) (name : Name) (password : Password) (old new : Trac
     someone runs =
         granted_step session f ready.alone call old new t ready.thread result [] old (same_kernel old) OwnLabel with_labels asks_said runs
         (λ asked told called tells chain goes.
-            let asked_is : state asked ≡ state old = called.state in
-            let told_is : told ≡ (own, most) = λ k. (same_Some told.0 own (tells.0 ∙ ap label_there thread) k, same_Some told.1 most (tells.1 ∙ ap clearance_there thread) k) in
-            granted_step session f ready.alone call old new t ready.thread result (OwnLabel ∷ []) asked chain enters (λ entry. ask reads (λ kept. taking (bytes_eq kept password)))
-            (ap (λ (s : State). check s t enters) asked_is ∙ enters_said) (subst (λ (x : Levels × Levels). Runs (with_labels x) asked new t result) told_is goes)
-            (λ inside entry enters_so entry_is longer reads_on.
-                let inside_is : state inside ≡ behind = enters_so.state
-                    ∙ ap (λ (s : State). with_own s t (floor_of own (owner_of (read_category (place + 1)) (write_category (place + 1)))) (join_of most (cleared_of (read_category (place + 1)) (write_category (place + 1))))) asked_is ∙ entered_is in
-                granted_step session f ready.alone call old new t ready.thread result (OwnLabel ∷ enters ∷ []) inside longer reads (λ kept. taking (bytes_eq kept password))
-                (ap (λ (s : State). check s t reads) inside_is ∙ read_password_said session (state old) f l [] p t runs_as name (place + 1) numbered) reads_on
-                (λ read kept reads_so kept_is longest last.
-                    let kept_so : kept ≡ user.0.password = kept_is ∙ ap (λ (s : State). bytes_in (s.objects (password_of (place + 1)))) inside_is ∙ password_then in
-                    ends (bytes_eq kept password) (sym (ap (λ (bytes : List ℕ). bytes_eq bytes password) kept_so ∙ equal_bytes user.0.password password)) read longest (reads_so.state ∙ inside_is) last)))
+        let told_is : told ≡ (own, most) = λ k. (same_Some told.0 own (tells.0 ∙ ap label_there thread) k, same_Some told.1 most (tells.1 ∙ ap clearance_there thread) k) in
+        to_gate asked chain called.state (subst (λ (x : Levels × Levels). Runs (with_labels x) asked new t result) told_is goes))
 
   by_place : (o : Option ℕ) → place_of users name ≡ o → Runs (login_at (length users) password o) old new t result → Goal
   by_place None nowhere runs = unknown nowhere runs
