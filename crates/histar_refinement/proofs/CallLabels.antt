@@ -29,8 +29,8 @@ use Rattle.histar_refinement.proofs.CategoryTests.{among_none, is_in_names}
 use Rattle.histar_refinement.proofs.ClassTests.{owns_read_of}
 use Rattle.histar_refinement.proofs.SessionLemmas.{is_number, equal_names, equal_tested, user_range}
 
--- a user's place is looked for by equal bytes
-equal_bytes : (a b : Name) → bytes_eq a b ≡ same a b
+-- a user's place is looked for by equal bytes, and a password is tested so
+pub equal_bytes : (a b : Name) → bytes_eq a b ≡ same a b
 equal_bytes a b = same_truth (bytes_eq a b) (same a b) (λ e. equal_tested a b ((bytes_eq-Decides a b).0 e)) (λ e. (bytes_eq-Decides a b).1 (equal_names a b e))
 
 -- a user's number is one more than the user's place

@@ -1,6 +1,6 @@
 -- What boot left stands for good: each user's password and gate, with the numbers of categories that the state has.
 use Rattle.std.proofs.Common.{◌≡◌, ℕ, zero, suc, ◌+◌, ◌*◌, ◌≤◌, Bool, true, false, cond, List, [], ◌∷◌, ◌++◌, length, get_or, Option, None, Some, arith, refl, sym, ap, ◌∙◌, subst}
-use Rattle.std.specs.Prelude.{map, position, slice_get, nat_le, unwrap_or}
+use Rattle.std.specs.Prelude.{map, position, slice_get, nat_le, nat_lt, unwrap_or, option_map}
 use Rattle.std.specs.List.{find, position_or_len}
 use Rattle.std.specs.FinSet as set
 use Rattle.std.proofs.lemmas.Bool.Decides.{nat_tests}
@@ -63,6 +63,23 @@ numbered_user session name i e =
     let k = mapped_from (λ k. k + 1) (position (λ (u : User). same u.name name) session.users) i e in
     let at = placed (λ (u : User). same u.name name) session.users k.0 k.1 in
     (k.0, at.0, k.2, at.1, named_at session.users name ∙ ap (slice_get session.users) (place_told _ (position_or_len (λ (u : User). same u.name name) session.users) k.0 k.1) ∙ at.1, equal_names at.0.name name at.2)
+
+-- at no place from the length on stands a user
+no_user_at : (users : List User) (k : ℕ) → length users ≤ k → slice_get users k ≡ None
+no_user_at [] k le = refl
+no_user_at (u ∷ users) zero le = absurd (omega (arith, le))
+no_user_at (u ∷ users) (suc k) le = no_user_at users k (omega (arith, le))
+
+-- so a list of users has nobody at a place that is none
+unplaced : (b : Bool) (users : List User) (k : ℕ) → nat_lt k (length users) ≡ b → option_map (λ place. place + 1) (cond b (Some k) None) ≡ None → slice_get users k ≡ None
+unplaced true users k is e = absurd (none-some (k + 1) (sym e))
+unplaced false users k is e = no_user_at users k (grind (arith, nat_tests, is))
+
+-- and a name that has no number is no user's
+pub unnumbered_user : (session : Session) (name : Name) → user_number session name ≡ None → user_named session.users name ≡ None
+unnumbered_user session name e =
+    let k = position_or_len (λ (u : User). same u.name name) session.users in
+    named_at session.users name ∙ unplaced (nat_lt k (length session.users)) session.users k refl e
 
 -- ---- the table of what boot left
 

@@ -1,0 +1,2 @@
+pub mod TakenLabels
+pub mod Login

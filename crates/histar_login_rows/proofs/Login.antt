@@ -1,0 +1,276 @@
+-- A login is the row of its call: its raw calls are granted by the refinement's lemmas, and it ends as the user or as it was.
+use Rattle.std.proofs.Common.{◌≡◌, ℕ, ◌+◌, ◌≤◌, Bool, true, false, List, [], ◌∷◌, length, Option, None, Some, Result, inl, inr, refl, sym, ap, ◌∙◌, subst}
+use Rattle.std.specs.Prelude.{option_map, is_some}
+use Rattle.std.specs.Str.{bytes_eq}
+use Rattle.std.proofs.lemmas.Option.{same_Some}
+use Rattle.histar_base.specs.Refusals.{◌orelse◌, unless}
+use Rattle.histar_flat.specs.declared.calls.User.{User}
+use Rattle.histar_flat.specs.declared.calls.UnixCall.{UnixCall}
+use Rattle.histar_flat.specs.declared.calls.UnixCall.TheVariants.{Login}
+use Rattle.histar_flat.specs.declared.replies.Errno.{Errno}
+use Rattle.histar_flat.specs.declared.replies.Errno.TheVariants.{ENOENT, EACCES, EAUTH}
+use Rattle.histar_flat.specs.declared.replies.Reply.{Reply}
+use Rattle.histar_flat.specs.declared.replies.Reply.TheVariants.{Done, Refused}
+use Rattle.histar_flat.specs.Words.{Name, Password}
+use Rattle.histar_flat.specs.PathOrder.{same}
+use Rattle.histar_flat.specs.Sessions.{Session, session_of, user_named, user_number}
+use Rattle.histar_flat.specs.Classes.{Process, is_free}
+use Rattle.histar_flat.specs.FlatState.{Flat, is_some_and, with_process}
+use Rattle.histar_flat.specs.FlatCalls.{refused}
+use Rattle.histar_label.specs.Levels.{Levels}
+use Rattle.histar_label.specs.Floors.{join_of, floor_of}
+use Rattle.histar_object.specs.Objects.{thread_of, is_thread, label_there, clearance_there, bytes_in}
+use Rattle.histar_object.specs.Rights.{relabelled, clearing, with_changed}
+use Rattle.histar_object.specs.State.{State, with_own}
+use Rattle.histar_rules.specs.declared.raw.Denied.TheVariants.{NoThread, Gate}
+use Rattle.histar_rules.specs.declared.raw.RawCall.{RawCall}
+use Rattle.histar_rules.specs.declared.raw.RawCall.TheVariants.{OwnLabel, SetLabel, SetClearance, Enter, Read}
+use Rattle.histar_rules.specs.Rules.{check}
+use Rattle.histar_rules.specs.Sound.{root_number}
+use Rattle.histar_syscall.specs.Traced.{Traced, state}
+use Rattle.histar_syscall.proofs.Runs.{same_kernel}
+use Rattle.histar_calls.specs.declared.ending.Stopped.{Stopped}
+use Rattle.histar_calls.specs.Categories.{read_category, write_category}
+use Rattle.histar_calls.specs.Labelling.{owner_of, cleared_of}
+use Rattle.histar_calls.specs.Programs.{Program, Runs}
+use Rattle.histar_calls.specs.Programs.Program.{Answers}
+use Rattle.histar_calls.specs.Parts.{◌>>=◌, ◌>>◌, ask}
+use Rattle.histar_login.specs.Login.{place_of, password_of, gate_of, user_label, user_clearance, entering, label_if, clearance_if, reply_if, login_at, login_as_program}
+use Rattle.histar_refinement.specs.Categories.{CategoryName, among}
+use Rattle.histar_refinement.specs.Guards.{Rights, owning, cleared_at, rights_label, rights_clearance}
+use Rattle.histar_refinement.specs.Labels.{thread_rights, gate_rights}
+use Rattle.histar_refinement.specs.LaysOut.{Laid, LaysOut}
+use Rattle.histar_refinement.specs.Laws.{RunsAs}
+use Rattle.histar_refinement.specs.Lines.{IsThreadOf}
+use Rattle.histar_refinement.proofs.SessionLemmas.{user_range}
+use Rattle.histar_refinement.proofs.Standing.{thread_found}
+use Rattle.histar_refinement.proofs.StatusFound.{thread_back}
+use Rattle.histar_refinement.proofs.LeftObjects.{password_found, unnumbered_user}
+use Rattle.histar_refinement.proofs.LoginChecks.{more, wanted, limit, entered, as_user, enter_said, read_password_said, user_owns_less, own_owns_less, set_label_said, relabelled_state, set_clearance_said}
+use Rattle.histar_refinement.proofs.LoggingIn.{lays_out_login}
+use Rattle.histar_refinement.proofs.CallLabels.{equal_bytes, number_by_place, reads_numbered, writes_numbered, user_label_is, user_clearance_is}
+use Rattle.histar_login_rows.proofs.TakenLabels.{labels_taken, labels_back, kept_bytes, thread_kept}
+use Rattle.histar_rows.specs.Laws.{LoginsAreRows}
+use Rattle.histar_rows.specs.Rows.{AreAmong, reads_of_login, IsReady, DoesItsRow}
+use Rattle.histar_rows.proofs.Chains.{all_granted, entries_of, Chain}
+use Rattle.histar_rows.proofs.Steps.{granted_step, refused_at_once, answered_step}
+
+-- a process in no job is free
+free_in_none : (p : Process) → p.chain ≡ [] → is_free p ≡ true
+free_in_none p e = λ i. elim (e i) as (λ _. Bool) [ [] ↦ true | job ∷ jobs ↦ false ]
+
+module _ (users : List User) (name : Name) (password : Password) (old new : Traced) (f : Flat) (t : ℕ) (result : Result Reply Stopped) (ready : IsReady (session_of users) (state old) f t) where
+  abbrev session : Session
+  session = record { users = users; groups = [] }
+
+  abbrev p : Process
+  p = ready.alone.process
+
+  abbrev l : Laid (record { users = users; groups = [] }) (state old) f
+  l = ready.lays_out.laid
+
+  abbrev call : UnixCall
+  call = Login name password
+
+  abbrev Goal : Type 0
+  Goal = DoesItsRow session f call old new t result
+
+  runs_as : RunsAs session (state old) f l [] p t
+  runs_as = (ready.alone.stands, ready.alone.runs, (thread_back session (state old) f l [] t ready.thread).3)
+
+  is_alone : is_free p ≡ true
+  is_alone = free_in_none p ready.alone.free
+
+  -- what the flat rules refuse, in their order
+  abbrev refusal : Option User → Bool → Option Errno
+  refusal found alone = unless (is_some found) ENOENT orelse unless alone EACCES orelse unless (is_some_and found (λ (u : User). same u.password password)) EAUTH
+
+  refused_is : (found : Option User) → user_named users name ≡ found → refused session f [] p call ≡ refusal found true
+  refused_is found e = λ i. refusal (e i) (is_alone i)
+
+  -- no user has the name
+  unknown : place_of users name ≡ None → Runs (Answers (Refused ENOENT)) old new t result → Goal
+  unknown nowhere runs =
+      refused_at_once session f ready.alone call old new t ready.thread result [] old (same_kernel old) refl ready.lays_out ENOENT
+      (refused_is None (unnumbered_user session name (number_by_place session name ∙ ap (option_map (λ place. place + 1)) nowhere))) refl refl
+      (subst (λ (o : Option ℕ). AreAmong (reads_of_login session o false) []) (sym nowhere) tt) runs
+
+  module _ (place : ℕ) (at_place : place_of users name ≡ Some place) where
+    numbered : user_number session name ≡ Some (place + 1)
+    numbered = number_by_place session name ∙ ap (option_map (λ place. place + 1)) at_place
+
+    high : place + 1 ≤ length users
+    high = (user_range session name (place + 1) numbered).1
+
+    user : (u : User) × (user_named users name ≡ Some u) × (bytes_in ((state old).objects (password_of (place + 1))) ≡ u.password)
+    user = let found = password_found session (state old) f l name (place + 1) numbered in (found.0, found.1, ap bytes_in found.2)
+
+    abbrev own : Levels
+    own = rights_label l.category (thread_rights session [] p)
+
+    abbrev most : Levels
+    most = rights_clearance l.category (thread_rights session [] p)
+
+    thread : (state old).objects t ≡ Some (thread_of own most)
+    thread = thread_found session (state old) f l [] p runs_as.0 runs_as.1 t runs_as.2
+
+    -- ---- the labels that the code hands in are those of names
+
+    gate_label : rights_label l.category (gate_rights session name (place + 1)) ≡ owner_of (read_category (place + 1)) (write_category (place + 1))
+    gate_label = λ k. owning (reads_numbered session (state old) f l (place + 1) high k ∷ writes_numbered session (state old) f l (place + 1) high k ∷ []) []
+
+    gate_clearance : rights_clearance l.category (gate_rights session name (place + 1)) ≡ cleared_of (read_category (place + 1)) (write_category (place + 1))
+    gate_clearance = λ k. cleared_at (reads_numbered session (state old) f l (place + 1) high k ∷ writes_numbered session (state old) f l (place + 1) high k ∷ [])
+
+    abbrev behind : State
+    behind = entered session (state old) f l [] p t runs_as name (place + 1) numbered
+
+    -- behind the gate the password is what it was
+    password_then : bytes_in (behind.objects (password_of (place + 1))) ≡ user.0.password
+    password_then = kept_bytes (state old) t own most thread (wanted session (state old) f l [] p t runs_as name (place + 1) numbered) (limit session (state old) f l [] p t runs_as name (place + 1) numbered) (password_of (place + 1)) ∙ user.2
+
+    abbrev process_then : Process
+    process_then = as_user session (state old) f l [] p t runs_as name (place + 1) numbered
+
+    user_takes : user_label (length users) (place + 1) ≡ rights_label l.category (thread_rights session [] process_then)
+    user_takes = sym (user_label_is users (state old) f l name (place + 1) numbered p.exited p.born)
+        ∙ λ k. rights_label l.category (thread_rights session [] (record { user = name; chain = sym ready.alone.free k; held = []; exited = p.exited; born = p.born }))
+
+    user_clears : user_clearance (length users) (place + 1) ≡ rights_clearance l.category (thread_rights session [] process_then)
+    user_clears = sym (user_clearance_is users (state old) f l name (place + 1) numbered p.exited p.born)
+        ∙ λ k. rights_clearance l.category (thread_rights session [] (record { user = name; chain = sym ready.alone.free k; held = []; exited = p.exited; born = p.born }))
+
+    -- ---- the raw calls
+
+    abbrev enters : RawCall
+    enters = entering (place + 1) own most
+
+    abbrev reads : RawCall
+    reads = Read root_number (password_of (place + 1))
+
+    asks_said : check (state old) t OwnLabel ≡ None
+    asks_said = λ k. unless (is_thread (thread k)) NoThread
+
+    enters_said : check (state old) t enters ≡ None
+    enters_said =
+        (λ k. check (state old) t (Enter root_number (gate_of (place + 1)) (floor_of own (sym gate_label k)) (join_of most (sym gate_clearance k)) own))
+        ∙ enter_said session (state old) f l [] p t runs_as name (place + 1) numbered ∙ ap (λ (b : Bool). unless b Gate) is_alone
+
+    -- behind it the thread has the labels that the code asks for
+    abbrev code_label : Levels
+    code_label = floor_of own (owner_of (read_category (place + 1)) (write_category (place + 1)))
+
+    abbrev code_clearance : Levels
+    code_clearance = join_of most (cleared_of (read_category (place + 1)) (write_category (place + 1)))
+
+    entered_is : with_own (state old) t code_label code_clearance ≡ behind
+    entered_is = λ k. with_own (state old) t (floor_of own (sym gate_label k)) (join_of most (sym gate_clearance k))
+
+    -- the last raw calls, and the reply
+    abbrev takes_label : Bool → RawCall
+    takes_label right = SetLabel (label_if right (length users) (place + 1) own)
+
+    abbrev takes_clearance : Bool → RawCall
+    takes_clearance right = SetClearance (clearance_if right (length users) (place + 1) most)
+
+    abbrev taking : Bool → Program
+    taking right = ask (takes_label right) (λ _. ask (takes_clearance right) (λ _. Answers (reply_if right)))
+
+    -- all raw calls of a login
+    abbrev all_calls : Bool → List RawCall
+    all_calls right = OwnLabel ∷ enters ∷ reads ∷ takes_label right ∷ takes_clearance right ∷ []
+
+    -- the read of the password is among them
+    among_calls : (right : Bool) → AreAmong (reads_of_login session (place_of users name) true) (entries_of old.line t (all_granted (all_calls right)))
+    among_calls right = subst (λ (o : Option ℕ). AreAmong (reads_of_login session o true) (entries_of old.line t (all_granted (all_calls right)))) (sym at_place) (inr (inr (inl (refl, tt))))
+
+    -- labels of rights that are no more than the thread has behind the gate are taken
+    module _ (right : Bool) (r : Rights) (owned : (c : CategoryName) → among r.owned c ≡ true → among (more session (state old) f l [] p t runs_as name (place + 1) numbered).owned c ≡ true)
+        (fewer : (c : CategoryName) → among r.tainted c ≡ true → among (thread_rights session [] p).tainted c ≡ true) (as_many : (c : CategoryName) → among (thread_rights session [] p).tainted c ≡ true → among r.tainted c ≡ true)
+        (label_is : label_if right (length users) (place + 1) own ≡ rights_label l.category r) (clearance_is : clearance_if right (length users) (place + 1) most ≡ rights_clearance l.category r)
+        (mid : Traced) (so_far : Chain old t (all_granted (OwnLabel ∷ enters ∷ reads ∷ [])) mid) (at : state mid ≡ behind) where
+      abbrev with_label : State
+      with_label = relabelled_state session (state old) f l [] p t runs_as name (place + 1) numbered r owned fewer as_many
+
+      -- what comes after the labels were taken
+      abbrev GoesOn : Type 0
+      GoesOn = (later : Traced) → Chain old t (all_granted (all_calls right)) later → state later ≡ with_own (state old) t (rights_label l.category r) (rights_clearance l.category r) → Runs (Answers (reply_if right)) later new t result → Goal
+
+      -- the clearance behind the label
+      cleared : (labelled : Traced) → Chain old t (all_granted (OwnLabel ∷ enters ∷ reads ∷ takes_label right ∷ [])) labelled → state labelled ≡ with_label → Runs (ask (takes_clearance right) (λ _. Answers (reply_if right))) labelled new t result → GoesOn → Goal
+      cleared labelled chain is runs go_on =
+          granted_step session f ready.alone call old new t ready.thread result (OwnLabel ∷ enters ∷ reads ∷ takes_label right ∷ []) labelled chain (takes_clearance right) (λ _. Answers (reply_if right))
+          ((λ k. check (is k) t (SetClearance (clearance_is k))) ∙ set_clearance_said session (state old) f l [] p t runs_as name (place + 1) numbered r owned fewer as_many) runs
+          (λ later done called told longer answers. go_on later longer
+          (called.state ∙ (λ k. with_changed (is k) t (clearing (clearance_is k)))
+          ∙ labels_taken (state old) t (wanted session (state old) f l [] p t runs_as name (place + 1) numbered) (limit session (state old) f l [] p t runs_as name (place + 1) numbered) (rights_label l.category r) (rights_clearance l.category r))
+          answers)
+
+      taken : Runs (taking right) mid new t result → GoesOn → Goal
+      taken runs go_on =
+          granted_step session f ready.alone call old new t ready.thread result (OwnLabel ∷ enters ∷ reads ∷ []) mid so_far (takes_label right) (λ _. ask (takes_clearance right) (λ _. Answers (reply_if right)))
+          ((λ k. check (at k) t (SetLabel (label_is k))) ∙ set_label_said session (state old) f l [] p t runs_as name (place + 1) numbered r owned fewer as_many) runs
+          (λ labelled done called told chain clears. cleared labelled chain (called.state ∙ λ k. with_changed (at k) t (relabelled (label_is k))) clears go_on)
+
+    refused_by : (right : Bool) → same user.0.password password ≡ right → refused session f [] p call ≡ unless right EAUTH
+    refused_by right is = refused_is (Some user.0) user.1 ∙ ap (λ (b : Bool). unless b EAUTH) is
+
+    -- behind the gate, by whether the password is right
+    ends : (right : Bool) → same user.0.password password ≡ right → (mid : Traced) → Chain old t (all_granted (OwnLabel ∷ enters ∷ reads ∷ [])) mid → state mid ≡ behind → Runs (taking right) mid new t result → Goal
+    ends true is mid so_far at runs =
+        taken true (thread_rights session [] process_then) (user_owns_less session (state old) f l [] p t runs_as name (place + 1) numbered) (λ c e. e) (λ c e. e) user_takes user_clears mid so_far at runs
+        (λ later chain later_is answers.
+        answered_step session f ready.alone call old new t ready.thread result (all_calls true) later chain Done refl (refused_by true is) tt (among_calls true)
+        (subst (λ (s : State). LaysOut session s (with_process f [] process_then)) (sym later_is) (lays_out_login session (state old) f ready.lays_out [] p runs_as.0 runs_as.1 name (ap is_some numbered) t runs_as.2))
+        (subst (λ (s : State). IsThreadOf session s [] t) (sym later_is)
+        (thread_kept (state old) t own most thread (rights_label l.category (thread_rights session [] process_then)) (rights_clearance l.category (thread_rights session [] process_then)) session t ready.thread)) answers)
+    ends false is mid so_far at runs =
+        taken false (thread_rights session [] p) (own_owns_less session (state old) f l [] p t runs_as name (place + 1) numbered) (λ c e. e) (λ c e. e) refl refl mid so_far at runs
+        (λ later chain later_is answers.
+        refused_at_once session f ready.alone call old new t ready.thread result (all_calls false) later chain (later_is ∙ labels_back (state old) t own most thread) ready.lays_out EAUTH (refused_by false is) refl refl (among_calls false) answers)
+
+    -- the program behind the gate
+    abbrev reading : Program
+    reading = ask reads (λ kept. taking (bytes_eq kept password))
+
+    -- the password is read
+    from_gate : (inside : Traced) → Chain old t (all_granted (OwnLabel ∷ enters ∷ [])) inside → state inside ≡ behind → Runs reading inside new t result → Goal
+    from_gate inside chain is runs =
+        granted_step session f ready.alone call old new t ready.thread result (OwnLabel ∷ enters ∷ []) inside chain reads (λ kept. taking (bytes_eq kept password))
+        (ap (λ (s : State). check s t reads) is ∙ read_password_said session (state old) f l [] p t runs_as name (place + 1) numbered) runs
+        (λ read kept called kept_is longer goes.
+        let kept_so : kept ≡ user.0.password = kept_is ∙ ap (λ (s : State). bytes_in (s.objects (password_of (place + 1)))) is ∙ password_then in
+        ends (bytes_eq kept password) (sym (ap (λ (bytes : List ℕ). bytes_eq bytes password) kept_so ∙ equal_bytes user.0.password password)) read longer (called.state ∙ is) goes)
+
+    -- the gate is entered
+    to_gate : (asked : Traced) → Chain old t (all_granted (OwnLabel ∷ [])) asked → state asked ≡ state old → Runs (ask enters (λ _. reading)) asked new t result → Goal
+    to_gate asked chain stays runs =
+        granted_step session f ready.alone call old new t ready.thread result (OwnLabel ∷ []) asked chain enters (λ _. reading) (ap (λ (s : State). check s t enters) stays ∙ enters_said) runs
+        (λ inside entry called entry_is longer goes.
+        from_gate inside longer (called.state ∙ ap (λ (s : State). with_own s t code_label code_clearance) stays ∙ entered_is) goes)
+
+    -- what the program goes on with once it has the thread's own labels
+    abbrev with_labels : Levels × Levels → Program
+    with_labels own = do
+      entry ← ask (entering (place + 1) own.0 own.1)
+      kept ← ask reads
+      ask (SetLabel (label_if (bytes_eq kept password) (length users) (place + 1) own.0))
+      ask (SetClearance (clearance_if (bytes_eq kept password) (length users) (place + 1) own.1))
+      Answers (reply_if (bytes_eq kept password))
+
+    -- a user has the name
+    someone : Runs (login_as_program (length users) (place + 1) password) old new t result → Goal
+    unfolding login_as_program
+    someone runs =
+        granted_step session f ready.alone call old new t ready.thread result [] old (same_kernel old) OwnLabel with_labels asks_said runs
+        (λ asked told called tells chain goes.
+        let told_is : told ≡ (own, most) = λ k. (same_Some told.0 own (tells.0 ∙ ap label_there thread) k, same_Some told.1 most (tells.1 ∙ ap clearance_there thread) k) in
+        to_gate asked chain called.state (subst (λ (x : Levels × Levels). Runs (with_labels x) asked new t result) told_is goes))
+
+  by_place : (o : Option ℕ) → place_of users name ≡ o → Runs (login_at (length users) password o) old new t result → Goal
+  by_place None nowhere runs = unknown nowhere runs
+  by_place (Some place) at_place runs = someone place at_place runs
+
+-- A login is the row of its call.
+pub logins_are_rows : LoginsAreRows
+logins_are_rows users ok name password old new f t result ready runs = by_place users name password old new f t result ready (place_of users name) refl runs
