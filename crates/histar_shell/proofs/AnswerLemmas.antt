@@ -5,7 +5,7 @@ use Rattle.std.proofs.lemmas.List.{map-append, drop_more}
 use Rattle.std.proofs.lemmas.Grind.{flat_map-append}
 use Rattle.std.proofs.KnownBytes.{Appends-nil, Appends-kept, Appends-trans, Keeps-refl}
 use Rattle.std.specs.Io.KnownBytes.{Appends, Keeps}
-use Rattle.histar_calls.specs.declared.stopping.Stopped.{Stopped}
+use Rattle.histar_calls.specs.declared.ending.Stopped.{Stopped}
 use Rattle.histar_flat.specs.declared.replies.Reply.{Reply}
 use Rattle.histar_script.specs.declared.fault.Fault.{Fault}
 use Rattle.histar_flat.specs.declared.calls.CallLine.{CallLine}

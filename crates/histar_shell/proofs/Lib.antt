@@ -2,5 +2,9 @@ pub mod AnswerLemmas
 pub mod RunLemmas
 pub mod Lines
 pub mod Users
+pub mod FirstAlone
+pub mod RowRuns
+pub mod CallRows
 pub mod LineMeanings
+pub mod Starts
 pub mod SessionMeanings

@@ -1,22 +1,39 @@
 -- What a call line does to a machine that runs.
-use Rattle.std.proofs.Common.{◌≡◌, ℕ, Bool, false, [], ◌∷◌, Result, Ok, refl, sym, subst}
+use Rattle.std.proofs.Common.{◌≡◌, ℕ, Bool, false, List, [], ◌∷◌, Result, Ok, Err, refl, sym, subst}
+use Rattle.histar_flat.specs.declared.calls.Mode.{Mode}
+use Rattle.histar_flat.specs.declared.calls.User.{User}
 use Rattle.histar_flat.specs.declared.replies.Reply.TheVariants.{Gone}
 use Rattle.histar_flat.specs.declared.calls.UnixCall.{UnixCall}
+use Rattle.histar_flat.specs.declared.calls.UnixCall.TheVariants.{Create, Write, Read, Login}
 use Rattle.histar_flat.specs.declared.replies.Reply.{Reply}
-use Rattle.histar_flat.specs.Words.{ProcName}
-use Rattle.histar_calls.specs.declared.stopping.Stopped.{Stopped}
-use Rattle.histar_shell.specs.Machine.{Running, HasMade, Runs, AnswersIf, AnswersLine}
+use Rattle.histar_flat.specs.Words.{Name, Password, Path, ProcName}
+use Rattle.histar_syscall.specs.Traced.{Traced}
+use Rattle.histar_calls.specs.declared.ending.Stopped.{Stopped}
+use Rattle.histar_calls.specs.declared.places.Places.{Places}
+use Rattle.histar_calls.specs.Programs.{Runs}
+use Rattle.histar_shell.specs.Machine.{Running, Makes, HasMade, AnswersRunning, AnswersIf, AnswersLine}
 
 -- process 0 had its call made
 pub had_made : (old new : Running) (line : ℕ) (process : ProcName) (call : UnixCall) (result : Result Reply Stopped) → old.is_stopped ≡ false → process ≡ [] → HasMade old new line call result
     → AnswersLine old new line process call result
 had_made old new line process call result runs zero made =
-    subst (λ (b : Bool). AnswersIf b old new line process call result) (sym runs) (subst (λ (p : ProcName). Runs old new line p call result) (sym zero) made)
+    subst (λ (b : Bool). AnswersIf b old new line process call result) (sym runs) (subst (λ (p : ProcName). AnswersRunning old new line p call result) (sym zero) made)
 
 -- a machine that runs answers `gone` to a process that was never born
 pub gone_line : (m : Running) (line : ℕ) (process : ProcName) (call : UnixCall) → m.is_stopped ≡ false → (process ≡ [] → ⊥) → AnswersLine m m line process call (Ok Gone)
 gone_line m line process call runs born = subst (λ (b : Bool). AnswersIf b m m line process call (Ok Gone)) (sym runs) (by process born)
   where
-    by : (p : ProcName) → (p ≡ [] → ⊥) → Runs m m line p call (Ok Gone)
+    by : (p : ProcName) → (p ≡ [] → ⊥) → AnswersRunning m m line p call (Ok Gone)
     by [] not_first = absurd (not_first refl)
     by (n ∷ p) not_first = (refl, refl)
+
+-- a call that no line can hold makes no raw call, and has no answer
+pub makes_none : (users : List User) (places : Places) (k : Traced) (t : ℕ) (stopped : Stopped) (call : UnixCall)
+    → ((path : Path) (mode : Mode) → call ≡ Create path mode → ⊥) → ((path : Path) → call ≡ Read path → ⊥) → ((path : Path) (bytes : List ℕ) → call ≡ Write path bytes → ⊥)
+    → ((name : Name) (password : Password) → call ≡ Login name password → ⊥) → Makes users places k k t call (Err stopped)
+unfolding Runs
+makes_none users places k t stopped (Create path mode) create read write login = absurd (create path mode refl)
+makes_none users places k t stopped (Read path) create read write login = absurd (read path refl)
+makes_none users places k t stopped (Write path bytes) create read write login = absurd (write path bytes refl)
+makes_none users places k t stopped (Login name password) create read write login = absurd (login name password refl)
+makes_none users places k t stopped _ create read write login = record { state = refl; trace = refl; line = refl }

@@ -22,12 +22,10 @@ use Rattle.histar_syscall.specs.declared.trace.TraceEntry.{TraceEntry}
 use Rattle.histar_syscall.specs.Traced.{state}
 use Rattle.histar_syscall.specs.Runs.{IsBy, IsRun}
 use Rattle.histar_login.specs.Boot.{boot_thread_number, boot_calls, IsBooted}
-use Rattle.histar_login.specs.Start.{places_of, thread_number}
-use Rattle.histar_simulation.specs.LaysOut.{LaysOut}
-use Rattle.histar_simulation.specs.Lines.{AreRows}
-use Rattle.histar_simulation.proofs.Start.{start_lays_out}
-use Rattle.histar_simulation.proofs.Sessions.{run_after, rows_run}
-use Rattle.histar_simulation.proofs.Chains.{entries_of, chain_run, chain_own, granted_run}
+use Rattle.histar_refinement.specs.LaysOut.{LaysOut}
+use Rattle.histar_rows.specs.Laws.{CallsAreRows}
+use Rattle.histar_rows.specs.Rows.{AreRows}
+use Rattle.histar_rows.proofs.Chains.{entries_of, chain_run, chain_own, granted_run}
 use Rattle.histar_devices.specs.Writing.{AppendsFront}
 use Rattle.histar_shell.specs.Answers.{answer_text, answers_text, calls_of, line_text}
 use Rattle.histar_shell.specs.Machine.{Running, IsStart}
@@ -36,13 +34,15 @@ use Rattle.histar_shell.specs.Outcome.{BeginsScript, WritesAtFault, WritesAnswer
 use Rattle.histar_shell.specs.Meaning.{meaning_text, Shows, AnswersAsMeant, WritesMeaning, BeginsMeaning, WritesMeaningAtFault, RunsAsMeant}
 use Rattle.histar_shell.proofs.Users.{AreScriptable, script_says}
 use Rattle.histar_shell.proofs.LineMeanings.{line_follows, users_stay}
+use Rattle.histar_shell.proofs.RowRuns.{run_after, rows_run}
+use Rattle.histar_shell.proofs.Starts.{start_is_laid, start_shows}
 
 -- What the lines of a session have done, from a machine that shows a flat state on.
 pub record IsMeantSession (m : Running) (f : Flat) (answers : List Answered) (end : Running) : Type 0 where
   pub text : answers_text answers ≡ answers_text (answered_from (session_of m.users) f (calls_of answers))
   pub entries : List TraceEntry
   pub trace : end.kernel.trace ≡ m.kernel.trace ++ entries
-  pub rows : AreRows m.users (state m.kernel) f (calls_of answers) entries (state end.kernel)
+  pub rows : AreRows (session_of m.users) (state m.kernel) f (calls_of answers) entries (state end.kernel)
 
 -- a session of no line
 session_none : (m : Running) (f : Flat) (end : Running) → end ≡ m → IsMeantSession m f [] end
@@ -63,28 +63,19 @@ session_first m mid f a answers end same line later =
       text = (λ i. line_text a.call.line (line.told i) ++ later.text i) ∙ ap (λ (users : List User). line_text a.call.line (reply_of line) ++ answers_text (answered_from (session_of users) g asked)) same;
       entries = line.entries ++ later.entries;
       trace = later.trace ∙ ap (λ (es : List TraceEntry). es ++ later.entries) line.trace ∙ append_assoc m.kernel.trace line.entries later.entries;
-      rows = (line.entries, later.entries, state mid.kernel, refl, line.row, subst (λ (users : List User). AreRows users (state mid.kernel) g asked later.entries (state end.kernel)) same later.rows);
+      rows = (line.entries, later.entries, state mid.kernel, refl, line.row, subst (λ (users : List User). AreRows (session_of users) (state mid.kernel) g asked later.entries (state end.kernel)) same later.rows);
     }
   where
     reply_of : AnswersAsMeant m mid f a.call a.reply → Reply
     reply_of l = reply_to (session_of m.users) f a.call.process a.call.call
 
 -- a session of lines that a script can have
-pub session_means : (m : Running) (f : Flat) (answers : List Answered) (end : Running) → Session m answers end → Shows m f → AreScriptable (calls_of answers) → IsMeantSession m f answers end
-session_means m f [] end session shows can = session_none m f end session
-session_means m f (a ∷ answers) end session shows can =
-    let line = line_follows m session.0 a.call.line a.call.process a.call.call (Ok a.reply) session.1 f shows can.0 in
+pub session_means : (rows : CallsAreRows) (m : Running) (f : Flat) (answers : List Answered) (end : Running) → Session m answers end → Shows m f → AreScriptable (calls_of answers) → IsMeantSession m f answers end
+session_means rows m f [] end session shows can = session_none m f end session
+session_means rows m f (a ∷ answers) end session shows can =
+    let line = line_follows rows m session.0 a.call.line a.call.process a.call.call (Ok a.reply) session.1 f shows can.0 in
     session_first m session.0 f a answers end (users_stay m session.0 a.call.line a.call.process a.call.call (Ok a.reply) session.1) line
-    (session_means session.0 (flat_after (session_of m.users) f a.call.process a.call.call) answers end session.2 line.shows can.1)
-
--- a machine that was booted shows the flat start
-pub start_shows : (users : List User) (m : Running) → IsUserList users → IsStart users m → Shows m (boot (session_of users))
-start_shows users m is_list start = record {
-  users = subst IsUserList (sym start.users) is_list;
-  places = start.places ∙ ap (λ (us : List User). places_of (length us)) (sym start.users);
-  thread = start.thread ∙ ap (λ (us : List User). thread_number (length us)) (sym start.users);
-  kernel = subst (λ (us : List User). LaysOut us (state m.kernel) (boot (session_of users))) (sym start.users) (subst (λ (s : State). LaysOut users s (boot (session_of users))) (sym start.state) (start_lays_out users is_list.some));
-}
+    (session_means rows session.0 (flat_after (session_of m.users) f a.call.process a.call.call) answers end session.2 line.shows can.1)
 
 -- the raw calls of boot
 record IsBootTrace (users : List User) (m : Running) : Type 0 where
@@ -105,10 +96,10 @@ boot_trace users m booted =
       own = subst (λ (line : ℕ). AllByRecursion (IsBy line boot_thread_number) entries) booted.line (chain_own boot_thread_number booted.first.line granted.0);
     }
 
-module _ (script : Reading) (is_list : IsUserList script.users) (can : AreScriptable script.calls) (start : Running) (starts : IsStart script.users start) where
+module _ (rows : CallsAreRows) (script : Reading) (is_list : IsUserList script.users) (can : AreScriptable script.calls) (start : Running) (starts : IsStart script.users start) where
   -- the session from the start on
   from_start : (answers : List Answered) (end : Running) → AreScriptable (calls_of answers) → Session start answers end → IsMeantSession start (boot (session_of script.users)) answers end
-  from_start answers end these session = session_means start (boot (session_of script.users)) answers end session (start_shows script.users start is_list starts) these
+  from_start answers end these session = session_means rows start (boot (session_of script.users)) answers end session (start_shows script.users is_list start starts) these
 
   -- the text of the lines that were answered
   text_is : (answers : List Answered) (end : Running) → AreScriptable (calls_of answers) → Session start answers end → answers_text answers ≡ answers_text (meaning (session_of script.users) (calls_of answers))
@@ -121,8 +112,8 @@ module _ (script : Reading) (is_list : IsUserList script.users) (can : AreScript
       let session = from_start answered.answers end these answered.session in
       let of_boot = boot_trace script.users start starts.booted in
       let parts = recorded ∙ session.trace ∙ ap (λ (es : List TraceEntry). es ++ session.entries) of_boot.trace in
-      let rows = subst (λ (calls : List CallLine). AreRows script.users (state start.kernel) (boot (session_of script.users)) calls session.entries (state end.kernel)) answered.each
-      (subst (λ (us : List User). AreRows us (state start.kernel) (boot (session_of script.users)) (calls_of answered.answers) session.entries (state end.kernel)) starts.users session.rows) in
+      let of_lines = subst (λ (calls : List CallLine). AreRows (session_of script.users) (state start.kernel) (boot (session_of script.users)) calls session.entries (state end.kernel)) answered.each
+      (subst (λ (us : List User). AreRows (session_of us) (state start.kernel) (boot (session_of script.users)) (calls_of answered.answers) session.entries (state end.kernel)) starts.users session.rows) in
       record {
         script = script;
         is_read = is_read;
@@ -134,12 +125,12 @@ module _ (script : Reading) (is_list : IsUserList script.users) (can : AreScript
           start = state start.kernel;
           boot_run = of_boot.run;
           boot_own = of_boot.own;
-          boot_lays_out = subst (λ (s : State). LaysOut script.users s (boot (session_of script.users))) (sym starts.state) (start_lays_out script.users is_list.some);
+          boot_lays_out = subst (λ (s : State). LaysOut (session_of script.users) s (boot (session_of script.users))) (sym starts.state) (start_is_laid script.users is_list);
           end = state end.kernel;
-          rows = rows;
+          rows = of_lines;
           run = subst (λ (es : List TraceEntry). IsRun empty_state es (state end.kernel)) (sym parts)
               (run_after empty_state (state start.kernel) (state end.kernel) of_boot.entries session.entries of_boot.run
-              (rows_run script.users (state start.kernel) (boot (session_of script.users)) script.calls session.entries (state end.kernel) rows));
+              (rows_run (session_of script.users) (state start.kernel) (boot (session_of script.users)) script.calls session.entries (state end.kernel) of_lines));
         };
       }
 
@@ -169,24 +160,24 @@ module _ (script : Reading) (is_list : IsUserList script.users) (can : AreScript
       record { script = script; is_read = is_read; written = subst (AppendsFront old new) (sym whole) (longer_front old new (answers_text begun.answers) rest_text begun.written) }
 
 -- the beginning of a script's answers is one of its meaning
-begun_script : (old new : Option (List ℕ)) (text : List ℕ) → BeginsScript old new (script_of text) → BeginsMeaning old new (script_of text)
-begun_script old new text h = let says = script_says text h.script h.is_read in begins_meaning h.script says.0 says.1 h.start h.starts old new (script_of text) h.is_read h.begun
+begun_script : (rows : CallsAreRows) (old new : Option (List ℕ)) (text : List ℕ) → BeginsScript old new (script_of text) → BeginsMeaning old new (script_of text)
+begun_script rows old new text h = let says = script_says text h.script h.is_read in begins_meaning rows h.script says.0 says.1 h.start h.starts old new (script_of text) h.is_read h.begun
 
 -- at a fault
-meant_at_fault : (old new : Option (List ℕ)) (text : List ℕ) (fault : Fault) → WritesAtFault old new (script_of text) fault → WritesMeaningAtFault old new (script_of text) fault
-meant_at_fault old new text (BadScript n) h = h
-meant_at_fault old new text TooLong h = h
-meant_at_fault old new text OutOfMemory (inl h) = inl h
-meant_at_fault old new text OutOfMemory (inr h) = inr (begun_script old new text h)
-meant_at_fault old new text ReadFailed h = h
-meant_at_fault old new text WriteFailed h = begun_script old new text h
+meant_at_fault : (rows : CallsAreRows) (old new : Option (List ℕ)) (text : List ℕ) (fault : Fault) → WritesAtFault old new (script_of text) fault → WritesMeaningAtFault old new (script_of text) fault
+meant_at_fault rows old new text (BadScript n) h = h
+meant_at_fault rows old new text TooLong h = h
+meant_at_fault rows old new text OutOfMemory (inl h) = inl h
+meant_at_fault rows old new text OutOfMemory (inr h) = inr (begun_script rows old new text h)
+meant_at_fault rows old new text ReadFailed h = h
+meant_at_fault rows old new text WriteFailed h = begun_script rows old new text h
 
 -- what a run answers is as its script means
-meant_run : (old new : Option (List ℕ)) (text : List ℕ) (result : Result (List TraceEntry) Fault) → WritesAnswers old new (script_of text) result → RunsAsMeant old new (script_of text) result
-meant_run old new text (Ok trace) h = let says = script_says text h.script h.is_read in writes_meaning h.script says.0 says.1 h.start h.starts old new (script_of text) h.is_read trace h.end h.answered h.recorded
-meant_run old new text (Err fault) h = meant_at_fault old new text fault h
+meant_run : (rows : CallsAreRows) (old new : Option (List ℕ)) (text : List ℕ) (result : Result (List TraceEntry) Fault) → WritesAnswers old new (script_of text) result → RunsAsMeant old new (script_of text) result
+meant_run rows old new text (Ok trace) h = let says = script_says text h.script h.is_read in writes_meaning rows h.script says.0 says.1 h.start h.starts old new (script_of text) h.is_read trace h.end h.answered h.recorded
+meant_run rows old new text (Err fault) h = meant_at_fault rows old new text fault h
 
 -- where the input is known
-pub runs_as_meant : (left old new : Option (List ℕ)) (result : Result (List TraceEntry) Fault) → IfSome left (λ text. WritesAnswers old new (script_of text) result) → IfSome left (λ text. RunsAsMeant old new (script_of text) result)
-runs_as_meant None old new result h = tt
-runs_as_meant (Some text) old new result h = meant_run old new text result h
+pub runs_as_meant : (rows : CallsAreRows) (left old new : Option (List ℕ)) (result : Result (List TraceEntry) Fault) → IfSome left (λ text. WritesAnswers old new (script_of text) result) → IfSome left (λ text. RunsAsMeant old new (script_of text) result)
+runs_as_meant rows None old new result h = tt
+runs_as_meant rows (Some text) old new result h = meant_run rows old new text result h

@@ -1,14 +1,17 @@
--- No user of a script is called nobody, and its calls are calls that a line can make.
-use Rattle.std.proofs.Common.{◌≡◌, ℕ, ◌+◌, Bool, true, false, ◌&&◌, List, [], ◌∷◌, ◌++◌, cond, None, Some, Result, Ok, Err, refl, sym, ap, ◌∙◌, subst, inl, inr, if◌then◌else◌}
-use Rattle.std.specs.Prelude.{IsTrue, All, not}
-use Rattle.std.specs.List.{AllByRecursion}
+-- The users of a script are those of a session, and its calls are calls that a line can make.
+use Rattle.std.proofs.Common.{◌≡◌, ℕ, ◌+◌, ◌<◌, Bool, true, false, ◌&&◌, List, [], ◌∷◌, ◌++◌, length, cond, Option, None, Some, Result, Ok, Err, refl, sym, ap, ◌∙◌, subst, inl, inr, if◌then◌else◌, arith}
+use Rattle.std.specs.Prelude.{IsTrue, All, not, nat_lt, option_map}
+use Rattle.std.specs.List.{AllByRecursion, position_or_len}
 use Rattle.std.specs.Str.{bytes_eq}
+use Rattle.std.proofs.lemmas.Bool.Decides.{nat_tests}
 use Rattle.std.proofs.lemmas.List.Elements.{All-head, All-tail}
+use Rattle.std.proofs.lemmas.Option.{none-some}
+use mathlib.Core.Bool.{true≢false}
 use Rattle.histar_flat.specs.declared.calls.User.{User}
 use Rattle.histar_flat.specs.declared.calls.UnixCall.{UnixCall}
 use Rattle.histar_flat.specs.declared.calls.UnixCall.TheVariants.{Create, Write, Read, Login}
 use Rattle.histar_flat.specs.Words.{is_name, is_user_name, begins_with_letter}
-use Rattle.histar_flat.specs.Sessions.{user_named}
+use Rattle.histar_flat.specs.Sessions.{session_of, user_number}
 use Rattle.histar_flat.specs.Classes.{nobody}
 use Rattle.histar_flat.specs.declared.calls.CallLine.{CallLine}
 use Rattle.histar_script.specs.declared.items.Item.{Item}
@@ -21,8 +24,8 @@ use Rattle.histar_script.specs.Grammar.{IsCallText, Says, Adds, TakesAll, IsScri
 use Rattle.histar_script.specs.Reading.{reading, script_of}
 use Rattle.histar_script.proofs.ScriptsBack.{found_from}
 use Rattle.histar_script.proofs.Kept.{listed}
-use Rattle.histar_simulation.specs.Lines.{IsScriptable}
-use Rattle.histar_simulation.proofs.Users.{IsNoUser, unnamed_place}
+use Rattle.histar_refinement.specs.Sessions.{IsSession}
+use Rattle.histar_rows.specs.Rows.{IsScriptable}
 
 -- a test that comes last of three
 last_passes : (a b c : Bool) → (a && b && c) ≡ true → c ≡ true
@@ -40,16 +43,28 @@ is_not_nobody : (name : List ℕ) → IsTrue (is_user_name name) → bytes_eq na
 unfolding is_user_name
 is_not_nobody name h = not_passes (bytes_eq name nobody) (last_passes (is_name name) (begins_with_letter name) (not (bytes_eq name nobody)) h)
 
--- so no user of a script has the name
-none_named : (users : List User) → All (λ (u : User). IsTrue (is_user_name u.name)) users → user_named users nobody ≡ None
-none_named [] named = refl
-none_named (u ∷ users) named =
-    ap (λ (b : Bool). cond b (Some u) (user_named users nobody)) (is_not_nobody u.name (All-head (λ (v : User). IsTrue (is_user_name v.name)) u users named))
-    ∙ none_named users (All-tail (λ (v : User). IsTrue (is_user_name v.name)) u users named)
+-- so no user of a script is the first with the name
+none_first : (users : List User) → All (λ (u : User). IsTrue (is_user_name u.name)) users → position_or_len (λ (u : User). bytes_eq u.name nobody) users ≡ length users
+none_first [] named = refl
+none_first (u ∷ users) named =
+    let later = none_first users (All-tail (λ (v : User). IsTrue (is_user_name v.name)) u users named) in
+    let next : 1 + position_or_len (λ (v : User). bytes_eq v.name nobody) users ≡ length (u ∷ users) = omega (arith, later) in
+    ap (λ (b : Bool). cond (not b) (1 + position_or_len (λ (v : User). bytes_eq v.name nobody) users) 0) (is_not_nobody u.name (All-head (λ (v : User). IsTrue (is_user_name v.name)) u users named)) ∙ next
 
--- nobody is no user of a script
-pub no_user_is_nobody : (users : List User) → IsUserList users → IsNoUser users
-no_user_is_nobody users h = unnamed_place users nobody (none_named users h.named)
+-- and nobody has no number
+nobody_unnumbered : (users : List User) → IsUserList users → user_number (session_of users) nobody ≡ None
+nobody_unnumbered users h =
+    let outside : nat_lt (length users) (length users) ≡ false = grind (arith, nat_tests) in
+    ap (λ (k : ℕ). option_map (λ (place : ℕ). place + 1) (cond (nat_lt k (length users)) (Some k) None)) (none_first users h.named)
+    ∙ ap (λ (b : Bool). option_map (λ (place : ℕ). place + 1) (cond b (Some (length users)) None)) outside
+
+-- the users of a script are those of a session without groups
+pub is_session : (users : List User) → IsUserList users → IsSession (session_of users)
+is_session users h = record {
+  no_one = nobody_unnumbered users h;
+  groups_differ = λ i j g k at also e. absurd (none-some g at);
+  declared = λ name group is. absurd (true≢false (sym is));
+}
 
 -- the calls of lines are calls that a line can make
 abbrev pub AreScriptable : List CallLine → Type 0

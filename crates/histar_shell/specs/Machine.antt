@@ -1,5 +1,5 @@
 -- What a machine keeps, and what a call line does to it.
-use Rattle.std.specs.Prelude.{◌≡◌, ℕ, Bool, true, false, List, [], ◌∷◌, length, Result, Ok, IfOk, IsErr, is_err, refl}
+use Rattle.std.specs.Prelude.{◌≡◌, ℕ, Bool, true, false, List, [], ◌∷◌, length, Result, Ok, IsErr, is_err, refl}
 use Rattle.std.specs.Coded.{Coded, code_by, coded×, coded_ℕ, coded_bool, coded_list}
 use Rattle.histar_flat.specs.declared.calls.User.{User}
 use Rattle.histar_flat.specs.contracts.calls.User as user
@@ -11,12 +11,15 @@ use Rattle.histar_flat.specs.Words.{ProcName}
 use Rattle.histar_syscall.specs.Traced.{Traced, coded_traced, state}
 use Rattle.histar_calls.specs.declared.places.Places.{Places}
 use Rattle.histar_calls.specs.contracts.places.Places as where_is
-use Rattle.histar_calls.specs.Follows.{ReadsFile, WritesFile, MakesFile}
-use Rattle.histar_calls.specs.Replies.{Replies}
+use Rattle.histar_calls.specs.Programs.{Program, Runs}
+use Rattle.histar_calls.specs.Programs.Program.{Stops}
+use Rattle.histar_calls.specs.Create.{create_program}
+use Rattle.histar_calls.specs.Write.{write_program}
+use Rattle.histar_calls.specs.Read.{read_program}
 use Rattle.histar_login.specs.Boot.{IsBooted}
-use Rattle.histar_login.specs.Login.{place_of, LogsIn, BecomesUserAt}
+use Rattle.histar_login.specs.Login.{login_program}
 use Rattle.histar_login.specs.Start.{places_of, thread_number, start_state}
-use Rattle.histar_calls.specs.declared.stopping.Stopped.{Stopped}
+use Rattle.histar_calls.specs.declared.ending.Stopped.{Stopped}
 
 -- the kernel of a machine, the places of `/`, the thread of its process, its users, and whether it has stopped for want of memory
 pub record Running : Type 0 where
@@ -44,17 +47,17 @@ pub record IsStart (declared : List User) (m : Running) : Type 0 where
 abbrev pub on_line : ℕ → Traced → Traced
 on_line line k = record { kept = k.kept; line = line; trace = k.trace }
 
--- A call other than a login follows its plan of raw calls, by the thread on the line that was begun, and answers EACCES and
--- EPERM exactly where the kernel refused one of them so. A call that no line can hold makes none, and has no answer.
+-- the program of raw calls that a call runs; a call that no line can hold stops before its first
+abbrev pub program_of : List User → Places → UnixCall → Program
+program_of users places (Create path mode) = create_program places path mode
+program_of users places (Write path bytes) = write_program places path bytes
+program_of users places (Read path) = read_program places path
+program_of users places (Login name password) = login_program users name password
+program_of users places _ = Stops
+
+-- a call runs its program, by the thread on the line that was begun
 abbrev pub Makes : List User → Places → Traced → Traced → ℕ → UnixCall → Result Reply Stopped → Type 0
-Makes users places old new thread (Create path mode) result = MakesFile places old new thread path mode result × IfOk result (Replies old new thread)
-Makes users places old new thread (Write path bytes) result = WritesFile places old new thread path bytes result × IfOk result (Replies old new thread)
-Makes users places old new thread (Read path) result = ReadsFile places old new thread path result × IfOk result (Replies old new thread)
-Makes users places old new thread (Login name password) result =
-    LogsIn users old new thread name password result
-    × IfOk result (BecomesUserAt (place_of users name) (length users) thread (state old) (state new))
-    × IfOk result (Replies old new thread)
-Makes users places old new thread _ result = IsErr result × (new ≡ old)
+Makes users places old new thread call result = Runs (program_of users places call) old new thread result
 
 -- The call was made by the thread on the line that was begun; the machine has the places, the thread and the users that it
 -- had, and has stopped where the call ended without an answer.
@@ -66,14 +69,14 @@ pub record HasMade (old new : Running) (line : ℕ) (call : UnixCall) (result : 
   pub stops : new.is_stopped ≡ is_err result
 
 -- a running machine: a process that was never born is gone and nothing changes, process 0 has its call made
-abbrev pub Runs : Running → Running → ℕ → ProcName → UnixCall → Result Reply Stopped → Type 0
-Runs old new line [] call result = HasMade old new line call result
-Runs old new line (n ∷ process) call result = (result ≡ Ok Gone) × (new ≡ old)
+abbrev pub AnswersRunning : Running → Running → ℕ → ProcName → UnixCall → Result Reply Stopped → Type 0
+AnswersRunning old new line [] call result = HasMade old new line call result
+AnswersRunning old new line (n ∷ process) call result = (result ≡ Ok Gone) × (new ≡ old)
 
 -- a machine that has stopped does nothing, and answers so
 abbrev pub AnswersIf : Bool → Running → Running → ℕ → ProcName → UnixCall → Result Reply Stopped → Type 0
 AnswersIf true old new line process call result = IsErr result × (new ≡ old)
-AnswersIf false old new line process call result = Runs old new line process call result
+AnswersIf false old new line process call result = AnswersRunning old new line process call result
 
 -- what a call line does to a machine
 abbrev pub AnswersLine : Running → Running → ℕ → ProcName → UnixCall → Result Reply Stopped → Type 0

@@ -18,11 +18,11 @@ use Rattle.histar_flat.specs.declared.calls.CallLine.{CallLine}
 use Rattle.histar_syscall.specs.declared.trace.TraceEntry.{TraceEntry}
 use Rattle.histar_syscall.specs.Traced.{state}
 use Rattle.histar_syscall.specs.Runs.{IsBy, IsRun}
-use Rattle.histar_calls.specs.declared.stopping.Stopped.{Stopped}
+use Rattle.histar_calls.specs.declared.ending.Stopped.{Stopped}
 use Rattle.histar_login.specs.Boot.{boot_thread_number}
-use Rattle.histar_login.specs.Start.{places_of, thread_number}
-use Rattle.histar_simulation.specs.LaysOut.{LaysOut}
-use Rattle.histar_simulation.specs.Lines.{IsScriptable, IsRow, AreRows, IsRunUnlessExhausted}
+use Rattle.histar_login.specs.Start.{places_of}
+use Rattle.histar_refinement.specs.LaysOut.{LaysOut}
+use Rattle.histar_rows.specs.Rows.{IsScriptable, IsReady, IsRow, AreRows, IsRunUnlessExhausted}
 use Rattle.histar_devices.specs.Writing.{AppendsFront}
 use Rattle.histar_shell.specs.Answers.{answers_text}
 use Rattle.histar_shell.specs.Machine.{Running}
@@ -31,12 +31,12 @@ use Rattle.histar_shell.specs.Machine.{Running}
 abbrev pub meaning_text : Reading → List ℕ
 meaning_text script = answers_text (meaning (session_of script.users) script.calls)
 
--- A machine lays out a flat state: its kernel does, and it knows of `/`, of its process's thread and of its users what boot told it.
+-- A machine lays out a flat state, in which process 0 is alone: its kernel does, its thread is the one of process 0, and it knows of
+-- `/` and of its users what boot told it.
 pub record Shows (m : Running) (f : Flat) : Type 0 where
   pub users : IsUserList m.users
   pub places : m.places ≡ places_of (length m.users)
-  pub thread : m.thread ≡ thread_number (length m.users)
-  pub kernel : LaysOut m.users (state m.kernel) f
+  pub ready : IsReady (session_of m.users) (state m.kernel) f m.thread
 
 -- The line was answered what the flat state says. The new end of the trace are its raw calls, which are its row, and the machine lays
 -- out the flat state after the call.
@@ -44,7 +44,7 @@ pub record AnswersAsMeant (old new : Running) (f : Flat) (asked : CallLine) (rep
   pub told : reply ≡ reply_to (session_of old.users) f asked.process asked.call
   pub entries : List TraceEntry
   pub trace : new.kernel.trace ≡ old.kernel.trace ++ entries
-  pub row : IsRow old.users (state old.kernel) f asked entries (state new.kernel)
+  pub row : IsRow (session_of old.users) (state old.kernel) f asked entries (state new.kernel)
   pub shows : Shows new (flat_after (session_of old.users) f asked.process asked.call)
 
 -- The line ended without an answer: its raw calls are a run of the kernel by the thread of its process, of which none was refused but
@@ -78,9 +78,9 @@ pub record IsMeantTrace (script : Reading) (trace : List TraceEntry) : Type 0 wh
   pub start : State
   pub boot_run : IsRun empty_state of_boot start
   pub boot_own : AllByRecursion (IsBy 0 boot_thread_number) of_boot
-  pub boot_lays_out : LaysOut script.users start (boot (session_of script.users))
+  pub boot_lays_out : LaysOut (session_of script.users) start (boot (session_of script.users))
   pub end : State
-  pub rows : AreRows script.users start (boot (session_of script.users)) script.calls of_lines end
+  pub rows : AreRows (session_of script.users) start (boot (session_of script.users)) script.calls of_lines end
   pub run : IsRun empty_state trace end
 
 -- The reading is of a script, the text of its meaning was written, and the trace is that of the meaning.

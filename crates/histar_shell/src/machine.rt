@@ -140,10 +140,10 @@ fn make<S: LabelStore + Drop>(
     ensures { Makes users.now places.now kernel.old kernel.new thread call result }
 {
     match call {
-        UnixCall::Create(path, mode) => create(kernel, alloc, places, thread, &path, mode),
-        UnixCall::Read(path) => read(kernel, alloc, places, thread, &path),
-        UnixCall::Write(path, bytes) => write(kernel, alloc, places, thread, &path, bytes),
-        UnixCall::Login(name, password) => login(kernel, alloc, users, thread, name, password),
+        UnixCall::Create(path, mode) => create::create(kernel, alloc, places, thread, &path, mode),
+        UnixCall::Read(path) => read::read(kernel, alloc, places, thread, &path),
+        UnixCall::Write(path, bytes) => write::write(kernel, alloc, places, thread, &path, bytes),
+        UnixCall::Login(name, password) => login::login(kernel, alloc, users, thread, name, password),
         _ => Err(Stopped),
     }
 }

@@ -5,6 +5,7 @@ use Rattle.histar_script.specs.declared.fault.Fault.{Fault}
 use Rattle.histar_script.specs.Script.{Reading}
 use Rattle.histar_shell.specs.Outcome.{AnswersScript, WritesAtFault}
 use Rattle.histar_shell.proofs.RunLemmas.{answer_fault_agrees, answer_fault_writes, answers_script, at_script, begins_script, input_fault_agrees, input_fault_takes, input_fault_writes, is_right, same_script, script_fault_agrees, script_fault_writes, starts_with, takes_at_fault}
+use Rattle.histar_shell.proofs.CallRows.{calls_are_rows}
 use Rattle.histar_shell.proofs.SessionMeanings.{runs_as_meant}
 use Rattle.histar_shell.proofs.session.run.Goals as goal
 
@@ -89,16 +90,16 @@ returns-clause-answers g c =
     (answers_script _ _ c.in_ok-script.script c.in-Ok.machine c.answer_calls.new.machine _ _ starts c.into_parts-users.ensures.calls c.in_ok-answer_calls.ensures.ok c.into_trace.ensures)
 
 pub returns-in_err-input-clause-means : goal.returns-in_err-input-clause-means
-returns-in_err-input-clause-means g c = runs_as_meant _ _ _ _ (returns-in_err-input-clause-answers g c)
+returns-in_err-input-clause-means g c = runs_as_meant calls_are_rows _ _ _ _ (returns-in_err-input-clause-answers g c)
 
 pub returns-in_err-script-clause-means : goal.returns-in_err-script-clause-means
-returns-in_err-script-clause-means g c = runs_as_meant _ _ _ _ (returns-in_err-script-clause-answers g c)
+returns-in_err-script-clause-means g c = runs_as_meant calls_are_rows _ _ _ _ (returns-in_err-script-clause-answers g c)
 
 pub returns-in_default-clause-means : goal.returns-in_default-clause-means
-returns-in_default-clause-means g c = runs_as_meant _ (g.W.Sink.written c.args.writer.now) (g.W.Sink.written c.args.writer.now) (Err OutOfMemory) (returns-in_default-clause-answers g c)
+returns-in_default-clause-means g c = runs_as_meant calls_are_rows _ (g.W.Sink.written c.args.writer.now) (g.W.Sink.written c.args.writer.now) (Err OutOfMemory) (returns-in_default-clause-answers g c)
 
 pub returns-in_err-answer_calls-clause-means : goal.returns-in_err-answer_calls-clause-means
-returns-in_err-answer_calls-clause-means g c = runs_as_meant _ _ _ _ (returns-in_err-answer_calls-clause-answers g c)
+returns-in_err-answer_calls-clause-means g c = runs_as_meant calls_are_rows _ _ _ _ (returns-in_err-answer_calls-clause-answers g c)
 
 pub returns-clause-means : goal.returns-clause-means
-returns-clause-means g c = runs_as_meant _ (g.W.Sink.written c.args.writer.now) (g.W.Sink.written c.answer_calls.new.writer) (Ok c.into_trace.result) (returns-clause-answers g c)
+returns-clause-means g c = runs_as_meant calls_are_rows _ (g.W.Sink.written c.args.writer.now) (g.W.Sink.written c.answer_calls.new.writer) (Ok c.into_trace.result) (returns-clause-answers g c)

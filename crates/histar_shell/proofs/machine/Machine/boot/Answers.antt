@@ -3,7 +3,7 @@ use Rattle.histar_flat.specs.declared.calls.User.{User}
 use Rattle.histar_login.specs.Boot.{IsBooted}
 use Rattle.histar_login.specs.Start.{places_of, thread_number, start_state}
 use Rattle.histar_login.proofs.LastStage.{booted_line}
-use Rattle.histar_shell.proofs.SessionMeanings.{start_shows}
+use Rattle.histar_shell.proofs.Starts.{start_shows}
 use Rattle.histar_shell.proofs.machine.Machine.boot.Goals as goal
 
 pub returns-clause-starts : goal.returns-clause-starts
@@ -21,4 +21,4 @@ returns-clause-starts g c =
     }
 
 pub returns-clause-shows : goal.returns-clause-shows
-returns-clause-shows g c = start_shows c.args.users.now _ c.requires (returns-clause-starts g c)
+returns-clause-shows g c = start_shows c.args.users.now c.requires _ (returns-clause-starts g c)

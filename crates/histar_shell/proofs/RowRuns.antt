@@ -1,14 +1,13 @@
 -- The lines of a script, one after another, are one run of the kernel.
 use Rattle.std.proofs.Common.{List, [], ◌∷◌, ◌++◌, sym, subst}
-use Rattle.histar_flat.specs.declared.calls.User.{User}
-use Rattle.histar_flat.specs.Sessions.{session_of}
+use Rattle.histar_flat.specs.declared.calls.CallLine.{CallLine}
+use Rattle.histar_flat.specs.Sessions.{Session}
 use Rattle.histar_flat.specs.FlatState.{Flat}
 use Rattle.histar_flat.specs.FlatCalls.{flat_after}
-use Rattle.histar_flat.specs.declared.calls.CallLine.{CallLine}
 use Rattle.histar_object.specs.State.{State}
 use Rattle.histar_syscall.specs.declared.trace.TraceEntry.{TraceEntry}
 use Rattle.histar_syscall.specs.Runs.{IsRun}
-use Rattle.histar_simulation.specs.Lines.{AreRows}
+use Rattle.histar_rows.specs.Rows.{AreRows}
 
 -- a run after another is one run
 pub run_after : (first mid last : State) (front back : List TraceEntry) → IsRun first front mid → IsRun mid back last → IsRun first (front ++ back) last
@@ -16,8 +15,8 @@ run_after first mid last [] back before after = subst (λ (s : State). IsRun s b
 run_after first mid last (e ∷ front) back before after = (before.0, before.1, before.2, run_after before.0 mid last front back before.3 after)
 
 -- the lines of a script are a run
-pub rows_run : (users : List User) (s : State) (f : Flat) (asked : List CallLine) (entries : List TraceEntry) (end : State) → AreRows users s f asked entries end → IsRun s entries end
-rows_run users s f [] entries end rows = subst (λ (es : List TraceEntry). IsRun s es end) (sym rows.0) rows.1
-rows_run users s f (line ∷ more) entries end rows =
+pub rows_run : (session : Session) (s : State) (f : Flat) (asked : List CallLine) (entries : List TraceEntry) (end : State) → AreRows session s f asked entries end → IsRun s entries end
+rows_run session s f [] entries end rows = subst (λ (es : List TraceEntry). IsRun s es end) (sym rows.0) rows.1
+rows_run session s f (line ∷ more) entries end rows =
     subst (λ (es : List TraceEntry). IsRun s es end) (sym rows.3)
-    (run_after s rows.2 end rows.0 rows.1 rows.4.line.run (rows_run users rows.2 (flat_after (session_of users) f line.process line.call) more rows.1 end rows.5))
+    (run_after s rows.2 end rows.0 rows.1 rows.4.line.run (rows_run session rows.2 (flat_after session f line.process line.call) more rows.1 end rows.5))

@@ -1,7 +1,0 @@
-//! How the state of a labelled kernel lays out a flat state.
-//!
-//! There is nothing to run here: the definitions stand in `specs/`, and what they are worth in
-//! `proofs/`. [`state_laws`] says what it comes to that a state lays out a flat state.
-#![tactic(auto)]
-
-pub mod state_laws;
