@@ -53,7 +53,10 @@ pub fn label_made(alloc: Global, own: &Label, users: u8, mode: Mode) -> Result<L
         Mode::Group(_) => label_of(
             alloc,
             Level::L1,
-            &[(read_category(NOBODY), Level::L3), (write_category(NOBODY), Level::L0)],
+            &[
+                (read_category(NOBODY), Level::L3),
+                (write_category(NOBODY), Level::L0),
+            ],
         ),
     }
 }

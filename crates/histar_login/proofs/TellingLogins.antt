@@ -15,15 +15,19 @@ replied false = (refl, refl)
 
 as_program : (users i : ℕ) (password : List ℕ) → TellsRefusals (login_as_program users i password)
 unfolding login_as_program
-as_program users i password =
-    ((λ own.
-    ((λ entry.
-    ((λ kept.
-    ((λ label. ((λ clearance. replied (bytes_eq kept password)), told_for (SetClearance (clearance_if (bytes_eq kept password) users i own.1)))),
-    told_for (SetLabel (label_if (bytes_eq kept password) users i own.0)))),
-    told_for (Read root_number (password_of i)))),
-    told_for (entering i own.0 own.1))),
-    told_for OwnLabel)
+as_program users i password = (
+  (λ own. (
+    (λ entry. (
+      (λ kept. (
+        (λ label. ((λ clearance. replied (bytes_eq kept password)), told_for (SetClearance (clearance_if (bytes_eq kept password) users i own.1)))),
+        told_for (SetLabel (label_if (bytes_eq kept password) users i own.0)),
+      )),
+      told_for (Read root_number (password_of i)),
+    )),
+    told_for (entering i own.0 own.1),
+  )),
+  told_for OwnLabel,
+)
 
 at_place : (users : ℕ) (password : List ℕ) (place : Option ℕ) → TellsRefusals (login_at users password place)
 at_place users password None = (refl, refl)

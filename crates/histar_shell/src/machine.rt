@@ -143,7 +143,9 @@ fn make<S: LabelStore + Drop>(
         UnixCall::Create(path, mode) => create::create(kernel, alloc, places, thread, &path, mode),
         UnixCall::Read(path) => read::read(kernel, alloc, places, thread, &path),
         UnixCall::Write(path, bytes) => write::write(kernel, alloc, places, thread, &path, bytes),
-        UnixCall::Login(name, password) => login::login(kernel, alloc, users, thread, name, password),
+        UnixCall::Login(name, password) => login::login(
+            kernel, alloc, users, thread, name, password,
+        ),
         _ => Err(Stopped),
     }
 }
