@@ -27,7 +27,7 @@ pub record IsUserOf (own : Levels) (users user : ℕ) : Type 0 where
   pub known : user ≤ users
 
 -- The label of a file that a user makes: everyone may read a readable one, and its owner alone a private one, and its owner alone
--- writes both; everyone may read and write an open one; a mode that names no group has the categories of nobody.
+-- writes both; everyone may read and write an open one. No line can name a group yet: a file for one has nobody's categories.
 abbrev pub file_label : Mode → ℕ → Levels
 file_label Readable user = written_by (write_category user)
 file_label Private user = secret_of (read_category user) (write_category user)

@@ -16,9 +16,10 @@ use histar_object::ObjId;
 use histar_syscall::Kernel;
 use std::alloc::Global;
 
-/// Makes an empty file. EEXIST where the path is `/` or something stands there, ENOSPC at 64
-/// entries, EACCES where the kernel doesn't let the thread modify the directory, EPERM where it
-/// doesn't let it make a file of this mode.
+/// Makes an empty file. EEXIST where the path is `/`, ENOENT or ENOTDIR where the way to it breaks off,
+/// EEXIST where something stands there, ENOSPC at 64 entries, EACCES where the kernel doesn't let the
+/// thread observe a directory on the way or modify the last one, EPERM where it doesn't let it make a
+/// file of this mode.
 pub fn create<S: LabelStore + Drop>(
     kernel: &mut Kernel<S>,
     alloc: Global,

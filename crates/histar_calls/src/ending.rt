@@ -6,8 +6,9 @@ use histar_flat::{Errno, Reply};
 use histar_syscall::{Denied, Refusal};
 use std::alloc::{AllocError, AllocFailed};
 
-/// A call ends without a reply: memory ran out, or a counter of the kernel is at its greatest value,
-/// which no script reaches. The machine makes no more calls then.
+/// A call ends without a reply: memory ran out, the kernel denied what no errno tells, or a segment
+/// that should hold a directory holds none. The machine makes no more calls then. On a machine that
+/// lays out a flat state only memory and a counter at its greatest value end a call so.
 #[derive(Clone, Copy, Debug, PartialEq, Eq)]
 pub struct Stopped;
 
@@ -43,8 +44,8 @@ impl From<Errno> for Ending {
     }
 }
 
-/// A denial that has no errno stops the call: the objects that the library's calls name are there,
-/// and no counter comes near its greatest value. A write has `written` for its own errno.
+/// A denial that has no errno stops the call. On a machine that lays out a flat state the objects that
+/// the library's calls name are there. A write has `written` for its own errno.
 impl From<Refusal> for Ending {
     ghost use Rattle.std.specs.Prelude.{◌≡◌};
     ghost use Rattle.histar_calls.specs.Refusals.{errno_of, ending_of};

@@ -12,8 +12,9 @@ use histar_object::ObjId;
 use histar_syscall::Kernel;
 use std::alloc::Global;
 
-/// The bytes of a file. EISDIR for `/` and for a directory, EACCES where the kernel doesn't let the
-/// thread observe the file.
+/// The bytes of a file. EISDIR for `/` and for a directory, ENOENT where nothing stands there, ENOTDIR
+/// where a file stands on the way, EACCES where the kernel doesn't let the thread observe a directory
+/// on the way or the file.
 pub fn read<S: LabelStore + Drop>(
     kernel: &mut Kernel<S>,
     alloc: Global,

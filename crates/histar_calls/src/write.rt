@@ -13,8 +13,9 @@ use histar_object::ObjId;
 use histar_syscall::Kernel;
 use std::alloc::Global;
 
-/// Puts bytes in the place of what a file holds. EISDIR for `/` and for a directory, EACCES where the
-/// kernel doesn't let the thread modify the file, EFBIG at more than 4,096 bytes.
+/// Puts bytes in the place of what a file holds. EISDIR for `/` and for a directory, ENOENT where
+/// nothing stands there, ENOTDIR where a file stands on the way, EACCES where the kernel doesn't let
+/// the thread observe a directory on the way or modify the file, EFBIG at more than 4,096 bytes.
 pub fn write<S: LabelStore + Drop>(
     kernel: &mut Kernel<S>,
     alloc: Global,

@@ -18,7 +18,7 @@ pub enum Errno {
     EISDIR = 3,
     /// Something stands there already.
     EEXIST = 4,
-    /// Labels forbid the process to look there or to change what is there.
+    /// The process may not look there, or not change what is there.
     EACCES = 5,
     /// The process may not make a thing of this mode.
     EPERM = 6,

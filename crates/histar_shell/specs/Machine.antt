@@ -21,7 +21,7 @@ use Rattle.histar_login.specs.Login.{login_program}
 use Rattle.histar_login.specs.Start.{places_of, thread_number, start_state}
 use Rattle.histar_calls.specs.declared.ending.Stopped.{Stopped}
 
--- the kernel of a machine, the places of `/`, the thread of its process, its users, and whether it has stopped for want of memory
+-- the kernel of a machine, the places of `/`, the thread of its process, its users, and whether a call of it has ended without a reply
 pub record Running : Type 0 where
   pub kernel : Traced
   pub places : Places
@@ -68,7 +68,7 @@ pub record HasMade (old new : Running) (line : ℕ) (call : UnixCall) (result : 
   pub users : new.users ≡ old.users
   pub stops : new.is_stopped ≡ is_err result
 
--- a running machine: a process that was never born is gone and nothing changes, process 0 has its call made
+-- a running machine: a process other than 0 is gone and nothing changes, process 0 has its call made
 abbrev pub AnswersRunning : Running → Running → ℕ → ProcName → UnixCall → Result Reply Stopped → Type 0
 AnswersRunning old new line [] call result = HasMade old new line call result
 AnswersRunning old new line (n ∷ process) call result = (result ≡ Ok Gone) × (new ≡ old)

@@ -84,7 +84,7 @@ impl<S: LabelStore + Drop> Machine<S> {
         })
     }
 
-    /// Does one call of a process, on this line of the script. `Gone` where the process was never born.
+    /// Does one call of a process, on this line of the script. `Gone` for every process but 0.
     /// After the first `Stopped` it does nothing and answers `Stopped`.
     pub fn step(
         &mut self,
