@@ -3,10 +3,7 @@ use crate::raw_sessions::{
     Asked, BAD_KIND, CLEARED_2, Expected, GUARDED, MODIFY, NO_ENTRY, NO_THREAD, NOTHING, OBSERVE,
     OWNS_2, PLAIN, RANGE, Row, SECRET, TAINTED, TOO_BIG, Told, UNMADE, session,
 };
-use histar_base::Bytes;
-use histar_label::{Label, Level, PlainStore};
-use histar_object::ObjId;
-use histar_syscall::{Denied, Kernel, Refusal};
+use histar_label::{Level, PlainStore};
 use std::test::Fail;
 
 /// Category 4 was made and 5 is the next.
@@ -139,20 +136,5 @@ fn segments_are_used(rt: HostRuntime) -> Result<(), Fail> {
     rows.extend_from_slice(&NEW)?;
     let stores = (PlainStore::new(rt.alloc()), PlainStore::new(rt.alloc()));
     session(&rt, rt.alloc(), stores, rows.as_slice())?;
-    Ok(())
-}
-
-#[test]
-fn bytes_are_lent(rt: HostRuntime) -> Result<(), Fail> {
-    let alloc = rt.alloc();
-    let (root, thread) = (ObjId::new(1), ObjId::new(2));
-    let mut kernel = Kernel::new(alloc, PlainStore::new(alloc))?;
-    let label = Label::new(alloc, Level::L1);
-    let bytes = Bytes::copy_of(alloc, b"note")?;
-    let segment = kernel.make_segment(alloc, thread, root, label, bytes)?;
-    let lent = kernel.read(thread, root, segment)?;
-    assert_eq!(rt; lent, b"note".as_slice());
-    let answer = kernel.read(thread, segment, segment).map(|bytes| bytes.len());
-    assert_eq!(rt; answer, Err(Refusal::Denied(Denied::BadKind)));
     Ok(())
 }
