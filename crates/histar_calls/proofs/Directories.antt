@@ -4,7 +4,7 @@ use Rattle.histar_flat.specs.Words.{Name, Path}
 use Rattle.histar_flat.specs.declared.replies.Errno.{Errno}
 use Rattle.histar_rules.specs.declared.raw.RawCall.TheVariants.{Read, Write}
 use Rattle.histar_rules.specs.declared.raw.Refusal.{Refusal}
-use Rattle.histar_syscall.specs.Traced.{Traced, Answered}
+use Rattle.histar_syscall.specs.KernelModel.{KernelModel, Answered}
 use Rattle.histar_layout.specs.Directory.{Entries, IsDirectory}
 use Rattle.histar_calls.specs.declared.places.Place.{Place}
 use Rattle.histar_calls.specs.declared.places.Places.{Places}
@@ -20,7 +20,7 @@ use Rattle.histar_calls.proofs.Running.{asks, gives_not, hands, part_as, then_pa
 abbrev after_bytes : Place → List ℕ → Part Directory
 after_bytes place bytes rest = list bytes (λ entries. rest (record { place = place; entries = entries }))
 
-module _ (t : ℕ) (old new : Traced) (place : Place) where
+module _ (t : ℕ) (old new : KernelModel) (place : Place) where
   -- the directory segment was not read
   pub read_fails : (ending : Ending) → RunsPart (ask (Read place.container place.listing)) old new t (Err ending) → RunsPart (read_directory place) old new t (Err ending)
   unfolding read_directory
@@ -61,7 +61,7 @@ no_names (x ∷ xs) none = absurd (omega arith)
 abbrev pub into : Name → Directory → Part Directory
 into name above rest = given (directory_at (target_of above name)) (λ place. read_directory place rest)
 
-module _ (t : ℕ) (places : Places) (old new : Traced) (names : List Name) where
+module _ (t : ℕ) (places : Places) (old new : KernelModel) (names : List Name) where
   -- a walk to `/`
   pub walk_root : (result : Result Directory Ending) → names ≡ [] → RunsPart (read_directory places.slash) old new t result → RunsPart (walk places names) old new t result
   unfolding walk
@@ -76,7 +76,7 @@ module _ (t : ℕ) (places : Places) (old new : Traced) (names : List Name) wher
     pub walk_fails : (ending : Ending) → RunsPart (walk places parent) old new t (Err ending) → RunsPart (walk places names) old new t (Err ending)
     walk_fails ending first = here (Err ending) (part_fails t (walk places parent) old new (into name) ending first)
 
-    module _ (mid : Traced) (above : Directory) (first : RunsPart (walk places parent) old mid t (Ok above)) (found : Result Place Errno) (is : found ≡ directory_at (target_of above name)) where
+    module _ (mid : KernelModel) (above : Directory) (first : RunsPart (walk places parent) old mid t (Ok above)) (found : Result Place Errno) (is : found ≡ directory_at (target_of above name)) where
       after : (result : Result Directory Ending) → RunsPart (λ rest. given found (λ place. read_directory place rest)) mid new t result → RunsPart (walk places names) old new t result
       after result runs = here result (then_part t (walk places parent) old new (into name) mid above first result
           (part_as t (into name above) mid new (λ rest. given found (λ place. read_directory place rest)) (λ i rest. given (sym is i) (λ place. read_directory place rest)) result runs))
@@ -94,7 +94,7 @@ module _ (t : ℕ) (places : Places) (old new : Traced) (names : List Name) wher
         (part_fails t (given (Err errno)) new new (λ (place : Place). read_directory place) (Refused errno) (gives_not t Place new errno))))
 
 -- bytes that spell a directory's entries are written
-pub writes : (t : ℕ) (old new : Traced) (place : Place) (entries : Entries) (bytes : List ℕ) → IsDirectory bytes entries → (answer : Result (Unit {0}) Refusal) → Answered old new t (Write place.container place.listing 0 bytes) answer (λ _. Unit {0})
+pub writes : (t : ℕ) (old new : KernelModel) (place : Place) (entries : Entries) (bytes : List ℕ) → IsDirectory bytes entries → (answer : Result (Unit {0}) Refusal) → Answered old new t (Write place.container place.listing 0 bytes) answer (λ _. Unit {0})
     → (result : Result (Unit {0}) Ending) → result ≡ or_ending write_errno_of answer → RunsPart (write_entries place entries) old new t result
 writes t old new place entries bytes spells answer answered result is =
     part_as t (write_entries place entries) old new (ask (Write place.container place.listing 0 bytes)) (λ i. ask (Write place.container place.listing 0 (sym spells.spelled i))) result

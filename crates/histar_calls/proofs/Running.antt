@@ -9,7 +9,7 @@ use Rattle.histar_rules.specs.declared.raw.Denied.{Denied}
 use Rattle.histar_rules.specs.declared.raw.RawCall.{RawCall}
 use Rattle.histar_rules.specs.declared.raw.Refusal.{Refusal}
 use Rattle.histar_rules.specs.declared.raw.Refusal.TheVariants as refusals
-use Rattle.histar_syscall.specs.Traced.{Traced, state, Called, Answered, IsUnchanged}
+use Rattle.histar_syscall.specs.KernelModel.{KernelModel, state, Called, Answered, IsUnchanged}
 use Rattle.histar_syscall.proofs.Runs.{same_kernel}
 use Rattle.histar_layout.specs.Directory.{Entries, IsDirectory}
 use Rattle.histar_calls.specs.declared.ending.Stopped.{Stopped}
@@ -22,37 +22,37 @@ use Rattle.histar_calls.specs.Parts.{refused_with, or_refused, ask, if_there, li
 
 module _ (t : ℕ) where
   -- a program leads to itself
-  here : (p : Program) (k : Traced) → LeadsTo p k p k t
+  here : (p : Program) (k : KernelModel) → LeadsTo p k p k t
   here p k = record { completes = λ new reply c. c; begins = λ new b. b }
 
   -- and on from where it leads
-  onward : {a b c : Program} {k l m : Traced} → LeadsTo a k b l t → LeadsTo b l c m t → LeadsTo a k c m t
+  onward : {a b c : Program} {k l m : KernelModel} → LeadsTo a k b l t → LeadsTo b l c m t → LeadsTo a k c m t
   onward first second = record {
     completes = λ new reply c. first.completes new reply (second.completes new reply c);
     begins = λ new b. first.begins new (second.begins new b);
   }
 
   -- a raw call leads to what comes after its outcome
-  asked : (call : RawCall) (next : Outcome call → Program) (old mid : Traced) (outcome : Outcome call) → Asked old mid t call outcome → LeadsTo (Asks call next) old (next outcome) mid t
+  asked : (call : RawCall) (next : Outcome call → Program) (old mid : KernelModel) (outcome : Outcome call) → Asked old mid t call outcome → LeadsTo (Asks call next) old (next outcome) mid t
   asked call next old mid outcome is = record {
     completes = λ new reply c. (mid, outcome, is, c);
     begins = λ new b. inr (mid, outcome, is, b);
   }
 
   -- bytes lead to what comes after the directory that they are
-  listed : (bytes : List ℕ) (next : Option Entries → Program) (k : Traced) (found : Option Entries) → IsListed bytes found → LeadsTo (Lists bytes next) k (next found) k t
+  listed : (bytes : List ℕ) (next : Option Entries → Program) (k : KernelModel) (found : Option Entries) → IsListed bytes found → LeadsTo (Lists bytes next) k (next found) k t
   listed bytes next k found is = record {
     completes = λ new reply c. (found, is, c);
     begins = λ new b. inr (found, is, b);
   }
 
   -- a raw call that was granted
-  pub grants : (call : RawCall) (old new : Traced) (answer : AnswerOf call) → Called old new t call None → IsAnswer (state old) t call answer → RunsPart (ask call) old new t (Ok answer)
+  pub grants : (call : RawCall) (old new : KernelModel) (answer : AnswerOf call) → Called old new t call None → IsAnswer (state old) t call answer → RunsPart (ask call) old new t (Ok answer)
   unfolding RunsPart
   grants call old new answer called right = λ rest. asked call (or_refused (errno_for call) rest) old new (Ok answer) (called, right)
 
   -- a raw call that was refused
-  pub refuses : {A : Type 0} (call : RawCall) (old new : Traced) (P : A → Type 0) (refusal : Refusal) → Answered {A = A} old new t call (Err refusal) P → RunsPart (ask call) old new t (Err (ending_of (errno_for call) refusal))
+  pub refuses : {A : Type 0} (call : RawCall) (old new : KernelModel) (P : A → Type 0) (refusal : Refusal) → Answered {A = A} old new t call (Err refusal) P → RunsPart (ask call) old new t (Err (ending_of (errno_for call) refusal))
   unfolding RunsPart
   refuses call old new P (refusals.Denied denied) called = by (errno_for call denied) refl
     where
@@ -65,47 +65,47 @@ module _ (t : ℕ) where
   refuses call old new P refusals.OutOfMemory same = λ rest. inl same
 
   -- a raw call, by what the kernel answered
-  pub asks : (call : RawCall) (old new : Traced) (answer : Result (AnswerOf call) Refusal) → Answered old new t call answer (IsAnswer (state old) t call) → (result : Result (AnswerOf call) Ending) → result ≡ or_ending (errno_for call) answer → RunsPart (ask call) old new t result
+  pub asks : (call : RawCall) (old new : KernelModel) (answer : Result (AnswerOf call) Refusal) → Answered old new t call answer (IsAnswer (state old) t call) → (result : Result (AnswerOf call) Ending) → result ≡ or_ending (errno_for call) answer → RunsPart (ask call) old new t result
   asks call old new (Ok answer) answered result is = subst (RunsPart (ask call) old new t) (sym is) (grants call old new answer answered.0 answered.1)
   asks call old new (Err refusal) answered result is = subst (RunsPart (ask call) old new t) (sym is) (refuses call old new (IsAnswer (state old) t call) refusal answered)
 
   -- memory ran out before a raw call
-  pub before_ask : (call : RawCall) (k : Traced) → RunsPart (ask call) k k t (Err HasStopped)
+  pub before_ask : (call : RawCall) (k : KernelModel) → RunsPart (ask call) k k t (Err HasStopped)
   unfolding RunsPart
   before_ask call k = λ rest. inl (same_kernel k)
 
   -- bytes are a directory, or are none, or memory ran out before that was known
-  pub lists : (bytes : List ℕ) (k : Traced) (dir : Entries) → IsDirectory bytes dir → RunsPart (list bytes) k k t (Ok dir)
+  pub lists : (bytes : List ℕ) (k : KernelModel) (dir : Entries) → IsDirectory bytes dir → RunsPart (list bytes) k k t (Ok dir)
   unfolding RunsPart
   lists bytes k dir is = λ rest. listed bytes (if_there rest) k (Some dir) is
 
-  pub lists_none : (bytes : List ℕ) (k : Traced) → ((dir : Entries) → IsDirectory bytes dir → ⊥) → RunsPart (list bytes) k k t (Err HasStopped)
+  pub lists_none : (bytes : List ℕ) (k : KernelModel) → ((dir : Entries) → IsDirectory bytes dir → ⊥) → RunsPart (list bytes) k k t (Err HasStopped)
   unfolding RunsPart
   lists_none bytes k none = λ rest. (listed bytes (if_there rest) k None none).begins k (same_kernel k)
 
-  pub before_list : (bytes : List ℕ) (k : Traced) → RunsPart (list bytes) k k t (Err HasStopped)
+  pub before_list : (bytes : List ℕ) (k : KernelModel) → RunsPart (list bytes) k k t (Err HasStopped)
   unfolding RunsPart
   before_list bytes k = λ rest. inl (same_kernel k)
 
   -- what was decided is handed on, or refuses the call
-  pub gives : {A : Type 0} (k : Traced) (x : A) → RunsPart (given (Ok x)) k k t (Ok x)
+  pub gives : {A : Type 0} (k : KernelModel) (x : A) → RunsPart (given (Ok x)) k k t (Ok x)
   unfolding RunsPart
   gives k x = λ rest. here (rest x) k
 
-  pub gives_not : (A : Type 0) (k : Traced) (errno : Errno) → RunsPart {A = A} (given (Err errno)) k k t (Err (Refused errno))
+  pub gives_not : (A : Type 0) (k : KernelModel) (errno : Errno) → RunsPart {A = A} (given (Err errno)) k k t (Err (Refused errno))
   unfolding RunsPart
   gives_not A k errno = λ rest. here (Answers (replies.Refused errno)) k
 
   -- a part that hands this on, or refuses the call, with no raw call
-  pub hands : {A : Type 0} (k : Traced) (x : A) → RunsPart {A = A} (λ rest. rest x) k k t (Ok x)
+  pub hands : {A : Type 0} (k : KernelModel) (x : A) → RunsPart {A = A} (λ rest. rest x) k k t (Ok x)
   unfolding RunsPart
   hands k x = λ rest. here (rest x) k
 
-  pub refuses_at_once : (A : Type 0) (k : Traced) (errno : Errno) → RunsPart {A = A} (λ rest. Answers (replies.Refused errno)) k k t (Err (Refused errno))
+  pub refuses_at_once : (A : Type 0) (k : KernelModel) (errno : Errno) → RunsPart {A = A} (λ rest. Answers (replies.Refused errno)) k k t (Err (Refused errno))
   unfolding RunsPart
   refuses_at_once A k errno = λ rest. here (Answers (replies.Refused errno)) k
 
-  module _ {A : Type 0} (part : Part A) (old new : Traced) where
+  module _ {A : Type 0} (part : Part A) (old new : KernelModel) where
     -- an error that came by `?`
     pub fails_so : (ending : Ending) (result : Result A Ending) → IsErrAnd result (λ e. e ≡ ending) → RunsPart part old new t (Err ending) → RunsPart part old new t result
     fails_so ending result gave fails =
@@ -118,7 +118,7 @@ module _ (t : ℕ) where
 
     -- a part, and a part after it
     module _ {B : Type 0} (after : A → Part B) where
-      pub then_part : (mid : Traced) (x : A) → RunsPart part old mid t (Ok x) → (result : Result B Ending) → RunsPart (after x) mid new t result → RunsPart (λ rest. part (λ y. after y rest)) old new t result
+      pub then_part : (mid : KernelModel) (x : A) → RunsPart part old mid t (Ok x) → (result : Result B Ending) → RunsPart (after x) mid new t result → RunsPart (λ rest. part (λ y. after y rest)) old new t result
       unfolding RunsPart
       then_part mid x first (Ok y) second = λ rest. onward (first (λ z. after z rest)) (second rest)
       then_part mid x first (Err (Refused errno)) second = λ rest. onward (first (λ z. after z rest)) (second rest)
@@ -131,7 +131,7 @@ module _ (t : ℕ) where
 
     -- a part, and the rest of the call after it
     module _ (rest : A → Program) where
-      pub then_call : (mid : Traced) (x : A) → RunsPart part old mid t (Ok x) → (result : Result Reply Stopped) → Runs (rest x) mid new t result → Runs (part rest) old new t result
+      pub then_call : (mid : KernelModel) (x : A) → RunsPart part old mid t (Ok x) → (result : Result Reply Stopped) → Runs (rest x) mid new t result → Runs (part rest) old new t result
       unfolding RunsPart Runs
       then_call mid x first (Ok reply) second = (first rest).completes new reply second
       then_call mid x first (Err stopped) second = (first rest).begins new second
@@ -142,16 +142,16 @@ module _ (t : ℕ) where
       call_fails HasStopped first = first rest
 
   -- a call that has only its reply left
-  pub says : (k : Traced) (reply : Reply) → Runs (Answers reply) k k t (Ok reply)
+  pub says : (k : KernelModel) (reply : Reply) → Runs (Answers reply) k k t (Ok reply)
   unfolding Runs
   says k reply = (same_kernel k, refl)
 
   -- an error of a whole call that came by `?`
-  pub call_fails_so : (p : Program) (old new : Traced) (ending : Ending) (result : Result Reply Ending) → IsErrAnd result (λ e. e ≡ ending) → Runs p old new t (settled (Err ending)) → Runs p old new t (settled result)
+  pub call_fails_so : (p : Program) (old new : KernelModel) (ending : Ending) (result : Result Reply Ending) → IsErrAnd result (λ e. e ≡ ending) → Runs p old new t (settled (Err ending)) → Runs p old new t (settled result)
   call_fails_so p old new ending result gave fails =
       let error = err_from_is_err_and result gave in
       subst (λ (r : Result Reply Ending). Runs p old new t (settled r)) (sym (error.1 ∙ ap Err error.2)) fails
 
   -- a call whose program is another
-  pub runs_as : (a b : Program) (old new : Traced) (result : Result Reply Stopped) → a ≡ b → Runs b old new t result → Runs a old new t result
+  pub runs_as : (a b : Program) (old new : KernelModel) (result : Result Reply Stopped) → a ≡ b → Runs b old new t result → Runs a old new t result
   runs_as a b old new result same runs = subst (λ (p : Program). Runs p old new t result) (sym same) runs

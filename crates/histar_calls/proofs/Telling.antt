@@ -8,7 +8,7 @@ use Rattle.histar_flat.specs.declared.replies.Reply.{Reply}
 use Rattle.histar_rules.specs.declared.raw.Denied.{Denied}
 use Rattle.histar_rules.specs.declared.raw.RawCall.{RawCall}
 use Rattle.histar_syscall.specs.declared.trace.TraceEntry.{TraceEntry}
-use Rattle.histar_syscall.specs.Traced.{Traced, state, Called}
+use Rattle.histar_syscall.specs.KernelModel.{KernelModel, state, Called}
 use Rattle.histar_syscall.specs.Runs.{IsBy, Ran, is_label_refusal, is_range_refusal, some_label_refusal, some_range_refusal}
 use Rattle.histar_syscall.proofs.Runs.{entry_of}
 use Rattle.histar_layout.specs.Directory.{Entries}
@@ -25,7 +25,7 @@ none_refused (e ∷ entries) all =
     ((λ i. is_label_refusal (all.0.0 i) || later.0 i), (λ i. is_range_refusal (all.0.0 i) || later.1 i))
 
 -- what was run after a denial: calls that give labels, all granted, and then the reply that tells it
-record Restores (old new : Traced) (t : ℕ) (denied : Denied) (reply : Reply) : Type 0 where
+record Restores (old new : KernelModel) (t : ℕ) (denied : Denied) (reply : Reply) : Type 0 where
   entries : List TraceEntry
   ran : Ran old new t entries
   restoring : AllByRecursion IsRestoring entries
@@ -33,7 +33,7 @@ record Restores (old new : Traced) (t : ℕ) (denied : Denied) (reply : Reply) :
   permission : is_range_refusal (Some denied) ≡ is_no_permission reply
 
 -- one entry more at the front of a run
-ran_more : (old mid new : Traced) (t : ℕ) (call : RawCall) (d : Option Denied) (entries : List TraceEntry) → Called old mid t call d → Ran mid new t entries → Ran old new t (entry_of old.line t call d ∷ entries)
+ran_more : (old mid new : KernelModel) (t : ℕ) (call : RawCall) (d : Option Denied) (entries : List TraceEntry) → Called old mid t call d → Ran mid new t entries → Ran old new t (entry_of old.line t call d ∷ entries)
 ran_more old mid new t call d entries called later = record {
   trace = later.trace ∙ ap (λ (es : List TraceEntry). es ++ entries) called.trace ∙ append_assoc old.trace (entry_of old.line t call d ∷ []) entries;
   run = (state mid, called.outcome, called.state, later.run);
@@ -42,10 +42,10 @@ ran_more old mid new t call d entries called later = record {
 }
 
 -- a program that stops has no reply
-no_reply : (p : Program) (old new : Traced) (t : ℕ) (reply : Reply) → p ≡ Stops → Completes p old new t reply → ⊥
+no_reply : (p : Program) (old new : KernelModel) (t : ℕ) (reply : Reply) → p ≡ Stops → Completes p old new t reply → ⊥
 no_reply p old new t reply stops runs = subst (λ (q : Program). Completes q old new t reply) stops runs
 
-restores : (p : Program) (old new : Traced) (t : ℕ) (denied : Denied) (reply : Reply) → TellsDenial denied p → Completes p old new t reply → Restores old new t denied reply
+restores : (p : Program) (old new : KernelModel) (t : ℕ) (denied : Denied) (reply : Reply) → TellsDenial denied p → Completes p old new t reply → Restores old new t denied reply
 restores (Answers said) old new t denied reply tells runs = record {
   entries = [];
   ran = record { trace = runs.0.trace ∙ sym (append-nil old.trace); run = runs.0.state; own = tt; line = runs.0.line };
@@ -74,7 +74,7 @@ or_none true b is = refl
 or_none false b is = is
 
 -- what its raw calls came to
-pub replies : (p : Program) → TellsRefusals p → (old new : Traced) (t : ℕ) (reply : Reply) → Completes p old new t reply → Replies old new t reply
+pub replies : (p : Program) → TellsRefusals p → (old new : KernelModel) (t : ℕ) (reply : Reply) → Completes p old new t reply → Replies old new t reply
 replies (Answers said) tells old new t reply runs = record {
   entries = [];
   ran = record { trace = runs.0.trace ∙ sym (append-nil old.trace); run = runs.0.state; own = tt; line = runs.0.line };

@@ -8,7 +8,7 @@ use Rattle.histar_rules.specs.declared.raw.Denied.{Denied}
 use Rattle.histar_rules.specs.declared.raw.RawCall.{RawCall}
 use Rattle.histar_rules.specs.declared.raw.RawCall.TheVariants as raw
 use Rattle.histar_layout.specs.Directory.{Entries}
-use Rattle.histar_syscall.specs.Traced.{Traced}
+use Rattle.histar_syscall.specs.KernelModel.{KernelModel}
 use Rattle.histar_syscall.specs.Runs.{is_label_refusal, is_range_refusal}
 use Rattle.histar_calls.specs.declared.places.Places.{Places}
 use Rattle.histar_calls.specs.Replies.{is_no_access, is_no_permission, sets_labels, Replies}
@@ -37,7 +37,7 @@ TellsRefusals Stops = Unit {0}
 -- Where a program that tells its refusals was run to its reply, the reply is EACCES exactly where a raw call was refused by label, EPERM
 -- exactly where one was refused by range, at most one was refused, and after it the thread was only given labels.
 abbrev pub RefusalsAreTold : Type 0
-RefusalsAreTold = (program : Program) → TellsRefusals program → (old new : Traced) (thread : ℕ) (reply : Reply) → Completes program old new thread reply → Replies old new thread reply
+RefusalsAreTold = (program : Program) → TellsRefusals program → (old new : KernelModel) (thread : ℕ) (reply : Reply) → Completes program old new thread reply → Replies old new thread reply
 
 -- the programs of the calls tell their refusals
 pub record CallsTellRefusals : Type 0 where

@@ -10,7 +10,7 @@ use Rattle.histar_object.specs.State.{State}
 use Rattle.histar_rules.specs.declared.raw.Denied.{Denied}
 use Rattle.histar_rules.specs.declared.raw.RawCall.{RawCall}
 use Rattle.histar_rules.specs.declared.raw.RawCall.TheVariants.{MakeCategory, OwnLabel, SetLabel, SetClearance, MakeSegment, MakeContainer, MakeThread, MakeGate, Enter, Read, Write, Unlink, LabelOf}
-use Rattle.histar_syscall.specs.Traced.{Traced, state, Called, IsUnchanged}
+use Rattle.histar_syscall.specs.KernelModel.{KernelModel, state, Called, IsUnchanged}
 use Rattle.histar_layout.specs.Directory.{Entries, IsDirectory}
 use Rattle.histar_calls.specs.declared.ending.Ending.{Ending}
 use Rattle.histar_calls.specs.declared.ending.Ending.TheVariants.{Refused, Stopped as HasStopped}
@@ -61,7 +61,7 @@ pub data Program : Type 0 where
   Stops : Program
 
 -- the thread made this raw call, with this outcome
-abbrev pub Asked : Traced → Traced → ℕ → (call : RawCall) → Outcome call → Type 0
+abbrev pub Asked : KernelModel → KernelModel → ℕ → (call : RawCall) → Outcome call → Type 0
 Asked old new thread call (Ok answer) = Called old new thread call None × IsAnswer (state old) thread call answer
 Asked old new thread call (Err denied) = Called old new thread call (Some denied)
 
@@ -71,24 +71,24 @@ IsListed bytes listed = MatchOption listed ((dir : Entries) → IsDirectory byte
 
 -- The thread made the raw calls of the program, one after another, each with the outcome that the rules give at that point, and
 -- did nothing else; and this is the program's reply.
-abbrev pub Completes : Program → Traced → Traced → ℕ → Reply → Type 0
+abbrev pub Completes : Program → KernelModel → KernelModel → ℕ → Reply → Type 0
 Completes (Answers said) old new thread reply = IsUnchanged old new × (reply ≡ said)
 Completes (Asks call next) old new thread reply =
-    (mid : Traced) × (outcome : Outcome call) × Asked old mid thread call outcome × Completes (next outcome) mid new thread reply
+    (mid : KernelModel) × (outcome : Outcome call) × Asked old mid thread call outcome × Completes (next outcome) mid new thread reply
 Completes (Lists bytes next) old new thread reply = (listed : Option Entries) × IsListed bytes listed × Completes (next listed) old new thread reply
 Completes Stops old new thread reply = ⊥
 
 -- The thread made the first raw calls of the program so, and ended without a reply: memory ran out with something still to do, or
 -- the program stops. A program that has only its reply left doesn't end so.
-abbrev pub Begins : Program → Traced → Traced → ℕ → Type 0
+abbrev pub Begins : Program → KernelModel → KernelModel → ℕ → Type 0
 Begins (Answers said) old new thread = ⊥
 Begins (Asks call next) old new thread =
-    IsUnchanged old new ⊎ ((mid : Traced) × (outcome : Outcome call) × Asked old mid thread call outcome × Begins (next outcome) mid new thread)
+    IsUnchanged old new ⊎ ((mid : KernelModel) × (outcome : Outcome call) × Asked old mid thread call outcome × Begins (next outcome) mid new thread)
 Begins (Lists bytes next) old new thread = IsUnchanged old new ⊎ ((listed : Option Entries) × IsListed bytes listed × Begins (next listed) old new thread)
 Begins Stops old new thread = IsUnchanged old new
 
 -- a call runs its program: up to its reply, or a beginning of it
-unfoldable pub Runs : Program → Traced → Traced → ℕ → Result Reply Stopped → Type 0
+unfoldable pub Runs : Program → KernelModel → KernelModel → ℕ → Result Reply Stopped → Type 0
 Runs program old new thread (Ok reply) = Completes program old new thread reply
 Runs program old new thread (Err stopped) = Begins program old new thread
 
@@ -97,13 +97,13 @@ abbrev pub Part : Type 0 → Type 0
 Part A = (A → Program) → Program
 
 -- the thread led the one program to the other: however that goes on, the first has gone on so
-pub record LeadsTo (first : Program) (old : Traced) (later : Program) (mid : Traced) (thread : ℕ) : Type 0 where
-  pub completes : (new : Traced) (reply : Reply) → Completes later mid new thread reply → Completes first old new thread reply
-  pub begins : (new : Traced) → Begins later mid new thread → Begins first old new thread
+pub record LeadsTo (first : Program) (old : KernelModel) (later : Program) (mid : KernelModel) (thread : ℕ) : Type 0 where
+  pub completes : (new : KernelModel) (reply : Reply) → Completes later mid new thread reply → Completes first old new thread reply
+  pub begins : (new : KernelModel) → Begins later mid new thread → Begins first old new thread
 
 -- Code runs a part of a program: it has made the raw calls of the part and hands this on; or it has made them and the call is
 -- refused; or it has made a beginning of them and the call stops.
-unfoldable pub RunsPart : {A : Type 0} → Part A → Traced → Traced → ℕ → Result A Ending → Type 0
+unfoldable pub RunsPart : {A : Type 0} → Part A → KernelModel → KernelModel → ℕ → Result A Ending → Type 0
 RunsPart {A} part old new thread (Ok found) = (rest : A → Program) → LeadsTo (part rest) old (rest found) new thread
 RunsPart {A} part old new thread (Err (Refused errno)) = (rest : A → Program) → LeadsTo (part rest) old (Answers (replies.Refused errno)) new thread
 RunsPart {A} part old new thread (Err HasStopped) = (rest : A → Program) → Begins (part rest) old new thread

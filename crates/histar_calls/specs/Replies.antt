@@ -8,7 +8,7 @@ use Rattle.histar_flat.specs.declared.replies.Reply.TheVariants.{Refused}
 use Rattle.histar_rules.specs.declared.raw.RawCall.{RawCall}
 use Rattle.histar_rules.specs.declared.raw.RawCall.TheVariants as raw
 use Rattle.histar_syscall.specs.declared.trace.TraceEntry.{TraceEntry}
-use Rattle.histar_syscall.specs.Traced.{Traced}
+use Rattle.histar_syscall.specs.KernelModel.{KernelModel}
 use Rattle.histar_syscall.specs.Runs.{Ran, some_label_refusal, some_range_refusal}
 
 abbrev pub is_access : Errno → Bool
@@ -47,7 +47,7 @@ IsRefusedOnce (e ∷ entries) = elim e.denied [ None ↦ IsRefusedOnce entries |
 -- The call was made of raw calls of this thread on the line that was begun, which are a run of the kernel. It replies EACCES
 -- exactly where one of them was refused by label, and EPERM exactly where one was refused by range; at most one was refused, and
 -- after it the thread was only given labels.
-pub record Replies (old new : Traced) (thread : ℕ) (reply : Reply) : Type 0 where
+pub record Replies (old new : KernelModel) (thread : ℕ) (reply : Reply) : Type 0 where
   pub entries : List TraceEntry
   pub ran : Ran old new thread entries
   pub access : some_label_refusal entries ≡ is_no_access reply

@@ -11,7 +11,7 @@ use Rattle.histar_object.specs.Objects.{links_in}
 use Rattle.histar_object.specs.State.{State, Found}
 use Rattle.histar_container.specs.Tree.{Address, Reached, here, there}
 use Rattle.histar_rules.specs.Sound.{root_number}
-use Rattle.histar_syscall.specs.Traced.{state}
+use Rattle.histar_syscall.specs.KernelModel.{state}
 use Rattle.histar_rules.specs.Visible.{untainted, visible, end_of, untainted_objects, IsVisible}
 use Rattle.histar_confinement.specs.Laws.{VisibleIsReached, SameNumbersAreVisible}
 use Rattle.histar_rules.proofs.Tainted.{tainted_none, if_some, untainted_is, linker, visible_is}

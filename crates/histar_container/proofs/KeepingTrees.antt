@@ -10,7 +10,7 @@ use Rattle.histar_object.specs.declared.objects.Kind.TheVariants.{Segment, Conta
 use Rattle.histar_object.specs.declared.objects.Object.{Object}
 use Rattle.histar_object.specs.Objects.{Objects, objects_of, changed_at, kind_unlinking, unlinking, links_in, kind_links, is_there}
 use Rattle.histar_container.specs.Shown.{kind_by, object_by, shown, KindStands, Stands, AllStand, IsUnusedFrom, IsKept}
-use Rattle.histar_container.specs.Kept.{Kept, state_of, CutsOff}
+use Rattle.histar_container.specs.ObjectsModel.{ObjectsModel, state_of, CutsOff}
 use Rattle.histar_container.specs.Tree.{Address, Naming, wanted, objects_at, IsLaid, Reached, here, there, AreTree, IsCut}
 use Rattle.histar_container.proofs.Keeping.{by_value, shows_all, stand_changed, unused_changed, map_none}
 use Rattle.histar_container.proofs.TableMoves.{changed_here, changed_other}
@@ -164,13 +164,13 @@ module _ {Id : Type 0} (labels : Id → Option Levels) where
       kept_removed next (Ok x) kept trees linked ok err = kept_cut next kept trees linked ok
       kept_removed next (Err x) kept trees linked ok err = kept_same next kept err
 
-      module _ {A E : Type 0} (next_object next_category : ℕ) (old : Kept) (view_is : record { objects = shown labels es; next_object = next_object; next_category = next_category } ≡ old) (r : Result A E) where
+      module _ {A E : Type 0} (next_object next_category : ℕ) (old : ObjectsModel) (view_is : record { objects = shown labels es; next_object = next_object; next_category = next_category } ≡ old) (r : Result A E) where
         -- the state of the kernel where a tree was cut out of its table
         pub removed_ok : OnOk r (IsCut (objects_of es) d o (objects_of fs)) → OnOk r (CutsOff (state_of old) d o (state_of (record { objects = shown labels fs; next_object = next_object; next_category = next_category })))
         removed_ok ok = by r ok
           where
             by : (r : Result A E) → OnOk r (IsCut (objects_of es) d o (objects_of fs)) → OnOk r (CutsOff (state_of old) d o (state_of (record { objects = shown labels fs; next_object = next_object; next_category = next_category })))
-            by (Ok x) is_cut = subst (λ (k : Kept). CutsOff (state_of k) d o (state_of (record { objects = shown labels fs; next_object = next_object; next_category = next_category }))) view_is (record { is_cut = shown_cut is_cut; next_object = refl; next_category = refl })
+            by (Ok x) is_cut = subst (λ (k : ObjectsModel). CutsOff (state_of k) d o (state_of (record { objects = shown labels fs; next_object = next_object; next_category = next_category }))) view_is (record { is_cut = shown_cut is_cut; next_object = refl; next_category = refl })
             by (Err x) is_cut = tt
 
         -- and where it was not

@@ -1,4 +1,4 @@
-pub mod Kept
+pub mod ObjectsModel
 pub mod Shown
 pub mod Tree
 pub use Rattle.histar_object.specs.Objects

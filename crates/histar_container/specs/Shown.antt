@@ -24,6 +24,10 @@ module _ {Id : Type 0} (labels : Id → Option Levels) where
   shown [] = []
   shown (e ∷ es) = (e.0, object_by (label_at labels) e.1) ∷ shown es
 
+  -- the same, by their numbers
+  abbrev pub objects_shown : List (ℕ × Object Id) → Objects Levels
+  objects_shown es = objects_of (shown es)
+
   -- the clearance of a kind stands for a label
   abbrev pub KindStands : Kind Id → Type 0
   KindStands (Segment bytes) = Unit {0}
@@ -47,5 +51,5 @@ pub record IsUnusedFrom {L : Type 0} (objects : Objects L) (next : ℕ) : Type 0
 -- what the table of a kernel keeps over all calls
 pub record IsKept {Id : Type 0} (labels : Id → Option Levels) (es : List (ℕ × Object Id)) (next : ℕ) : Type 0 where
   pub stand : AllStand labels (objects_of es)
-  pub unused : IsUnusedFrom (objects_of (shown labels es)) next
+  pub unused : IsUnusedFrom (objects_shown labels es) next
   pub positive : 0 < next

@@ -6,8 +6,8 @@ ghost use Rattle.histar_label.specs.Levels.{Levels};
 ghost use Rattle.histar_label.specs.Store.{label_at, Keeps};
 ghost use Rattle.histar_object.specs.Objects.{objects_of, put, changed_at, with_new, holding, no_objects, thread_of, is_there, is_segment, is_container, is_thread, is_gate, links_in, bytes_there, label_there, clearance_there, entry_there};
 ghost use Rattle.histar_object.specs.State.{observes, modifies, in_range, added, with_next, counting, with_own, with_bytes};
-ghost use Rattle.histar_container.specs.Shown.{shown, kind_by, AllStand, KindStands, IsKept};
-ghost use Rattle.histar_container.specs.Kept.{state_of, CutsOff};
+ghost use Rattle.histar_container.specs.Shown.{objects_shown, kind_by, AllStand, KindStands, IsKept};
+ghost use Rattle.histar_container.specs.ObjectsModel.{state_of, CutsOff};
 ghost use Rattle.histar_container.specs.Tree.{AreTree};
 
 use crate::linking::{link_new, linked};
@@ -30,11 +30,11 @@ pub struct LabelledObjects<S: LabelStore + Drop> {
 
 impl<S: LabelStore + Drop> Model for LabelledObjects<S> {
     ghost use Rattle.histar_container.specs.Shown.{shown, IsKept};
-    ghost use Rattle.histar_container.specs.Kept.{Kept, coded_kept};
+    ghost use Rattle.histar_container.specs.ObjectsModel.{ObjectsModel, coded_objects_model};
 
-    ghost Value = { Kept };
+    ghost Value = { ObjectsModel };
 
-    ghost coded = { coded_kept };
+    ghost coded = { coded_objects_model };
 
     ghost view = { λ k. record { objects = shown (S.labels k.store) k.table; next_object = k.next_object; next_category = k.next_category } };
 
@@ -291,7 +291,8 @@ fn observes_in<S: LabelStore>(
     object: ObjId,
 ) -> bool
     requires { AllStand (S.labels store.old) (objects_of table.now) }
-    ensures answer { result ≡ observes (objects_of (shown (S.labels store.old) table.now) thread) (objects_of (shown (S.labels store.old) table.now) object) }
+    ensures answer { result ≡
+        observes (objects_shown (S.labels store.old) table.now thread) (objects_shown (S.labels store.old) table.now object) }
     ensures unchanged { S.labels store.new ≡ S.labels store.old }
 {
     match (table.get(thread), table.get(object)) {
@@ -309,7 +310,8 @@ fn modifies_in<S: LabelStore>(
     object: ObjId,
 ) -> bool
     requires { AllStand (S.labels store.old) (objects_of table.now) }
-    ensures answer { result ≡ modifies (objects_of (shown (S.labels store.old) table.now) thread) (objects_of (shown (S.labels store.old) table.now) object) }
+    ensures answer { result ≡
+        modifies (objects_shown (S.labels store.old) table.now thread) (objects_shown (S.labels store.old) table.now object) }
     ensures unchanged { S.labels store.new ≡ S.labels store.old }
 {
     match (table.get(thread), table.get(object)) {
@@ -350,10 +352,11 @@ fn push_in<S: LabelStore>(
     kind: Kind<Label>,
 ) -> Result<(), AllocError>
     requires stand { AllStand (S.labels store.old) (objects_of table.old) }
-    requires is_new { objects_of (shown (S.labels store.old) table.old) number ≡ None }
+    requires is_new { objects_shown (S.labels store.old) table.old number ≡ None }
     ensures stand { AllStand (S.labels store.new) (objects_of table.new) }
-    ensures ok { OnOk result (objects_of (shown (S.labels store.new) table.new) ≡ put (objects_of (shown (S.labels store.old) table.old)) number (record { label = label; kind = kind })) }
-    ensures err { OnErr result (objects_of (shown (S.labels store.new) table.new) ≡ objects_of (shown (S.labels store.old) table.old)) }
+    ensures ok { OnOk result (objects_shown (S.labels store.new) table.new
+        ≡ put (objects_shown (S.labels store.old) table.old) number (record { label = label; kind = kind })) }
+    ensures err { OnErr result (objects_shown (S.labels store.new) table.new ≡ objects_shown (S.labels store.old) table.old) }
 {
     let kind = put_kind(store, kind)?;
     let label = store.put(label)?;
@@ -370,11 +373,12 @@ fn add_in<S: LabelStore>(
     kind: Kind<Label>,
 ) -> Result<(), AllocError>
     requires stand { AllStand (S.labels store.old) (objects_of table.old) }
-    requires is_there { IsTrue (is_container (objects_of (shown (S.labels store.old) table.old) container)) }
-    requires is_new { objects_of (shown (S.labels store.old) table.old) number ≡ None }
+    requires is_there { IsTrue (is_container (objects_shown (S.labels store.old) table.old container)) }
+    requires is_new { objects_shown (S.labels store.old) table.old number ≡ None }
     ensures stand { AllStand (S.labels store.new) (objects_of table.new) }
-    ensures ok { OnOk result (objects_of (shown (S.labels store.new) table.new) ≡ with_new (objects_of (shown (S.labels store.old) table.old)) container number (record { label = label; kind = kind })) }
-    ensures err { OnErr result (objects_of (shown (S.labels store.new) table.new) ≡ objects_of (shown (S.labels store.old) table.old)) }
+    ensures ok { OnOk result (objects_shown (S.labels store.new) table.new
+        ≡ with_new (objects_shown (S.labels store.old) table.old) container number (record { label = label; kind = kind })) }
+    ensures err { OnErr result (objects_shown (S.labels store.new) table.new ≡ objects_shown (S.labels store.old) table.old) }
 {
     let kind = put_kind(store, kind)?;
     let label = store.put(label)?;
@@ -390,10 +394,11 @@ fn set_own_in<S: LabelStore>(
     clearance: Label,
 ) -> Result<(), AllocError>
     requires stand { AllStand (S.labels store.old) (objects_of table.old) }
-    requires is_there { IsTrue (is_thread (objects_of (shown (S.labels store.old) table.old) thread)) }
+    requires is_there { IsTrue (is_thread (objects_shown (S.labels store.old) table.old thread)) }
     ensures stand { AllStand (S.labels store.new) (objects_of table.new) }
-    ensures ok { OnOk result (objects_of (shown (S.labels store.new) table.new) ≡ put (objects_of (shown (S.labels store.old) table.old)) thread (thread_of label clearance)) }
-    ensures err { OnErr result (objects_of (shown (S.labels store.new) table.new) ≡ objects_of (shown (S.labels store.old) table.old)) }
+    ensures ok { OnOk result (objects_shown (S.labels store.new) table.new
+        ≡ put (objects_shown (S.labels store.old) table.old) thread (thread_of label clearance)) }
+    ensures err { OnErr result (objects_shown (S.labels store.new) table.new ≡ objects_shown (S.labels store.old) table.old) }
 {
     let clearance = store.put(clearance)?;
     let label = store.put(label)?;

@@ -35,7 +35,7 @@ use Rattle.histar_rules.specs.declared.raw.Denied.TheVariants.{Modify, Range, To
 use Rattle.histar_rules.specs.declared.raw.RawCall.{RawCall}
 use Rattle.histar_rules.specs.declared.raw.RawCall.TheVariants as raw
 use Rattle.histar_rules.specs.Rules.{check, has_number, greatest}
-use Rattle.histar_syscall.specs.Traced.{Traced, state}
+use Rattle.histar_syscall.specs.KernelModel.{KernelModel, state}
 use Rattle.histar_layout.specs.Directory.{Entries, spelling}
 use Rattle.histar_layout.specs.Directory as layout
 use Rattle.histar_layout.specs.declared.entry.Target.{Target}
@@ -95,7 +95,7 @@ class_of_mode modes.Readable user = Readable user
 class_of_mode modes.Open user = Private user
 class_of_mode (modes.Group group) user = Private user
 
-module _ (session : Session) (ok : IsSession session) (old new : Traced) (f : Flat) (t : ℕ) (ready : IsReady session (state old) f t) (m : Name) (named : IsTrue (is_name m)) (mode : Mode) (nameable : IsTrue (is_line_mode mode)) (result : Result Reply Stopped) where
+module _ (session : Session) (ok : IsSession session) (old new : KernelModel) (f : Flat) (t : ℕ) (ready : IsReady session (state old) f t) (m : Name) (named : IsTrue (is_name m)) (mode : Mode) (nameable : IsTrue (is_line_mode mode)) (result : Result Reply Stopped) where
   abbrev call : UnixCall
   call = calls.Create (m ∷ []) mode
 
@@ -235,7 +235,7 @@ module _ (session : Session) (ok : IsSession session) (old new : Traced) (f : Fl
     abbrev make : Levels → RawCall
     make label = raw.MakeSegment (slash_number (length session.users)) label []
 
-    module _ (mid : Traced) (stays : state mid ≡ state old) (chain : Chain old t (all_granted (walk ∷ raw.OwnLabel ∷ [])) mid) where
+    module _ (mid : KernelModel) (stays : state mid ≡ state old) (chain : Chain old t (all_granted (walk ∷ raw.OwnLabel ∷ [])) mid) where
       -- by nobody: the label is out of range
       by_nobody : number ≡ None → (may : Bool) → may_write session p root ≡ may → (label : Levels) → label ≡ guard_label ready.lays_out.laid.category (guard_of mode 0) → Runs (ask (make label) ending) mid new t result → Row
       by_nobody none may is_may label same on = elim may as (λ b. may_write session p root ≡ b → Row) [
@@ -369,7 +369,7 @@ module _ (session : Session) (ok : IsSession session) (old new : Traced) (f : Fl
           by_right i is _ (label_is label is_own i (ap or_zero is) (user_range session p.user i is).1) (may_write session p root) (has_number (state old)) refl refl on
 
     -- the thread asks for its own label
-    in_room : (mid : Traced) → state mid ≡ state old → Chain old t (all_granted (walk ∷ [])) mid → Runs (ask raw.OwnLabel (λ labels. ask (make (label_made (length session.users) labels.0 mode)) ending)) mid new t result → Row
+    in_room : (mid : KernelModel) → state mid ≡ state old → Chain old t (all_granted (walk ∷ [])) mid → Runs (ask raw.OwnLabel (λ labels. ask (make (label_made (length session.users) labels.0 mode)) ending)) mid new t result → Row
     in_room mid stays chain on =
         granted_step session f ready.alone call old new t ready.thread result (walk ∷ []) mid chain raw.OwnLabel (λ labels. ask (make (label_made (length session.users) labels.0 mode)) ending)
         (ap (λ (s : State). check s t raw.OwnLabel) stays ∙ caller_passes (state old) t own (rights_clearance ready.lays_out.laid.category (thread_rights session [] p)) thread) on
@@ -384,7 +384,7 @@ module _ (session : Session) (ok : IsSession session) (old new : Traced) (f : Fl
   at_entry target full = given (room_at target full) (λ _. ask raw.OwnLabel (λ labels. ask (raw.MakeSegment (slash_number (length session.users)) (label_made (length session.users) labels.0 mode) [])
       (λ file. write_entries (places_of (length session.users)).slash (map.insert listed m (targets.File file)) (λ _. Answers Done))))
 
-  module _ (seen : may_read session p root ≡ true) (mid : Traced) (stays : state mid ≡ state old) (chain : Chain old t (all_granted (walk ∷ [])) mid) (on : Runs (at_entry (map.get listed m) (map.len listed == layout.most_entries)) mid new t result) where
+  module _ (seen : may_read session p root ≡ true) (mid : KernelModel) (stays : state mid ≡ state old) (chain : Chain old t (all_granted (walk ∷ [])) mid) (on : Runs (at_entry (map.get listed m) (map.len listed == layout.most_entries)) mid new t result) where
     exists : (node : Node) → get f.files (m ∷ []) ≡ Some node → (target : Target) → map.get listed m ≡ Some target → Row
     exists node is target leads =
         refused_at_once session f ready.alone call old new t ready.thread result (walk ∷ []) mid chain stays ready.lays_out EEXIST

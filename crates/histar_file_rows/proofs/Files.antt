@@ -14,7 +14,7 @@ use Rattle.histar_flat.specs.Classes.{Class, may_read}
 use Rattle.histar_flat.specs.FlatState.{Flat, Node, Content, is_some_and, is_dir, reads}
 use Rattle.histar_flat.specs.FlatState.Content.{Dir, File}
 use Rattle.histar_flat.specs.FlatCalls.{refused, no_file}
-use Rattle.histar_syscall.specs.Traced.{Traced, state}
+use Rattle.histar_syscall.specs.KernelModel.{KernelModel, state}
 use Rattle.histar_layout.specs.declared.entry.Target.{Target}
 use Rattle.histar_layout.specs.declared.entry.Target.TheVariants as targets
 use Rattle.histar_calls.specs.declared.ending.Stopped.{Stopped}
@@ -32,7 +32,7 @@ use Rattle.histar_file_rows.proofs.Scenes.{slash, slash_reads, walk_call, nothin
 use Rattle.std.specs.FinMap as map
 use Rattle.histar_refinement.specs.Directories.{directory_of}
 
-module _ (session : Session) (ok : IsSession session) (old new : Traced) (f : Flat) (t : ℕ) (ready : IsReady session (state old) f t) (m : Name) (call : UnixCall) (result : Result Reply Stopped) (later : Option Errno)
+module _ (session : Session) (ok : IsSession session) (old new : KernelModel) (f : Flat) (t : ℕ) (ready : IsReady session (state old) f t) (m : Name) (call : UnixCall) (result : Result Reply Stopped) (later : Option Errno)
     (split : refused session f [] ready.alone.process call ≡ (no_file session f ready.alone.process (m ∷ []) orelse later)) where
   -- the tests of reaching the file, in their order
   abbrev tests : Bool → Option Node → Option Errno
@@ -53,13 +53,13 @@ module _ (session : Session) (ok : IsSession session) (old new : Traced) (f : Fl
 
     pub file_step : Runs (find_file (places_of (length session.users)) (m ∷ []) rest) old new t result
         → (may_read session ready.alone.process (slash session ok (state old) f t ready).0 ≡ true → (class : Class) (bytes : List ℕ) → get f.files (m ∷ []) ≡ Some (record { class = class; content = File bytes }) → (o : ℕ) → ready.lays_out.laid.naming.number (address_of (m ∷ [])) ≡ Some o
-        → (mid : Traced) → state mid ≡ state old → Chain old t (all_granted (walk_call session ok (state old) f t ready ∷ [])) mid → Runs (rest (record { container = slash_number (length session.users); segment = o })) mid new t result → Goal session f ready.alone call old new t ready.thread result)
+        → (mid : KernelModel) → state mid ≡ state old → Chain old t (all_granted (walk_call session ok (state old) f t ready ∷ [])) mid → Runs (rest (record { container = slash_number (length session.users); segment = o })) mid new t result → Goal session f ready.alone call old new t ready.thread result)
         → Goal session f ready.alone call old new t ready.thread result
     unfolding find_file
     file_step runs go_on = walk_step session ok old new f t ready call result (λ unseen. refused_is false (get f.files (m ∷ [])) unseen refl) has_reads _ runs
         (λ seen mid stays chain on. by_stands seen mid stays chain on (get f.files (m ∷ [])) refl)
       where
-        by_content : may_read session ready.alone.process (slash session ok (state old) f t ready).0 ≡ true → (mid : Traced) → state mid ≡ state old → Chain old t (all_granted (walk_call session ok (state old) f t ready ∷ [])) mid
+        by_content : may_read session ready.alone.process (slash session ok (state old) f t ready).0 ≡ true → (mid : KernelModel) → state mid ≡ state old → Chain old t (all_granted (walk_call session ok (state old) f t ready ∷ [])) mid
             → Runs (at_entry (map.get (directory_of f.files ready.lays_out.laid.naming.number []) m)) mid new t result → (class : Class) (c : Content) → get f.files (m ∷ []) ≡ Some (record { class = class; content = c }) → Goal session f ready.alone call old new t ready.thread result
         by_content seen mid stays chain on class Dir is =
             let there = directory_there session ok (state old) f t ready m class is in
@@ -70,7 +70,7 @@ module _ (session : Session) (ok : IsSession session) (old new : Traced) (f : Fl
             let there = file_there session ok (state old) f t ready m class bytes is in
             go_on seen class bytes is there.0 there.1 mid stays chain (subst (λ (target : Option Target). Runs (at_entry target) mid new t result) there.2 on)
 
-        by_stands : may_read session ready.alone.process (slash session ok (state old) f t ready).0 ≡ true → (mid : Traced) → state mid ≡ state old → Chain old t (all_granted (walk_call session ok (state old) f t ready ∷ [])) mid
+        by_stands : may_read session ready.alone.process (slash session ok (state old) f t ready).0 ≡ true → (mid : KernelModel) → state mid ≡ state old → Chain old t (all_granted (walk_call session ok (state old) f t ready ∷ [])) mid
             → Runs (at_entry (map.get (directory_of f.files ready.lays_out.laid.naming.number []) m)) mid new t result → (o : Option Node) → get f.files (m ∷ []) ≡ o → Goal session f ready.alone call old new t ready.thread result
         by_stands seen mid stays chain on None is =
             refused_at_once session f ready.alone call old new t ready.thread result (walk_call session ok (state old) f t ready ∷ []) mid chain stays ready.lays_out ENOENT

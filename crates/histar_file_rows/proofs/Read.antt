@@ -21,7 +21,7 @@ use Rattle.histar_rules.specs.declared.raw.Denied.TheVariants.{Observe}
 use Rattle.histar_rules.specs.declared.raw.RawCall.{RawCall}
 use Rattle.histar_rules.specs.declared.raw.RawCall.TheVariants as raw
 use Rattle.histar_rules.specs.Rules.{check}
-use Rattle.histar_syscall.specs.Traced.{Traced, state}
+use Rattle.histar_syscall.specs.KernelModel.{KernelModel, state}
 use Rattle.histar_calls.specs.declared.ending.Stopped.{Stopped}
 use Rattle.histar_calls.specs.Programs.{Runs}
 use Rattle.histar_calls.specs.Programs.Program.{Answers}
@@ -42,7 +42,7 @@ use Rattle.histar_rows.proofs.Steps.{Goal, granted_step, refused_step, answered_
 use Rattle.histar_file_rows.proofs.Scenes.{slash, runs, at_slash, at_listing, walk_call, has_walk}
 use Rattle.histar_file_rows.proofs.Files.{reached, file_step}
 
-module _ (session : Session) (ok : IsSession session) (old new : Traced) (f : Flat) (t : ℕ) (ready : IsReady session (state old) f t) (m : Name) (result : Result Reply Stopped) where
+module _ (session : Session) (ok : IsSession session) (old new : KernelModel) (f : Flat) (t : ℕ) (ready : IsReady session (state old) f t) (m : Name) (result : Result Reply Stopped) where
   abbrev call : UnixCall
   call = calls.Read (m ∷ [])
 
@@ -53,7 +53,7 @@ module _ (session : Session) (ok : IsSession session) (old new : Traced) (f : Fl
   Row = Goal session f ready.alone call old new t ready.thread result
 
   module _ (seen : may_read session ready.alone.process (slash session ok (state old) f t ready).0 ≡ true) (class : Class) (bytes : List ℕ) (at : get f.files (m ∷ []) ≡ Some (record { class = class; content = File bytes })) (o : ℕ) (numbered : ready.lays_out.laid.naming.number (address_of (m ∷ [])) ≡ Some o)
-      (mid : Traced) (stays : state mid ≡ state old) (chain : Chain old t (all_granted (walk ∷ [])) mid) where
+      (mid : KernelModel) (stays : state mid ≡ state old) (chain : Chain old t (all_granted (walk ∷ [])) mid) where
     abbrev next : RawCall
     next = raw.Read (slash_number (length session.users)) o
 

@@ -21,7 +21,7 @@ use Rattle.histar_rules.specs.declared.raw.Denied.TheVariants.{Observe}
 use Rattle.histar_rules.specs.declared.raw.RawCall.{RawCall}
 use Rattle.histar_rules.specs.declared.raw.RawCall.TheVariants as raw
 use Rattle.histar_rules.specs.Rules.{check}
-use Rattle.histar_syscall.specs.Traced.{Traced, state}
+use Rattle.histar_syscall.specs.KernelModel.{KernelModel, state}
 use Rattle.histar_syscall.proofs.Runs.{same_kernel}
 use Rattle.histar_syscall.specs.declared.trace.TraceEntry.{TraceEntry}
 use Rattle.histar_layout.specs.Directory.{Entries, IsDirectory}
@@ -117,12 +117,12 @@ module _ (session : Session) (ok : IsSession session) (s : State) (f : Flat) (t 
         let listing = some_of (ready.lays_out.laid.naming.number (Listing ∷ address_of (m ∷ []))) (numbered_listing session s f ready.lays_out.laid (m ∷ []) class is) in
         (at.0, listing.0, target_is (Some (record { class = class; content = Dir })) is ∙ (λ i. both_numbers (at.1 i) (listing.1 i)))
 
-module _ (session : Session) (ok : IsSession session) (old new : Traced) (f : Flat) (t : ℕ) (ready : IsReady session (state old) f t) (call : UnixCall) (result : Result Reply Stopped) where
+module _ (session : Session) (ok : IsSession session) (old new : KernelModel) (f : Flat) (t : ℕ) (ready : IsReady session (state old) f t) (call : UnixCall) (result : Result Reply Stopped) where
   -- The walk to an entry of `/`: it is refused as the flat rules refuse the call, or the call goes on with the entries of `/`.
   pub walk_step : (may_read session ready.alone.process (slash session ok (state old) f t ready).0 ≡ false → refused session f [] ready.alone.process call ≡ Some EACCES)
       → ((steps : List Step) (r : Reply) → AreAmong (walk_call session ok (state old) f t ready ∷ []) (entries_of old.line t steps) → ReadsAmong session f ready.alone call old new t ready.thread steps r)
       → (rest : Directory → Program) → Runs (walk (places_of (length session.users)) [] rest) old new t result
-      → (may_read session ready.alone.process (slash session ok (state old) f t ready).0 ≡ true → (mid : Traced) → state mid ≡ state old → Chain old t (all_granted (walk_call session ok (state old) f t ready ∷ [])) mid
+      → (may_read session ready.alone.process (slash session ok (state old) f t ready).0 ≡ true → (mid : KernelModel) → state mid ≡ state old → Chain old t (all_granted (walk_call session ok (state old) f t ready ∷ [])) mid
       → Runs (rest (record { place = (places_of (length session.users)).slash; entries = entries session ok (state old) f t ready })) mid new t result → Goal session f ready.alone call old new t ready.thread result)
       → Goal session f ready.alone call old new t ready.thread result
   unfolding walk read_directory

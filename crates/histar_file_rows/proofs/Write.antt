@@ -21,7 +21,7 @@ use Rattle.histar_rules.specs.declared.raw.Denied.TheVariants.{Modify, TooBig}
 use Rattle.histar_rules.specs.declared.raw.RawCall.{RawCall}
 use Rattle.histar_rules.specs.declared.raw.RawCall.TheVariants as raw
 use Rattle.histar_rules.specs.Rules.{check, fits_segment}
-use Rattle.histar_syscall.specs.Traced.{Traced, state}
+use Rattle.histar_syscall.specs.KernelModel.{KernelModel, state}
 use Rattle.histar_calls.specs.declared.ending.Stopped.{Stopped}
 use Rattle.histar_calls.specs.Programs.{Runs}
 use Rattle.histar_calls.specs.Programs.Program.{Answers}
@@ -49,7 +49,7 @@ use Rattle.histar_file_rows.proofs.Files.{reached, file_step}
 kept_none : (old : ℕ) (n : ℕ) → fits_segment (min 0 old + n) ≡ nat_le n most_bytes
 kept_none old n = let total : min 0 old + n ≡ n = omega arith in ap (λ (k : ℕ). nat_le k 4096) total
 
-module _ (session : Session) (ok : IsSession session) (old new : Traced) (f : Flat) (t : ℕ) (ready : IsReady session (state old) f t) (m : Name) (bytes : List ℕ) (result : Result Reply Stopped) where
+module _ (session : Session) (ok : IsSession session) (old new : KernelModel) (f : Flat) (t : ℕ) (ready : IsReady session (state old) f t) (m : Name) (bytes : List ℕ) (result : Result Reply Stopped) where
   abbrev call : UnixCall
   call = calls.Write (m ∷ []) bytes
 
@@ -64,7 +64,7 @@ module _ (session : Session) (ok : IsSession session) (old new : Traced) (f : Fl
   refusal may fits = unless may EACCES orelse unless fits EFBIG
 
   module _ (seen : may_read session ready.alone.process (slash session ok (state old) f t ready).0 ≡ true) (class : Class) (held : List ℕ) (at : get f.files (m ∷ []) ≡ Some (record { class = class; content = File held })) (o : ℕ) (numbered : ready.lays_out.laid.naming.number (address_of (m ∷ [])) ≡ Some o)
-      (mid : Traced) (stays : state mid ≡ state old) (chain : Chain old t (all_granted (walk ∷ [])) mid) where
+      (mid : KernelModel) (stays : state mid ≡ state old) (chain : Chain old t (all_granted (walk ∷ [])) mid) where
     abbrev next : RawCall
     next = raw.Write (slash_number (length session.users)) o 0 bytes
 

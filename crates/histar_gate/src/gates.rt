@@ -1,8 +1,7 @@
 //! The making of gates, and entering them.
-ghost use Rattle.std.specs.Prelude.{◌≡◌, Some};
-ghost use Rattle.histar_container.specs.Kept.{state_of};
-ghost use Rattle.histar_object.specs.Objects.{objects_of, entry_there};
-ghost use Rattle.histar_rules.specs.Rules.{check, Tells, TellsUnlessExhausted, Decides, IsNextNumber};
+ghost use Rattle.std.specs.Prelude.{◌≡◌};
+ghost use Rattle.histar_container.specs.ObjectsModel.{state_of};
+ghost use Rattle.histar_rules.specs.Rules.{check, Tells, TellsUnlessExhausted, Decides, IsNextNumber, IsEntryOf};
 ghost use Rattle.histar_rules.specs.declared.raw.RawCall.TheVariants as calls;
 
 use crate::openings::{in_gate, is_let_in, is_under};
@@ -48,7 +47,7 @@ pub fn make_gate<S: LabelStore + Drop>(
     clearance: &Label,
     entry: Entry,
 ) -> Result<ObjId, Refusal>
-    ensures { Decides (state_of objects.old) (state_of objects.new) thread (calls.MakeGate container label.now clearance.now entry) result (IsNextNumber objects.old) }
+    ensures { Decides objects.old objects.new thread (calls.MakeGate container label.now clearance.now entry) result (IsNextNumber objects.old) }
 {
     check_make_gate(objects, thread, container, label, clearance, entry)?;
     let number = objects.next_object();
@@ -67,7 +66,8 @@ fn check_enter<S: LabelStore + Drop>(
     clearance: &Label,
     shown: &Label,
 ) -> Result<(), Refusal>
-    ensures answer { TellsUnlessExhausted (check (state_of objects.old) thread (calls.Enter container gate wanted.now clearance.now shown.now)) result }
+    ensures answer { TellsUnlessExhausted
+        (check (state_of objects.old) thread (calls.Enter container gate wanted.now clearance.now shown.now)) result }
     ensures unchanged { objects.new ≡ objects.old }
 {
     check_gate(objects, thread, container, gate)?;
@@ -104,7 +104,8 @@ pub fn enter<S: LabelStore + Drop>(
     clearance: &Label,
     shown: &Label,
 ) -> Result<Entry, Refusal>
-    ensures { Decides (state_of objects.old) (state_of objects.new) thread (calls.Enter container gate wanted.now clearance.now shown.now) result (λ entry. Some entry ≡ entry_there (objects_of objects.old.objects gate)) }
+    ensures { Decides objects.old objects.new thread
+        (calls.Enter container gate wanted.now clearance.now shown.now) result (IsEntryOf objects.old gate) }
 {
     check_enter(objects, thread, container, gate, wanted, clearance, shown)?;
     let Some(entry) = objects.entry(gate) else {

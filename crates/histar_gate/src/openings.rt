@@ -1,9 +1,7 @@
 //! Whom a gate lets in, and with which labels.
 ghost use Rattle.std.specs.Prelude.{◌≡◌, ◌&&◌, IfOk};
-ghost use Rattle.histar_label.specs.Floors.{floor_of};
-ghost use Rattle.histar_label.specs.Levels.{is_below, is_below_join};
 ghost use Rattle.histar_object.specs.Objects.{objects_of};
-ghost use Rattle.histar_object.specs.Rights.{is_under, is_let_in, in_gate};
+ghost use Rattle.histar_object.specs.Rights.{is_under, is_let_in, in_gate, lies_between};
 
 use histar_container::LabelledObjects;
 use histar_label::{Label, LabelStore, OutOfMemory};
@@ -47,7 +45,8 @@ pub fn in_gate<S: LabelStore + Drop>(
     label: &Label,
     clearance: &Label,
 ) -> Result<bool, OutOfMemory>
-    ensures { IfOk result (λ passes. passes ≡ in_gate (objects_of objects.now.objects thread) (objects_of objects.now.objects gate) label.now clearance.now) }
+    ensures { IfOk result (λ passes. passes ≡
+        in_gate (objects_of objects.now.objects thread) (objects_of objects.now.objects gate) label.now clearance.now) }
 {
     match (objects.label(thread), objects.clearance(thread)) {
         (Some(own), Some(most)) => match (objects.label(gate), objects.clearance(gate)) {
@@ -68,7 +67,7 @@ fn lies_between(
     most: &Label,
     limit: &Label,
 ) -> Result<bool, OutOfMemory>
-    ensures { IfOk result (λ passes. passes ≡ (is_below (floor_of own.now given.now) label.now && is_below label.now clearance.now && is_below_join clearance.now most.now limit.now)) }
+    ensures { IfOk result (λ passes. passes ≡ lies_between own.now given.now label.now clearance.now most.now limit.now) }
 {
     let floor = own.floor(given)?;
     Ok(floor.below(label) && label.below(clearance) && clearance.below_join(most, limit))

@@ -9,7 +9,7 @@ use Rattle.histar_object.specs.declared.objects.Object.{Object}
 use Rattle.histar_rules.specs.declared.raw.RawCall.{RawCall}
 use Rattle.histar_rules.specs.declared.raw.RawCall.TheVariants as calls
 use Rattle.histar_rules.specs.Sound.{root_number}
-use Rattle.histar_syscall.specs.Traced.{Traced, Called}
+use Rattle.histar_syscall.specs.KernelModel.{KernelModel, Called}
 use Rattle.histar_calls.specs.Categories.{write_category}
 use Rattle.histar_calls.specs.Labelling.{written_by}
 use Rattle.histar_login.specs.Start.{boot_category, container, user_table}
@@ -23,7 +23,7 @@ three_more : {A : Type 0} (xs : List A) (a b c : A) → (((xs ++ a ∷ []) ++ b 
 three_more xs a b c = simp append_assoc
 
 -- the user table and `/`, of which the container is used under the number that the kernel answered
-module _ (first k0 k1 k2 k3 : Traced) (p : Part) (n : ℕ) (users : List User) (root listing : ℕ) (at : next_number p ≡ 3 + 2 * n) (b0 : Boots first k0 p)
+module _ (first k0 k1 k2 k3 : KernelModel) (p : Part) (n : ℕ) (users : List User) (root listing : ℕ) (at : next_number p ≡ 3 + 2 * n) (b0 : Boots first k0 p)
     (c1 : Called k0 k1 boot_thread_number (calls.MakeSegment root_number (written_by boot_category) (user_table users)) None)
     (c2 : Called k1 k2 boot_thread_number (calls.MakeContainer root_number (written_by (write_category 1))) None) (is_root : root ≡ k1.kept.next_object)
     (c3 : Called k2 k3 boot_thread_number (calls.MakeSegment root (written_by (write_category 1)) []) None) (is_listing : listing ≡ k2.kept.next_object) where

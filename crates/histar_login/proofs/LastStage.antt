@@ -6,7 +6,7 @@ use Rattle.histar_flat.specs.declared.calls.User.{User}
 use Rattle.histar_object.specs.State.{empty_state}
 use Rattle.histar_rules.specs.declared.raw.RawCall.TheVariants as calls
 use Rattle.histar_rules.specs.Sound.{root_number}
-use Rattle.histar_syscall.specs.Traced.{Traced, state, Called}
+use Rattle.histar_syscall.specs.KernelModel.{KernelModel, state, Called}
 use Rattle.histar_syscall.proofs.Runs.{granted_more, made_run}
 use Rattle.histar_calls.specs.Labelling.{written_by}
 use Rattle.histar_login.specs.Start.{boot_category, own_read_category, container, state_with, of_users, of_directory, start_state}
@@ -38,7 +38,7 @@ process_is_next : (users : List User) → IsBeforeBoth (6 + 2 * length users) (o
 process_is_next users = (omega (arith, length-numbered 1 users, length-append (of_users users) (of_directory (length users) users)), omega arith)
 
 -- the parts of boot, one after another
-pub record HasParts (users : List User) (first directed processed last : Traced) : Type 0 where
+pub record HasParts (users : List User) (first directed processed last : KernelModel) : Type 0 where
   -- the next object is the user table, and then `/` and its directory segment
   pub is_next : IsBefore (3 + 2 * length users) (first_parts users)
   pub before : Boots first directed (first_parts users)
@@ -48,7 +48,7 @@ pub record HasParts (users : List User) (first directed processed last : Traced)
   pub all : Boots first last (all_parts users)
 
 -- the parts of boot follow one another
-pub has_parts : (users : List User) (first k1 k2 k3 k4 k5 : Traced) → state first ≡ empty_state
+pub has_parts : (users : List User) (first k1 k2 k3 k4 k5 : KernelModel) → state first ≡ empty_state
     → BootsOn first k1 IsAnywhere two_categories → BootsOn k1 k2 IsAnywhere (categories_part users) → BootsOn k2 k3 (IsBefore 3) (users_part users)
     → BootsOn k3 k4 (IsBefore (3 + 2 * length users)) (directory_part (length users) users)
     → ((n : ℕ) → BootsOn k4 k5 (IsBeforeBoth (6 + 2 * n) (own_read_category n)) (process_part n)) → HasParts users first k3 k4 k5
@@ -76,7 +76,7 @@ root_numbers n =
     ∙ ap (λ (l : List ℕ). l ++ (3 + suc (2 * n)) ∷ []) (sym (range-suc 3 (2 * n)))
     ∙ sym (range-suc 3 (suc (2 * n))) ∙ ap (range_with_len 3) twice)
 
-module _ (users : List User) (first before after : Traced) (boots : Boots first before (all_parts users))
+module _ (users : List User) (first before after : KernelModel) (boots : Boots first before (all_parts users))
     (called : Called before after boot_thread_number (calls.Unlink root_number boot_thread_number) None) where
   -- all parts of boot, with the numbers of the root container in a row
   last_part : Part
@@ -110,5 +110,5 @@ module _ (users : List User) (first before after : Traced) (boots : Boots first 
       ∙ ap (state_with (container (written_by boot_category) (range_with_len 3 (2 + 2 * length users) ++ (6 + 2 * length users) ∷ []) ∷ None ∷ (all_parts users).objects)) (omega arith)
 
 -- no line was begun
-pub booted_line : (users : List User) (kernel : Traced) → IsBooted users kernel → kernel.line ≡ 0
+pub booted_line : (users : List User) (kernel : KernelModel) → IsBooted users kernel → kernel.line ≡ 0
 booted_line users kernel booted = (made_run boot_thread_number booted.first kernel (boot_calls users) None booted.made).ran.line ∙ booted.line

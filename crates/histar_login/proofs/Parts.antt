@@ -14,9 +14,9 @@ use Rattle.histar_rules.specs.declared.raw.RawCall.{RawCall}
 use Rattle.histar_rules.specs.declared.raw.RawCall.TheVariants.{MakeCategory, Unlink}
 use Rattle.histar_rules.specs.declared.raw.Refusal.{Refusal}
 use Rattle.histar_rules.specs.Sound.{root_number}
-use Rattle.histar_syscall.specs.Traced.{Traced, state, Called, Answered}
+use Rattle.histar_syscall.specs.KernelModel.{KernelModel, state, Called, Answered}
 use Rattle.histar_syscall.proofs.Runs.{granted_none, granted_more}
-use Rattle.histar_container.specs.Kept.{CutsOff}
+use Rattle.histar_container.specs.ObjectsModel.{CutsOff}
 use Rattle.histar_calls.specs.Labelling.{written_by}
 use Rattle.histar_login.specs.Start.{state_with, container, boot_category}
 use Rattle.histar_login.specs.Boot.{boot_thread_number}
@@ -25,14 +25,14 @@ use Rattle.histar_login.proofs.Tables.{changed, changed_behind, with_category_is
 use Rattle.histar_login.proofs.FirstAndLast.{empty_is, thread_gone, removed_again}
 
 -- a call that was answered was granted, under equal texts
-pub granted_as : {A : Type 0} (old new : Traced) (t : ℕ) (call told : RawCall) (r : Result A Refusal) (P : A → Type 0) (a : A) → Answered old new t call r P → r ≡ Ok a → t ≡ boot_thread_number → call ≡ told
+pub granted_as : {A : Type 0} (old new : KernelModel) (t : ℕ) (call told : RawCall) (r : Result A Refusal) (P : A → Type 0) (a : A) → Answered old new t call r P → r ≡ Ok a → t ≡ boot_thread_number → call ≡ told
     → Called old new boot_thread_number told None
 granted_as {A} old new t call told r P a answered is by same =
     let called : Called old new t call None = (subst (λ (x : Result A Refusal). Answered old new t call x P) is answered).0 in
     subst (λ (x : RawCall). Called old new boot_thread_number x None) same (subst (λ (n : ℕ). Called old new n call None) by called)
 
 -- and what it answered is right
-pub answer_as : {A : Type 0} (old new : Traced) (t : ℕ) (call : RawCall) (r : Result A Refusal) (P : A → Type 0) (a : A) → Answered old new t call r P → r ≡ Ok a → P a
+pub answer_as : {A : Type 0} (old new : KernelModel) (t : ℕ) (call : RawCall) (r : Result A Refusal) (P : A → Type 0) (a : A) → Answered old new t call r P → r ≡ Ok a → P a
 answer_as {A} old new t call r P a answered is = (subst (λ (x : Result A Refusal). Answered old new t call x P) is answered).1
 
 -- a thread that gets a category is a thread
@@ -47,10 +47,10 @@ pub links_more : (label : Levels) (numbers : List ℕ) (n : ℕ) → Some (linki
 links_more label numbers n = ap (λ (links : Numbers). Some (record { label = label; kind = Container links })) (sym (set.from_list_push nat_cmp_total set.nat_cmp-IsAntisymmetric numbers n))
 
 -- nothing has been made
-pub boots_first : (first : Traced) → state first ≡ empty_state → Boots first first nothing_yet
+pub boots_first : (first : KernelModel) → state first ≡ empty_state → Boots first first nothing_yet
 boots_first first empty = record { granted = granted_none first boot_thread_number; boot = boot_thread; is_thread = refl; stands = empty ∙ empty_is }
 
-module _ (first old new : Traced) (p : Part) (boots : Boots first old p) where
+module _ (first old new : KernelModel) (p : Part) (boots : Boots first old p) where
   -- the number that the next object gets
   pub next_number_is : old.kept.next_object ≡ next_number p
   next_number_is = ap (λ (s : State). s.next_object) boots.stands ∙ omega arith

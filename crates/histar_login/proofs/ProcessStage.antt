@@ -9,7 +9,7 @@ use Rattle.histar_object.specs.State.{Found}
 use Rattle.histar_rules.specs.declared.raw.RawCall.{RawCall}
 use Rattle.histar_rules.specs.declared.raw.RawCall.TheVariants as calls
 use Rattle.histar_rules.specs.Sound.{root_number}
-use Rattle.histar_syscall.specs.Traced.{Traced, Called}
+use Rattle.histar_syscall.specs.KernelModel.{KernelModel, Called}
 use Rattle.histar_calls.specs.Labelling.{written_by, secret_of, owner_of, cleared_of}
 use Rattle.histar_login.specs.Start.{own_read_category, own_write_category, container, segment, process_bytes}
 use Rattle.histar_login.specs.Boot.{boot_thread_number}
@@ -22,7 +22,7 @@ six_more : {A : Type 0} (xs : List A) (a b c d e f : A) → ((((((xs ++ a ∷ []
 six_more xs a b c d e f = simp append_assoc
 
 -- process 0, where each category and each number is the one that the kernel answered
-module _ (first k0 k1 k2 k3 k4 k5 k6 : Traced) (p : Part) (n read write outer inner thread : ℕ) (at : next_number p ≡ 6 + 2 * n) (made : next_made p ≡ own_read_category n) (b0 : Boots first k0 p)
+module _ (first k0 k1 k2 k3 k4 k5 k6 : KernelModel) (p : Part) (n read write outer inner thread : ℕ) (at : next_number p ≡ 6 + 2 * n) (made : next_made p ≡ own_read_category n) (b0 : Boots first k0 p)
     (c1 : Called k0 k1 boot_thread_number calls.MakeCategory None) (is_read : read ≡ k0.kept.next_category)
     (c2 : Called k1 k2 boot_thread_number calls.MakeCategory None) (is_write : write ≡ k1.kept.next_category)
     (c3 : Called k2 k3 boot_thread_number (calls.MakeContainer root_number (written_by write)) None) (is_outer : outer ≡ k2.kept.next_object)

@@ -11,7 +11,7 @@ use Rattle.histar_object.specs.State.{Found}
 use Rattle.histar_rules.specs.declared.raw.RawCall.{RawCall}
 use Rattle.histar_rules.specs.declared.raw.RawCall.TheVariants as calls
 use Rattle.histar_rules.specs.Sound.{root_number}
-use Rattle.histar_syscall.specs.Traced.{Traced, Called}
+use Rattle.histar_syscall.specs.KernelModel.{KernelModel, Called}
 use Rattle.histar_calls.specs.Categories.{read_category, write_category}
 use Rattle.histar_calls.specs.Labelling.{secret_of, owner_of, cleared_of}
 use Rattle.histar_login.specs.Start.{numbered, of_user, of_users}
@@ -21,11 +21,11 @@ use Rattle.histar_login.proofs.StartLemmas.{numbered_next, range-suc}
 use Rattle.histar_login.proofs.Parts.{boots_category, boots_shared}
 
 -- parts that are equal in all are equal
-pub boots_same : (first now : Traced) (p q : Part) → Boots first now p → p.calls ≡ q.calls → p.linked ≡ q.linked → p.objects ≡ q.objects → p.categories ≡ q.categories → Boots first now q
+pub boots_same : (first now : KernelModel) (p q : Part) → Boots first now p → p.calls ≡ q.calls → p.linked ≡ q.linked → p.objects ≡ q.objects → p.categories ≡ q.categories → Boots first now q
 boots_same first now p q boots calls linked objects categories = subst (Boots first now) (λ i. record { calls = calls i; linked = linked i; objects = objects i; categories = categories i }) boots
 
 -- two categories
-pub two_boot : (first k0 k1 k2 : Traced) (p : Part) → Boots first k0 p → Called k0 k1 boot_thread_number calls.MakeCategory None → Called k1 k2 boot_thread_number calls.MakeCategory None → Boots first k2 (and_then p two_categories)
+pub two_boot : (first k0 k1 k2 : KernelModel) (p : Part) → Boots first k0 p → Called k0 k1 boot_thread_number calls.MakeCategory None → Called k1 k2 boot_thread_number calls.MakeCategory None → Boots first k2 (and_then p two_categories)
 two_boot first k0 k1 k2 p b0 c1 c2 =
     let p1 : Part = record { calls = p.calls ++ calls.MakeCategory ∷ []; linked = p.linked; objects = p.objects; categories = p.categories + 1 } in
     let p2 : Part = record { calls = p1.calls ++ calls.MakeCategory ∷ []; linked = p.linked; objects = p.objects; categories = p1.categories + 1 } in
@@ -38,11 +38,11 @@ length-take_next : (users : List User) (i : ℕ) → i < length users → length
 length-take_next users i lt = omega (arith, length-take-le i users (omega arith), length-take-le (i + 1) users (omega arith))
 
 -- no categories
-pub categories_none : (k : Traced) (users : List User) → BootsOn k k IsAnywhere (categories_part (take 0 users))
+pub categories_none : (k : KernelModel) (users : List User) → BootsOn k k IsAnywhere (categories_part (take 0 users))
 categories_none k users first p at b = boots_same first k p (and_then p (categories_part [])) b (sym (append-nil p.calls)) (sym (append-nil p.linked)) (sym (append-nil p.objects)) (omega arith)
 
 -- the categories of one user more
-pub categories_next : (old mid new : Traced) (users : List User) (i : ℕ) (user : User) → i < length users → user ≡ get_or users i user
+pub categories_next : (old mid new : KernelModel) (users : List User) (i : ℕ) (user : User) → i < length users → user ≡ get_or users i user
     → BootsOn old mid IsAnywhere (categories_part (take i users)) → BootsOn mid new IsAnywhere two_categories → BootsOn old new IsAnywhere (categories_part (take (i + 1) users))
 categories_next old mid new users i user lt is before more first p at b =
     let so_far = and_then p (categories_part (take i users)) in
@@ -52,7 +52,7 @@ categories_next old mid new users i user lt is before more first p at b =
     (append-nil (p.linked ++ [])) (append-nil (p.objects ++ [])) (omega (arith, length-take_next users i lt))
 
 -- the password and the gate of a user
-pub user_boots : (first k0 k1 k2 : Traced) (p : Part) (i : ℕ) (user : User) → next_number p ≡ 1 + 2 * i → Boots first k0 p
+pub user_boots : (first k0 k1 k2 : KernelModel) (p : Part) (i : ℕ) (user : User) → next_number p ≡ 1 + 2 * i → Boots first k0 p
     → Called k0 k1 boot_thread_number (calls.MakeSegment root_number (secret_of (read_category i) (write_category i)) user.password) None
     → Called k1 k2 boot_thread_number (calls.MakeGate root_number (owner_of (read_category i) (write_category i)) (cleared_of (read_category i) (write_category i)) (Login i)) None
     → Boots first k2 (and_then p (user_part i user))
@@ -78,7 +78,7 @@ length-numbered i [] = refl
 length-numbered i (user ∷ users) = omega (arith, length-append (of_user i user) (numbered of_user (i + 1) users), length-numbered (i + 1) users)
 
 -- the objects of no user
-pub users_none : (k : Traced) (users : List User) → BootsOn k k (IsBefore 3) (users_part (take 0 users))
+pub users_none : (k : KernelModel) (users : List User) → BootsOn k k (IsBefore 3) (users_part (take 0 users))
 users_none k users first p at b = boots_same first k p (and_then p (users_part [])) b (sym (append-nil p.calls)) (sym (append-nil p.linked)) (sym (append-nil p.objects)) (omega arith)
 
 -- a row with two numbers more
@@ -93,7 +93,7 @@ row_next m n e =
     ∙ sym (range-suc 3 (suc (2 * m))) ∙ ap (range_with_len 3) twice
 
 -- the objects of one user more
-pub users_next : (old mid new : Traced) (users : List User) (i : ℕ) (user : User) → i < length users → user ≡ get_or users i user
+pub users_next : (old mid new : KernelModel) (users : List User) (i : ℕ) (user : User) → i < length users → user ≡ get_or users i user
     → BootsOn old mid (IsBefore 3) (users_part (take i users)) → BootsOn mid new (IsBefore (1 + 2 * (i + 1))) (user_part (i + 1) user) → BootsOn old new (IsBefore 3) (users_part (take (i + 1) users))
 users_next old mid new users i user lt is before more first p at b =
     let some = take i users in

@@ -6,7 +6,7 @@ use Rattle.histar_object.specs.State.{empty_state}
 use Rattle.histar_rules.specs.declared.raw.RawCall.{RawCall}
 use Rattle.histar_rules.specs.declared.raw.RawCall.TheVariants.{MakeCategory, MakeSegment, MakeContainer, MakeThread, MakeGate, Unlink}
 use Rattle.histar_rules.specs.Sound.{root_number}
-use Rattle.histar_syscall.specs.Traced.{Traced, state}
+use Rattle.histar_syscall.specs.KernelModel.{KernelModel, state}
 use Rattle.histar_syscall.specs.Runs.{Granted}
 use Rattle.histar_calls.specs.Categories.{read_category, write_category}
 use Rattle.histar_calls.specs.Labelling.{written_by, secret_of, owner_of, cleared_of}
@@ -62,8 +62,8 @@ boot_calls users =
     ++ last_calls
 
 -- Boot made its raw calls on the empty kernel, one after another on line 0; each was granted, and nothing else was done.
-pub record IsBooted (users : List User) (kernel : Traced) : Type 0 where
-  pub first : Traced
+pub record IsBooted (users : List User) (kernel : KernelModel) : Type 0 where
+  pub first : KernelModel
   pub empty : state first ≡ empty_state
   pub no_trace : first.trace ≡ []
   pub line : first.line ≡ 0

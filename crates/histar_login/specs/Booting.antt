@@ -8,7 +8,7 @@ use Rattle.histar_object.specs.State.{Found}
 use Rattle.histar_label.specs.Levels.{Levels}
 use Rattle.histar_rules.specs.declared.raw.RawCall.{RawCall}
 use Rattle.histar_rules.specs.declared.raw.RawCall.TheVariants.{MakeCategory}
-use Rattle.histar_syscall.specs.Traced.{Traced, state}
+use Rattle.histar_syscall.specs.KernelModel.{KernelModel, state}
 use Rattle.histar_syscall.specs.Runs.{Granted}
 use Rattle.histar_calls.specs.Labelling.{written_by}
 use Rattle.histar_login.specs.Start.{numbered, boot_category, container, state_with, of_user, of_users, of_directory, of_process}
@@ -43,19 +43,19 @@ abbrev pub table_of : Object Levels → Part → List Found
 table_of boot p = container (written_by boot_category) (boot_thread_number ∷ p.linked) ∷ Some boot ∷ p.objects
 
 -- the first part of boot is done: the boot thread made its calls, each was granted, and this stands by them
-pub record Boots (first now : Traced) (p : Part) : Type 0 where
+pub record Boots (first now : KernelModel) (p : Part) : Type 0 where
   pub granted : Granted first now boot_thread_number p.calls
   pub boot : Object Levels
   pub is_thread : kind_is_thread boot.kind ≡ true
   pub stands : state now ≡ state_with (table_of boot p) (next_made p)
 
 -- where boot had come so far that this holds, it has gone on by this part
-abbrev pub BootsOn : Traced → Traced → (Part → Type 0) → Part → Type 0
-BootsOn old new IsSo more = (first : Traced) (p : Part) → IsSo p → Boots first old p → Boots first new (and_then p more)
+abbrev pub BootsOn : KernelModel → KernelModel → (Part → Type 0) → Part → Type 0
+BootsOn old new IsSo more = (first : KernelModel) (p : Part) → IsSo p → Boots first old p → Boots first new (and_then p more)
 
 -- where boot had come so far that this holds, this holds too
-abbrev pub Tells : Traced → (Part → Type 0) → Type 0 → Type 0
-Tells old IsSo Told = (first : Traced) (p : Part) → IsSo p → Boots first old p → Told
+abbrev pub Tells : KernelModel → (Part → Type 0) → Type 0 → Type 0
+Tells old IsSo Told = (first : KernelModel) (p : Part) → IsSo p → Boots first old p → Told
 
 -- the next object gets this number
 abbrev pub IsBefore : ℕ → Part → Type 0

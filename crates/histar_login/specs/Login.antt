@@ -1,5 +1,5 @@
 -- Logging in: the program of a login, and the labels that it asks for.
-use Rattle.std.specs.Prelude.{ℕ, ◌+◌, ◌*◌, Bool, true, false, List, [], ◌∷◌, length, Option, None, Some, position}
+use Rattle.std.specs.Prelude.{◌≡◌, ℕ, ◌+◌, ◌*◌, Bool, true, false, List, [], ◌∷◌, length, Option, None, Some, position}
 use Rattle.std.specs.Str.{bytes_eq}
 use Rattle.histar_flat.specs.declared.calls.User.{User}
 use Rattle.histar_flat.specs.declared.replies.Errno.TheVariants.{ENOENT, EAUTH}
@@ -35,6 +35,10 @@ gate_of i = 2 + 2 * i
 -- this level at the categories of user i and at those that process 0 owns, where there are so many users
 abbrev pub at_categories : ℕ → ℕ → Level → List (ℕ × Level)
 at_categories users i level = (read_category i, level) ∷ (write_category i, level) ∷ (own_read_category users, level) ∷ (own_write_category users, level) ∷ []
+
+-- the label that the gate of user i gives, and its clearance: it owns the user's categories
+abbrev pub IsOfGate : ℕ → Levels × Levels → Type 0
+IsOfGate i given = (given.0 ≡ owner_of (read_category i) (write_category i)) × (given.1 ≡ cleared_of (read_category i) (write_category i))
 
 -- the label of process 0 as user i's: it owns the user's categories and its own
 abbrev pub user_label : ℕ → ℕ → Levels

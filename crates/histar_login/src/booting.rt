@@ -1,7 +1,7 @@
 //! Boots a machine by raw calls of its boot thread.
 ghost use Rattle.std.specs.Prelude.{◌≡◌, ℕ, ◌+◌, ◌*◌, ◌≤◌, ◌++◌, length, IfOk, OnOk, Ok};
 ghost use Rattle.histar_rules.specs.Sound.{root_number};
-ghost use Rattle.histar_syscall.specs.Traced.{state};
+ghost use Rattle.histar_syscall.specs.KernelModel.{state};
 ghost use Rattle.histar_login.specs.Boot.{IsBooted, boot_thread_number};
 ghost use Rattle.histar_login.specs.Booting.{BootsOn, Tells, IsAnywhere, IsBefore, IsBeforeBoth, two_categories, categories_part, user_part, users_part, directory_part, process_part};
 ghost use Rattle.histar_login.specs.Start.{own_read_category, own_write_category, user_entry, user_table, process_bytes, start_state, places_of, thread_number};

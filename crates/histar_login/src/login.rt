@@ -3,11 +3,10 @@ ghost use Rattle.std.specs.Prelude.{◌≡◌, ◌+◌, ◌<◌, ◌≤◌, leng
 ghost use Rattle.std.specs.Str.{bytes_eq};
 ghost use Rattle.histar_rules.specs.Sound.{root_number};
 ghost use Rattle.histar_calls.specs.Categories.{read_category, write_category};
-ghost use Rattle.histar_calls.specs.Labelling.{owner_of, cleared_of};
 ghost use Rattle.histar_calls.specs.Parts.{ask};
 ghost use Rattle.histar_calls.specs.Programs.{Runs, RunsPart};
 ghost use Rattle.histar_calls.specs.Refusals.{settled};
-ghost use Rattle.histar_login.specs.Login.{place_of, user_label, user_clearance, gate_of, password_of, entering, label_if, clearance_if, reply_if, login_program, login_as_program};
+ghost use Rattle.histar_login.specs.Login.{place_of, user_label, user_clearance, gate_of, password_of, entering, label_if, clearance_if, reply_if, IsOfGate, login_program, login_as_program};
 
 use crate::booting::{own_read_category, own_write_category};
 use histar_base::Bytes;
@@ -44,7 +43,7 @@ fn user_labels(alloc: Global, users: u64, number: u8) -> Result<(Label, Label), 
 
 /// The label that a user's gate gives, and its clearance: it owns the user's categories.
 fn gate_labels(alloc: Global, number: u8) -> Result<(Label, Label), AllocError>
-    ensures { IfOk result (λ given. (given.0 ≡ owner_of (read_category number) (write_category number)) × (given.1 ≡ cleared_of (read_category number) (write_category number))) }
+    ensures { IfOk result (IsOfGate number) }
 {
     let (read, write) = (read_category(number), write_category(number));
     let given = label_of(

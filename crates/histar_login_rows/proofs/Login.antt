@@ -27,7 +27,7 @@ use Rattle.histar_rules.specs.declared.raw.RawCall.{RawCall}
 use Rattle.histar_rules.specs.declared.raw.RawCall.TheVariants.{OwnLabel, SetLabel, SetClearance, Enter, Read}
 use Rattle.histar_rules.specs.Rules.{check}
 use Rattle.histar_rules.specs.Sound.{root_number}
-use Rattle.histar_syscall.specs.Traced.{Traced, state}
+use Rattle.histar_syscall.specs.KernelModel.{KernelModel, state}
 use Rattle.histar_syscall.proofs.Runs.{same_kernel}
 use Rattle.histar_calls.specs.declared.ending.Stopped.{Stopped}
 use Rattle.histar_calls.specs.Categories.{read_category, write_category}
@@ -59,7 +59,7 @@ use Rattle.histar_rows.proofs.Steps.{granted_step, refused_at_once, answered_ste
 free_in_none : (p : Process) → p.chain ≡ [] → is_free p ≡ true
 free_in_none p e = λ i. elim (e i) as (λ _. Bool) [ [] ↦ true | job ∷ jobs ↦ false ]
 
-module _ (users : List User) (name : Name) (password : Password) (old new : Traced) (f : Flat) (t : ℕ) (result : Result Reply Stopped) (ready : IsReady (session_of users) (state old) f t) where
+module _ (users : List User) (name : Name) (password : Password) (old new : KernelModel) (f : Flat) (t : ℕ) (result : Result Reply Stopped) (ready : IsReady (session_of users) (state old) f t) where
   abbrev session : Session
   session = record { users = users; groups = [] }
 
@@ -188,16 +188,16 @@ module _ (users : List User) (name : Name) (password : Password) (old new : Trac
     module _ (right : Bool) (r : Rights) (owned : (c : CategoryName) → among r.owned c ≡ true → among (more session (state old) f l [] p t runs_as name (place + 1) numbered).owned c ≡ true)
         (fewer : (c : CategoryName) → among r.tainted c ≡ true → among (thread_rights session [] p).tainted c ≡ true) (as_many : (c : CategoryName) → among (thread_rights session [] p).tainted c ≡ true → among r.tainted c ≡ true)
         (label_is : label_if right (length users) (place + 1) own ≡ rights_label l.category r) (clearance_is : clearance_if right (length users) (place + 1) most ≡ rights_clearance l.category r)
-        (mid : Traced) (so_far : Chain old t (all_granted (OwnLabel ∷ enters ∷ reads ∷ [])) mid) (at : state mid ≡ behind) where
+        (mid : KernelModel) (so_far : Chain old t (all_granted (OwnLabel ∷ enters ∷ reads ∷ [])) mid) (at : state mid ≡ behind) where
       abbrev with_label : State
       with_label = relabelled_state session (state old) f l [] p t runs_as name (place + 1) numbered r owned fewer as_many
 
       -- what comes after the labels were taken
       abbrev GoesOn : Type 0
-      GoesOn = (later : Traced) → Chain old t (all_granted (all_calls right)) later → state later ≡ with_own (state old) t (rights_label l.category r) (rights_clearance l.category r) → Runs (Answers (reply_if right)) later new t result → Goal
+      GoesOn = (later : KernelModel) → Chain old t (all_granted (all_calls right)) later → state later ≡ with_own (state old) t (rights_label l.category r) (rights_clearance l.category r) → Runs (Answers (reply_if right)) later new t result → Goal
 
       -- the clearance behind the label
-      cleared : (labelled : Traced) → Chain old t (all_granted (OwnLabel ∷ enters ∷ reads ∷ takes_label right ∷ [])) labelled → state labelled ≡ with_label → Runs (ask (takes_clearance right) (λ _. Answers (reply_if right))) labelled new t result → GoesOn → Goal
+      cleared : (labelled : KernelModel) → Chain old t (all_granted (OwnLabel ∷ enters ∷ reads ∷ takes_label right ∷ [])) labelled → state labelled ≡ with_label → Runs (ask (takes_clearance right) (λ _. Answers (reply_if right))) labelled new t result → GoesOn → Goal
       cleared labelled chain is runs go_on =
           granted_step session f ready.alone call old new t ready.thread result (OwnLabel ∷ enters ∷ reads ∷ takes_label right ∷ []) labelled chain (takes_clearance right) (λ _. Answers (reply_if right))
           ((λ k. check (is k) t (SetClearance (clearance_is k))) ∙ set_clearance_said session (state old) f l [] p t runs_as name (place + 1) numbered r owned fewer as_many) runs
@@ -216,7 +216,7 @@ module _ (users : List User) (name : Name) (password : Password) (old new : Trac
     refused_by right is = refused_is (Some user.0) user.1 ∙ ap (λ (b : Bool). unless b EAUTH) is
 
     -- behind the gate, by whether the password is right
-    ends : (right : Bool) → same user.0.password password ≡ right → (mid : Traced) → Chain old t (all_granted (OwnLabel ∷ enters ∷ reads ∷ [])) mid → state mid ≡ behind → Runs (taking right) mid new t result → Goal
+    ends : (right : Bool) → same user.0.password password ≡ right → (mid : KernelModel) → Chain old t (all_granted (OwnLabel ∷ enters ∷ reads ∷ [])) mid → state mid ≡ behind → Runs (taking right) mid new t result → Goal
     ends true is mid so_far at runs =
         taken true (thread_rights session [] process_then) (user_owns_less session (state old) f l [] p t runs_as name (place + 1) numbered) (λ c e. e) (λ c e. e) user_takes user_clears mid so_far at runs
         (λ later chain later_is answers.
@@ -234,7 +234,7 @@ module _ (users : List User) (name : Name) (password : Password) (old new : Trac
     reading = ask reads (λ kept. taking (bytes_eq kept password))
 
     -- the password is read
-    from_gate : (inside : Traced) → Chain old t (all_granted (OwnLabel ∷ enters ∷ [])) inside → state inside ≡ behind → Runs reading inside new t result → Goal
+    from_gate : (inside : KernelModel) → Chain old t (all_granted (OwnLabel ∷ enters ∷ [])) inside → state inside ≡ behind → Runs reading inside new t result → Goal
     from_gate inside chain is runs =
         granted_step session f ready.alone call old new t ready.thread result (OwnLabel ∷ enters ∷ []) inside chain reads (λ kept. taking (bytes_eq kept password))
         (ap (λ (s : State). check s t reads) is ∙ read_password_said session (state old) f l [] p t runs_as name (place + 1) numbered) runs
@@ -243,7 +243,7 @@ module _ (users : List User) (name : Name) (password : Password) (old new : Trac
         ends (bytes_eq kept password) (sym (ap (λ (bytes : List ℕ). bytes_eq bytes password) kept_so ∙ equal_bytes user.0.password password)) read longer (called.state ∙ is) goes)
 
     -- the gate is entered
-    to_gate : (asked : Traced) → Chain old t (all_granted (OwnLabel ∷ [])) asked → state asked ≡ state old → Runs (ask enters (λ _. reading)) asked new t result → Goal
+    to_gate : (asked : KernelModel) → Chain old t (all_granted (OwnLabel ∷ [])) asked → state asked ≡ state old → Runs (ask enters (λ _. reading)) asked new t result → Goal
     to_gate asked chain stays runs =
         granted_step session f ready.alone call old new t ready.thread result (OwnLabel ∷ []) asked chain enters (λ _. reading) (ap (λ (s : State). check s t enters) stays ∙ enters_said) runs
         (λ inside entry called entry_is longer goes.

@@ -35,12 +35,15 @@ is_under t label = holds_of t (λ own most. is_below own label)
 abbrev pub is_let_in : Found → Found → Bool
 is_let_in t gate = holds_of gate (λ given limit. is_under t limit)
 
+-- a label is above the floor of two labels, and a clearance above the label lies below the greater of two clearances
+abbrev pub lies_between : Levels → Levels → Levels → Levels → Levels → Levels → Bool
+lies_between own given label clearance most limit =
+    is_below (floor_of own given) label && is_below label clearance && is_below_join clearance most limit
+
 -- a label and a clearance above it that t may have behind a gate: what t or the gate owns is owned, elsewhere the label is at
 -- least both, and the clearance at most the greater of both
 abbrev pub in_gate : Found → Found → Levels → Levels → Bool
-in_gate t gate label clearance =
-    holds_of t (λ own most. holds_of gate (λ given limit.
-    is_below (floor_of own given) label && is_below label clearance && is_below_join clearance most limit))
+in_gate t gate label clearance = holds_of t (λ own most. holds_of gate (λ given limit. lies_between own given label clearance most limit))
 
 -- a clearance with level 3 at a category
 abbrev pub kind_cleared : ℕ → Kind Levels → Kind Levels

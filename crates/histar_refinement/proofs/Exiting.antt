@@ -11,7 +11,7 @@ use Rattle.histar_flat.proofs.FileLemmas.{same_name_found}
 use Rattle.histar_layout.specs.Directory.{Entries, IsListable, spelling}
 use Rattle.histar_object.specs.Objects.{holding}
 use Rattle.histar_object.specs.State.{State, Found, with_bytes}
-use Rattle.histar_container.specs.Kept.{CutsOff}
+use Rattle.histar_container.specs.ObjectsModel.{CutsOff}
 use Rattle.histar_container.specs.Tree.{Address, Naming, wanted, without_below, under, is_under, set_at, cut, objects_at}
 use Rattle.histar_container.proofs.Addresses.{same_tells, same_itself, same_other}
 use Rattle.histar_container.proofs.Trees.{kind_held_links}

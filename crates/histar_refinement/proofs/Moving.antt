@@ -12,7 +12,7 @@ use Rattle.histar_object.specs.declared.objects.Kind.TheVariants.{Segment, Conta
 use Rattle.histar_object.specs.declared.objects.Object.{Object}
 use Rattle.histar_object.specs.Objects.{Objects, changed_at, linking, kind_linking, unlinking, kind_unlinking, holding, kind_holding, kind_links, is_there, is_container, kind_is_container}
 use Rattle.histar_object.specs.State.{State, Found, added}
-use Rattle.histar_container.specs.Kept.{CutsOff}
+use Rattle.histar_container.specs.ObjectsModel.{CutsOff}
 use Rattle.histar_container.specs.Tree.{Address, Naming, with_number, without_below, under, is_under, set_at, cut, same, IsLaid, objects_at}
 use Rattle.histar_container.proofs.Addresses.{Tells, same_tells, same_itself, same_other}
 use Rattle.histar_container.proofs.Reaching.{not_reached}

@@ -15,7 +15,7 @@ use Rattle.histar_flat.proofs.FileLemmas.{same_name_found, same_path_found}
 use Rattle.histar_layout.specs.Directory.{Entries, IsListable, spelling}
 use Rattle.histar_layout.proofs.MapLemmas.{by_bytes, antisymmetric, listable_remove}
 use Rattle.histar_object.specs.State.{State, Found, with_bytes}
-use Rattle.histar_container.specs.Kept.{CutsOff}
+use Rattle.histar_container.specs.ObjectsModel.{CutsOff}
 use Rattle.histar_container.specs.Tree.{Address, Naming, wanted, without_below, under, is_under, cut, same, objects_at}
 use Rattle.histar_container.proofs.Addresses.{same_tells, same_itself, same_other, above}
 use Rattle.histar_rules.specs.Rules.{greatest}

@@ -8,7 +8,7 @@ use Rattle.histar_rules.specs.declared.raw.Denied.TheVariants.{TooBig}
 use Rattle.histar_rules.specs.declared.raw.RawCall.{RawCall}
 use Rattle.histar_rules.specs.Rules.{check, has_number}
 use Rattle.histar_syscall.specs.declared.trace.TraceEntry.{TraceEntry}
-use Rattle.histar_syscall.specs.Traced.{Traced, state, Called, IsUnchanged}
+use Rattle.histar_syscall.specs.KernelModel.{KernelModel, state, Called, IsUnchanged}
 use Rattle.histar_syscall.specs.Runs.{IsBy, IsRun, GoesOn, Made}
 use Rattle.histar_syscall.proofs.Runs.{entry_of, still_same, call_after}
 use Rattle.histar_rows.specs.Rows.{IsRunUnlessExhausted}
@@ -26,19 +26,19 @@ abbrev pub entries_of : ℕ → ℕ → List Step → List TraceEntry
 entries_of line thread steps = map (λ (s : Step). entry_of line thread s.0 s.1) steps
 
 -- the thread made these raw calls, each with this outcome, and nothing else was done
-abbrev pub Chain : Traced → ℕ → List Step → Traced → Type 0
+abbrev pub Chain : KernelModel → ℕ → List Step → KernelModel → Type 0
 Chain old thread [] new = IsUnchanged old new
-Chain old thread (s ∷ steps) new = (mid : Traced) × Called old mid thread s.0 s.1 × Chain mid thread steps new
+Chain old thread (s ∷ steps) new = (mid : KernelModel) × Called old mid thread s.0 s.1 × Chain mid thread steps new
 
 -- the entries of one line are one after another the new end of the trace, and a run of the kernel
-pub record IsPart (old new : Traced) (entries : List TraceEntry) : Type 0 where
+pub record IsPart (old new : KernelModel) (entries : List TraceEntry) : Type 0 where
   pub trace : new.trace ≡ old.trace ++ entries
   pub run : IsRun (state old) entries (state new)
   pub line : new.line ≡ old.line
 
 module _ (t : ℕ) where
   -- what a chain has left behind
-  pub chain_run : (old new : Traced) (steps : List Step) → Chain old t steps new → IsPart old new (entries_of old.line t steps)
+  pub chain_run : (old new : KernelModel) (steps : List Step) → Chain old t steps new → IsPart old new (entries_of old.line t steps)
   chain_run old new [] same = record { trace = same.trace ∙ sym (append-nil old.trace); run = same.state; line = same.line }
   chain_run old new (s ∷ steps) chain =
       let called = chain.1 in
@@ -56,17 +56,17 @@ module _ (t : ℕ) where
   chain_own line (s ∷ steps) = ((refl, refl), chain_own line steps)
 
   -- a chain of a kernel that is as it was
-  chain_from : (old mid new : Traced) (steps : List Step) → IsUnchanged old mid → Chain mid t steps new → Chain old t steps new
+  chain_from : (old mid new : KernelModel) (steps : List Step) → IsUnchanged old mid → Chain mid t steps new → Chain old t steps new
   chain_from old mid new [] same later = still_same old mid new same later
   chain_from old mid new (s ∷ steps) same later = (later.0, call_after old mid later.0 t s.0 s.1 same later.1, later.2)
 
   -- a chain behind another
-  pub chain_after : (old mid new : Traced) (steps more : List Step) → Chain old t steps mid → Chain mid t more new → Chain old t (steps ++ more) new
+  pub chain_after : (old mid new : KernelModel) (steps more : List Step) → Chain old t steps mid → Chain mid t more new → Chain old t (steps ++ more) new
   chain_after old mid new [] more same later = chain_from old mid new more same later
   chain_after old mid new (s ∷ steps) more chain later = (chain.0, chain.1, chain_after chain.0 mid new steps more chain.2 later)
 
   -- where no raw call was refused the entries are a run of granted calls
-  pub granted_run : (old new : Traced) (calls : List RawCall) → Made old new t calls None → (steps : List Step) × Chain old t steps new × (steps ≡ all_granted calls)
+  pub granted_run : (old new : KernelModel) (calls : List RawCall) → Made old new t calls None → (steps : List Step) × Chain old t steps new × (steps ≡ all_granted calls)
   granted_run old new [] made = ([], made.0, refl)
   granted_run old new (call ∷ calls) made = (elim made.1 as (λ (x : Option Denied). Called old made.0 t call x → GoesOn x call (Made made.0 new t calls None) made.0 new None
       → (steps : List Step) × Chain old t steps new × (steps ≡ all_granted (call ∷ calls))) [
@@ -75,16 +75,16 @@ module _ (t : ℕ) where
       ]) made.2 made.3
 
   -- so they are a chain of granted calls
-  pub granted_chain : (old new : Traced) (calls : List RawCall) → Made old new t calls None → Chain old t (all_granted calls) new
+  pub granted_chain : (old new : KernelModel) (calls : List RawCall) → Made old new t calls None → Chain old t (all_granted calls) new
   granted_chain old new calls made = let granted = granted_run old new calls made in subst (λ (steps : List Step). Chain old t steps new) granted.2 granted.1
 
   -- a run of granted calls is refused nowhere
-  pub granted_unless : (old new : Traced) (line : ℕ) (calls : List RawCall) → Chain old t (all_granted calls) new → IsRunUnlessExhausted (state old) (entries_of line t (all_granted calls)) (state new)
+  pub granted_unless : (old new : KernelModel) (line : ℕ) (calls : List RawCall) → Chain old t (all_granted calls) new → IsRunUnlessExhausted (state old) (entries_of line t (all_granted calls)) (state new)
   granted_unless old new line [] same = same.state
   granted_unless old new line (call ∷ calls) chain = (state chain.0, chain.1.outcome, chain.1.state, tt, granted_unless chain.0 new line calls chain.2)
 
   -- nor is one whose last raw call was refused since the next object has no number
-  pub exhausted_unless : (old mid new : Traced) (line : ℕ) (calls : List RawCall) (last : RawCall) → Chain old t (all_granted calls) mid → Chain mid t ((last, Some TooBig) ∷ []) new → has_number (state mid) ≡ false
+  pub exhausted_unless : (old mid new : KernelModel) (line : ℕ) (calls : List RawCall) (last : RawCall) → Chain old t (all_granted calls) mid → Chain mid t ((last, Some TooBig) ∷ []) new → has_number (state mid) ≡ false
       → IsRunUnlessExhausted (state old) (entries_of line t (all_granted calls ++ (last, Some TooBig) ∷ [])) (state new)
   exhausted_unless old mid new line [] last same later greatest =
       let end = chain_from old mid new ((last, Some TooBig) ∷ []) same later in

@@ -19,7 +19,7 @@ use Rattle.histar_rules.specs.declared.raw.Denied.TheVariants.{Observe, TooBig}
 use Rattle.histar_rules.specs.declared.raw.RawCall.{RawCall}
 use Rattle.histar_rules.specs.declared.raw.RawCall.TheVariants.{Read, Write}
 use Rattle.histar_syscall.specs.declared.trace.TraceEntry.{TraceEntry}
-use Rattle.histar_syscall.specs.Traced.{Traced, state}
+use Rattle.histar_syscall.specs.KernelModel.{KernelModel, state}
 use Rattle.histar_syscall.specs.Runs.{is_label_refusal, is_range_refusal, some_label_refusal, some_range_refusal}
 use Rattle.histar_syscall.proofs.Runs.{entry_of}
 use Rattle.histar_container.proofs.Addresses.{or_false}
@@ -31,7 +31,7 @@ use Rattle.histar_rows.specs.Rows.{IsFirstAlone, IsDenialTold, EndsWithRead, Has
 use Rattle.histar_rows.proofs.Chains.{Step, all_granted, entries_of, Chain, chain_run, chain_own}
 
 -- a chain that was refused nowhere else ends without a reply
-pub chain_unanswered : (old new : Traced) (t : ℕ) (steps : List Step) → Chain old t steps new → IsRunUnlessExhausted (state old) (entries_of old.line t steps) (state new) → IsUnanswered old new t
+pub chain_unanswered : (old new : KernelModel) (t : ℕ) (steps : List Step) → Chain old t steps new → IsRunUnlessExhausted (state old) (entries_of old.line t steps) (state new) → IsUnanswered old new t
 chain_unanswered old new t steps chain run =
     let part = chain_run t old new steps chain in
     record {
@@ -104,7 +104,7 @@ module _ (line t : ℕ) where
   refused_agree last denied errno told (call ∷ calls) = after_granted (Refused errno) call (entries_of line t (all_granted calls ++ (last, Some denied) ∷ [])) (refused_agree last denied errno told calls)
 
 -- granted raw calls, and behind them a read that is granted too: what it tells is what the segment held then
-pub read_last : (old mid : Traced) (t : ℕ) (calls : List RawCall) → Chain old t (all_granted calls) mid → (container segment : ℕ)
+pub read_last : (old mid : KernelModel) (t : ℕ) (calls : List RawCall) → Chain old t (all_granted calls) mid → (container segment : ℕ)
     → EndsWithRead (state old) (entries_of old.line t (all_granted calls ++ (Read container segment, None) ∷ [])) (bytes_in ((state mid).objects segment))
 read_last old mid t calls chain container segment = record {
   front = entries_of old.line t (all_granted calls);
@@ -116,7 +116,7 @@ read_last old mid t calls chain container segment = record {
   answers = refl;
 }
 
-module _ (session : Session) (f : Flat) (alone : IsFirstAlone f) (call : UnixCall) (old new : Traced) (t : ℕ) (named : IsThreadOf session (state old) [] t) where
+module _ (session : Session) (f : Flat) (alone : IsFirstAlone f) (call : UnixCall) (old new : KernelModel) (t : ℕ) (named : IsThreadOf session (state old) [] t) where
   -- process 0 runs
   runs : running f [] ≡ Some alone.process
   runs = ap if_running alone.stands ∙ ap (λ (x : Option ℕ). elim x as (λ _. Option Process) [ None ↦ Some alone.process | Some n ↦ None ]) alone.runs

@@ -15,7 +15,7 @@ use Rattle.histar_rules.specs.declared.raw.Denied.{Denied}
 use Rattle.histar_rules.specs.declared.raw.Denied.TheVariants.{TooBig}
 use Rattle.histar_rules.specs.declared.raw.RawCall.{RawCall}
 use Rattle.histar_rules.specs.Rules.{check, has_number}
-use Rattle.histar_syscall.specs.Traced.{Traced, state, Called, IsUnchanged}
+use Rattle.histar_syscall.specs.KernelModel.{KernelModel, state, Called, IsUnchanged}
 use Rattle.histar_syscall.proofs.Runs.{same_kernel}
 use Rattle.histar_layout.specs.Directory.{Entries, IsDirectory}
 use Rattle.histar_layout.proofs.DirectoryLemmas.{found_directory}
@@ -32,21 +32,21 @@ use Rattle.histar_rows.proofs.Chains.{Step, all_granted, entries_of, Chain, chai
 use Rattle.histar_rows.proofs.Endings.{IsBacked, ReadsAmong, told_shown, chain_unanswered, granted_row, unchanged_row, refused_row}
 
 -- the call ended here without a reply
-record EndsHere (old new : Traced) (result : Result Reply Stopped) : Type 0 where
+record EndsHere (old new : KernelModel) (result : Result Reply Stopped) : Type 0 where
   unchanged : IsUnchanged old new
   unanswered : IsErr result
 
 -- a raw call that was granted, and the rest of the call after it
-record GoesOnAfter (old new : Traced) (t : ℕ) (call : RawCall) (rest : AnswerOf call → Program) (result : Result Reply Stopped) : Type 0 where
-  mid : Traced
+record GoesOnAfter (old new : KernelModel) (t : ℕ) (call : RawCall) (rest : AnswerOf call → Program) (result : Result Reply Stopped) : Type 0 where
+  mid : KernelModel
   answer : AnswerOf call
   called : Called old mid t call None
   right : IsAnswer (state old) t call answer
   runs : Runs (rest answer) mid new t result
 
 -- a raw call that was refused, and what its errno made of the call
-record IsRefusedAt (old new : Traced) (t : ℕ) (call : RawCall) (denied : Denied) (result : Result Reply Stopped) : Type 0 where
-  mid : Traced
+record IsRefusedAt (old new : KernelModel) (t : ℕ) (call : RawCall) (denied : Denied) (result : Result Reply Stopped) : Type 0 where
+  mid : KernelModel
   called : Called old mid t call (Some denied)
   runs : Runs (refused_with (errno_for call denied)) mid new t result
 
@@ -54,18 +54,18 @@ same_denied : (a b : Denied) → Some a ≡ Some b → a ≡ b
 same_denied a b e = cc
 
 -- a call that has only its reply left has replied
-replied : (t : ℕ) (old new : Traced) (reply : Reply) (result : Result Reply Stopped) → Runs (Answers reply) old new t result → IsUnchanged old new × (result ≡ Ok reply)
+replied : (t : ℕ) (old new : KernelModel) (reply : Reply) (result : Result Reply Stopped) → Runs (Answers reply) old new t result → IsUnchanged old new × (result ≡ Ok reply)
 unfolding Runs
 replied t old new reply (Ok other) runs = (runs.0, ap Ok runs.1)
 replied t old new reply (Err stopped) runs = absurd runs
 
 -- a program that stops has no reply
-stopped_here : (t : ℕ) (old new : Traced) (result : Result Reply Stopped) → Runs (refused_with None) old new t result → EndsHere old new result
+stopped_here : (t : ℕ) (old new : KernelModel) (result : Result Reply Stopped) → Runs (refused_with None) old new t result → EndsHere old new result
 unfolding Runs
 stopped_here t old new (Ok reply) runs = absurd runs
 stopped_here t old new (Err stopped) runs = record { unchanged = runs; unanswered = refl }
 
-module _ (t : ℕ) (old new : Traced) where
+module _ (t : ℕ) (old new : KernelModel) where
   -- bytes that are a directory
   listed_as : (bytes : List ℕ) (dir : Entries) → IsDirectory bytes dir → (rest : Entries → Program) (result : Result Reply Stopped) → Runs (list bytes rest) old new t result → EndsHere old new result ⊎ Runs (rest dir) old new t result
   unfolding Runs
@@ -78,7 +78,7 @@ module _ (t : ℕ) (old new : Traced) where
   module _ (call : RawCall) (rest : AnswerOf call → Program) where
     -- a raw call was made, with its outcome
     asked_so : (result : Result Reply Stopped) → Runs (ask call rest) old new t result
-        → EndsHere old new result ⊎ ((mid : Traced) × (outcome : Outcome call) × Asked old mid t call outcome × Runs (or_refused (errno_for call) rest outcome) mid new t result)
+        → EndsHere old new result ⊎ ((mid : KernelModel) × (outcome : Outcome call) × Asked old mid t call outcome × Runs (or_refused (errno_for call) rest outcome) mid new t result)
     unfolding Runs
     asked_so (Ok reply) runs = inr runs
     asked_so (Err stopped) runs = elim runs [
@@ -93,7 +93,7 @@ module _ (t : ℕ) (old new : Traced) where
       | inr goes ↦ by goes.0 goes.1 goes.2 goes.3
     ]
       where
-        by : (mid : Traced) (outcome : Outcome call) → Asked old mid t call outcome → Runs (or_refused (errno_for call) rest outcome) mid new t result → EndsHere old new result ⊎ GoesOnAfter old new t call rest result
+        by : (mid : KernelModel) (outcome : Outcome call) → Asked old mid t call outcome → Runs (or_refused (errno_for call) rest outcome) mid new t result → EndsHere old new result ⊎ GoesOnAfter old new t call rest result
         by mid (Ok answer) asked runs = inr (record { mid = mid; answer = answer; called = asked.0; right = asked.1; runs = runs })
         by mid (Err denied) asked runs = let k : Some denied ≡ None = sym asked.outcome ∙ passes in absurd cc
 
@@ -104,7 +104,7 @@ module _ (t : ℕ) (old new : Traced) where
       | inr goes ↦ by goes.0 goes.1 goes.2 goes.3
     ]
       where
-        by : (mid : Traced) (outcome : Outcome call) → Asked old mid t call outcome → Runs (or_refused (errno_for call) rest outcome) mid new t result → EndsHere old new result ⊎ IsRefusedAt old new t call denied result
+        by : (mid : KernelModel) (outcome : Outcome call) → Asked old mid t call outcome → Runs (or_refused (errno_for call) rest outcome) mid new t result → EndsHere old new result ⊎ IsRefusedAt old new t call denied result
         by mid (Ok answer) asked runs = let k : None ≡ Some denied = sym asked.0.outcome ∙ fails in absurd cc
         by mid (Err other) asked runs =
             let same : other ≡ denied = same_denied other denied (sym asked.outcome ∙ fails) in
@@ -114,15 +114,15 @@ module _ (t : ℕ) (old new : Traced) where
               runs = subst (λ (d : Denied). Runs (refused_with (errno_for call d)) mid new t result) same runs;
             })
 
-module _ (session : Session) (f : Flat) (alone : IsFirstAlone f) (call : UnixCall) (old new : Traced) (t : ℕ) (named : IsThreadOf session (state old) [] t) (result : Result Reply Stopped) where
+module _ (session : Session) (f : Flat) (alone : IsFirstAlone f) (call : UnixCall) (old new : KernelModel) (t : ℕ) (named : IsThreadOf session (state old) [] t) (result : Result Reply Stopped) where
   -- what a row shows
   abbrev pub Goal : Type 0
   Goal = DoesItsRow session f call old new t result
 
   -- the raw calls so far, each granted
-  module _ (calls : List RawCall) (mid : Traced) (so_far : Chain old t (all_granted calls) mid) where
+  module _ (calls : List RawCall) (mid : KernelModel) (so_far : Chain old t (all_granted calls) mid) where
     -- with one more
-    longer : (next : RawCall) (later : Traced) → Called mid later t next None → Chain old t (all_granted (calls ++ next ∷ [])) later
+    longer : (next : RawCall) (later : KernelModel) → Called mid later t next None → Chain old t (all_granted (calls ++ next ∷ [])) later
     longer next later called = subst (λ (steps : List Step). Chain old t steps later) (sym (map-append (λ (c : RawCall). (c, None)) calls (next ∷ [])))
         (chain_after t old mid later (all_granted calls) ((next, None) ∷ []) so_far (later, called, same_kernel later))
 
@@ -143,7 +143,7 @@ module _ (session : Session) (f : Flat) (alone : IsFirstAlone f) (call : UnixCal
 
     -- a raw call that the rules grant
     pub granted_step : (next : RawCall) (rest : AnswerOf next → Program) → check (state mid) t next ≡ None → Runs (ask next rest) mid new t result
-        → ((later : Traced) (answer : AnswerOf next) → Called mid later t next None → IsAnswer (state mid) t next answer → Chain old t (all_granted (calls ++ next ∷ [])) later → Runs (rest answer) later new t result → Goal) → Goal
+        → ((later : KernelModel) (answer : AnswerOf next) → Called mid later t next None → IsAnswer (state mid) t next answer → Chain old t (all_granted (calls ++ next ∷ [])) later → Runs (rest answer) later new t result → Goal) → Goal
     granted_step next rest passes runs go_on = elim (granted_so t mid new next rest passes result runs) [
       | inl ends ↦ ends_here ends
       | inr goes ↦ go_on goes.mid goes.answer goes.called goes.right (longer next goes.mid goes.called) goes.runs

@@ -8,7 +8,7 @@ use Rattle.histar_flat.specs.Words.{Name, Password, Path, is_path}
 use Rattle.histar_flat.specs.Modes.{is_line_mode}
 use Rattle.histar_flat.specs.Sessions.{Session, session_of}
 use Rattle.histar_flat.specs.FlatState.{Flat}
-use Rattle.histar_syscall.specs.Traced.{Traced, state}
+use Rattle.histar_syscall.specs.KernelModel.{KernelModel, state}
 use Rattle.histar_calls.specs.declared.ending.Stopped.{Stopped}
 use Rattle.histar_calls.specs.Programs.{Program, Runs}
 use Rattle.histar_calls.specs.Read.{read_program}
@@ -23,7 +23,7 @@ use Rattle.histar_rows.specs.Rows.{IsReady, DoesItsRow}
 -- Whoever runs the program as the thread of process 0, in a state that lays out a flat state, does what the flat rule of the call says.
 abbrev pub IsRowOf : Session → UnixCall → Program → Type 0
 IsRowOf session call program =
-    (old new : Traced) (f : Flat) (t : ℕ) (result : Result Reply Stopped) → IsReady session (state old) f t → Runs program old new t result → DoesItsRow session f call old new t result
+    (old new : KernelModel) (f : Flat) (t : ℕ) (result : Result Reply Stopped) → IsReady session (state old) f t → Runs program old new t result → DoesItsRow session f call old new t result
 
 abbrev pub ReadsAreRows : Type 0
 ReadsAreRows = (session : Session) → IsSession session → (path : Path) → IsTrue (is_path path) → IsRowOf session (Read path) (read_program (places_of (length session.users)) path)

@@ -23,7 +23,7 @@ use Rattle.histar_rules.specs.Sound.{root_number}
 use Rattle.histar_syscall.specs.declared.trace.TraceEntry.{TraceEntry}
 use Rattle.histar_syscall.specs.declared.calling.Answer.TheVariants as answers
 use Rattle.histar_syscall.specs.Answers.{answer}
-use Rattle.histar_syscall.specs.Traced.{Traced, state}
+use Rattle.histar_syscall.specs.KernelModel.{KernelModel, state}
 use Rattle.histar_syscall.specs.Runs.{IsBy, IsRun, some_label_refusal, some_range_refusal}
 use Rattle.histar_calls.specs.declared.ending.Stopped.{Stopped}
 use Rattle.histar_calls.specs.Refusals.{write_errno_of}
@@ -156,7 +156,7 @@ IsRunUnlessExhausted s (e ∷ entries) end =
 
 -- A call of process 0 has added these entries to the trace, on the line that was begun; they are the row of the call, and the
 -- process's thread is the one that it was.
-pub record IsAnswered (session : Session) (f : Flat) (call : UnixCall) (old new : Traced) (t : ℕ) : Type 0 where
+pub record IsAnswered (session : Session) (f : Flat) (call : UnixCall) (old new : KernelModel) (t : ℕ) : Type 0 where
   pub entries : List TraceEntry
   pub trace : new.trace ≡ old.trace ++ entries
   pub line : new.line ≡ old.line
@@ -165,7 +165,7 @@ pub record IsAnswered (session : Session) (f : Flat) (call : UnixCall) (old new 
 
 -- The raw calls that were made are a run of the kernel by the thread, of which none was refused but where a counter has its greatest
 -- value.
-pub record IsUnanswered (old new : Traced) (t : ℕ) : Type 0 where
+pub record IsUnanswered (old new : KernelModel) (t : ℕ) : Type 0 where
   pub entries : List TraceEntry
   pub trace : new.trace ≡ old.trace ++ entries
   pub line : new.line ≡ old.line
@@ -173,7 +173,7 @@ pub record IsUnanswered (old new : Traced) (t : ℕ) : Type 0 where
   pub own : AllByRecursion (IsBy old.line t) entries
 
 -- a call of process 0 does what its flat rule says, or it ends without a reply
-abbrev pub DoesItsRow : Session → Flat → UnixCall → Traced → Traced → ℕ → Result Reply Stopped → Type 0
+abbrev pub DoesItsRow : Session → Flat → UnixCall → KernelModel → KernelModel → ℕ → Result Reply Stopped → Type 0
 DoesItsRow session f call old new t (Ok reply) = (reply ≡ reply_to session f [] call) × IsAnswered session f call old new t
 DoesItsRow session f call old new t (Err stopped) = IsUnanswered old new t
 

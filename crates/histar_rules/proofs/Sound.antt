@@ -14,7 +14,7 @@ use Rattle.histar_object.specs.declared.objects.Object.{Object}
 use Rattle.histar_object.specs.Objects.{holding, thread_of, links_in, bytes_in, kind_links, is_container, is_thread, kind_is_segment, kind_is_container, kind_is_thread, kind_clearance, no_objects, put}
 use Rattle.histar_object.specs.Rights.{owning, relabelled, clearing, with_changed, with_category, in_span, may_clear, is_let_in, is_under, in_gate}
 use Rattle.histar_object.specs.State.{State, in_range, added, with_own, with_bytes, root_object, boot_thread, empty_state}
-use Rattle.histar_container.specs.Kept.{CutsOff}
+use Rattle.histar_container.specs.ObjectsModel.{ObjectsModel, CutsOff, state_of}
 use Rattle.histar_container.specs.Tree.{IsTree}
 use Rattle.histar_container.proofs.Trees.{tree_put, tree_changed, tree_held, tree_new, tree_cut, reached_decided}
 use Rattle.histar_container.proofs.Roots.{tree_empty_state}
@@ -176,8 +176,8 @@ sound_changes s new t (Unlink d o) sound e is = unlinked s t sound d o new e is
 sound_changes s new t (LabelOf d o) sound e is = subst IsSound (sym is) sound
 
 -- and so a call, whatever it answers, leaves a sound state sound
-pub sound_decided : {A : Type 0} (old new : State) (t : ℕ) (call : RawCall) (r : Result A Refusal) (P : A → Type 0) → IsSound old → Decides old new t call r P → IsSound new
-sound_decided old new t call (Ok answer) P sound decides = sound_changes old new t call sound decides.0 decides.1
+pub sound_decided : {A : Type 0} (old new : ObjectsModel) (t : ℕ) (call : RawCall) (r : Result A Refusal) (P : A → Type 0) → IsSound (state_of old) → Decides old new t call r P → IsSound (state_of new)
+sound_decided old new t call (Ok answer) P sound decides = sound_changes (state_of old) (state_of new) t call sound decides.0 decides.1
 sound_decided old new t call (Err (refusals.Denied denied)) P sound decides = subst IsSound (sym decides.1) sound
 sound_decided old new t call (Err refusals.OutOfMemory) P sound decides = subst IsSound (sym decides) sound
 

@@ -4,5 +4,5 @@ pub mod Visible
 pub use Rattle.histar_object.specs.Objects
 pub use Rattle.histar_object.specs.Rights
 pub use Rattle.histar_object.specs.State
-pub use Rattle.histar_container.specs.Kept
+pub use Rattle.histar_container.specs.ObjectsModel
 pub use Rattle.histar_container.specs.Tree

@@ -1,14 +1,15 @@
 -- The rules of the kernel: of each raw call the first failing check, and what it leaves where none fails.
-use Rattle.std.specs.Prelude.{◌≡◌, ℕ, ◌+◌, ◌<◌, Bool, not, ◌++◌, Option, None, Some, length, take, min, nat_lt, nat_le, Result, Ok, Err, ⊤}
+use Rattle.std.specs.Prelude.{◌≡◌, ℕ, ◌+◌, ◌<◌, Bool, not, List, ◌++◌, Option, None, Some, length, take, min, nat_lt, nat_le, Result, Ok, Err, ⊤}
 use Rattle.std.specs.FinSet as set
 use Rattle.histar_base.specs.Refusals.{unless, ◌orelse◌}
 use Rattle.histar_label.specs.Levels.{Levels, is_made, has_star}
-use Rattle.histar_object.specs.Objects.{is_there, is_segment, is_container, is_thread, is_gate, thread_of, links_in, bytes_in}
+use Rattle.histar_object.specs.Objects.{is_there, is_segment, is_container, is_thread, is_gate, thread_of, links_in, bytes_in, objects_of, label_there, clearance_there, entry_there}
+use Rattle.histar_object.specs.declared.objects.Entry.{Entry}
 use Rattle.histar_object.specs.declared.objects.Kind.TheVariants.{Segment, Container}
 use Rattle.histar_object.specs.declared.objects.Kind.TheVariants as gates
 use Rattle.histar_object.specs.Rights.{in_span, may_clear, is_under, is_let_in, in_gate, relabelled, clearing, with_changed, with_category}
 use Rattle.histar_object.specs.State.{State, observes, modifies, in_range, added, with_own, with_bytes}
-use Rattle.histar_container.specs.Kept.{Kept, CutsOff}
+use Rattle.histar_container.specs.ObjectsModel.{ObjectsModel, CutsOff, state_of}
 use Rattle.histar_rules.specs.declared.raw.Denied.{Denied}
 use Rattle.histar_rules.specs.declared.raw.Denied.TheVariants.{Observe, Modify, Range, Gate, NoEntry, NoThread, BadKind, TooBig}
 use Rattle.histar_rules.specs.declared.raw.Refusal.{Refusal}
@@ -159,11 +160,27 @@ Leaves (Some denied) s t call new = new ≡ s
 
 -- A call that was made on the state: it passed its checks, left what the rules say, and its answer is right; or its first
 -- failing check is told, and the state is the old one; or memory ran out, and the state is the old one.
-abbrev pub Decides : {A : Type 0} → State → State → ℕ → RawCall → Result A Refusal → (A → Type 0) → Type 0
-Decides old new t call (Ok answer) IsRight = (check old t call ≡ None) × Changes old t call new × IsRight answer
-Decides old new t call (Err (refusals.Denied denied)) IsRight = (check old t call ≡ Some denied) × (new ≡ old)
-Decides old new t call (Err refusals.OutOfMemory) IsRight = new ≡ old
+abbrev pub Decides : {A : Type 0} → ObjectsModel → ObjectsModel → ℕ → RawCall → Result A Refusal → (A → Type 0) → Type 0
+Decides old new t call (Ok answer) IsRight = (check (state_of old) t call ≡ None) × Changes (state_of old) t call (state_of new) × IsRight answer
+Decides old new t call (Err (refusals.Denied denied)) IsRight = (check (state_of old) t call ≡ Some denied) × (state_of new ≡ state_of old)
+Decides old new t call (Err refusals.OutOfMemory) IsRight = state_of new ≡ state_of old
 
 -- a new object's number: the next one before the call, which is not 0
-abbrev pub IsNextNumber : Kept → ℕ → Type 0
+abbrev pub IsNextNumber : ObjectsModel → ℕ → Type 0
 IsNextNumber old number = (number ≡ old.next_object) × (0 < number)
+
+-- the bytes of a segment, and none of anything else
+abbrev pub AreBytesOf : ObjectsModel → ℕ → List ℕ → Type 0
+AreBytesOf old segment bytes = bytes ≡ bytes_in (objects_of old.objects segment)
+
+-- the label of an object that is there
+abbrev pub IsLabelOf : ObjectsModel → ℕ → Levels → Type 0
+IsLabelOf old object label = Some label ≡ label_there (objects_of old.objects object)
+
+-- the label and the clearance of a thread that is there
+abbrev pub AreLabelsOf : ObjectsModel → ℕ → Levels × Levels → Type 0
+AreLabelsOf old thread own = IsLabelOf old thread own.0 × (Some own.1 ≡ clearance_there (objects_of old.objects thread))
+
+-- the entry of a gate that is there
+abbrev pub IsEntryOf : ObjectsModel → ℕ → Entry → Type 0
+IsEntryOf old gate entry = Some entry ≡ entry_there (objects_of old.objects gate)

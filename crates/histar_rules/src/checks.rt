@@ -1,7 +1,7 @@
 //! The checks that raw calls have in common, in their order: the first failing test answers.
 ghost use Rattle.std.specs.Prelude.{◌≡◌};
 ghost use Rattle.histar_base.specs.Refusals.{unless};
-ghost use Rattle.histar_container.specs.Kept.{state_of};
+ghost use Rattle.histar_container.specs.ObjectsModel.{state_of};
 ghost use Rattle.histar_rules.specs.Rules.{no_container, no_making, no_link, no_segment, no_gate, Tells};
 
 use crate::raw::Denied;

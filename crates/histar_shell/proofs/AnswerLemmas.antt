@@ -13,7 +13,7 @@ use Rattle.histar_devices.specs.Writing.{AppendsFront}
 use Rattle.histar_devices.proofs.WritingLemmas.{sent_none}
 use Rattle.histar_flat.specs.Meaning.{Answered}
 use Rattle.histar_shell.specs.Answers.{answer_text, answers_text, calls_of, line_text}
-use Rattle.histar_shell.specs.Machine.{Running, AnswersLine}
+use Rattle.histar_shell.specs.Machine.{MachineModel, AnswersLine}
 use Rattle.histar_shell.specs.Session.{Session, AnswersCall, AnswersCalls, BeginsAnswer, BeginsAnswers}
 
 -- a whole text is a beginning of itself
@@ -32,8 +32,8 @@ front_after a b c text next rest whole begun = (
 )
 
 -- one more call line of a session
-session_more : (first mid last : Running) (answers : List Answered) (a : Answered) → Session first answers mid → AnswersLine mid last a.call.line a.call.process a.call.call (Ok a.reply) → Session first (answers ++ a ∷ []) last
-session_more first mid last [] a same one = (last, subst (λ (m : Running). AnswersLine m last a.call.line a.call.process a.call.call (Ok a.reply)) same one, refl)
+session_more : (first mid last : MachineModel) (answers : List Answered) (a : Answered) → Session first answers mid → AnswersLine mid last a.call.line a.call.process a.call.call (Ok a.reply) → Session first (answers ++ a ∷ []) last
+session_more first mid last [] a same one = (last, subst (λ (m : MachineModel). AnswersLine m last a.call.line a.call.process a.call.call (Ok a.reply)) same one, refl)
 session_more first mid last (b ∷ answers) a done one = (done.0, done.1, session_more done.0 mid last answers a done.2 one)
 
 -- the text of one more answer
@@ -45,11 +45,11 @@ calls_more : (answers : List Answered) (a : Answered) → calls_of (answers ++ a
 calls_more answers a = map-append (λ (x : Answered). x.call) answers (a ∷ [])
 
 -- before the first call line nothing is written
-pub answers_none : (m : Running) (a : Option (List ℕ)) → AnswersCalls m m a a []
+pub answers_none : (m : MachineModel) (a : Option (List ℕ)) → AnswersCalls m m a a []
 answers_none m a = record { answers = []; each = refl; session = refl; written = Appends-nil a }
 
 -- one more call line is answered
-pub answers_more : (first mid last : Running) (a b c : Option (List ℕ)) (calls : List CallLine) (call : CallLine) → AnswersCalls first mid a b calls → AnswersCall mid last b c call → AnswersCalls first last a c (calls ++ call ∷ [])
+pub answers_more : (first mid last : MachineModel) (a b c : Option (List ℕ)) (calls : List CallLine) (call : CallLine) → AnswersCalls first mid a b calls → AnswersCall mid last b c call → AnswersCalls first last a c (calls ++ call ∷ [])
 answers_more first mid last a b c calls call done one =
     let next : Answered = record { call = call; reply = one.reply } in record {
       answers = done.answers ++ next ∷ [];
@@ -59,7 +59,7 @@ answers_more first mid last a b c calls call done one =
     }
 
 -- where the machine stopped at the next line, nothing was written of it
-begins_stopped : (first mid : Running) (a b c : Option (List ℕ)) (calls front rest : List CallLine) → calls ≡ front ++ rest → AnswersCalls first mid a b front → Keeps b c → BeginsAnswers first a c calls
+begins_stopped : (first mid : MachineModel) (a b c : Option (List ℕ)) (calls front rest : List CallLine) → calls ≡ front ++ rest → AnswersCalls first mid a b front → Keeps b c → BeginsAnswers first a c calls
 begins_stopped first mid a b c calls front rest parts done keeps = record {
   answers = done.answers;
   rest = rest;
@@ -70,7 +70,7 @@ begins_stopped first mid a b c calls front rest parts done keeps = record {
 }
 
 -- where it answered, a beginning of the next line makes a beginning of all
-begins_next : (first mid last : Running) (a b c : Option (List ℕ)) (calls front rest : List CallLine) (call : CallLine) (reply : Reply) → calls ≡ front ++ call ∷ rest → AnswersCalls first mid a b front → AnswersLine mid last call.line call.process call.call (Ok reply) → AppendsFront b c (line_text call.line reply) → BeginsAnswers first a c calls
+begins_next : (first mid last : MachineModel) (a b c : Option (List ℕ)) (calls front rest : List CallLine) (call : CallLine) (reply : Reply) → calls ≡ front ++ call ∷ rest → AnswersCalls first mid a b front → AnswersLine mid last call.line call.process call.call (Ok reply) → AppendsFront b c (line_text call.line reply) → BeginsAnswers first a c calls
 begins_next first mid last a b c calls front rest call reply parts done answered begun =
     let next : Answered = record { call = call; reply = reply } in
     let each : calls_of (done.answers ++ next ∷ []) ≡ front ++ call ∷ [] = calls_more done.answers next ∙ ap (λ (l : List CallLine). l ++ call ∷ []) done.each in
@@ -84,7 +84,7 @@ begins_next first mid last a b c calls front rest call reply parts done answered
     }
 
 -- a beginning of the next line makes a beginning of all
-pub begins_more : (first mid last : Running) (a b c : Option (List ℕ)) (calls front rest : List CallLine) (call : CallLine) → calls ≡ front ++ call ∷ rest → AnswersCalls first mid a b front → BeginsAnswer mid last b c call → BeginsAnswers first a c calls
+pub begins_more : (first mid last : MachineModel) (a b c : Option (List ℕ)) (calls front rest : List CallLine) (call : CallLine) → calls ≡ front ++ call ∷ rest → AnswersCalls first mid a b front → BeginsAnswer mid last b c call → BeginsAnswers first a c calls
 begins_more first mid last a b c calls front rest call parts done begun =
     elim begun.outcome as (λ (o : Result Reply Stopped). AnswersLine mid last call.line call.process call.call o → MatchResult o (λ reply. AppendsFront b c (line_text call.line reply)) (λ _. Keeps b c) → BeginsAnswers first a c calls) [
       | Ok reply ↦ (λ answered written. begins_next first mid last a b c calls front rest call reply parts done answered written)
@@ -92,21 +92,21 @@ begins_more first mid last a b c calls front rest call parts done begun =
     ] begun.answered begun.written
 
 -- a whole line that tells the machine's reply answers the call line
-pub answers_where_ok : (result : Result (Unit {0}) Fault) (before after : Running) (old new : Option (List ℕ)) (call : CallLine) (reply : Reply) (line bytes : List ℕ) → AnswersLine before after call.line call.process call.call (Ok reply) → line ≡ line_text call.line reply → bytes ≡ line → OnOk result (Appends old new bytes) → OnOk result (AnswersCall before after old new call)
+pub answers_where_ok : (result : Result (Unit {0}) Fault) (before after : MachineModel) (old new : Option (List ℕ)) (call : CallLine) (reply : Reply) (line bytes : List ℕ) → AnswersLine before after call.line call.process call.call (Ok reply) → line ≡ line_text call.line reply → bytes ≡ line → OnOk result (Appends old new bytes) → OnOk result (AnswersCall before after old new call)
 answers_where_ok (Ok x) before after old new call reply line bytes answered text same written = record { reply = reply; answered = answered; written = subst (Appends old new) (same ∙ text) written }
 answers_where_ok (Err e) before after old new call reply line bytes answered text same written = tt
 
 -- and a beginning of it begins to
-pub begins_where_err : (result : Result (Unit {0}) Fault) (before after : Running) (old new : Option (List ℕ)) (call : CallLine) (reply : Reply) (line bytes : List ℕ) → AnswersLine before after call.line call.process call.call (Ok reply) → line ≡ line_text call.line reply → bytes ≡ line → OnErr result (AppendsFront old new bytes) → OnErr result (BeginsAnswer before after old new call)
+pub begins_where_err : (result : Result (Unit {0}) Fault) (before after : MachineModel) (old new : Option (List ℕ)) (call : CallLine) (reply : Reply) (line bytes : List ℕ) → AnswersLine before after call.line call.process call.call (Ok reply) → line ≡ line_text call.line reply → bytes ≡ line → OnErr result (AppendsFront old new bytes) → OnErr result (BeginsAnswer before after old new call)
 begins_where_err (Ok x) before after old new call reply line bytes answered text same written = tt
 begins_where_err (Err e) before after old new call reply line bytes answered text same written = record { outcome = Ok reply; answered = answered; written = subst (AppendsFront old new) (same ∙ text) written }
 
 -- a reply of which nothing was written
-pub begins_unwritten : (before after : Running) (a : Option (List ℕ)) (call : CallLine) (reply : Reply) → AnswersLine before after call.line call.process call.call (Ok reply) → BeginsAnswer before after a a call
+pub begins_unwritten : (before after : MachineModel) (a : Option (List ℕ)) (call : CallLine) (reply : Reply) → AnswersLine before after call.line call.process call.call (Ok reply) → BeginsAnswer before after a a call
 begins_unwritten before after a call reply answered = record { outcome = Ok reply; answered = answered; written = (_, sent_none a _) }
 
 -- where the machine stopped nothing was written
-pub begins_unanswered : (before after : Running) (a : Option (List ℕ)) (call : CallLine) (stopped : Stopped) → AnswersLine before after call.line call.process call.call (Err stopped) → BeginsAnswer before after a a call
+pub begins_unanswered : (before after : MachineModel) (a : Option (List ℕ)) (call : CallLine) (stopped : Stopped) → AnswersLine before after call.line call.process call.call (Err stopped) → BeginsAnswer before after a a call
 begins_unanswered before after a call stopped answered = record { outcome = Err stopped; answered = answered; written = Keeps-refl a }
 
 -- a list is what comes before a place, what stands there, and what comes after it

@@ -12,21 +12,21 @@ use Rattle.histar_flat.specs.FlatState.{Flat}
 use Rattle.histar_flat.specs.FlatCalls.{if_running, running, reply_to, flat_after}
 use Rattle.histar_flat.proofs.Laws.{not_running_is_gone}
 use Rattle.histar_script.specs.Script.{IsUserList}
-use Rattle.histar_syscall.specs.Traced.{Traced, state}
+use Rattle.histar_syscall.specs.KernelModel.{KernelModel, state}
 use Rattle.histar_calls.specs.declared.places.Places.{Places}
 use Rattle.histar_calls.specs.declared.ending.Stopped.{Stopped}
 use Rattle.histar_login.specs.Start.{places_of}
 use Rattle.histar_refinement.specs.LaysOut.{LaysOut}
 use Rattle.histar_rows.specs.Laws.{CallsAreRows}
 use Rattle.histar_rows.specs.Rows.{IsScriptable, IsLine, IsReady, HasReadsOf, DoesItsRow}
-use Rattle.histar_shell.specs.Machine.{Running, on_line, Makes, HasMade, AnswersRunning, AnswersIf, AnswersLine}
+use Rattle.histar_shell.specs.Machine.{MachineModel, on_line, Makes, HasMade, AnswersRunning, AnswersIf, AnswersLine}
 use Rattle.histar_shell.specs.Meaning.{Shows, EndsAsMeant, FollowsMeaning}
 use Rattle.histar_shell.proofs.FirstAlone.{first_after}
 use Rattle.histar_shell.proofs.Users.{is_session}
 
-module _ (rows : CallsAreRows) (old new : Running) (f : Flat) (shows : Shows old f) where
+module _ (rows : CallsAreRows) (old new : MachineModel) (f : Flat) (shows : Shows old f) where
   -- a call of process 0 is its row
-  made_row : (k : Traced) → IsReady (session_of old.users) (state k) f old.thread → (call : UnixCall) (result : Result Reply Stopped) → IsScriptable call
+  made_row : (k : KernelModel) → IsReady (session_of old.users) (state k) f old.thread → (call : UnixCall) (result : Result Reply Stopped) → IsScriptable call
       → Makes old.users (places_of (length old.users)) k new.kernel old.thread call result → DoesItsRow (session_of old.users) f call k new.kernel old.thread result
   made_row k ready (Create path mode) result can made = rows.create (session_of old.users) (is_session old.users shows.users) path mode can.0 can.1 k new.kernel f old.thread result ready made
   made_row k ready (Write path bytes) result can made = rows.write (session_of old.users) (is_session old.users shows.users) path bytes can k new.kernel f old.thread result ready made
@@ -98,7 +98,7 @@ module _ (rows : CallsAreRows) (old new : Running) (f : Flat) (shows : Shows old
   runs_end : (line : ℕ) (process : ProcName) (call : UnixCall) (result : Result Reply Stopped) → IsScriptable call → AnswersRunning old new line process call result → EndsAsMeant old new f (record { line = line; process = process; call = call }) result
   runs_end line [] call result can h = made_ends line call result can h
   runs_end line (n ∷ p) call result can h =
-      subst (λ (m : Running). EndsAsMeant old m f (record { line = line; process = n ∷ p; call = call }) result) (sym h.1)
+      subst (λ (m : MachineModel). EndsAsMeant old m f (record { line = line; process = n ∷ p; call = call }) result) (sym h.1)
       (subst (EndsAsMeant old old f (record { line = line; process = n ∷ p; call = call })) (sym h.0) (gone_ends line n p call))
 
   -- a machine that had stopped makes no raw call
@@ -106,8 +106,8 @@ module _ (rows : CallsAreRows) (old new : Running) (f : Flat) (shows : Shows old
   stopped_ends line process call (Ok reply) h = absurd cc
   stopped_ends line process call (Err stopped) h = record {
     entries = [];
-    trace = ap (λ (m : Running). m.kernel.trace) h.1 ∙ sym (append-nil old.kernel.trace);
-    run = ap (λ (m : Running). state m.kernel) h.1;
+    trace = ap (λ (m : MachineModel). m.kernel.trace) h.1 ∙ sym (append-nil old.kernel.trace);
+    run = ap (λ (m : MachineModel). state m.kernel) h.1;
     own = tt;
   }
 
@@ -119,17 +119,17 @@ module _ (rows : CallsAreRows) (old new : Running) (f : Flat) (shows : Shows old
       by false k = runs_end line process call result can k
 
 -- a line follows the meaning
-pub line_follows : (rows : CallsAreRows) (old new : Running) (line : ℕ) (process : ProcName) (call : UnixCall) (result : Result Reply Stopped) → AnswersLine old new line process call result → FollowsMeaning old new line process call result
+pub line_follows : (rows : CallsAreRows) (old new : MachineModel) (line : ℕ) (process : ProcName) (call : UnixCall) (result : Result Reply Stopped) → AnswersLine old new line process call result → FollowsMeaning old new line process call result
 line_follows rows old new line process call result h f shows can = line_ends rows old new f shows line process call result can h
 
 -- the users of a machine stay
-pub users_stay : (old new : Running) (line : ℕ) (process : ProcName) (call : UnixCall) (result : Result Reply Stopped) → AnswersLine old new line process call result → new.users ≡ old.users
+pub users_stay : (old new : MachineModel) (line : ℕ) (process : ProcName) (call : UnixCall) (result : Result Reply Stopped) → AnswersLine old new line process call result → new.users ≡ old.users
 users_stay old new line process call result h = by old.is_stopped h
   where
     runs : (p : ProcName) → AnswersRunning old new line p call result → new.users ≡ old.users
     runs [] k = k.users
-    runs (n ∷ p) k = ap (λ (m : Running). m.users) k.1
+    runs (n ∷ p) k = ap (λ (m : MachineModel). m.users) k.1
 
     by : (b : Bool) → AnswersIf b old new line process call result → new.users ≡ old.users
-    by true k = ap (λ (m : Running). m.users) k.1
+    by true k = ap (λ (m : MachineModel). m.users) k.1
     by false k = runs process k

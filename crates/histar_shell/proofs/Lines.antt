@@ -7,20 +7,20 @@ use Rattle.histar_flat.specs.declared.calls.UnixCall.{UnixCall}
 use Rattle.histar_flat.specs.declared.calls.UnixCall.TheVariants.{Create, Write, Read, Login}
 use Rattle.histar_flat.specs.declared.replies.Reply.{Reply}
 use Rattle.histar_flat.specs.Words.{Name, Password, Path, ProcName}
-use Rattle.histar_syscall.specs.Traced.{Traced}
+use Rattle.histar_syscall.specs.KernelModel.{KernelModel}
 use Rattle.histar_calls.specs.declared.ending.Stopped.{Stopped}
 use Rattle.histar_calls.specs.declared.places.Places.{Places}
 use Rattle.histar_calls.specs.Programs.{Runs}
-use Rattle.histar_shell.specs.Machine.{Running, Makes, HasMade, AnswersRunning, AnswersIf, AnswersLine}
+use Rattle.histar_shell.specs.Machine.{MachineModel, Makes, HasMade, AnswersRunning, AnswersIf, AnswersLine}
 
 -- process 0 had its call made
-pub had_made : (old new : Running) (line : ℕ) (process : ProcName) (call : UnixCall) (result : Result Reply Stopped) → old.is_stopped ≡ false → process ≡ [] → HasMade old new line call result
+pub had_made : (old new : MachineModel) (line : ℕ) (process : ProcName) (call : UnixCall) (result : Result Reply Stopped) → old.is_stopped ≡ false → process ≡ [] → HasMade old new line call result
     → AnswersLine old new line process call result
 had_made old new line process call result runs zero made =
     subst (λ (b : Bool). AnswersIf b old new line process call result) (sym runs) (subst (λ (p : ProcName). AnswersRunning old new line p call result) (sym zero) made)
 
 -- a machine that runs answers `gone` to a process that was never born
-pub gone_line : (m : Running) (line : ℕ) (process : ProcName) (call : UnixCall) → m.is_stopped ≡ false → (process ≡ [] → ⊥) → AnswersLine m m line process call (Ok Gone)
+pub gone_line : (m : MachineModel) (line : ℕ) (process : ProcName) (call : UnixCall) → m.is_stopped ≡ false → (process ≡ [] → ⊥) → AnswersLine m m line process call (Ok Gone)
 gone_line m line process call runs born = subst (λ (b : Bool). AnswersIf b m m line process call (Ok Gone)) (sym runs) (by process born)
   where
     by : (p : ProcName) → (p ≡ [] → ⊥) → AnswersRunning m m line p call (Ok Gone)
@@ -28,7 +28,7 @@ gone_line m line process call runs born = subst (λ (b : Bool). AnswersIf b m m 
     by (n ∷ p) not_first = (refl, refl)
 
 -- a call that no line can hold makes no raw call, and has no answer
-pub makes_none : (users : List User) (places : Places) (k : Traced) (t : ℕ) (stopped : Stopped) (call : UnixCall)
+pub makes_none : (users : List User) (places : Places) (k : KernelModel) (t : ℕ) (stopped : Stopped) (call : UnixCall)
     → ((path : Path) (mode : Mode) → call ≡ Create path mode → ⊥) → ((path : Path) → call ≡ Read path → ⊥) → ((path : Path) (bytes : List ℕ) → call ≡ Write path bytes → ⊥)
     → ((name : Name) (password : Password) → call ≡ Login name password → ⊥) → Makes users places k k t call (Err stopped)
 unfolding Runs

@@ -18,7 +18,7 @@ use Rattle.histar_script.specs.declared.fault.Fault.TheVariants.{BadScript, TooL
 use Rattle.histar_flat.specs.declared.calls.CallLine.{CallLine}
 use Rattle.histar_script.specs.Reading.{script_of}
 use Rattle.histar_syscall.specs.declared.trace.TraceEntry.{TraceEntry}
-use Rattle.histar_syscall.specs.Traced.{state}
+use Rattle.histar_syscall.specs.KernelModel.{state}
 use Rattle.histar_syscall.specs.Runs.{IsBy, IsRun}
 use Rattle.histar_login.specs.Boot.{boot_thread_number, boot_calls, IsBooted}
 use Rattle.histar_refinement.specs.LaysOut.{LaysOut}
@@ -27,7 +27,7 @@ use Rattle.histar_rows.specs.Rows.{AreRows}
 use Rattle.histar_rows.proofs.Chains.{entries_of, chain_run, chain_own, granted_run}
 use Rattle.histar_devices.specs.Writing.{AppendsFront}
 use Rattle.histar_shell.specs.Answers.{answer_text, answers_text, calls_of, line_text}
-use Rattle.histar_shell.specs.Machine.{Running, IsStart}
+use Rattle.histar_shell.specs.Machine.{MachineModel, IsStart}
 use Rattle.histar_shell.specs.Session.{Session, AnswersCalls, BeginsAnswers}
 use Rattle.histar_shell.specs.Outcome.{BeginsScript, WritesAtFault, WritesAnswers}
 use Rattle.histar_shell.specs.Meaning.{meaning_text, Shows, AnswersAsMeant, WritesMeaning, BeginsMeaning, WritesMeaningAtFault, RunsAsMeant}
@@ -37,23 +37,23 @@ use Rattle.histar_shell.proofs.RowRuns.{run_after, rows_run}
 use Rattle.histar_shell.proofs.Starts.{start_is_laid, start_shows}
 
 -- What the lines of a session have done, from a machine that shows a flat state on.
-pub record IsMeantSession (m : Running) (f : Flat) (answers : List Answered) (end : Running) : Type 0 where
+pub record IsMeantSession (m : MachineModel) (f : Flat) (answers : List Answered) (end : MachineModel) : Type 0 where
   pub text : answers_text answers ≡ answers_text (answered_from (session_of m.users) f (calls_of answers))
   pub entries : List TraceEntry
   pub trace : end.kernel.trace ≡ m.kernel.trace ++ entries
   pub rows : AreRows (session_of m.users) (state m.kernel) f (calls_of answers) entries (state end.kernel)
 
 -- a session of no line
-session_none : (m : Running) (f : Flat) (end : Running) → end ≡ m → IsMeantSession m f [] end
+session_none : (m : MachineModel) (f : Flat) (end : MachineModel) → end ≡ m → IsMeantSession m f [] end
 session_none m f end same = record {
   text = refl;
   entries = [];
-  trace = ap (λ (x : Running). x.kernel.trace) same ∙ sym (append-nil m.kernel.trace);
-  rows = (refl, ap (λ (x : Running). state x.kernel) same);
+  trace = ap (λ (x : MachineModel). x.kernel.trace) same ∙ sym (append-nil m.kernel.trace);
+  rows = (refl, ap (λ (x : MachineModel). state x.kernel) same);
 }
 
 -- a line before a session
-session_first : (m mid : Running) (f : Flat) (a : Answered) (answers : List Answered) (end : Running) → mid.users ≡ m.users → AnswersAsMeant m mid f a.call a.reply
+session_first : (m mid : MachineModel) (f : Flat) (a : Answered) (answers : List Answered) (end : MachineModel) → mid.users ≡ m.users → AnswersAsMeant m mid f a.call a.reply
     → IsMeantSession mid (flat_after (session_of m.users) f a.call.process a.call.call) answers end → IsMeantSession m f (a ∷ answers) end
 session_first m mid f a answers end same line later =
     let g = flat_after (session_of m.users) f a.call.process a.call.call in
@@ -69,7 +69,7 @@ session_first m mid f a answers end same line later =
     reply_of l = reply_to (session_of m.users) f a.call.process a.call.call
 
 -- a session of lines that a script can have
-pub session_means : (rows : CallsAreRows) (m : Running) (f : Flat) (answers : List Answered) (end : Running) → Session m answers end → Shows m f → AreScriptable (calls_of answers) → IsMeantSession m f answers end
+pub session_means : (rows : CallsAreRows) (m : MachineModel) (f : Flat) (answers : List Answered) (end : MachineModel) → Session m answers end → Shows m f → AreScriptable (calls_of answers) → IsMeantSession m f answers end
 session_means rows m f [] end session shows can = session_none m f end session
 session_means rows m f (a ∷ answers) end session shows can =
     let line = line_follows rows m session.0 a.call.line a.call.process a.call.call (Ok a.reply) session.1 f shows can.0 in
@@ -77,13 +77,13 @@ session_means rows m f (a ∷ answers) end session shows can =
     (session_means rows session.0 (flat_after (session_of m.users) f a.call.process a.call.call) answers end session.2 line.shows can.1)
 
 -- the raw calls of boot
-record IsBootTrace (users : List User) (m : Running) : Type 0 where
+record IsBootTrace (users : List User) (m : MachineModel) : Type 0 where
   pub entries : List TraceEntry
   pub trace : m.kernel.trace ≡ entries
   pub run : IsRun empty_state entries (state m.kernel)
   pub own : AllByRecursion (IsBy 0 boot_thread_number) entries
 
-boot_trace : (users : List User) (m : Running) → IsBooted users m.kernel → IsBootTrace users m
+boot_trace : (users : List User) (m : MachineModel) → IsBooted users m.kernel → IsBootTrace users m
 boot_trace users m booted =
     let granted = granted_run boot_thread_number booted.first m.kernel (boot_calls users) booted.made in
     let part = chain_run boot_thread_number booted.first m.kernel granted.0 granted.1 in
@@ -95,17 +95,17 @@ boot_trace users m booted =
       own = subst (λ (line : ℕ). AllByRecursion (IsBy line boot_thread_number) entries) booted.line (chain_own boot_thread_number booted.first.line granted.0);
     }
 
-module _ (rows : CallsAreRows) (script : Reading) (is_list : IsUserList script.users) (can : AreScriptable script.calls) (start : Running) (starts : IsStart script.users start) where
+module _ (rows : CallsAreRows) (script : Reading) (is_list : IsUserList script.users) (can : AreScriptable script.calls) (start : MachineModel) (starts : IsStart script.users start) where
   -- the session from the start on
-  from_start : (answers : List Answered) (end : Running) → AreScriptable (calls_of answers) → Session start answers end → IsMeantSession start (boot (session_of script.users)) answers end
+  from_start : (answers : List Answered) (end : MachineModel) → AreScriptable (calls_of answers) → Session start answers end → IsMeantSession start (boot (session_of script.users)) answers end
   from_start answers end these session = session_means rows start (boot (session_of script.users)) answers end session (start_shows script.users is_list start starts) these
 
   -- the text of the lines that were answered
-  text_is : (answers : List Answered) (end : Running) → AreScriptable (calls_of answers) → Session start answers end → answers_text answers ≡ answers_text (meaning (session_of script.users) (calls_of answers))
+  text_is : (answers : List Answered) (end : MachineModel) → AreScriptable (calls_of answers) → Session start answers end → answers_text answers ≡ answers_text (meaning (session_of script.users) (calls_of answers))
   text_is answers end these session = (from_start answers end these session).text ∙ ap (λ (us : List User). answers_text (answered_from (session_of us) (boot (session_of script.users)) (calls_of answers))) starts.users
 
   -- all lines were answered
-  pub writes_meaning : (old new : Option (List ℕ)) (read : Result Reading Fault) → read ≡ Ok script → (trace : List TraceEntry) (end : Running) → AnswersCalls start end old new script.calls → trace ≡ end.kernel.trace → WritesMeaning old new read trace
+  pub writes_meaning : (old new : Option (List ℕ)) (read : Result Reading Fault) → read ≡ Ok script → (trace : List TraceEntry) (end : MachineModel) → AnswersCalls start end old new script.calls → trace ≡ end.kernel.trace → WritesMeaning old new read trace
   writes_meaning old new read is_read trace end answered recorded =
       let these : AreScriptable (calls_of answered.answers) = subst AreScriptable (sym answered.each) can in
       let session = from_start answered.answers end these answered.session in

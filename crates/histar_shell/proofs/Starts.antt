@@ -7,7 +7,7 @@ use Rattle.histar_object.specs.Objects.{bytes_in}
 use Rattle.histar_object.specs.State.{State}
 use Rattle.histar_script.specs.Script.{IsUserList}
 use Rattle.histar_rules.specs.Rules.{greatest}
-use Rattle.histar_syscall.specs.Traced.{state}
+use Rattle.histar_syscall.specs.KernelModel.{state}
 use Rattle.histar_login.specs.Start.{process_bytes, start_state, places_of, thread_number}
 use Rattle.histar_refinement.specs.LaysOut.{LaysOut}
 use Rattle.histar_refinement.specs.Lines.{IsThreadOf}
@@ -15,7 +15,7 @@ use Rattle.histar_refinement.specs.Processes.{ProcessStatus}
 use Rattle.histar_refinement.proofs.Start.{start_lays_out}
 use Rattle.histar_refinement.proofs.StartTable.{status_stands, length_start}
 use Rattle.histar_rows.specs.Rows.{IsReady}
-use Rattle.histar_shell.specs.Machine.{Running, IsStart}
+use Rattle.histar_shell.specs.Machine.{MachineModel, IsStart}
 use Rattle.histar_shell.specs.Meaning.{Shows}
 use Rattle.histar_shell.proofs.FirstAlone.{first_at_start}
 use Rattle.histar_shell.proofs.Users.{is_session}
@@ -57,7 +57,7 @@ module _ (users : List User) (is_list : IsUserList users) where
   start_is_ready = record { lays_out = start_is_laid; alone = first_at_start (session_of users); thread = start_thread }
 
   -- a machine that was booted shows the flat start
-  pub start_shows : (m : Running) → IsStart users m → Shows m (boot (session_of users))
+  pub start_shows : (m : MachineModel) → IsStart users m → Shows m (boot (session_of users))
   start_shows m start = record {
     users = subst IsUserList (sym start.users) is_list;
     places = start.places ∙ ap (λ (us : List User). places_of (length us)) (sym start.users);

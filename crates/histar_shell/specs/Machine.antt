@@ -8,7 +8,7 @@ use Rattle.histar_flat.specs.declared.calls.UnixCall.TheVariants.{Create, Write,
 use Rattle.histar_flat.specs.declared.replies.Reply.{Reply}
 use Rattle.histar_flat.specs.declared.replies.Reply.TheVariants.{Gone}
 use Rattle.histar_flat.specs.Words.{ProcName}
-use Rattle.histar_syscall.specs.Traced.{Traced, coded_traced, state}
+use Rattle.histar_syscall.specs.KernelModel.{KernelModel, coded_kernel_model, state}
 use Rattle.histar_calls.specs.declared.places.Places.{Places}
 use Rattle.histar_calls.specs.contracts.places.Places as where_is
 use Rattle.histar_calls.specs.Programs.{Program, Runs}
@@ -22,19 +22,19 @@ use Rattle.histar_login.specs.Start.{places_of, thread_number, start_state}
 use Rattle.histar_calls.specs.declared.ending.Stopped.{Stopped}
 
 -- the kernel of a machine, the places of `/`, the thread of its process, its users, and whether a call of it has ended without a reply
-pub record Running : Type 0 where
-  pub kernel : Traced
+pub record MachineModel : Type 0 where
+  pub kernel : KernelModel
   pub places : Places
   pub thread : ℕ
   pub users : List User
   pub is_stopped : Bool
 
 -- stored as the tuple of its parts
-abbrev pub coded_running : Coded Running
-coded_running = code_by (Traced × (Places × (ℕ × (List User × Bool)))) (coded× coded_traced (coded× where_is.the_row.coded (coded× coded_ℕ (coded× (coded_list user.the_row.coded) coded_bool)))) (λ m. (m.kernel, (m.places, (m.thread, (m.users, m.is_stopped))))) (λ p. record { kernel = p.0; places = p.1.0; thread = p.1.1.0; users = p.1.1.1.0; is_stopped = p.1.1.1.1 }) (λ _. refl)
+abbrev pub coded_machine_model : Coded MachineModel
+coded_machine_model = code_by (KernelModel × (Places × (ℕ × (List User × Bool)))) (coded× coded_kernel_model (coded× where_is.the_row.coded (coded× coded_ℕ (coded× (coded_list user.the_row.coded) coded_bool)))) (λ m. (m.kernel, (m.places, (m.thread, (m.users, m.is_stopped))))) (λ p. record { kernel = p.0; places = p.1.0; thread = p.1.1.0; users = p.1.1.1.0; is_stopped = p.1.1.1.1 }) (λ _. refl)
 
 -- a machine that was booted with these users: it runs, and no raw call but those of boot was made
-pub record IsStart (declared : List User) (m : Running) : Type 0 where
+pub record IsStart (declared : List User) (m : MachineModel) : Type 0 where
   pub users : m.users ≡ declared
   pub places : m.places ≡ places_of (length declared)
   pub thread : m.thread ≡ thread_number (length declared)
@@ -44,7 +44,7 @@ pub record IsStart (declared : List User) (m : Running) : Type 0 where
   pub runs : m.is_stopped ≡ false
 
 -- the line that the next raw calls stand on
-abbrev pub on_line : ℕ → Traced → Traced
+abbrev pub on_line : ℕ → KernelModel → KernelModel
 on_line line k = record { kept = k.kept; line = line; trace = k.trace }
 
 -- the program of raw calls that a call runs; a call that no line can hold stops before its first
@@ -56,12 +56,12 @@ program_of users places (Login name password) = login_program users name passwor
 program_of users places _ = Stops
 
 -- a call runs its program, by the thread on the line that was begun
-abbrev pub Makes : List User → Places → Traced → Traced → ℕ → UnixCall → Result Reply Stopped → Type 0
+abbrev pub Makes : List User → Places → KernelModel → KernelModel → ℕ → UnixCall → Result Reply Stopped → Type 0
 Makes users places old new thread call result = Runs (program_of users places call) old new thread result
 
 -- The call was made by the thread on the line that was begun; the machine has the places, the thread and the users that it
 -- had, and has stopped where the call ended without an answer.
-pub record HasMade (old new : Running) (line : ℕ) (call : UnixCall) (result : Result Reply Stopped) : Type 0 where
+pub record HasMade (old new : MachineModel) (line : ℕ) (call : UnixCall) (result : Result Reply Stopped) : Type 0 where
   pub made : Makes old.users old.places (on_line line old.kernel) new.kernel old.thread call result
   pub places : new.places ≡ old.places
   pub thread : new.thread ≡ old.thread
@@ -69,15 +69,15 @@ pub record HasMade (old new : Running) (line : ℕ) (call : UnixCall) (result : 
   pub stops : new.is_stopped ≡ is_err result
 
 -- a running machine: a process other than 0 is gone and nothing changes, process 0 has its call made
-abbrev pub AnswersRunning : Running → Running → ℕ → ProcName → UnixCall → Result Reply Stopped → Type 0
+abbrev pub AnswersRunning : MachineModel → MachineModel → ℕ → ProcName → UnixCall → Result Reply Stopped → Type 0
 AnswersRunning old new line [] call result = HasMade old new line call result
 AnswersRunning old new line (n ∷ process) call result = (result ≡ Ok Gone) × (new ≡ old)
 
 -- a machine that has stopped does nothing, and answers so
-abbrev pub AnswersIf : Bool → Running → Running → ℕ → ProcName → UnixCall → Result Reply Stopped → Type 0
+abbrev pub AnswersIf : Bool → MachineModel → MachineModel → ℕ → ProcName → UnixCall → Result Reply Stopped → Type 0
 AnswersIf true old new line process call result = IsErr result × (new ≡ old)
 AnswersIf false old new line process call result = AnswersRunning old new line process call result
 
 -- what a call line does to a machine
-abbrev pub AnswersLine : Running → Running → ℕ → ProcName → UnixCall → Result Reply Stopped → Type 0
+abbrev pub AnswersLine : MachineModel → MachineModel → ℕ → ProcName → UnixCall → Result Reply Stopped → Type 0
 AnswersLine old new line process call result = AnswersIf old.is_stopped old new line process call result

@@ -16,7 +16,7 @@ use Rattle.histar_script.specs.declared.fault.Fault.{Fault}
 use Rattle.histar_script.specs.declared.fault.Fault.TheVariants.{BadScript, TooLong, OutOfMemory, ReadFailed, WriteFailed}
 use Rattle.histar_flat.specs.declared.calls.CallLine.{CallLine}
 use Rattle.histar_syscall.specs.declared.trace.TraceEntry.{TraceEntry}
-use Rattle.histar_syscall.specs.Traced.{state}
+use Rattle.histar_syscall.specs.KernelModel.{state}
 use Rattle.histar_syscall.specs.Runs.{IsBy, IsRun}
 use Rattle.histar_calls.specs.declared.ending.Stopped.{Stopped}
 use Rattle.histar_login.specs.Boot.{boot_thread_number}
@@ -25,7 +25,7 @@ use Rattle.histar_refinement.specs.LaysOut.{LaysOut}
 use Rattle.histar_rows.specs.Rows.{IsScriptable, IsReady, IsRow, AreRows, IsRunUnlessExhausted}
 use Rattle.histar_devices.specs.Writing.{AppendsFront}
 use Rattle.histar_shell.specs.Answers.{answers_text}
-use Rattle.histar_shell.specs.Machine.{Running}
+use Rattle.histar_shell.specs.Machine.{MachineModel}
 
 -- the text of a script's meaning: for each call line, its number and the reply that the flat rules give
 abbrev pub meaning_text : Reading → List ℕ
@@ -33,14 +33,14 @@ meaning_text script = answers_text (meaning (session_of script.users) script.cal
 
 -- A machine lays out a flat state, in which process 0 is alone: its kernel does, its thread is the one of process 0, and it knows of
 -- `/` and of its users what boot told it.
-pub record Shows (m : Running) (f : Flat) : Type 0 where
+pub record Shows (m : MachineModel) (f : Flat) : Type 0 where
   pub users : IsUserList m.users
   pub places : m.places ≡ places_of (length m.users)
   pub ready : IsReady (session_of m.users) (state m.kernel) f m.thread
 
 -- The line was answered what the flat state says. The new end of the trace are its raw calls, which are its row, and the machine lays
 -- out the flat state after the call.
-pub record AnswersAsMeant (old new : Running) (f : Flat) (asked : CallLine) (reply : Reply) : Type 0 where
+pub record AnswersAsMeant (old new : MachineModel) (f : Flat) (asked : CallLine) (reply : Reply) : Type 0 where
   pub told : reply ≡ reply_to (session_of old.users) f asked.process asked.call
   pub entries : List TraceEntry
   pub trace : new.kernel.trace ≡ old.kernel.trace ++ entries
@@ -49,24 +49,24 @@ pub record AnswersAsMeant (old new : Running) (f : Flat) (asked : CallLine) (rep
 
 -- The line ended without an answer: its raw calls are a run of the kernel by the thread of its process, of which none was refused but
 -- where a counter has its greatest value.
-pub record StopsUnrefused (old new : Running) (line : ℕ) : Type 0 where
+pub record StopsUnrefused (old new : MachineModel) (line : ℕ) : Type 0 where
   pub entries : List TraceEntry
   pub trace : new.kernel.trace ≡ old.kernel.trace ++ entries
   pub run : IsRunUnlessExhausted (state old.kernel) entries (state new.kernel)
   pub own : AllByRecursion (IsBy line old.thread) entries
 
 -- a line that ends so
-abbrev pub EndsAsMeant : Running → Running → Flat → CallLine → Result Reply Stopped → Type 0
+abbrev pub EndsAsMeant : MachineModel → MachineModel → Flat → CallLine → Result Reply Stopped → Type 0
 EndsAsMeant old new f asked (Ok reply) = AnswersAsMeant old new f asked reply
 EndsAsMeant old new f asked (Err stopped) = StopsUnrefused old new asked.line
 
 -- Whatever flat state the machine lays out before the line, the line ends as that says.
-abbrev pub FollowsMeaning : Running → Running → ℕ → ProcName → UnixCall → Result Reply Stopped → Type 0
+abbrev pub FollowsMeaning : MachineModel → MachineModel → ℕ → ProcName → UnixCall → Result Reply Stopped → Type 0
 FollowsMeaning old new line process call result =
     (f : Flat) → Shows old f → IsScriptable call → EndsAsMeant old new f (record { line = line; process = process; call = call }) result
 
 -- a machine lays out the flat start
-abbrev pub ShowsStart : List User → Running → Type 0
+abbrev pub ShowsStart : List User → MachineModel → Type 0
 ShowsStart users m = Shows m (boot (session_of users))
 
 -- The trace of a run: one run of the labelled kernel from its empty state on. It is raw calls of boot, by the boot thread on line 0,

@@ -5,7 +5,7 @@ use Rattle.histar_script.specs.declared.fault.Fault.{Fault}
 use Rattle.histar_script.specs.declared.fault.Fault.TheVariants.{BadScript, TooLong, OutOfMemory, ReadFailed, WriteFailed}
 use Rattle.histar_script.specs.Script.{Reading}
 use Rattle.histar_devices.specs.Input.{TakesAll, TakesSome}
-use Rattle.histar_shell.specs.Machine.{Running, IsStart}
+use Rattle.histar_shell.specs.Machine.{MachineModel, IsStart}
 use Rattle.histar_shell.specs.Session.{AnswersCalls, BeginsAnswers}
 use Rattle.histar_syscall.specs.declared.trace.TraceEntry.{TraceEntry}
 
@@ -59,9 +59,9 @@ AgreesWith read result = MatchResult result (λ _. IsOk read) (IsFaultAt read)
 pub record AnswersScript (old new : Option (List ℕ)) (read : Result Reading Fault) (trace : List TraceEntry) : Type 0 where
   pub script : Reading
   pub is_read : read ≡ Ok script
-  pub start : Running
+  pub start : MachineModel
   pub starts : IsStart script.users start
-  pub end : Running
+  pub end : MachineModel
   pub answered : AnswersCalls start end old new script.calls
   pub recorded : trace ≡ end.kernel.trace
 
@@ -70,7 +70,7 @@ pub record AnswersScript (old new : Option (List ℕ)) (read : Result Reading Fa
 pub record BeginsScript (old new : Option (List ℕ)) (read : Result Reading Fault) : Type 0 where
   pub script : Reading
   pub is_read : read ≡ Ok script
-  pub start : Running
+  pub start : MachineModel
   pub starts : IsStart script.users start
   pub begun : BeginsAnswers start old new script.calls
 

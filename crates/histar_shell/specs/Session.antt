@@ -7,29 +7,29 @@ use Rattle.histar_flat.specs.declared.calls.CallLine.{CallLine}
 use Rattle.histar_devices.specs.Writing.{AppendsFront}
 use Rattle.histar_flat.specs.Meaning.{Answered}
 use Rattle.histar_shell.specs.Answers.{answers_text, calls_of, line_text}
-use Rattle.histar_shell.specs.Machine.{Running, AnswersLine}
+use Rattle.histar_shell.specs.Machine.{MachineModel, AnswersLine}
 
 -- A machine answered these call lines one after another, each as the one before had left it, and each with the reply that it
 -- is listed with.
-abbrev pub Session : Running → List Answered → Running → Type 0
+abbrev pub Session : MachineModel → List Answered → MachineModel → Type 0
 Session m [] end = end ≡ m
-Session m (a ∷ answers) end = (mid : Running) × AnswersLine m mid a.call.line a.call.process a.call.call (Ok a.reply) × Session mid answers end
+Session m (a ∷ answers) end = (mid : MachineModel) × AnswersLine m mid a.call.line a.call.process a.call.call (Ok a.reply) × Session mid answers end
 
 -- the machine answered this call line with a reply, and the line that tells this reply was written
-pub record AnswersCall (before after : Running) (old new : Option (List ℕ)) (call : CallLine) : Type 0 where
+pub record AnswersCall (before after : MachineModel) (old new : Option (List ℕ)) (call : CallLine) : Type 0 where
   pub reply : Reply
   pub answered : AnswersLine before after call.line call.process call.call (Ok reply)
   pub written : Appends old new (line_text call.line reply)
 
 -- The machine was given this call line: where it answered with a reply, a beginning of the line that tells this reply was
 -- written, and where it stopped, nothing was.
-pub record BeginsAnswer (before after : Running) (old new : Option (List ℕ)) (call : CallLine) : Type 0 where
+pub record BeginsAnswer (before after : MachineModel) (old new : Option (List ℕ)) (call : CallLine) : Type 0 where
   pub outcome : Result Reply Stopped
   pub answered : AnswersLine before after call.line call.process call.call outcome
   pub written : MatchResult outcome (λ reply. AppendsFront old new (line_text call.line reply)) (λ _. Keeps old new)
 
 -- the machine answered each of these call lines, in their order, and the lines that tell its replies were written
-pub record AnswersCalls (before after : Running) (old new : Option (List ℕ)) (calls : List CallLine) : Type 0 where
+pub record AnswersCalls (before after : MachineModel) (old new : Option (List ℕ)) (calls : List CallLine) : Type 0 where
   pub answers : List Answered
   pub each : calls_of answers ≡ calls
   pub session : Session before answers after
@@ -37,10 +37,10 @@ pub record AnswersCalls (before after : Running) (old new : Option (List ℕ)) (
 
 -- the machine answered the first of these call lines, in their order, and a beginning of the lines that tell its replies was
 -- written
-pub record BeginsAnswers (before : Running) (old new : Option (List ℕ)) (calls : List CallLine) : Type 0 where
+pub record BeginsAnswers (before : MachineModel) (old new : Option (List ℕ)) (calls : List CallLine) : Type 0 where
   pub answers : List Answered
   pub rest : List CallLine
   pub parts : calls ≡ calls_of answers ++ rest
-  pub end : Running
+  pub end : MachineModel
   pub session : Session before answers end
   pub written : AppendsFront old new (answers_text answers)

@@ -54,11 +54,11 @@ pub struct Machine<S: LabelStore + Drop> {
 
 impl<S: LabelStore + Drop> Model for Machine<S> {
     ghost use Rattle.std.specs.Prelude.{◌≤◌, length};
-    ghost use Rattle.histar_shell.specs.Machine.{Running, coded_running};
+    ghost use Rattle.histar_shell.specs.Machine.{MachineModel, coded_machine_model};
 
-    ghost Value = { Running };
+    ghost Value = { MachineModel };
 
-    ghost coded = { coded_running };
+    ghost coded = { coded_machine_model };
 
     ghost view = { λ m. record { kernel = m.kernel; places = m.places; thread = m.thread; users = m.users.items; is_stopped = m.is_stopped } };
 

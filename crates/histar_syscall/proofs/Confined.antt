@@ -9,7 +9,7 @@ use Rattle.histar_rules.specs.Rules.{check, Leaves}
 use Rattle.histar_rules.specs.Sound.{IsSound}
 use Rattle.histar_rules.proofs.Sound.{sound_changes}
 use Rattle.histar_syscall.specs.Runs.{MadeAll}
-use Rattle.histar_syscall.specs.Traced.{Traced, state, IsUnchanged}
+use Rattle.histar_syscall.specs.KernelModel.{KernelModel, state, IsUnchanged}
 use Rattle.histar_syscall.proofs.Sessions.{all_unchanged}
 use Rattle.histar_rules.specs.Visible.{visible, IsTaintedCaller, AreConfined}
 use Rattle.histar_rules.proofs.TaintedMoves.{Moved, stays, visible_stays, still_tainted, still_unowned}
@@ -45,7 +45,7 @@ still_confined v old new asked more sound confined steps = record {
   callers = still_all v old new sound steps.moved more (All-tail (λ (a : ℕ × RawCall). IsTaintedCaller old v a.0) asked more confined.callers);
 }
 
-all_stay : (v : ℕ) (old new : Traced) (calls : List (ℕ × RawCall)) → IsSound (state old) → AreConfined (state old) v calls → MadeAll old calls new → (path : List ℕ) → visible (state new) v path ≡ visible (state old) v path
+all_stay : (v : ℕ) (old new : KernelModel) (calls : List (ℕ × RawCall)) → IsSound (state old) → AreConfined (state old) v calls → MadeAll old calls new → (path : List ℕ) → visible (state new) v path ≡ visible (state old) v path
 unfolding MadeAll
 all_stay v old new [] sound confined made path = ap (λ (s : State). visible s v path) made.state
 all_stay v old new (asked ∷ more) sound confined made path =
@@ -54,7 +54,7 @@ all_stay v old new (asked ∷ more) sound confined made path =
     ∙ visible_stays (state old) (state made.0) v sound steps.moved path
 
 -- what confined threads do is not seen
-pub confinement : (v : ℕ) (old new : Traced) (calls : List (ℕ × RawCall)) → IsSound (state old) → AreConfined (state old) v calls → MadeAll old calls new → visible (state new) v ≡ visible (state old) v
+pub confinement : (v : ℕ) (old new : KernelModel) (calls : List (ℕ × RawCall)) → IsSound (state old) → AreConfined (state old) v calls → MadeAll old calls new → visible (state new) v ≡ visible (state old) v
 confinement v old new calls sound confined made i path = all_stay v old new calls sound confined made path i
 
 -- fewer calls are confined too
@@ -62,5 +62,5 @@ confined_take : (v : ℕ) (s : State) (calls : List (ℕ × RawCall)) (n : ℕ) 
 confined_take v s calls n confined = record { made = confined.made; gates = confined.gates; callers = All-take (λ (asked : ℕ × RawCall). IsTaintedCaller s v asked.0) n calls confined.callers }
 
 -- nor is a beginning of what they do
-pub confinement_stopped : (v : ℕ) (old mid new : Traced) (calls : List (ℕ × RawCall)) (n : ℕ) → IsSound (state old) → AreConfined (state old) v calls → MadeAll old (take n calls) mid → IsUnchanged mid new → visible (state new) v ≡ visible (state old) v
+pub confinement_stopped : (v : ℕ) (old mid new : KernelModel) (calls : List (ℕ × RawCall)) (n : ℕ) → IsSound (state old) → AreConfined (state old) v calls → MadeAll old (take n calls) mid → IsUnchanged mid new → visible (state new) v ≡ visible (state old) v
 confinement_stopped v old mid new calls n sound confined made same = confinement v old new (take n calls) sound (confined_take v (state old) calls n confined) (all_unchanged old mid new (take n calls) made same)

@@ -4,7 +4,7 @@ use Rattle.std.specs.FinSet as set
 use Rattle.std.proofs.lemmas.Bool.Decides.{eqb_tells}
 use Rattle.histar_object.specs.Objects.{links_in}
 use Rattle.histar_object.specs.State.{State}
-use Rattle.histar_container.specs.Kept.{CutsOff}
+use Rattle.histar_container.specs.ObjectsModel.{CutsOff}
 use Rattle.histar_container.specs.Tree.{Reached}
 use Rattle.histar_container.proofs.Trees.{reached_decided}
 use Rattle.histar_rules.specs.declared.raw.Denied.{Denied}

@@ -9,7 +9,7 @@ use Rattle.histar_object.specs.Objects.{is_there, is_thread, links_in, label_the
 use Rattle.histar_object.specs.State.{State, Found}
 use Rattle.histar_container.specs.Tree.{AreTree}
 use Rattle.histar_container.proofs.Trees.{linked_there}
-use Rattle.histar_container.specs.Kept.{Kept, state_of}
+use Rattle.histar_container.specs.ObjectsModel.{ObjectsModel, state_of}
 use Rattle.histar_rules.specs.declared.raw.RawCall.{RawCall}
 use Rattle.histar_rules.specs.declared.raw.Refusal.{Refusal}
 use Rattle.histar_rules.specs.declared.raw.Refusal.TheVariants as refusals
@@ -20,23 +20,23 @@ use Rattle.histar_rules.proofs.Passing.{unless_none, first, rest}
 use Rattle.histar_rules.specs.Sound.{IsSound}
 use Rattle.histar_rules.proofs.Sound.{sound_decided}
 use Rattle.histar_syscall.specs.declared.trace.TraceEntry.{TraceEntry}
-use Rattle.histar_syscall.specs.Traced.{Traced, state, IsUnchanged, Answered, logged}
+use Rattle.histar_syscall.specs.KernelModel.{KernelModel, state, IsUnchanged, Answered, logged}
 
 -- at want of memory nothing has changed
-pub exits : {A : Type 0} (old new : Traced) (t : ℕ) (call : RawCall) (r : Result A Refusal) (P : A → Type 0) → IsErrAnd r (λ e. e ≡ refusals.OutOfMemory) → IsUnchanged old new → Answered old new t call r P
+pub exits : {A : Type 0} (old new : KernelModel) (t : ℕ) (call : RawCall) (r : Result A Refusal) (P : A → Type 0) → IsErrAnd r (λ e. e ≡ refusals.OutOfMemory) → IsUnchanged old new → Answered old new t call r P
 exits old new t call (Ok a) P h u = absurd h
 exits {A} old new t call (Err e) P h u = subst (λ (x : Refusal). Answered {A = A} old new t call (Err x) P) (sym h) u
 
 -- a call that was decided on the objects, and whose entry the trace has
-pub answered : {A : Type 0} (old : Traced) (kept : Kept) (trace : List TraceEntry) (t : ℕ) (call : RawCall) (r : Result A Refusal) (P : A → Type 0) → Decides (state old) (state_of kept) t call r P
+pub answered : {A : Type 0} (old : KernelModel) (kept : ObjectsModel) (trace : List TraceEntry) (t : ℕ) (call : RawCall) (r : Result A Refusal) (P : A → Type 0) → Decides old.kept kept t call r P
     → trace ≡ logged old.trace old.line t call r → Answered old (record { kept = kept; line = old.line; trace = trace }) t call r P
 answered old kept trace t call (Ok answer) P decided entry = (record { outcome = decided.0; state = decided.1; trace = entry; line = refl }, decided.2)
 answered old kept trace t call (Err (refusals.Denied denied)) P decided entry = record { outcome = decided.0; state = decided.1; trace = entry; line = refl }
 answered old kept trace t call (Err refusals.OutOfMemory) P decided entry = record { state = decided; trace = entry; line = refl }
 
 -- what a call with this answer leaves is sound
-pub stays_sound : {A : Type 0} (old : Kept) (new : State) (t : ℕ) (call : RawCall) (r : Result A Refusal) (P : A → Type 0) → IsSound (state_of old) → Decides (state_of old) new t call r P → IsSound new
-stays_sound old new t call r P sound decided = sound_decided (state_of old) new t call r P sound decided
+pub stays_sound : {A : Type 0} (old new : ObjectsModel) (t : ℕ) (call : RawCall) (r : Result A Refusal) (P : A → Type 0) → IsSound (state_of old) → Decides old new t call r P → IsSound (state_of new)
+stays_sound old new t call r P sound decided = sound_decided old new t call r P sound decided
 
 -- what is there has a label
 no_label : (o : Found) → is_there o ≡ true → label_there o ≡ None → ⊥

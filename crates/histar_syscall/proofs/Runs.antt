@@ -8,7 +8,7 @@ use Rattle.histar_rules.specs.declared.raw.Denied.{Denied}
 use Rattle.histar_rules.specs.declared.raw.RawCall.{RawCall}
 use Rattle.histar_syscall.specs.declared.trace.TraceEntry.{TraceEntry}
 use Rattle.histar_rules.specs.Rules.{check, Leaves}
-use Rattle.histar_syscall.specs.Traced.{Traced, state, Called, IsUnchanged}
+use Rattle.histar_syscall.specs.KernelModel.{KernelModel, state, Called, IsUnchanged}
 use Rattle.histar_syscall.specs.Runs.{IsBy, Ran, GoesOn, Made, Granted}
 
 -- the entry of a raw call
@@ -25,14 +25,14 @@ abbrev pub denied_of : Option (RawCall × Denied) → Option Denied
 denied_of None = None
 denied_of (Some r) = Some r.1
 
-pub same_kernel : (k : Traced) → IsUnchanged k k
+pub same_kernel : (k : KernelModel) → IsUnchanged k k
 same_kernel k = record { state = refl; trace = refl; line = refl }
 
-pub still_same : (a b c : Traced) → IsUnchanged a b → IsUnchanged b c → IsUnchanged a c
+pub still_same : (a b c : KernelModel) → IsUnchanged a b → IsUnchanged b c → IsUnchanged a c
 still_same a b c first second = record { state = second.state ∙ first.state; trace = second.trace ∙ first.trace; line = second.line ∙ first.line }
 
 -- a raw call after nothing
-pub call_after : (a b c : Traced) (t : ℕ) (call : RawCall) (d : Option Denied) → IsUnchanged a b → Called b c t call d → Called a c t call d
+pub call_after : (a b c : KernelModel) (t : ℕ) (call : RawCall) (d : Option Denied) → IsUnchanged a b → Called b c t call d → Called a c t call d
 call_after a b c t call d same called = record {
   outcome = subst (λ (s : State). check s t call ≡ d) same.state called.outcome;
   state = subst (λ (s : State). Leaves d s t call (state c)) same.state called.state;
@@ -41,7 +41,7 @@ call_after a b c t call d same called = record {
 }
 
 -- nothing after a raw call
-pub call_before : (a b c : Traced) (t : ℕ) (call : RawCall) (d : Option Denied) → Called a b t call d → IsUnchanged b c → Called a c t call d
+pub call_before : (a b c : KernelModel) (t : ℕ) (call : RawCall) (d : Option Denied) → Called a b t call d → IsUnchanged b c → Called a c t call d
 call_before a b c t call d called same = record {
   outcome = called.outcome;
   state = subst (λ (s : State). Leaves d (state a) t call s) (sym same.state) called.state;
@@ -50,16 +50,16 @@ call_before a b c t call d called same = record {
 }
 
 -- a thread that made no call
-pub granted_none : (k : Traced) (t : ℕ) → Granted k k t []
+pub granted_none : (k : KernelModel) (t : ℕ) → Granted k k t []
 granted_none k t = (same_kernel k, refl)
 
 module _ (t : ℕ) where
-  last_call : (call : RawCall) (d : Option Denied) (k : Traced) → GoesOn d call (Made k k t [] (refusal_of call d)) k k (refusal_of call d)
+  last_call : (call : RawCall) (d : Option Denied) (k : KernelModel) → GoesOn d call (Made k k t [] (refusal_of call d)) k k (refusal_of call d)
   last_call call None k = (same_kernel k, refl)
   last_call call (Some denied) k = (same_kernel k, refl)
 
   -- one raw call more, behind calls that were all granted
-  pub made_more : (old mid new : Traced) (before : List RawCall) (call : RawCall) (d : Option Denied) → Granted old mid t before → Called mid new t call d → Made old new t (before ++ call ∷ []) (refusal_of call d)
+  pub made_more : (old mid new : KernelModel) (before : List RawCall) (call : RawCall) (d : Option Denied) → Granted old mid t before → Called mid new t call d → Made old new t (before ++ call ∷ []) (refusal_of call d)
   made_more old mid new [] call d granted called = (new, d, call_after old mid new t call d granted.0 called, last_call call d new)
   made_more old mid new (c ∷ before) call d granted called = (
     granted.0,
@@ -73,7 +73,7 @@ module _ (t : ℕ) where
   )
 
   -- nothing comes behind a call that was refused
-  pub made_longer : (old new : Traced) (calls more : List RawCall) (r : RawCall × Denied) → Made old new t calls (Some r) → Made old new t (calls ++ more) (Some r)
+  pub made_longer : (old new : KernelModel) (calls more : List RawCall) (r : RawCall × Denied) → Made old new t calls (Some r) → Made old new t (calls ++ more) (Some r)
   made_longer old new [] more r made = absurd cc
   made_longer old new (c ∷ calls) more r made = (
     made.0,
@@ -86,7 +86,7 @@ module _ (t : ℕ) where
   )
 
   -- a kernel that is as it was has made what it had made
-  pub made_unchanged : (old mid new : Traced) (calls : List RawCall) (refusal : Option (RawCall × Denied)) → Made old mid t calls refusal → IsUnchanged mid new → Made old new t calls refusal
+  pub made_unchanged : (old mid new : KernelModel) (calls : List RawCall) (refusal : Option (RawCall × Denied)) → Made old mid t calls refusal → IsUnchanged mid new → Made old new t calls refusal
   made_unchanged old mid new [] refusal made same = (still_same old mid new made.0 same, made.1)
   made_unchanged old mid new (c ∷ calls) refusal made same = (
     made.0,
@@ -100,7 +100,7 @@ module _ (t : ℕ) where
 
   -- The entries of raw calls that were made: a run of the kernel by this thread on this line, of which one has a property that
   -- no granted call has exactly where the refused call has it.
-  pub record HasRun (old new : Traced) (refusal : Option (RawCall × Denied)) : Type 0 where
+  pub record HasRun (old new : KernelModel) (refusal : Option (RawCall × Denied)) : Type 0 where
     pub entries : List TraceEntry
     pub ran : Ran old new t entries
     pub some : (p : Option Denied → Bool) → p None ≡ false → list_any (λ (e : TraceEntry). p e.denied) entries ≡ p (denied_of refusal)
@@ -109,21 +109,21 @@ module _ (t : ℕ) where
   or_false true = refl
   or_false false = refl
 
-  run_none : (old new : Traced) → IsUnchanged old new → HasRun old new None
+  run_none : (old new : KernelModel) → IsUnchanged old new → HasRun old new None
   run_none old new same = record {
     entries = [];
     ran = record { trace = same.trace ∙ sym (append-nil old.trace); run = same.state; own = tt; line = same.line };
     some = λ p none. sym none;
   }
 
-  run_one : (old new : Traced) (call : RawCall) (denied : Denied) → Called old new t call (Some denied) → HasRun old new (Some (call, denied))
+  run_one : (old new : KernelModel) (call : RawCall) (denied : Denied) → Called old new t call (Some denied) → HasRun old new (Some (call, denied))
   run_one old new call denied called = record {
     entries = entry_of old.line t call (Some denied) ∷ [];
     ran = record { trace = called.trace; run = (state new, called.outcome, called.state, refl); own = ((refl, refl), tt); line = called.line };
     some = λ p none. or_false (p (Some denied));
   }
 
-  run_first : (old mid new : Traced) (call : RawCall) (refusal : Option (RawCall × Denied)) → Called old mid t call None → HasRun mid new refusal → HasRun old new refusal
+  run_first : (old mid new : KernelModel) (call : RawCall) (refusal : Option (RawCall × Denied)) → Called old mid t call None → HasRun mid new refusal → HasRun old new refusal
   run_first old mid new call refusal called later = record {
     entries = entry_of old.line t call None ∷ later.entries;
     ran = record {
@@ -135,7 +135,7 @@ module _ (t : ℕ) where
     some = λ p none. ap (λ (b : Bool). b || list_any (λ (e : TraceEntry). p e.denied) later.entries) none ∙ later.some p none;
   }
 
-  pub made_run : (old new : Traced) (calls : List RawCall) (refusal : Option (RawCall × Denied)) → Made old new t calls refusal → HasRun old new refusal
+  pub made_run : (old new : KernelModel) (calls : List RawCall) (refusal : Option (RawCall × Denied)) → Made old new t calls refusal → HasRun old new refusal
   made_run old new [] refusal made = subst (HasRun old new) (sym made.1) (run_none old new made.0)
   made_run old new (c ∷ calls) refusal made = (elim made.1 as (λ (x : Option Denied). Called old made.0 t c x → GoesOn x c (Made made.0 new t calls refusal) made.0 new refusal → HasRun old new refusal) [
     | None ↦ λ called rest. run_first old made.0 new c refusal called (made_run made.0 new calls refusal rest)
@@ -143,23 +143,23 @@ module _ (t : ℕ) where
   ]) made.2 made.3
 
   -- a raw call more that was granted
-  pub granted_more : (old mid new : Traced) (before : List RawCall) (call : RawCall) → Granted old mid t before → Called mid new t call None → Granted old new t (before ++ call ∷ [])
+  pub granted_more : (old mid new : KernelModel) (before : List RawCall) (call : RawCall) → Granted old mid t before → Called mid new t call None → Granted old new t (before ++ call ∷ [])
   granted_more old mid new before call granted called = made_more old mid new before call None granted called
 
   -- a raw call that was granted and leaves its state has left it
-  pub granted_one : (old new : Traced) (call : RawCall) → Granted old new t (call ∷ []) → Called old new t call None
+  pub granted_one : (old new : KernelModel) (call : RawCall) → Granted old new t (call ∷ []) → Called old new t call None
   granted_one old new call granted = (elim granted.1 as (λ (x : Option Denied). Called old granted.0 t call x → GoesOn x call (Made granted.0 new t [] None) granted.0 new None → Called old new t call None) [
     | None ↦ λ called rest. call_before old granted.0 new t call None called rest.0
     | Some denied ↦ λ called rest. absurd cc
   ]) granted.2 granted.3
 
   -- raw calls of a kernel that is as it was
-  pub made_from : (old mid new : Traced) (calls : List RawCall) (refusal : Option (RawCall × Denied)) → IsUnchanged old mid → Made mid new t calls refusal → Made old new t calls refusal
+  pub made_from : (old mid new : KernelModel) (calls : List RawCall) (refusal : Option (RawCall × Denied)) → IsUnchanged old mid → Made mid new t calls refusal → Made old new t calls refusal
   made_from old mid new [] refusal same made = (still_same old mid new same made.0, made.1)
   made_from old mid new (c ∷ calls) refusal same made = (made.0, made.1, call_after old mid made.0 t c made.1 same made.2, made.3)
 
   -- raw calls behind others that were all granted
-  pub made_after : (old mid new : Traced) (before calls : List RawCall) (refusal : Option (RawCall × Denied)) → Granted old mid t before → Made mid new t calls refusal → Made old new t (before ++ calls) refusal
+  pub made_after : (old mid new : KernelModel) (before calls : List RawCall) (refusal : Option (RawCall × Denied)) → Granted old mid t before → Made mid new t calls refusal → Made old new t (before ++ calls) refusal
   made_after old mid new [] calls refusal granted made = made_from old mid new calls refusal granted.0 made
   made_after old mid new (c ∷ before) calls refusal granted made = (
     granted.0,

@@ -1,11 +1,11 @@
 pub mod Answers
 pub mod Laws
 pub mod Runs
-pub mod Traced
+pub mod KernelModel
 pub use Rattle.histar_object.specs.Objects
 pub use Rattle.histar_object.specs.Rights
 pub use Rattle.histar_object.specs.State
-pub use Rattle.histar_container.specs.Kept
+pub use Rattle.histar_container.specs.ObjectsModel
 pub use Rattle.histar_container.specs.Tree
 pub use Rattle.histar_rules.specs.Rules
 pub use Rattle.histar_rules.specs.Sound

@@ -7,7 +7,7 @@ use Rattle.histar_rules.specs.declared.raw.RawCall.{RawCall}
 use Rattle.histar_syscall.specs.declared.trace.TraceEntry.{TraceEntry}
 use Rattle.histar_object.specs.State.{State}
 use Rattle.histar_rules.specs.Rules.{check, Leaves}
-use Rattle.histar_syscall.specs.Traced.{Traced, state, Called, IsUnchanged}
+use Rattle.histar_syscall.specs.KernelModel.{KernelModel, state, Called, IsUnchanged}
 
 -- The entries are a run of the kernel from a state to another: each outcome is the first failing check at the state before
 -- it, and each state is what the call before it left.
@@ -21,7 +21,7 @@ IsBy line thread e = (e.line ≡ line) × (e.thread ≡ thread)
 
 -- The kernel came from the old to the new by these raw calls of one thread on the line that was begun, and by nothing else:
 -- they are the new end of its trace, and a run of it between the two states.
-pub record Ran (old new : Traced) (thread : ℕ) (entries : List TraceEntry) : Type 0 where
+pub record Ran (old new : KernelModel) (thread : ℕ) (entries : List TraceEntry) : Type 0 where
   pub trace : new.trace ≡ old.trace ++ entries
   pub run : IsRun (state old) entries (state new)
   pub own : AllByRecursion (IsBy old.line thread) entries
@@ -60,25 +60,25 @@ abbrev pub some_range_refusal : List TraceEntry → Bool
 some_range_refusal entries = list_any (λ e. is_range_refusal e.denied) entries
 
 -- after a call that was granted the others are made; one that was refused is the last
-abbrev pub GoesOn : Option Denied → RawCall → Type 0 → Traced → Traced → Option (RawCall × Denied) → Type 0
+abbrev pub GoesOn : Option Denied → RawCall → Type 0 → KernelModel → KernelModel → Option (RawCall × Denied) → Type 0
 GoesOn None call others mid new refusal = others
 GoesOn (Some denied) call others mid new refusal = IsUnchanged mid new × (refusal ≡ Some (call, denied))
 
 -- The thread made these raw calls one after another, up to the first that was refused, if one was, and nothing else was done.
-abbrev pub Made : Traced → Traced → ℕ → List RawCall → Option (RawCall × Denied) → Type 0
+abbrev pub Made : KernelModel → KernelModel → ℕ → List RawCall → Option (RawCall × Denied) → Type 0
 Made old new thread [] refusal = IsUnchanged old new × (refusal ≡ None)
 Made old new thread (call ∷ calls) refusal =
-    (mid : Traced) × (denied : Option Denied) × Called old mid thread call denied × GoesOn denied call (Made mid new thread calls refusal) mid new refusal
+    (mid : KernelModel) × (denied : Option Denied) × Called old mid thread call denied × GoesOn denied call (Made mid new thread calls refusal) mid new refusal
 
 -- the thread made these raw calls, and each of them was granted
-abbrev pub Granted : Traced → Traced → ℕ → List RawCall → Type 0
+abbrev pub Granted : KernelModel → KernelModel → ℕ → List RawCall → Type 0
 Granted old new thread calls = Made old new thread calls None
 
 -- the kernel made this raw call, granted or refused
-abbrev pub IsMade : Traced → ℕ → RawCall → Traced → Type 0
+abbrev pub IsMade : KernelModel → ℕ → RawCall → KernelModel → Type 0
 IsMade old thread call new = (denied : Option Denied) × Called old new thread call denied
 
 -- these threads made these raw calls one after another, the refused ones among them, and nothing else was done
-unfoldable pub MadeAll : Traced → List (ℕ × RawCall) → Traced → Type 0
+unfoldable pub MadeAll : KernelModel → List (ℕ × RawCall) → KernelModel → Type 0
 MadeAll old [] new = IsUnchanged old new
-MadeAll old (asked ∷ more) new = (mid : Traced) × IsMade old asked.0 asked.1 mid × MadeAll mid more new
+MadeAll old (asked ∷ more) new = (mid : KernelModel) × IsMade old asked.0 asked.1 mid × MadeAll mid more new

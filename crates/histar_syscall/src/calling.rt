@@ -3,7 +3,7 @@ ghost use Rattle.std.specs.Prelude.{◌≡◌, ℕ, ◌<◌, Some, OnOk, OnErr, 
 ghost use Rattle.histar_rules.specs.Visible.{visible, AreConfined};
 ghost use Rattle.histar_syscall.specs.Answers.{answer};
 ghost use Rattle.histar_syscall.specs.Runs.{IsMade, MadeAll};
-ghost use Rattle.histar_syscall.specs.Traced.{Answered, IsUnchanged, state};
+ghost use Rattle.histar_syscall.specs.KernelModel.{Answered, IsUnchanged, state};
 
 use crate::kernel::Kernel;
 use histar_base::Bytes;

@@ -1,10 +1,10 @@
 //! The raw calls on labels and on containers.
-ghost use Rattle.std.specs.Prelude.{◌≡◌, Some};
+ghost use Rattle.std.specs.Prelude.{◌≡◌};
 ghost use Rattle.std.specs.FinSet as set;
-ghost use Rattle.histar_object.specs.Objects.{objects_of, label_there, clearance_there};
-ghost use Rattle.histar_container.specs.Kept.{state_of};
+ghost use Rattle.histar_object.specs.Objects.{objects_of};
+ghost use Rattle.histar_container.specs.ObjectsModel.{state_of};
 ghost use Rattle.histar_container.specs.Tree.{AreTree};
-ghost use Rattle.histar_rules.specs.Rules.{check, Tells, Decides, IsNextNumber};
+ghost use Rattle.histar_rules.specs.Rules.{check, Tells, Decides, IsNextNumber, AreLabelsOf, IsLabelOf};
 ghost use Rattle.histar_rules.specs.declared.raw.RawCall.TheVariants as calls;
 
 use histar_container::LabelledObjects;
@@ -28,7 +28,7 @@ pub fn own_label<S: LabelStore + Drop>(
     objects: &LabelledObjects<S>,
     thread: ObjId,
 ) -> Result<(Label, Label), Refusal>
-    ensures { Decides (state_of objects.now) (state_of objects.now) thread calls.OwnLabel result (λ own. (Some own.0 ≡ label_there (objects_of objects.now.objects thread)) × (Some own.1 ≡ clearance_there (objects_of objects.now.objects thread))) }
+    ensures { Decides objects.now objects.now thread calls.OwnLabel result (AreLabelsOf objects.now thread) }
 {
     check_own_label(objects, thread)?;
     let Some(label) = objects.label(thread) else {
@@ -65,7 +65,7 @@ pub fn label_of<S: LabelStore + Drop>(
     object: ObjId,
 ) -> Result<Label, Refusal>
     requires { AreTree (objects_of objects.old.objects) }
-    ensures { Decides (state_of objects.old) (state_of objects.new) thread (calls.LabelOf container object) result (λ label. Some label ≡ label_there (objects_of objects.old.objects object)) }
+    ensures { Decides objects.old objects.new thread (calls.LabelOf container object) result (IsLabelOf objects.old object) }
 {
     check_label(objects, thread, container, object)?;
     let Some(label) = objects.label(object) else {
@@ -102,7 +102,7 @@ pub fn make_container<S: LabelStore + Drop>(
     container: ObjId,
     label: &Label,
 ) -> Result<ObjId, Refusal>
-    ensures { Decides (state_of objects.old) (state_of objects.new) thread (calls.MakeContainer container label.now) result (IsNextNumber objects.old) }
+    ensures { Decides objects.old objects.new thread (calls.MakeContainer container label.now) result (IsNextNumber objects.old) }
 {
     check_make_container(objects, thread, container, label)?;
     let number = objects.next_object();
@@ -133,7 +133,7 @@ pub fn unlink<S: LabelStore + Drop>(
     object: ObjId,
 ) -> Result<(), Refusal>
     requires { AreTree (objects_of objects.old.objects) }
-    ensures { Decides (state_of objects.old) (state_of objects.new) thread (calls.Unlink container object) result (λ _. Unit {0}) }
+    ensures { Decides objects.old objects.new thread (calls.Unlink container object) result (λ _. Unit {0}) }
 {
     check_unlink(objects, thread, container, object)?;
     objects.remove(alloc, container, object)?;

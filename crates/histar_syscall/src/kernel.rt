@@ -1,11 +1,11 @@
 //! The kernel and its raw calls.
-ghost use Rattle.std.specs.Prelude.{◌≡◌, [], IfOk, Some};
-ghost use Rattle.histar_object.specs.Objects.{objects_of, bytes_in, entry_there, label_there, clearance_there};
+ghost use Rattle.std.specs.Prelude.{◌≡◌, [], IfOk};
+ghost use Rattle.histar_object.specs.Objects.{objects_of, bytes_in};
 ghost use Rattle.histar_object.specs.State.{empty_state};
-ghost use Rattle.histar_rules.specs.Rules.{IsNextNumber};
+ghost use Rattle.histar_rules.specs.Rules.{IsNextNumber, AreBytesOf, AreLabelsOf, IsLabelOf, IsEntryOf};
 ghost use Rattle.histar_rules.specs.Sound.{IsSound};
 ghost use Rattle.histar_rules.specs.declared.raw.RawCall.TheVariants as calls;
-ghost use Rattle.histar_syscall.specs.Traced.{Answered, state};
+ghost use Rattle.histar_syscall.specs.KernelModel.{Answered, state};
 
 use crate::starting::empty_objects;
 use crate::trace::{TraceEntry, log};
@@ -34,13 +34,13 @@ pub struct Kernel<S: LabelStore + Drop> {
 }
 
 impl<S: LabelStore + Drop> Model for Kernel<S> {
-    ghost use Rattle.histar_container.specs.Kept.{state_of};
+    ghost use Rattle.histar_container.specs.ObjectsModel.{state_of};
     ghost use Rattle.histar_rules.specs.Sound.{IsSound};
-    ghost use Rattle.histar_syscall.specs.Traced.{Traced, coded_traced};
+    ghost use Rattle.histar_syscall.specs.KernelModel.{KernelModel, coded_kernel_model};
 
-    ghost Value = { Traced };
+    ghost Value = { KernelModel };
 
-    ghost coded = { coded_traced };
+    ghost coded = { coded_kernel_model };
 
     ghost view = { λ k. record { kept = k.objects; line = k.line; trace = k.trace.items } };
 
@@ -117,7 +117,7 @@ impl<S: LabelStore + Drop> Kernel<S> {
 
     /// The thread's own label and clearance.
     pub fn own_label(&mut self, thread: ObjId) -> Result<(Label, Label), Refusal>
-        ensures { Answered self.old self.new thread calls.OwnLabel result (λ own. (Some own.0 ≡ label_there (objects_of self.old.kept.objects thread)) × (Some own.1 ≡ clearance_there (objects_of self.old.kept.objects thread))) }
+        ensures { Answered self.old self.new thread calls.OwnLabel result (AreLabelsOf self.old.kept thread) }
     {
         self.trace.reserve(1)?;
         let answer = containers::own_label(&self.objects, thread);
@@ -241,7 +241,7 @@ impl<S: LabelStore + Drop> Kernel<S> {
         clearance: Label,
         shown: Label,
     ) -> Result<Entry, Refusal>
-        ensures { Answered self.old self.new thread (calls.Enter container gate wanted clearance shown) result (λ entry. Some entry ≡ entry_there (objects_of self.old.kept.objects gate)) }
+        ensures { Answered self.old self.new thread (calls.Enter container gate wanted clearance shown) result (IsEntryOf self.old.kept gate) }
     {
         self.trace.reserve(1)?;
         let objects = &mut self.objects;
@@ -261,7 +261,7 @@ impl<S: LabelStore + Drop> Kernel<S> {
         container: ObjId,
         segment: ObjId,
     ) -> Result<&[u8], Refusal>
-        ensures* { sem 𝓛 (follows_so (the_row S.row S.Id.row S.LabelStore S.Id.PartialEq) (the_row S.row S.Id.row S.LabelStore S.Id.PartialEq) self.entry.ghost_name none (λ _ _. ⊤) (λ new. Answered self.old new thread (calls.Read container segment) result (λ bytes. bytes.now ≡ bytes_in (objects_of self.old.kept.objects segment)))) }
+        ensures* { sem 𝓛 (follows_so (the_row S.row S.Id.row S.LabelStore S.Id.PartialEq) (the_row S.row S.Id.row S.LabelStore S.Id.PartialEq) self.entry.ghost_name none (λ _ _. ⊤) (λ new. Answered self.old new thread (calls.Read container segment) result (λ bytes. AreBytesOf self.old.kept segment bytes.now))) }
     {
         self.look(thread, container, segment)?;
         Ok(self.bytes(segment))
@@ -296,7 +296,7 @@ impl<S: LabelStore + Drop> Kernel<S> {
         container: ObjId,
         segment: ObjId,
     ) -> Result<Bytes, Refusal>
-        ensures { Answered self.old self.new thread (calls.Read container segment) result (λ bytes. bytes ≡ bytes_in (objects_of self.old.kept.objects segment)) }
+        ensures { Answered self.old self.new thread (calls.Read container segment) result (AreBytesOf self.old.kept segment) }
     {
         self.trace.reserve(1)?;
         let answer = segments::read(&mut self.objects, alloc, thread, container, segment);
@@ -349,7 +349,7 @@ impl<S: LabelStore + Drop> Kernel<S> {
         container: ObjId,
         object: ObjId,
     ) -> Result<Label, Refusal>
-        ensures { Answered self.old self.new thread (calls.LabelOf container object) result (λ label. Some label ≡ label_there (objects_of self.old.kept.objects object)) }
+        ensures { Answered self.old self.new thread (calls.LabelOf container object) result (IsLabelOf self.old.kept object) }
     {
         self.trace.reserve(1)?;
         let answer = containers::label_of(&mut self.objects, thread, container, object);

@@ -3,8 +3,8 @@ ghost use Rattle.std.specs.Prelude.{◌≡◌, ◌+◌, ◌++◌, IfOk, length, 
 ghost use Rattle.std.specs.Option.{option_copied};
 ghost use Rattle.histar_base.specs.Refusals.{unless, ◌orelse◌};
 ghost use Rattle.histar_object.specs.Objects.{objects_of, bytes_in, or_no_bytes};
-ghost use Rattle.histar_container.specs.Kept.{state_of};
-ghost use Rattle.histar_rules.specs.Rules.{check, Tells, fits_segment, has_number, Decides, IsNextNumber};
+ghost use Rattle.histar_container.specs.ObjectsModel.{state_of};
+ghost use Rattle.histar_rules.specs.Rules.{check, Tells, fits_segment, has_number, Decides, IsNextNumber, AreBytesOf};
 ghost use Rattle.histar_rules.specs.declared.raw.Denied.TheVariants.{TooBig};
 ghost use Rattle.histar_rules.specs.declared.raw.RawCall.TheVariants as calls;
 
@@ -59,7 +59,7 @@ pub fn make_segment<S: LabelStore + Drop>(
     label: &Label,
     bytes: &Bytes,
 ) -> Result<ObjId, Refusal>
-    ensures { Decides (state_of objects.old) (state_of objects.new) thread (calls.MakeSegment container label.now bytes.now) result (IsNextNumber objects.old) }
+    ensures { Decides objects.old objects.new thread (calls.MakeSegment container label.now bytes.now) result (IsNextNumber objects.old) }
 {
     check_make_segment(objects, thread, container, label, bytes)?;
     let number = objects.next_object();
@@ -89,7 +89,7 @@ pub fn may_read<S: LabelStore + Drop>(
     container: ObjId,
     segment: ObjId,
 ) -> Result<(), Refusal>
-    ensures { Decides (state_of objects.old) (state_of objects.new) thread (calls.Read container segment) result (λ _. Unit {0}) }
+    ensures { Decides objects.old objects.new thread (calls.Read container segment) result (λ _. Unit {0}) }
 {
     check_read(objects, thread, container, segment)?;
     Ok(())
@@ -103,7 +103,7 @@ pub fn read<S: LabelStore + Drop>(
     container: ObjId,
     segment: ObjId,
 ) -> Result<Bytes, Refusal>
-    ensures { Decides (state_of objects.old) (state_of objects.new) thread (calls.Read container segment) result (λ bytes. bytes ≡ bytes_in (objects_of objects.old.objects segment)) }
+    ensures { Decides objects.old objects.new thread (calls.Read container segment) result (AreBytesOf objects.old segment) }
 {
     check_read(objects, thread, container, segment)?;
     Ok(copied(alloc, objects.bytes(segment))?)
@@ -162,7 +162,7 @@ pub fn write<S: LabelStore + Drop>(
     keep: u32,
     bytes: &Bytes,
 ) -> Result<(), Refusal>
-    ensures { Decides (state_of objects.old) (state_of objects.new) thread (calls.Write container segment keep bytes.now) result (λ _. Unit {0}) }
+    ensures { Decides objects.old objects.new thread (calls.Write container segment keep bytes.now) result (λ _. Unit {0}) }
 {
     check_write(objects, thread, container, segment, keep, bytes)?;
     let content = spliced(alloc, objects.bytes(segment), keep, bytes)?;

@@ -2,7 +2,7 @@
 ghost use Rattle.std.specs.Prelude.{◌≡◌, IfOk};
 ghost use Rattle.histar_label.specs.Levels.{constant, with_level};
 ghost use Rattle.histar_object.specs.State.{empty_state};
-ghost use Rattle.histar_container.specs.Kept.{state_of};
+ghost use Rattle.histar_container.specs.ObjectsModel.{state_of};
 
 use histar_container::LabelledObjects;
 use histar_label::{Category, Label, LabelStore, Level, OutOfMemory};

@@ -1,7 +1,7 @@
 //! The trace of raw calls.
 ghost use Rattle.std.specs.Prelude.{◌≡◌, ◌<◌};
 ghost use Rattle.std.specs.Vec.{vec_len, vec_capacity};
-ghost use Rattle.histar_syscall.specs.Traced.{logged};
+ghost use Rattle.histar_syscall.specs.KernelModel.{logged};
 
 use histar_object::ObjId;
 use histar_rules::{Denied, RawCall, Refusal};

@@ -2,4 +2,4 @@ pub use Rattle.histar_rules.specs.Rules
 pub use Rattle.histar_object.specs.Objects
 pub use Rattle.histar_object.specs.Rights
 pub use Rattle.histar_object.specs.State
-pub use Rattle.histar_container.specs.Kept
+pub use Rattle.histar_container.specs.ObjectsModel

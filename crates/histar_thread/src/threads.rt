@@ -1,6 +1,6 @@
 //! The calls of a thread on itself, and the making of threads.
 ghost use Rattle.std.specs.Prelude.{◌≡◌, ◌<◌};
-ghost use Rattle.histar_container.specs.Kept.{state_of};
+ghost use Rattle.histar_container.specs.ObjectsModel.{state_of};
 ghost use Rattle.histar_rules.specs.Rules.{check, Tells, Decides, IsNextNumber};
 ghost use Rattle.histar_rules.specs.declared.raw.RawCall.TheVariants as calls;
 
@@ -26,7 +26,7 @@ pub fn make_category<S: LabelStore + Drop>(
     objects: &mut LabelledObjects<S>,
     thread: ObjId,
 ) -> Result<Category, Refusal>
-    ensures { Decides (state_of objects.old) (state_of objects.new) thread calls.MakeCategory result (λ category. category ≡ objects.old.next_category) }
+    ensures { Decides objects.old objects.new thread calls.MakeCategory result (λ category. category ≡ objects.old.next_category) }
 {
     check_make_category(objects, thread)?;
     let category = Category::new(objects.next_category());
@@ -66,7 +66,7 @@ pub fn set_label<S: LabelStore + Drop>(
     thread: ObjId,
     label: &Label,
 ) -> Result<(), Refusal>
-    ensures { Decides (state_of objects.old) (state_of objects.new) thread (calls.SetLabel label.now) result (λ _. Unit {0}) }
+    ensures { Decides objects.old objects.new thread (calls.SetLabel label.now) result (λ _. Unit {0}) }
 {
     check_set_label(objects, thread, label)?;
     let Some(clearance) = objects.clearance(thread) else {
@@ -100,7 +100,7 @@ pub fn set_clearance<S: LabelStore + Drop>(
     thread: ObjId,
     clearance: &Label,
 ) -> Result<(), Refusal>
-    ensures { Decides (state_of objects.old) (state_of objects.new) thread (calls.SetClearance clearance.now) result (λ _. Unit {0}) }
+    ensures { Decides objects.old objects.new thread (calls.SetClearance clearance.now) result (λ _. Unit {0}) }
 {
     check_set_clearance(objects, thread, clearance)?;
     let Some(label) = objects.label(thread) else {
@@ -145,7 +145,7 @@ pub fn make_thread<S: LabelStore + Drop>(
     label: &Label,
     clearance: &Label,
 ) -> Result<ObjId, Refusal>
-    ensures { Decides (state_of objects.old) (state_of objects.new) thread (calls.MakeThread container label.now clearance.now) result (IsNextNumber objects.old) }
+    ensures { Decides objects.old objects.new thread (calls.MakeThread container label.now clearance.now) result (IsNextNumber objects.old) }
 {
     check_make_thread(objects, thread, container, label, clearance)?;
     let number = objects.next_object();

@@ -5,7 +5,7 @@ use Rattle.histar_label.specs.Levels.{Levels}
 use Rattle.histar_object.specs.declared.objects.Object.{Object}
 use Rattle.histar_object.specs.declared.objects.Kind.TheVariants.{Container}
 use Rattle.histar_object.specs.Objects.{Numbers, objects_of, is_container}
-use Rattle.histar_container.specs.Kept.{state_of}
+use Rattle.histar_container.specs.ObjectsModel.{state_of}
 use Rattle.histar_container.proofs.Roots.{tree_added}
 use Rattle.histar_container.proofs.tests.add_container.Goals as goal
 

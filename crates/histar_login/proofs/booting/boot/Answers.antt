@@ -1,7 +1,7 @@
 use Rattle.std.proofs.Common.{None, length}
 use Rattle.histar_rules.specs.declared.raw.RawCall.TheVariants.{Unlink}
 use Rattle.histar_rules.specs.Sound.{root_number}
-use Rattle.histar_syscall.specs.Traced.{Called}
+use Rattle.histar_syscall.specs.KernelModel.{Called}
 use Rattle.histar_login.specs.Boot.{boot_thread_number}
 use Rattle.histar_login.proofs.Parts.{granted_as}
 use Rattle.histar_login.proofs.LastStage.{HasParts, has_parts, booted, started, first_parts, more_parts}

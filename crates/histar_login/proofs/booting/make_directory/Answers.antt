@@ -1,6 +1,6 @@
 use Rattle.std.proofs.Common.{◌≡◌, ◌+◌, ◌*◌, length, ap, ◌∙◌}
 use Rattle.histar_rules.specs.declared.raw.RawCall.TheVariants.{MakeSegment, MakeContainer}
-use Rattle.histar_syscall.specs.Traced.{Traced}
+use Rattle.histar_syscall.specs.KernelModel.{KernelModel}
 use Rattle.histar_calls.specs.Categories.{write_category}
 use Rattle.histar_calls.specs.Labelling.{written_by}
 use Rattle.histar_login.specs.Start.{boot_category}
@@ -10,7 +10,7 @@ use Rattle.histar_login.proofs.DirectoryStage.{directory_stage}
 use Rattle.histar_login.proofs.booting.make_directory.Given as given
 use Rattle.histar_login.proofs.booting.make_directory.Goals as goal
 
-stage : (g : given.Over) (c : goal.In_ok-listing g) (first : Traced) (p : Part) → IsBefore (3 + 2 * length c.args.users.now) p → Boots first c.args.kernel.now p
+stage : (g : given.Over) (c : goal.In_ok-listing g) (first : KernelModel) (p : Part) → IsBefore (3 + 2 * length c.args.users.now) p → Boots first c.args.kernel.now p
     → Boots first c.make_segment-segment-2.new.self (and_then p (directory_part (length c.args.users.now) c.args.users.now))
     × (c.in_ok-container.container ≡ 4 + 2 * length c.args.users.now) × (c.in_ok-listing.listing ≡ 5 + 2 * length c.args.users.now)
 stage g c first p at b =

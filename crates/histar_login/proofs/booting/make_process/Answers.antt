@@ -1,7 +1,7 @@
 use Rattle.std.proofs.Common.{◌≡◌, ℕ, ◌+◌, ◌*◌, ◌∙◌}
 use Rattle.histar_rules.specs.declared.raw.RawCall.TheVariants.{MakeSegment, MakeContainer, MakeThread}
 use Rattle.std.proofs.Common.{refl}
-use Rattle.histar_syscall.specs.Traced.{Traced}
+use Rattle.histar_syscall.specs.KernelModel.{KernelModel}
 use Rattle.histar_login.specs.Start.{own_read_category}
 use Rattle.histar_login.specs.Booting.{Part, Boots, IsBeforeBoth, and_then, process_part}
 use Rattle.histar_login.proofs.Parts.{granted_as, answer_as}
@@ -9,7 +9,7 @@ use Rattle.histar_login.proofs.ProcessStage.{process_stage}
 use Rattle.histar_login.proofs.booting.make_process.Given as given
 use Rattle.histar_login.proofs.booting.make_process.Goals as goal
 
-stage : (g : given.Over) (c : goal.In_ok-granted g) (n : ℕ) (first : Traced) (p : Part) → IsBeforeBoth (6 + 2 * n) (own_read_category n) p → Boots first c.args.kernel.now p
+stage : (g : given.Over) (c : goal.In_ok-granted g) (n : ℕ) (first : KernelModel) (p : Part) → IsBeforeBoth (6 + 2 * n) (own_read_category n) p → Boots first c.args.kernel.now p
     → Boots first c.make_segment-segment.new.self (and_then p (process_part n)) × (c.in_ok-thread.thread ≡ 8 + 2 * n)
 stage g c n first p at b =
     process_stage first c.args.kernel.now c.make_category.new.self c.make_category-2.new.self c.make_container-container.new.self c.make_container-container-2.new.self

@@ -1,5 +1,5 @@
 use Rattle.std.proofs.Common.{ap, ◌∙◌}
-use Rattle.histar_container.specs.Kept.{Kept, state_of}
+use Rattle.histar_container.specs.ObjectsModel.{ObjectsModel, state_of}
 use Rattle.histar_object.specs.Objects.{objects_of, is_gate}
 use Rattle.histar_rules.specs.declared.raw.Denied.TheVariants.{BadKind}
 use Rattle.histar_rules.specs.Rules.{no_link}
@@ -8,5 +8,5 @@ use Rattle.histar_rules.proofs.checks.check_gate.Goals as goal
 
 pub returns-clause-answer : goal.returns-clause-answer
 returns-clause-answer g c =
-    let same = c.is_gate.ensures ∙ ap (λ (k : Kept). is_gate (objects_of k.objects c.args.gate)) c.in_ok-check_link.ensures.unchanged in
+    let same = c.is_gate.ensures ∙ ap (λ (k : ObjectsModel). is_gate (objects_of k.objects c.args.gate)) c.in_ok-check_link.ensures.unchanged in
     behind_tells (no_link (state_of c.args.objects.now) c.args.thread c.args.container c.args.gate) _ _ c.in_ok-check_link.ensures.answer (last_tells _ _ BadKind _ same c.require.ensures)

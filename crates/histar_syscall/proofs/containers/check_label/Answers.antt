@@ -1,6 +1,6 @@
 use Rattle.std.proofs.Common.{ap, ◌∙◌}
 use Rattle.std.specs.Prelude.{not}
-use Rattle.histar_container.specs.Kept.{Kept, state_of}
+use Rattle.histar_container.specs.ObjectsModel.{ObjectsModel, state_of}
 use Rattle.histar_object.specs.Objects.{objects_of, is_thread}
 use Rattle.histar_rules.specs.declared.raw.Denied.TheVariants.{BadKind}
 use Rattle.histar_rules.specs.Rules.{no_link}
@@ -9,5 +9,5 @@ use Rattle.histar_syscall.proofs.containers.check_label.Goals as goal
 
 pub returns-clause-answer : goal.returns-clause-answer
 returns-clause-answer g c =
-    let same = ap not (c.is_thread.ensures ∙ ap (λ (k : Kept). is_thread (objects_of k.objects c.args.object)) c.in_ok-check_link.ensures.unchanged) in
+    let same = ap not (c.is_thread.ensures ∙ ap (λ (k : ObjectsModel). is_thread (objects_of k.objects c.args.object)) c.in_ok-check_link.ensures.unchanged) in
     behind_tells (no_link (state_of c.args.objects.now) c.args.thread c.args.container c.args.object) _ _ c.in_ok-check_link.ensures.answer (last_tells _ _ BadKind _ same c.require.ensures)

@@ -1,7 +1,7 @@
 use Rattle.std.proofs.Common.{ℕ, ap, ◌∙◌}
 use Rattle.std.specs.Prelude.{not, nat_lt}
 use Rattle.histar_label.specs.Levels.{is_made, has_star}
-use Rattle.histar_container.specs.Kept.{Kept, state_of}
+use Rattle.histar_container.specs.ObjectsModel.{ObjectsModel, state_of}
 use Rattle.histar_object.specs.Objects.{objects_of}
 use Rattle.histar_object.specs.State.{in_range}
 use Rattle.histar_rules.specs.declared.raw.Denied.TheVariants.{Range, TooBig}
@@ -13,9 +13,9 @@ pub returns-clause-answer : goal.returns-clause-answer
 returns-clause-answer g c =
     let same = c.in_ok-check_making.ensures.unchanged in
     let s = state_of c.args.objects.now in
-    let ranged = c.in_range.ensures ∙ ap (λ (k : Kept). in_range (objects_of k.objects c.args.thread) c.args.label.now) same in
-    let made = c.names_only_made.ensures.value ∙ ap (λ (n : ℕ). is_made n c.args.label.now) (c.next_category.ensures ∙ ap (λ (k : Kept). k.next_category) same) in
-    let numbered = ap (λ (n : ℕ). nat_lt n greatest) (c.number.ensures ∙ c.next_object.ensures.value ∙ ap (λ (k : Kept). k.next_object) same) in
+    let ranged = c.in_range.ensures ∙ ap (λ (k : ObjectsModel). in_range (objects_of k.objects c.args.thread) c.args.label.now) same in
+    let made = c.names_only_made.ensures.value ∙ ap (λ (n : ℕ). is_made n c.args.label.now) (c.next_category.ensures ∙ ap (λ (k : ObjectsModel). k.next_category) same) in
+    let numbered = ap (λ (n : ℕ). nat_lt n greatest) (c.number.ensures ∙ c.next_object.ensures.value ∙ ap (λ (k : ObjectsModel). k.next_object) same) in
     behind_tells (no_making s c.args.thread c.args.container) _ _ c.in_ok-check_making.ensures.answer
     (passed_tells _ (in_range (s.objects c.args.thread) c.args.label.now) Range _ _ ranged c.in_ok-require.ensures
     (passed_tells _ (known s c.args.label.now) Range _ _ made c.in_ok-require-2.ensures

@@ -4,7 +4,7 @@ use Rattle.histar_object.specs.declared.objects.Kind.TheVariants.{Container, Thr
 use Rattle.histar_object.specs.declared.objects.Object.{Object}
 use Rattle.histar_object.specs.Objects.{Numbers, objects_of, is_container}
 use Rattle.histar_object.specs.State.{with_next, added}
-use Rattle.histar_container.specs.Kept.{state_of}
+use Rattle.histar_container.specs.ObjectsModel.{state_of}
 use Rattle.histar_syscall.proofs.Beginnings.{root_there, empty_made}
 use Rattle.histar_syscall.proofs.starting.empty_objects.Goals as goal
 

@@ -2,7 +2,7 @@ use Rattle.std.proofs.Common.{ℕ, ap, ◌∙◌}
 use Rattle.histar_label.specs.declared.levels.Level.TheVariants.{Star, L3}
 use Rattle.histar_label.specs.Levels.{with_level}
 use Rattle.histar_object.specs.State.{counting, with_own}
-use Rattle.histar_container.specs.Kept.{state_of}
+use Rattle.histar_container.specs.ObjectsModel.{state_of}
 use Rattle.histar_thread.proofs.Owning.{category_made, is_maker}
 use Rattle.histar_thread.proofs.threads.make_category.Goals as goal
 

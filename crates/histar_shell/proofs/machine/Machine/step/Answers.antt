@@ -3,8 +3,8 @@ use Rattle.std.proofs.lemmas.Bool.{true≢false}
 use Rattle.histar_flat.specs.declared.replies.Reply.TheVariants.{Gone}
 use Rattle.histar_shell.specs.Meaning.{FollowsMeaning}
 use Rattle.histar_flat.specs.declared.calls.User.{User}
-use Rattle.histar_shell.specs.Machine.{Running, Makes, AnswersLine}
-use Rattle.histar_syscall.specs.Traced.{Traced}
+use Rattle.histar_shell.specs.Machine.{MachineModel, Makes, AnswersLine}
+use Rattle.histar_syscall.specs.KernelModel.{KernelModel}
 use Rattle.histar_shell.proofs.Lines.{had_made, gone_line}
 use Rattle.histar_shell.proofs.CallRows.{calls_are_rows}
 use Rattle.histar_shell.proofs.LineMeanings.{line_follows}
@@ -12,12 +12,12 @@ use Rattle.histar_shell.proofs.machine.Machine.step.Goals as goal
 
 pub returns-clause-answers : goal.returns-clause-answers
 returns-clause-answers g c =
-    let before : Running = record { kernel = c.self.inside.kernel; places = c.self.inside.places; thread = c.self.inside.thread; users = c.self.inside.users.items; is_stopped = c.self.inside.is_stopped } in
-    let left : Running = record { kernel = c.make-result.new.kernel; places = c.self.inside.places; thread = c.self.inside.thread; users = c.self.inside.users.items; is_stopped = c.is_err-self-inside.result } in
+    let before : MachineModel = record { kernel = c.self.inside.kernel; places = c.self.inside.places; thread = c.self.inside.thread; users = c.self.inside.users.items; is_stopped = c.self.inside.is_stopped } in
+    let left : MachineModel = record { kernel = c.make-result.new.kernel; places = c.self.inside.places; thread = c.self.inside.thread; users = c.self.inside.users.items; is_stopped = c.is_err-self-inside.result } in
     let is_zero : c.is_zero.result ≡ true = search rules in
     let made = subst (λ (users : List User). Makes users c.self.inside.places c.begin.new.self c.make-result.new.kernel c.self.inside.thread c.args.call c.make-result.result) c.as_slice-users.ensures.value c.make-result.ensures in
-    let makes = subst (λ (k : Traced). Makes c.self.inside.users.items c.self.inside.places k c.make-result.new.kernel c.self.inside.thread c.args.call c.make-result.result) c.begin.ensures made in
-    subst (λ (m : Running). AnswersLine m left c.args.line c.args.process.now c.args.call c.make-result.result) c.self.view_is
+    let makes = subst (λ (k : KernelModel). Makes c.self.inside.users.items c.self.inside.places k c.make-result.new.kernel c.self.inside.thread c.args.call c.make-result.result) c.begin.ensures made in
+    subst (λ (m : MachineModel). AnswersLine m left c.args.line c.args.process.now c.args.call c.make-result.result) c.self.view_is
     (had_made before left c.args.line c.args.process.now c.args.call c.make-result.result c.if-self.false (c.is_zero.ensures.0 is_zero)
     (record { made = makes; places = refl; thread = refl; users = refl; stops = c.is_err-self-inside.ensures.value }))
 
@@ -26,7 +26,7 @@ returns-clause-means g c = line_follows calls_are_rows _ _ c.args.line c.args.pr
 
 pub returns-then-not-is_zero-clause-means : goal.returns-then-not-is_zero-clause-means
 returns-then-not-is_zero-clause-means g c =
-    let before : Running = record { kernel = c.self.inside.kernel; places = c.self.inside.places; thread = c.self.inside.thread; users = c.self.inside.users.items; is_stopped = c.self.inside.is_stopped } in
+    let before : MachineModel = record { kernel = c.self.inside.kernel; places = c.self.inside.places; thread = c.self.inside.thread; users = c.self.inside.users.items; is_stopped = c.self.inside.is_stopped } in
     let not_zero : c.is_zero.result ≡ false = search rules in
-    subst (λ (m : Running). FollowsMeaning m m c.args.line c.args.process.now c.args.call (Ok Gone)) c.self.view_is
+    subst (λ (m : MachineModel). FollowsMeaning m m c.args.line c.args.process.now c.args.call (Ok Gone)) c.self.view_is
     (line_follows calls_are_rows before before c.args.line c.args.process.now c.args.call (Ok Gone) (gone_line before c.args.line c.args.process.now c.args.call c.if-self.false (λ e. true≢false (sym (c.is_zero.ensures.1 e) ∙ not_zero))))

@@ -9,17 +9,17 @@ use Rattle.histar_object.specs.State.{State}
 use Rattle.histar_container.specs.Tree.{IsCut}
 
 -- the listed objects, and the numbers that the next object and the next category get
-pub record Kept : Type 0 where
+pub record ObjectsModel : Type 0 where
   pub objects : List (ℕ × Object Levels)
   pub next_object : ℕ
   pub next_category : ℕ
 
 -- stored as a pair of its list and its numbers
-abbrev pub coded_kept : Coded Kept
-coded_kept = code_by (List (ℕ × Object Levels) × (ℕ × ℕ)) (coded× (coded_list (coded× coded_ℕ (coded_object coded_levels))) (coded× coded_ℕ coded_ℕ)) (λ k. (k.objects, (k.next_object, k.next_category))) (λ p. record { objects = p.0; next_object = p.1.0; next_category = p.1.1 }) (λ _. refl)
+abbrev pub coded_objects_model : Coded ObjectsModel
+coded_objects_model = code_by (List (ℕ × Object Levels) × (ℕ × ℕ)) (coded× (coded_list (coded× coded_ℕ (coded_object coded_levels))) (coded× coded_ℕ coded_ℕ)) (λ k. (k.objects, (k.next_object, k.next_category))) (λ p. record { objects = p.0; next_object = p.1.0; next_category = p.1.1 }) (λ _. refl)
 
 -- the state of the kernel that it is
-abbrev pub state_of : Kept → State
+abbrev pub state_of : ObjectsModel → State
 state_of k = record { objects = objects_of k.objects; next_object = k.next_object; next_category = k.next_category }
 
 -- the container d links o no more, what was reached from o is gone, and all else is as it was

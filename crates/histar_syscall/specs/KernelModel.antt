@@ -1,7 +1,7 @@
 -- What the contracts of the kernel cite.
 use Rattle.std.specs.Prelude.{◌≡◌, ℕ, List, [], ◌∷◌, ◌++◌, Option, None, Some, Result, Ok, Err, refl}
 use Rattle.std.specs.Coded.{Coded, code_by, coded×, coded_ℕ, coded_list}
-use Rattle.histar_container.specs.Kept.{Kept, coded_kept, state_of}
+use Rattle.histar_container.specs.ObjectsModel.{ObjectsModel, coded_objects_model, state_of}
 use Rattle.histar_object.specs.State.{State}
 use Rattle.histar_rules.specs.declared.raw.Denied.{Denied}
 use Rattle.histar_rules.specs.declared.raw.RawCall.{RawCall}
@@ -12,34 +12,34 @@ use Rattle.histar_syscall.specs.contracts.trace.TraceEntry as entry
 use Rattle.histar_rules.specs.Rules.{check, Leaves}
 
 -- what a kernel keeps: its objects, the line that was begun last, and the trace of its calls
-pub record Traced : Type 0 where
-  pub kept : Kept
+pub record KernelModel : Type 0 where
+  pub kept : ObjectsModel
   pub line : ℕ
   pub trace : List TraceEntry
 
 -- stored as the tuple of its parts
-abbrev pub coded_traced : Coded Traced
-coded_traced = code_by (Kept × (ℕ × List TraceEntry)) (coded× coded_kept (coded× coded_ℕ (coded_list entry.the_row.coded))) (λ k. (k.kept, (k.line, k.trace))) (λ p. record { kept = p.0; line = p.1.0; trace = p.1.1 }) (λ _. refl)
+abbrev pub coded_kernel_model : Coded KernelModel
+coded_kernel_model = code_by (ObjectsModel × (ℕ × List TraceEntry)) (coded× coded_objects_model (coded× coded_ℕ (coded_list entry.the_row.coded))) (λ k. (k.kept, (k.line, k.trace))) (λ p. record { kept = p.0; line = p.1.0; trace = p.1.1 }) (λ _. refl)
 
 -- the state of a kernel
-abbrev pub state : Traced → State
+abbrev pub state : KernelModel → State
 state k = state_of k.kept
 
 -- the kernel made this call and nothing else: its outcome, its state, and one entry of the trace on the line that was begun
-pub record Called (old new : Traced) (thread : ℕ) (call : RawCall) (denied : Option Denied) : Type 0 where
+pub record Called (old new : KernelModel) (thread : ℕ) (call : RawCall) (denied : Option Denied) : Type 0 where
   pub outcome : check (state old) thread call ≡ denied
   pub state : Leaves denied (state old) thread call (state new)
   pub trace : new.trace ≡ old.trace ++ record { line = old.line; thread = thread; call = call; denied = denied } ∷ []
   pub line : new.line ≡ old.line
 
 -- nothing has changed: no object, no link, no number, not the line, not the trace
-pub record IsUnchanged (old new : Traced) : Type 0 where
+pub record IsUnchanged (old new : KernelModel) : Type 0 where
   pub state : state new ≡ state old
   pub trace : new.trace ≡ old.trace
   pub line : new.line ≡ old.line
 
 -- the call was made and has this answer, or it was made and denied, or memory ran out and nothing has changed
-abbrev pub Answered : {A : Type 0} → Traced → Traced → ℕ → RawCall → Result A Refusal → (A → Type 0) → Type 0
+abbrev pub Answered : {A : Type 0} → KernelModel → KernelModel → ℕ → RawCall → Result A Refusal → (A → Type 0) → Type 0
 Answered old new t call (Ok answer) IsRight = Called old new t call None × IsRight answer
 Answered old new t call (Err (refusals.Denied denied)) IsRight = Called old new t call (Some denied)
 Answered old new t call (Err refusals.OutOfMemory) IsRight = IsUnchanged old new
