@@ -26,10 +26,10 @@ IsRowOf session call program =
     (old new : KernelModel) (f : Flat) (t : ℕ) (result : Result Reply Stopped) → IsReady session (state old) f t → Runs program old new t result → DoesItsRow session f call old new t result
 
 abbrev pub ReadsAreRows : Type 0
-ReadsAreRows = (session : Session) → IsSession session → (path : Path) → IsTrue (is_path path) → IsRowOf session (Read path) (read_program (places_of (length session.users)) path)
+ReadsAreRows = (session : Session) → IsSession session → (path : Path) → IsRowOf session (Read path) (read_program (places_of (length session.users)) path)
 
 abbrev pub WritesAreRows : Type 0
-WritesAreRows = (session : Session) → IsSession session → (path : Path) (bytes : List ℕ) → IsTrue (is_path path) → IsRowOf session (Write path bytes) (write_program (places_of (length session.users)) path bytes)
+WritesAreRows = (session : Session) → IsSession session → (path : Path) (bytes : List ℕ) → IsRowOf session (Write path bytes) (write_program (places_of (length session.users)) path bytes)
 
 abbrev pub CreatesAreRows : Type 0
 CreatesAreRows = (session : Session) → IsSession session → (path : Path) (mode : Mode) → IsTrue (is_path path) → IsTrue (is_line_mode mode)
