@@ -1,5 +1,5 @@
 -- How the code that reads and writes directories, and walks to them, runs its parts.
-use Rattle.std.proofs.Common.{◌≡◌, ℕ, ◌≤◌, List, [], ◌∷◌, length, get_or, take, drop, ◌-◌, Result, Ok, Err, refl, sym, ap, ◌∙◌, subst, arith}
+use Rattle.std.proofs.Common.{◌≡◌, ℕ, ◌≤◌, List, [], ◌∷◌, length, get_or, take, drop, ◌-◌, Result, Ok, Err, inl, refl, sym, ap, ◌∙◌, subst, arith}
 use Rattle.histar_flat.specs.Words.{Name, Path}
 use Rattle.histar_flat.specs.declared.replies.Errno.{Errno}
 use Rattle.histar_rules.specs.declared.raw.RawCall.TheVariants.{Read, Write}
@@ -10,10 +10,11 @@ use Rattle.histar_calls.specs.declared.places.Place.{Place}
 use Rattle.histar_calls.specs.declared.places.Places.{Places}
 use Rattle.histar_calls.specs.declared.directory.Directory.{Directory}
 use Rattle.histar_calls.specs.declared.ending.Ending.{Ending}
-use Rattle.histar_calls.specs.declared.ending.Ending.TheVariants.{Refused}
+use Rattle.histar_calls.specs.declared.ending.Ending.TheVariants.{Refused, Stopped}
 use Rattle.histar_calls.specs.Refusals.{write_errno_of, or_ending}
 use Rattle.histar_calls.specs.Programs.{Part, RunsPart}
 use Rattle.histar_calls.specs.Parts.{ask, list, given, read_directory, directory_at, target_of, walk, write_entries}
+use Rattle.histar_syscall.proofs.Runs.{same_kernel}
 use Rattle.histar_calls.proofs.Running.{asks, gives_not, hands, part_as, then_part, part_fails}
 
 -- what comes after the bytes of a directory segment
@@ -99,3 +100,9 @@ pub writes : (t : ℕ) (old new : KernelModel) (place : Place) (entries : Entrie
 writes t old new place entries bytes spells answer answered result is =
     part_as t (write_entries place entries) old new (ask (Write place.container place.listing 0 bytes)) (λ i. ask (Write place.container place.listing 0 (sym spells.spelled i))) result
     (asks t (Write place.container place.listing 0 bytes) old new answer answered result is)
+
+-- memory ran out before a walk
+pub before_walk : (t : ℕ) (places : Places) (path : Path) (k : KernelModel) → RunsPart (walk places path) k k t (Err Stopped)
+unfolding RunsPart walk read_directory
+before_walk t places [] k = λ rest. inl (same_kernel k)
+before_walk t places (name ∷ parent) k = λ rest. before_walk t places parent k (λ above. given (directory_at (target_of above name)) (λ place. read_directory place rest))

@@ -7,3 +7,4 @@ pub mod Finding
 pub mod Making
 pub mod Telling
 pub mod TellingPrograms
+pub mod MakingDirectories

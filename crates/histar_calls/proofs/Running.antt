@@ -155,3 +155,8 @@ module _ (t : ℕ) where
   -- a call whose program is another
   pub runs_as : (a b : Program) (old new : KernelModel) (result : Result Reply Stopped) → a ≡ b → Runs b old new t result → Runs a old new t result
   runs_as a b old new result same runs = subst (λ (p : Program). Runs p old new t result) (sym same) runs
+
+  -- the reply that a call has left is the one that it gives
+  pub replies_so : (k : KernelModel) (due reply : Reply) → reply ≡ due → Runs (Answers due) k k t (Ok reply)
+  unfolding Runs
+  replies_so k due reply is = (same_kernel k, is)

@@ -26,6 +26,9 @@ use Rattle.histar_calls.specs.Parts.{refused_with, ask, if_there, read_directory
 use Rattle.histar_calls.specs.Read.{read_program}
 use Rattle.histar_calls.specs.Write.{write_program}
 use Rattle.histar_calls.specs.Create.{create_program}
+use Rattle.histar_calls.specs.Append.{append_program}
+use Rattle.histar_calls.specs.Mkdir.{mkdir_program}
+use Rattle.histar_calls.specs.ListCall.{list_program}
 use Rattle.histar_calls.specs.Laws.{TellsDenial, TellsRefusals, CallsTellRefusals}
 
 -- each denial is told by its errno
@@ -121,6 +124,25 @@ create_program_tells : (places : Places) (path : Path) (mode : Mode) → TellsRe
 unfolding create_program
 create_program_tells places path mode = room_tells places path _ (λ room. ((λ own. ((λ file. ((λ done. (refl, refl)), told_of_write)), told)), told))
 
+append_program_tells : (places : Places) (path : Path) (bytes : List ℕ) → TellsRefusals (append_program places path bytes)
+unfolding append_program
+append_program_tells places path bytes = file_tells places path _ (λ file. ((λ done. (refl, refl)), told_of_write))
+
+mkdir_program_tells : (places : Places) (path : Path) (mode : Mode) → TellsRefusals (mkdir_program places path mode)
+unfolding mkdir_program
+mkdir_program_tells places path mode = room_tells places path _ (λ room. ((λ own. ((λ container. ((λ listing. ((λ done. (refl, refl)), told_of_write)), told)), told)), told))
+
+list_program_tells : (places : Places) (path : Path) → TellsRefusals (list_program places path)
+unfolding list_program
+list_program_tells places path = walk_tells places path _ (λ directory. (refl, refl))
+
 -- the programs of the calls tell their refusals
 pub calls_tell_refusals : CallsTellRefusals
-calls_tell_refusals = record { read = read_program_tells; write = write_program_tells; create = create_program_tells }
+calls_tell_refusals = record {
+  read = read_program_tells;
+  write = write_program_tells;
+  create = create_program_tells;
+  append = append_program_tells;
+  mkdir = mkdir_program_tells;
+  list = list_program_tells;
+}

@@ -17,6 +17,9 @@ use Rattle.histar_calls.specs.Programs.Program.{Answers, Asks, Lists, Stops}
 use Rattle.histar_calls.specs.Read.{read_program}
 use Rattle.histar_calls.specs.Write.{write_program}
 use Rattle.histar_calls.specs.Create.{create_program}
+use Rattle.histar_calls.specs.Append.{append_program}
+use Rattle.histar_calls.specs.Mkdir.{mkdir_program}
+use Rattle.histar_calls.specs.ListCall.{list_program}
 
 -- After this denial a program replies EACCES exactly where it was by label and EPERM exactly where it was by range; before its reply it
 -- only gives the thread labels, and stops where it may not.
@@ -44,3 +47,6 @@ pub record CallsTellRefusals : Type 0 where
   pub read : (places : Places) (path : Path) → TellsRefusals (read_program places path)
   pub write : (places : Places) (path : Path) (bytes : List ℕ) → TellsRefusals (write_program places path bytes)
   pub create : (places : Places) (path : Path) (mode : Mode) → TellsRefusals (create_program places path mode)
+  pub append : (places : Places) (path : Path) (bytes : List ℕ) → TellsRefusals (append_program places path bytes)
+  pub mkdir : (places : Places) (path : Path) (mode : Mode) → TellsRefusals (mkdir_program places path mode)
+  pub list : (places : Places) (path : Path) → TellsRefusals (list_program places path)

@@ -8,3 +8,6 @@ pub mod Read
 pub mod Write
 pub mod Create
 pub mod Laws
+pub mod Append
+pub mod Mkdir
+pub mod ListCall

@@ -5,11 +5,14 @@
 //! program.
 #![tactic(auto)]
 
+pub mod append;
 pub mod create;
 mod directory;
 mod ending;
 mod find;
 mod labels;
+pub mod list;
+pub mod mkdir;
 mod places;
 pub mod program_laws;
 pub mod read;

@@ -1,12 +1,14 @@
 -- What is pushed piece by piece.
-use Rattle.std.proofs.Common.{◌≡◌, ℕ, List, [], ◌∷◌, ◌++◌, refl, sym, ap, ◌∙◌, append_assoc}
+use Rattle.std.proofs.Common.{◌≡◌, ℕ, Bool, List, [], ◌∷◌, ◌++◌, refl, sym, ap, ◌∙◌, append_assoc}
 use Rattle.std.specs.List.{flat_map}
+use Rattle.std.specs.Prelude.{map}
 use Rattle.std.specs.Int.{w64, to_be_bytes}
 use Rattle.histar_flat.specs.Words.{Name}
 use Rattle.histar_layout.specs.declared.entry.Target.{Target}
 use Rattle.histar_layout.specs.declared.entry.Target.TheVariants.{File, Directory}
 use Rattle.histar_layout.specs.Directory.{target_bytes, entry_bytes}
 use Rattle.histar_layout.specs.Writing.{letter_of, numbers_of}
+use Rattle.histar_layout.specs.Listing.{is_directory, shown_entry}
 
 -- three pieces, one after another
 in_pieces : (old one two three : List ℕ) → ((old ++ one) ++ two) ++ three ≡ old ++ ((one ++ two) ++ three)
@@ -31,3 +33,10 @@ pub entry_written : (whole : List ℕ) (old new : List ℕ) (left rest : List (N
 entry_written whole old new left rest e so_far turn grown =
     ap (λ (w : List ℕ). w ++ flat_map entry_bytes rest) grown ∙ append_assoc old (entry_bytes e) (flat_map entry_bytes rest)
     ∙ ap (λ (es : List (Name × Target)). old ++ flat_map entry_bytes es) (sym turn) ∙ so_far
+
+-- a listing, by one more entry
+pub entry_listed : (whole old new : List (Name × Bool)) (left rest : List (Name × Target)) (e : Name × Target) (shows : Bool) → old ++ map shown_entry left ≡ whole → left ≡ e ∷ rest → new ≡ old ++ (e.0, shows) ∷ [] → shows ≡ is_directory e.1
+    → new ++ map shown_entry rest ≡ whole
+entry_listed whole old new left rest e shows so_far turn grown is =
+    ap (λ (w : List (Name × Bool)). w ++ map shown_entry rest) (grown ∙ ap (λ (b : Bool). old ++ (e.0, b) ∷ []) is) ∙ append_assoc old (shown_entry e ∷ []) (map shown_entry rest)
+    ∙ ap (λ (es : List (Name × Target)). old ++ map shown_entry es) (sym turn) ∙ so_far

@@ -2,3 +2,4 @@ pub mod Codes
 pub mod Directory
 pub mod Reading
 pub mod Writing
+pub mod Listing

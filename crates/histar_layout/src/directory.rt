@@ -1,6 +1,8 @@
 //! Directories and the bytes that they lie in.
-ghost use Rattle.std.specs.Prelude.{◌≡◌, ℕ, ◌<◌, ◌↔◌, List, IfOk, OnOk, OnErr, IsTrue, MatchOption};
+ghost use Rattle.std.specs.Prelude.{◌≡◌, ℕ, ◌+◌, ◌++◌, ◌<◌, ◌≤◌, ◌↔◌, List, IfOk, OnOk, OnErr, IsTrue, MatchOption};
 ghost use Rattle.std.specs.FinMap as map;
+ghost use Rattle.std.specs.Vec.{vec_len, vec_capacity};
+ghost use Rattle.histar_layout.specs.Listing.{names_in};
 ghost use Rattle.histar_layout.specs.Directory.{Entries, LeadsSomewhere, IsListable, IsDirectory, most_entries};
 
 use crate::entry::Target;
@@ -13,7 +15,7 @@ use std::collections::BTreeMap;
 use std::marker::Model;
 
 /// The most entries that a directory has.
-const MOST_ENTRIES: usize = 64;
+pub const MOST_ENTRIES: usize = 64;
 
 /// The entries of a directory. Each leads to objects with numbers that are not 0, and there are at
 /// most 64.
@@ -125,6 +127,17 @@ pub fn write_dir(alloc: Global, dir: &Dir) -> Result<Bytes, AllocError>
         push_entry(&mut bytes, name, *target)?;
     }
     Ok(Bytes::from_vec(bytes))
+}
+
+/// Puts the names of a directory's entries, by rising bytes, and of each whether it is a directory,
+/// behind what a list has, which has room for them. So a listing grows before its directory is read.
+pub fn list_dir(dir: &Dir, entries: &mut Vec<(Name, bool)>)
+    requires { vec_len entries.old + most_entries ≤ vec_capacity entries.old }
+    ensures { entries.new.items ≡ entries.old.items ++ names_in dir.now }
+{
+    for (name, target) in &dir.entries {
+        entries.push_reserved((*name, target.is_directory()));
+    }
 }
 
 /// Bytes are one directory at most.

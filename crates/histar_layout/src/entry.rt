@@ -13,7 +13,15 @@ pub enum Target {
 
 impl Target {
     ghost use Rattle.histar_layout.specs.Directory.{LeadsSomewhere, IsTarget};
+    ghost use Rattle.histar_layout.specs.Listing.{is_directory};
     ghost use Rattle.histar_layout.specs.Writing.{letter_of, numbers_of};
+
+    /// Whether it is a directory.
+    pub fn is_directory(&self) -> bool
+        ensures { result ≡ is_directory self.now }
+    {
+        matches!(self, Target::Directory(_, _))
+    }
 
     /// The byte that tells a file from a directory.
     pub(crate) fn letter(&self) -> u8

@@ -6,7 +6,7 @@ mod entry;
 mod reading;
 mod writing;
 
-pub use directory::{Dir, one_directory, read_dir, write_dir};
+pub use directory::{Dir, MOST_ENTRIES, list_dir, one_directory, read_dir, write_dir};
 pub use entry::Target;
 
 #[cfg(test)]

@@ -1,0 +1,55 @@
+//! Adding to a file.
+ghost use Rattle.histar_calls.specs.Programs.{Runs};
+ghost use Rattle.histar_calls.specs.Append.{append_program};
+ghost use Rattle.histar_calls.specs.Refusals.{settled};
+
+use crate::ending::{Ending, Stopped, settle, written};
+use crate::find::find_file;
+use crate::places::Places;
+use histar_base::Bytes;
+use histar_flat::{Path, Reply};
+use histar_label::LabelStore;
+use histar_object::ObjId;
+use histar_syscall::Kernel;
+use std::alloc::Global;
+
+/// The most bytes that a file holds, so that a write which keeps so many keeps them all.
+const MOST_BYTES: u32 = 4096;
+
+/// Puts bytes behind what a file holds. EISDIR for `/` and for a directory, ENOENT where nothing stands
+/// there, ENOTDIR where a file stands on the way, EACCES where the kernel doesn't let the thread observe
+/// a directory on the way or modify the file, EFBIG where it would hold more than 4,096 bytes.
+pub fn append<S: LabelStore + Drop>(
+    kernel: &mut Kernel<S>,
+    alloc: Global,
+    places: &Places,
+    thread: ObjId,
+    path: &Path,
+    bytes: Bytes,
+) -> Result<Reply, Stopped>
+    ensures { Runs (append_program places.now path.now bytes) kernel.old kernel.new thread result }
+{
+    settle(append_file(kernel, alloc, places, thread, path, bytes))
+}
+
+fn append_file<S: LabelStore + Drop>(
+    kernel: &mut Kernel<S>,
+    alloc: Global,
+    places: &Places,
+    thread: ObjId,
+    path: &Path,
+    bytes: Bytes,
+) -> Result<Reply, Ending>
+    ensures { Runs (append_program places.now path.now bytes) kernel.old kernel.new thread (settled result) }
+{
+    let file = find_file(kernel, alloc, places, thread, path)?;
+    written(kernel.write(
+        alloc,
+        thread,
+        file.container,
+        file.segment,
+        MOST_BYTES,
+        bytes,
+    ))?;
+    Ok(Reply::Done)
+}

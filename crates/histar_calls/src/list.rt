@@ -1,0 +1,45 @@
+//! Listing a directory.
+ghost use Rattle.histar_calls.specs.ListCall.{list_program};
+ghost use Rattle.histar_calls.specs.Programs.{Runs};
+ghost use Rattle.histar_calls.specs.Refusals.{settled};
+
+use crate::directory::walk;
+use crate::ending::{Ending, Stopped, settle};
+use crate::places::Places;
+use histar_flat::{Listing, Path, Reply};
+use histar_label::LabelStore;
+use histar_layout::{MOST_ENTRIES, list_dir};
+use histar_object::ObjId;
+use histar_syscall::Kernel;
+use std::alloc::Global;
+
+/// The entries of a directory, by rising names. ENOENT where nothing stands there, ENOTDIR where a file
+/// stands there or on the way, EACCES where the kernel doesn't let the thread observe the directory or
+/// one on the way.
+pub fn list<S: LabelStore + Drop>(
+    kernel: &mut Kernel<S>,
+    alloc: Global,
+    places: &Places,
+    thread: ObjId,
+    path: &Path,
+) -> Result<Reply, Stopped>
+    ensures { Runs (list_program places.now path.now) kernel.old kernel.new thread result }
+{
+    settle(list_entries(kernel, alloc, places, thread, path))
+}
+
+fn list_entries<S: LabelStore + Drop>(
+    kernel: &mut Kernel<S>,
+    alloc: Global,
+    places: &Places,
+    thread: ObjId,
+    path: &Path,
+) -> Result<Reply, Ending>
+    ensures { Runs (list_program places.now path.now) kernel.old kernel.new thread (settled result) }
+{
+    let mut entries = Vec::new(alloc);
+    entries.reserve(MOST_ENTRIES)?;
+    let directory = walk(kernel, alloc, places, thread, path.names())?;
+    list_dir(&directory.entries, &mut entries);
+    Ok(Reply::Entries(Listing::new(entries)))
+}

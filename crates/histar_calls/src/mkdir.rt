@@ -1,0 +1,58 @@
+//! Making a directory.
+ghost use Rattle.histar_calls.specs.Mkdir.{mkdir_program};
+ghost use Rattle.histar_calls.specs.Programs.{Runs};
+ghost use Rattle.histar_calls.specs.Refusals.{settled};
+
+use crate::directory::write_entries;
+use crate::ending::{Ending, Stopped, settle};
+use crate::find::{Room, find_room};
+use crate::labels::label_made;
+use crate::places::Places;
+use histar_base::Bytes;
+use histar_flat::{Mode, Path, Reply};
+use histar_label::LabelStore;
+use histar_layout::Target;
+use histar_object::ObjId;
+use histar_syscall::Kernel;
+use std::alloc::Global;
+
+/// Makes an empty directory: a container and in it its directory segment, which has the container's
+/// label. It is refused as `create` is.
+pub fn mkdir<S: LabelStore + Drop>(
+    kernel: &mut Kernel<S>,
+    alloc: Global,
+    places: &Places,
+    thread: ObjId,
+    path: &Path,
+    mode: Mode,
+) -> Result<Reply, Stopped>
+    ensures { Runs (mkdir_program places.now path.now mode) kernel.old kernel.new thread result }
+{
+    settle(make_directory(kernel, alloc, places, thread, path, mode))
+}
+
+fn make_directory<S: LabelStore + Drop>(
+    kernel: &mut Kernel<S>,
+    alloc: Global,
+    places: &Places,
+    thread: ObjId,
+    path: &Path,
+    mode: Mode,
+) -> Result<Reply, Ending>
+    ensures { Runs (mkdir_program places.now path.now mode) kernel.old kernel.new thread (settled result) }
+{
+    let Room {
+        place,
+        mut entries,
+        name,
+    } = find_room(kernel, alloc, places, thread, path)?;
+    let (own, _) = kernel.own_label(thread)?;
+    let label = label_made(alloc, &own, places.users, mode)?;
+    let same = label.copy()?;
+    let container = kernel.make_container(alloc, thread, place.container, label)?;
+    let empty = Bytes::new(alloc);
+    let listing = kernel.make_segment(alloc, thread, container, same, empty)?;
+    entries.insert(name, Target::Directory(container, listing))?;
+    write_entries(kernel, alloc, thread, place, &entries)?;
+    Ok(Reply::Done)
+}
