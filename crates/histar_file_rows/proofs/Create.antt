@@ -69,7 +69,7 @@ use Rattle.histar_rows.proofs.Chains.{all_granted, entries_of, Chain}
 use Rattle.histar_rows.proofs.Steps.{Goal, granted_step, refused_step, exhausted_step, refused_at_once, answered_step}
 use Rattle.histar_rows.proofs.Walks.{runs, place_at, walk_reads, stands, at_container, at_listing, holds, dir, seen, has_walk, among_granted_all, among_then, among_also}
 use Rattle.histar_file_rows.proofs.Makers.{own, MakesNothing, MakesClass, makes}
-use Rattle.histar_file_rows.proofs.NewEntries.{written_after}
+use Rattle.histar_file_rows.proofs.NewEntries.{last_name, written_after}
 use Rattle.histar_file_rows.proofs.Rooms.{roomy, refused_in_room, room_step}
 use Rattle.histar_refinement.specs.Directories.{directory_of}
 
@@ -278,4 +278,4 @@ create_of_slash session old new f t mode result ready run =
 -- a create does what its flat rule says
 pub creates_are_rows : CreatesAreRows
 creates_are_rows session ok [] mode right nameable old new f t result ready run = create_of_slash session old new f t mode result ready run
-creates_are_rows session ok (m ∷ d) mode right nameable old new f t result ready run = create_is_row session ok old new f t ready m right d mode nameable result run
+creates_are_rows session ok (m ∷ d) mode right nameable old new f t result ready run = create_is_row session ok old new f t ready m (last_name m d right) d mode nameable result run

@@ -5,3 +5,4 @@ pub mod Rooms
 pub mod Read
 pub mod Write
 pub mod Create
+pub mod ListCall

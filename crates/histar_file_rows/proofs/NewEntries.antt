@@ -1,6 +1,9 @@
--- What the kernel says to the write of a directory segment once a new object is linked in the directory.
+-- What a new entry needs: a name, and that the directory segment may be written once the new object is linked in the directory.
 use Rattle.std.proofs.Common.{◌≡◌, ◌≢◌, ℕ, ◌+◌, ◌<◌, ◌≤◌, ◌&&◌, ◌||◌, Bool, true, false, List, length, Option, None, Some, arith, refl, sym, ap, ◌∙◌}
-use Rattle.std.specs.Prelude.{min, nat_le, option_map}
+use Rattle.std.specs.Prelude.{IsTrue, ◌∷◌, min, nat_le, option_map}
+use Rattle.std.specs.List.{list_all}
+use Rattle.std.proofs.lemmas.Bool.{and_parts}
+use Rattle.histar_flat.specs.Words.{Name, Path, is_name, is_path, most_names}
 use Rattle.std.specs.FinSet as set
 use Rattle.std.specs.Ordering.{eq_by_cmp}
 use Rattle.std.specs.Ordering.{nat_cmp}
@@ -18,6 +21,10 @@ use Rattle.histar_rules.specs.declared.raw.RawCall.TheVariants.{Write}
 use Rattle.histar_rules.specs.Rules.{check, fits_segment}
 use Rattle.histar_container.proofs.TableMoves.{put_other, changed_here, changed_other}
 use Rattle.histar_refinement.proofs.RawChecks.{object, write_check}
+
+-- the last name of a path that can be named is a name
+pub last_name : (m : Name) (d : Path) → IsTrue (is_path (m ∷ d)) → IsTrue (is_name m)
+last_name m d right = (and_parts (is_name m) (list_all is_name d) (and_parts (nat_le (length (m ∷ d)) most_names) (list_all is_name (m ∷ d)) right).1).0
 
 -- either test passes
 or_true : (a : Bool) → (a || true) ≡ true

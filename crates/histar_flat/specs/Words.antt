@@ -67,11 +67,13 @@ user_name_of bs = if is_user_name bs then Some bs else None
 abbrev pub password_of : List ℕ → Option Password
 password_of bs = if is_password bs then Some bs else None
 
--- a path that can be named: an entry of `/`
+-- the most names of a path
+abbrev pub most_names : ℕ
+most_names = 8
+
+-- a path that can be named: `/`, or up to so many names
 abbrev pub is_path : Path → Bool
-is_path [] = false
-is_path (n ∷ []) = is_name n
-is_path (n ∷ m ∷ d) = false
+is_path path = nat_le (length path) most_names && list_all is_name path
 
 -- a process that can be named: the first one
 abbrev pub is_process : ProcName → Bool

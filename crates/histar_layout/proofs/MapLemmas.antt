@@ -56,7 +56,7 @@ rising [] h = tt
 rising (e ∷ es) h = both _ _ (below e.0 es h.0) (rising es h.1)
 
 -- entries in order are those of the directory that they make
-sorted_made : (es : List (Name × Target)) → T (is_sorted by_bytes es) → entries (from_entries {R = by_bytes} es) ≡ es
+pub sorted_made : (es : List (Name × Target)) → T (is_sorted by_bytes es) → entries (from_entries {R = by_bytes} es) ≡ es
 sorted_made es h =
     let same : from_entries {R = by_bytes} es ≡ from_sorted es = same_map nat_list_cmp_total antisymmetric _ _ (λ q. get-from_entries nat_list_cmp_total es q ∙ sym (get-from_sorted by_bytes es q h)) in
     ap entries same ∙ entries-from_sorted by_bytes es h

@@ -110,7 +110,7 @@ module _ (number : Numbers) (d : Path) where
       ]
 
   -- the names of a directory's entries rise
-  sorted_listed : (es : List (Path × Node)) → T (is_sorted path_cmp es) → T (is_sorted by_bytes (listed es))
+  pub sorted_listed : (es : List (Path × Node)) → T (is_sorted path_cmp es) → T (is_sorted by_bytes (listed es))
   sorted_listed [] h = tt
   sorted_listed (e ∷ es) h = step e.0 e.1 (first (below_all path_cmp e.0 es) _ h) (sorted_listed es (second (below_all path_cmp e.0 es) _ h))
     where

@@ -58,3 +58,4 @@ pub mod JobBorn
 pub mod WrapRefused
 pub mod WrapTests
 pub mod Wrapping
+pub mod Listings

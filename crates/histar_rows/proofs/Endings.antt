@@ -6,7 +6,7 @@ use Rattle.std.specs.List.{AllByRecursion}
 use Rattle.histar_flat.specs.declared.calls.UnixCall.{UnixCall}
 use Rattle.histar_flat.specs.declared.replies.Errno.{Errno}
 use Rattle.histar_flat.specs.declared.replies.Reply.{Reply}
-use Rattle.histar_flat.specs.declared.replies.Reply.TheVariants.{Done, Data, Refused, Gone}
+use Rattle.histar_flat.specs.declared.replies.Reply.TheVariants.{Done, Data, Entries, Refused, Gone}
 use Rattle.histar_flat.specs.Sessions.{Session}
 use Rattle.histar_flat.specs.Classes.{Process}
 use Rattle.histar_flat.specs.FlatState.{Flat, is_some_and}
@@ -46,6 +46,7 @@ chain_unanswered old new t steps chain run =
 abbrev pub IsBacked : State → List TraceEntry → Reply → Type 0
 IsBacked s entries Done = Unit {0}
 IsBacked s entries (Data bytes) = EndsWithRead s entries bytes
+IsBacked s entries (Entries listing) = Unit {0}
 IsBacked s entries (Refused errno) = (is_access errno ≡ false) × (is_permission errno ≡ false)
 IsBacked s entries _ = ⊥
 

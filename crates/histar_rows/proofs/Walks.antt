@@ -51,7 +51,7 @@ use Rattle.histar_refinement.proofs.DirectoryLaws.{get_directory}
 use Rattle.histar_refinement.proofs.LinesLaid.{holds_directory, directory_found}
 use Rattle.histar_refinement.proofs.Standing.{root_is_dir}
 use Rattle.histar_refinement.proofs.StatusFound.{thread_back}
-use Rattle.histar_rows.specs.Rows.{IsReady, AreAmong, AreReadsOf, HasWalk, tested}
+use Rattle.histar_rows.specs.Rows.{IsReady, AreAmong, AreReadsOf, HasWay, HasWalk, tested}
 use Rattle.histar_rows.proofs.Chains.{Step, all_granted, entries_of, Chain}
 use Rattle.histar_rows.proofs.Endings.{ReadsAmong}
 use Rattle.histar_rows.proofs.Steps.{Goal, granted_step, refused_step, listed_step, refused_at_once}
@@ -184,9 +184,13 @@ module _ (session : Session) (ok : IsSession session) (s : State) (f : Flat) (t 
   are_reads [] all = refl
   are_reads (d ∷ more) all = ((place_at d).container, (place_at d).listing, map read_of more, found d all.0, refl, are_reads more all.1)
 
-  -- the reads of the walk are the reads that a call on what lies in the directory cannot do without
+  -- the reads of the way into a directory are the reads that a call that looks into it cannot do without
+  pub has_way : (d : Path) (entries : List TraceEntry) → AreAmong (walk_reads d) entries → HasWay session s f me d entries
+  has_way d entries among = (walk_reads d, are_reads (tested session f me d) (tested_dirs d), among)
+
+  -- and so for a call on what lies in the directory
   pub has_walk : (m : Name) (d : Path) (entries : List TraceEntry) → AreAmong (walk_reads d) entries → HasWalk session s f me (m ∷ d) entries
-  has_walk m d entries among = (walk_reads d, are_reads (tested session f me d) (tested_dirs d), among)
+  has_walk m d entries among = has_way d entries among
 
   -- they are among the entries of the walk and of raw calls behind it
   pub walked_then : (m : Name) (d : Path) (line : ℕ) (more : List RawCall) → HasWalk session s f me (m ∷ d) (entries_of line t (all_granted (walk_reads d ++ more)))

@@ -2,7 +2,7 @@
 use Rattle.std.specs.Prelude.{ℕ, List, length, IsTrue, Result}
 use Rattle.histar_flat.specs.declared.calls.User.{User}
 use Rattle.histar_flat.specs.declared.calls.Mode.{Mode}
-use Rattle.histar_flat.specs.declared.calls.UnixCall.TheVariants.{Create, Write, Read, Login}
+use Rattle.histar_flat.specs.declared.calls.UnixCall.TheVariants.{Create, Mkdir, Write, Append, Read, List as ListCall, Login}
 use Rattle.histar_flat.specs.declared.replies.Reply.{Reply}
 use Rattle.histar_flat.specs.Words.{Name, Password, Path, is_path}
 use Rattle.histar_flat.specs.Modes.{is_line_mode}
@@ -14,6 +14,9 @@ use Rattle.histar_calls.specs.Programs.{Program, Runs}
 use Rattle.histar_calls.specs.Read.{read_program}
 use Rattle.histar_calls.specs.Write.{write_program}
 use Rattle.histar_calls.specs.Create.{create_program}
+use Rattle.histar_calls.specs.Mkdir.{mkdir_program}
+use Rattle.histar_calls.specs.Append.{append_program}
+use Rattle.histar_calls.specs.ListCall.{list_program}
 use Rattle.histar_login.specs.Login.{login_program}
 use Rattle.histar_login.specs.Start.{places_of}
 use Rattle.histar_refinement.specs.Sessions.{IsSession}
@@ -35,6 +38,16 @@ abbrev pub CreatesAreRows : Type 0
 CreatesAreRows = (session : Session) → IsSession session → (path : Path) (mode : Mode) → IsTrue (is_path path) → IsTrue (is_line_mode mode)
     → IsRowOf session (Create path mode) (create_program (places_of (length session.users)) path mode)
 
+abbrev pub MkdirsAreRows : Type 0
+MkdirsAreRows = (session : Session) → IsSession session → (path : Path) (mode : Mode) → IsTrue (is_path path) → IsTrue (is_line_mode mode)
+    → IsRowOf session (Mkdir path mode) (mkdir_program (places_of (length session.users)) path mode)
+
+abbrev pub AppendsAreRows : Type 0
+AppendsAreRows = (session : Session) → IsSession session → (path : Path) (bytes : List ℕ) → IsRowOf session (Append path bytes) (append_program (places_of (length session.users)) path bytes)
+
+abbrev pub ListsAreRows : Type 0
+ListsAreRows = (session : Session) → IsSession session → (path : Path) → IsRowOf session (ListCall path) (list_program (places_of (length session.users)) path)
+
 -- a login, where no group is declared
 abbrev pub LoginsAreRows : Type 0
 LoginsAreRows = (users : List User) → IsSession (session_of users) → (name : Name) (password : Password) → IsRowOf (session_of users) (Login name password) (login_program users name password)
@@ -44,4 +57,7 @@ pub record CallsAreRows : Type 0 where
   pub read : ReadsAreRows
   pub write : WritesAreRows
   pub create : CreatesAreRows
+  pub mkdir : MkdirsAreRows
+  pub append : AppendsAreRows
+  pub list : ListsAreRows
   pub login : LoginsAreRows

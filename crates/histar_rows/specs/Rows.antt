@@ -3,7 +3,7 @@ use Rattle.std.specs.Prelude.{◌≡◌, ◌≢◌, ℕ, ◌+◌, Bool, true, fa
 use Rattle.std.specs.List.{AllByRecursion}
 use Rattle.histar_flat.specs.declared.calls.CallLine.{CallLine}
 use Rattle.histar_flat.specs.declared.calls.UnixCall.{UnixCall}
-use Rattle.histar_flat.specs.declared.calls.UnixCall.TheVariants.{Create, Write, Read, Login}
+use Rattle.histar_flat.specs.declared.calls.UnixCall.TheVariants.{Create, Mkdir, Write, Append, Read, List as ListCall, Login}
 use Rattle.histar_flat.specs.declared.replies.Errno.TheVariants.{EAUTH}
 use Rattle.histar_flat.specs.declared.replies.Reply.{Reply}
 use Rattle.histar_flat.specs.declared.replies.Reply.TheVariants.{Done, Data, Refused, Gone}
@@ -32,11 +32,14 @@ use Rattle.histar_login.specs.Login.{place_of, password_of}
 use Rattle.histar_refinement.specs.LaysOut.{LaysOut}
 use Rattle.histar_refinement.specs.Lines.{IsThreadOf, IsDirectoryAt}
 
--- a call that a line of a script can make: one of these, of a mode that a line can name; a path that it names is an entry of `/`
+-- a call that a line of a script can make: one of these, with a path and a mode that a line can name
 abbrev pub IsScriptable : UnixCall → Type 0
 IsScriptable (Create path mode) = IsTrue (is_path path) × IsTrue (is_line_mode mode)
+IsScriptable (Mkdir path mode) = IsTrue (is_path path) × IsTrue (is_line_mode mode)
 IsScriptable (Write path bytes) = IsTrue (is_path path)
+IsScriptable (Append path bytes) = IsTrue (is_path path)
 IsScriptable (Read path) = IsTrue (is_path path)
+IsScriptable (ListCall path) = IsTrue (is_path path)
 IsScriptable (Login name password) = Unit {0}
 IsScriptable _ = ⊥
 
@@ -79,10 +82,14 @@ module _ (session : Session) where
         (container : ℕ) × (listing : ℕ) × (later : List RawCall)
         × IsDirectoryAt session s d container listing × (calls ≡ raw.Read container listing ∷ later) × AreReadsOf more later
 
-    -- among the entries are reads of the directories that the walk to a path looks at; to `/` there is no walk
+    -- among the entries are reads of the directories that the way into a directory looks at
+    abbrev pub HasWay : Flat → Process → Path → List TraceEntry → Type 0
+    HasWay f p d entries = (calls : List RawCall) × AreReadsOf (tested f p d) calls × AreAmong calls entries
+
+    -- the walk to a path is the way into the directory that it lies in; to `/` there is no walk
     abbrev pub HasWalk : Flat → Process → Path → List TraceEntry → Type 0
     HasWalk f p [] entries = Unit {0}
-    HasWalk f p (n ∷ d) entries = (calls : List RawCall) × AreReadsOf (tested f p d) calls × AreAmong calls entries
+    HasWalk f p (n ∷ d) entries = HasWay f p d entries
 
   -- the password was looked at
   abbrev pub is_compared : Reply → Bool
@@ -99,8 +106,11 @@ module _ (session : Session) where
   -- among the entries are the reads that the call of a process cannot do without, so that what it tells was asked of the kernel
   abbrev pub HasReads : State → Flat → Process → UnixCall → Reply → List TraceEntry → Type 0
   HasReads s f p (Create path mode) reply entries = HasWalk s f p path entries
+  HasReads s f p (Mkdir path mode) reply entries = HasWalk s f p path entries
   HasReads s f p (Write path bytes) reply entries = HasWalk s f p path entries
+  HasReads s f p (Append path bytes) reply entries = HasWalk s f p path entries
   HasReads s f p (Read path) reply entries = HasWalk s f p path entries
+  HasReads s f p (ListCall path) reply entries = HasWay s f p path entries
   HasReads s f p (Login name password) reply entries = AreAmong (reads_of_login (place_of session.users name) (is_compared reply)) entries
   HasReads s f p _ reply entries = Unit {0}
 
