@@ -6,3 +6,4 @@ pub mod Read
 pub mod Write
 pub mod Create
 pub mod ListCall
+pub mod Mkdir

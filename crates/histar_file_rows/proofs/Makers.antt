@@ -8,7 +8,7 @@ use Rattle.histar_flat.specs.Words.{Name, ProcName}
 use Rattle.histar_flat.specs.Modes.{is_line_mode}
 use Rattle.histar_flat.specs.PathOrder.{same}
 use Rattle.histar_flat.specs.Sessions.{Session, user_number}
-use Rattle.histar_flat.specs.Classes.{Class, Process, nobody, is_free, free_class, class_made}
+use Rattle.histar_flat.specs.Classes.{Class, Process, nobody, is_free, free_class, class_made, may_read, may_write}
 use Rattle.histar_flat.specs.Classes.Class.{Private, Readable, Open, Scratch}
 use Rattle.histar_flat.specs.FlatState.{Flat}
 use Rattle.histar_label.specs.Levels.{Levels}
@@ -19,7 +19,7 @@ use Rattle.histar_refinement.specs.Sessions.{IsSession}
 use Rattle.histar_refinement.specs.Guards.{Guard, guard_label, rights_label}
 use Rattle.histar_refinement.specs.Labels.{class_guard, private_guard, readable_guard, open_guard, thread_rights}
 use Rattle.histar_refinement.specs.Processes.{or_zero}
-use Rattle.histar_refinement.proofs.SessionLemmas.{user_range, is_number, equal_names}
+use Rattle.histar_refinement.proofs.SessionLemmas.{user_range, is_number, equal_names, equal_tested}
 use Rattle.histar_refinement.proofs.MakingRanges.{is_made_within, private_range, readable_range, made_in_range}
 use Rattle.histar_refinement.proofs.FileRows.{ClassFits, AreKnown, made_fits, made_known}
 use Rattle.histar_refinement.proofs.CallLabels.{private_label, readable_label, user_of_thread}
@@ -72,6 +72,8 @@ module _ (session : Session) (ok : IsSession session) (s : State) (f : Flat) (t 
     pub within : is_made_within session ready.lays_out.laid.category ready.lays_out.laid.different [] p guard ≡ true
     pub fits : ClassFits session s f ready.lays_out.laid class
     pub known : AreKnown session s f ready.lays_out.laid class
+    pub reads : may_read session p class ≡ true
+    pub writes : may_write session p class ≡ true
 
   free : is_free p ≡ true
   free = ap (λ (chain : List ProcName). elim chain as (λ _. Bool) [ [] ↦ true | job ∷ jobs ↦ false ]) ready.alone.free
@@ -94,6 +96,13 @@ module _ (session : Session) (ok : IsSession session) (s : State) (f : Flat) (t 
   no_jobs user modes.Open owner jobs e = absurd cc
   no_jobs user (modes.Group group) owner jobs e = absurd cc
 
+  -- what the process makes it may read and write
+  may_use : (x : Mode) → IsTrue (is_line_mode x) → (may_read session p (class_of_mode x p.user) ≡ true) × (may_write session p (class_of_mode x p.user) ≡ true)
+  may_use modes.Private right = (equal_tested p.user p.user refl, λ i. equal_tested p.user p.user refl i && free i)
+  may_use modes.Readable right = (refl, λ i. equal_tested p.user p.user refl i && free i)
+  may_use modes.Open right = (refl, free)
+  may_use (modes.Group group) right = absurd (true≢false (sym right))
+
   -- what the process makes of this mode, as the user of number i or, where that plays no part, as nobody
   made_so : (label : Levels) → label ≡ own → (i : ℕ) → or_zero number ≡ i → i ≤ length session.users → free_class session p mode ≡ Some (class_of_mode mode p.user) → class_guard session (class_of_mode mode p.user) ≡ Some (guard_of mode i)
       → MakesClass (label_made (length session.users) label mode)
@@ -109,6 +118,8 @@ module _ (session : Session) (ok : IsSession session) (s : State) (f : Flat) (t 
         within = made_in_range session ready.lays_out.laid.category ready.lays_out.laid.different [] p ok mode (class_of_mode mode p.user) (guard_of mode i) class_is guarded;
         fits = made_fits session s f ready.lays_out.laid [] p ready.alone.stands (class_of_mode mode p.user) has_guard (no_jobs p.user mode);
         known = made_known session s f ready.lays_out.laid [] p ready.alone.stands (class_of_mode mode p.user) (no_jobs p.user mode);
+        reads = (may_use mode nameable).0;
+        writes = (may_use mode nameable).1;
       }
 
   is_someone : (i : ℕ) → number ≡ Some i → (b : Bool) → same p.user nobody ≡ b → b ≡ false

@@ -18,9 +18,9 @@ use Rattle.histar_object.specs.Objects.{Numbers as Links, is_container, put, lin
 use Rattle.histar_object.specs.State.{State, Found, added}
 use Rattle.histar_rules.specs.declared.raw.Denied.TheVariants.{Modify, TooBig}
 use Rattle.histar_rules.specs.declared.raw.RawCall.TheVariants.{Write}
-use Rattle.histar_rules.specs.Rules.{check, fits_segment}
-use Rattle.histar_container.proofs.TableMoves.{put_other, changed_here, changed_other}
-use Rattle.histar_refinement.proofs.RawChecks.{object, write_check}
+use Rattle.histar_rules.specs.Rules.{check, no_making, fits_segment}
+use Rattle.histar_container.proofs.TableMoves.{put_here, put_other, changed_here, changed_other}
+use Rattle.histar_refinement.proofs.RawChecks.{object, write_check, making_check}
 
 -- the last name of a path that can be named is a name
 pub last_name : (m : Name) (d : Path) → IsTrue (is_path (m ∷ d)) → IsTrue (is_name m)
@@ -60,3 +60,31 @@ module _ (s : State) (t d n : ℕ) (label clearance above : Levels) (links : Lin
   written_after seen may bytes few =
       write_check (added s d o) t label clearance (stays t below_thread other_thread ∙ thread) d above (set.insert links s.next_object) grown seen n still_linked above old (stays n below_listing other_listing ∙ listing) bytes
       ∙ (λ i. unless (may i) Modify orelse unless (fits (length old) (length bytes) few i) TooBig)
+
+  -- a container that was added may be used as its label says
+  module _ (inner : Levels) (is_inner : o ≡ record { label = inner; kind = Container set.empty }) where
+    inside : (added s d o).objects s.next_object ≡ object inner (Container set.empty)
+    inside =
+        changed_other (put s.objects s.next_object o) d (linking s.next_object) s.next_object (λ e. absurd (omega (arith, below_holder, e))) ∙ put_here s.objects s.next_object o ∙ ap Some is_inner
+
+    -- something may be made in it
+    pub making_inside : is_below_raised inner label ≡ true → (is_below label inner && is_below_raised inner label) ≡ true → no_making (added s d o) t s.next_object ≡ None
+    making_inside seen may =
+        making_check (added s d o) t label clearance (stays t below_thread other_thread ∙ thread) s.next_object inner set.empty inside seen ∙ ap (λ (b : Bool). unless b Modify) may
+
+    -- the thread is the one that it was
+    pub thread_stays : (added s d o).objects t ≡ s.objects t
+    thread_stays = stays t below_thread other_thread
+
+    module _ (c : Object Levels) where
+      -- what was there before the container stays once something is made in it
+      stays_then : (q : ℕ) → q < s.next_object → (added (added s d o) s.next_object c).objects q ≡ (added s d o).objects q
+      stays_then q low =
+          changed_other (put (added s d o).objects (s.next_object + 1) c) s.next_object (linking (s.next_object + 1)) q (λ e. absurd (omega (arith, low, e))) ∙ put_other (added s d o).objects (s.next_object + 1) c q (λ e. absurd (omega (arith, low, e)))
+
+      -- the segment of the directory is written then
+      pub written_after_both : is_below_raised above label ≡ true → (is_below label above && is_below_raised above label) ≡ true → (bytes : List ℕ) → length bytes ≤ 4096 → check (added (added s d o) s.next_object c) t (Write d n 0 bytes) ≡ None
+      written_after_both seen may bytes few =
+          write_check (added (added s d o) s.next_object c) t label clearance (stays_then t below_thread ∙ stays t below_thread other_thread ∙ thread) d above (set.insert links s.next_object) (stays_then d below_holder ∙ grown) seen n still_linked above old
+          (stays_then n below_listing ∙ stays n below_listing other_listing ∙ listing) bytes
+          ∙ (λ i. unless (may i) Modify orelse unless (fits (length old) (length bytes) few i) TooBig)

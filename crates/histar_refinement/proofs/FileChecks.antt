@@ -129,7 +129,7 @@ module _ (session : Session) (s : State) (f : Flat) (l : Laid session s f) (ok :
       names : GuardHas (IsUsed session f) g
       names = names_used session f of known_jobs g is
 
-      is_known : known s (guard_label l.category g) ≡ true
+      pub is_known : known s (guard_label l.category g) ≡ true
       is_known = guard_made s.next_category l.category g (λ c e. l.made c (names.0 c e)) (λ c e. l.made c (names.1 c e))
 
       in_its_range : in_range (s.objects t) (guard_label l.category g) ≡ is_made_within session l.category l.different me p g
