@@ -1,6 +1,5 @@
 use Rattle.std.proofs.Common.{◌≡◌, ◌++◌, [], ◌∷◌, true, false, ap, sym, ◌∙◌}
 use Rattle.histar_flat.specs.Sessions.{has}
-use Rattle.histar_login.specs.Start.{group_owner}
 use Rattle.histar_login.proofs.GroupLemmas.{owners_more, owners_same}
 use Rattle.histar_login.proofs.booting.owners_of.Goals.{then-has+in_ok-push, else-has}
 use Rattle.histar_login.proofs.booting.owners_of.Goals as goal

@@ -1,7 +1,6 @@
-use Rattle.std.proofs.Common.{◌≡◌, ◌<◌, ◌++◌, [], ◌∷◌, List, length, sym, ap, ◌∙◌, append-nil, arith}
+use Rattle.std.proofs.Common.{◌<◌, ◌++◌, length, sym, ◌∙◌, append-nil, arith}
 use Rattle.std.proofs.lemmas.Bool.Decides.{nat_tests}
 use Rattle.std.proofs.lemmas.List.{take_all}
-use Rattle.histar_flat.specs.Sessions.{Group}
 use Rattle.histar_login.specs.Start.{numbered, group_entry}
 use Rattle.histar_login.proofs.GroupLemmas.{groups_next, groups_all}
 use Rattle.histar_login.proofs.table.push_groups.Goals as goal
