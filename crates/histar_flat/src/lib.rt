@@ -5,6 +5,7 @@
 
 mod calls;
 pub mod flat_laws;
+mod groups;
 mod names;
 mod paths;
 mod processes;
@@ -13,6 +14,7 @@ mod replies;
 mod words;
 
 pub use calls::{CallLine, Mode, UnixCall, User};
+pub use groups::Group;
 pub use names::{Name, Password};
 pub use paths::Path;
 pub use processes::ProcName;

@@ -2,7 +2,7 @@
 use Rattle.std.proofs.Common.{◌≡◌, ℕ, ◌+◌, ◌*◌, List, [], ◌∷◌, ◌++◌, length, None, Some, refl, ap, ◌∙◌, arith, append_assoc}
 use Rattle.std.proofs.lemmas.List.{length-append}
 use Rattle.std.specs.FinSet as set
-use Rattle.histar_flat.specs.declared.calls.User.{User}
+use Rattle.histar_flat.specs.Sessions.{Session}
 use Rattle.histar_label.specs.Levels.{Levels}
 use Rattle.histar_object.specs.declared.objects.Kind.TheVariants.{Segment, Container}
 use Rattle.histar_object.specs.declared.objects.Object.{Object}
@@ -23,13 +23,13 @@ three_more : {A : Type 0} (xs : List A) (a b c : A) → (((xs ++ a ∷ []) ++ b 
 three_more xs a b c = simp append_assoc
 
 -- the user table and `/`, of which the container is used under the number that the kernel answered
-module _ (first k0 k1 k2 k3 : KernelModel) (p : Part) (n : ℕ) (users : List User) (root listing : ℕ) (at : next_number p ≡ 3 + 2 * n) (b0 : Boots first k0 p)
-    (c1 : Called k0 k1 boot_thread_number (calls.MakeSegment root_number (written_by boot_category) (user_table users)) None)
+module _ (first k0 k1 k2 k3 : KernelModel) (p : Part) (n : ℕ) (session : Session) (root listing : ℕ) (at : next_number p ≡ 3 + 2 * n) (b0 : Boots first k0 p)
+    (c1 : Called k0 k1 boot_thread_number (calls.MakeSegment root_number (written_by boot_category) (user_table session)) None)
     (c2 : Called k1 k2 boot_thread_number (calls.MakeContainer root_number (written_by (write_category 1))) None) (is_root : root ≡ k1.kept.next_object)
     (c3 : Called k2 k3 boot_thread_number (calls.MakeSegment root (written_by (write_category 1)) []) None) (is_listing : listing ≡ k2.kept.next_object) where
   -- the user table
   table_object : Object Levels
-  table_object = record { label = written_by boot_category; kind = Segment (user_table users) }
+  table_object = record { label = written_by boot_category; kind = Segment (user_table session) }
 
   -- `/`
   root_object : Object Levels
@@ -41,7 +41,7 @@ module _ (first k0 k1 k2 k3 : KernelModel) (p : Part) (n : ℕ) (users : List Us
 
   -- the three raw calls
   call1 : RawCall
-  call1 = calls.MakeSegment root_number (written_by boot_category) (user_table users)
+  call1 = calls.MakeSegment root_number (written_by boot_category) (user_table session)
 
   call2 : RawCall
   call2 = calls.MakeContainer root_number (written_by (write_category 1))
@@ -100,10 +100,10 @@ module _ (first k0 k1 k2 k3 : KernelModel) (p : Part) (n : ℕ) (users : List Us
   directory_listing = is_listing ∙ next_number_is first k2 k2 p2 b2 ∙ next2
 
   -- all three together
-  directory_boots : Boots first k3 (and_then p (directory_part n users))
+  directory_boots : Boots first k3 (and_then p (directory_part n session))
   unfolding call1 call2 call3 table_object root_object listing_object p1 p2 p3
   directory_boots =
-      boots_same first k3 p3 (and_then p (directory_part n users)) b3
+      boots_same first k3 p3 (and_then p (directory_part n session)) b3
       (three_more p.calls call1 call2 call3 ∙ ap (λ (k : ℕ). p.calls ++ call1 ∷ call2 ∷ calls.MakeSegment k (written_by (write_category 1)) [] ∷ []) directory_root)
       (append_assoc p.linked (next_number p ∷ []) (next_number p1 ∷ []) ∙ (λ j. p.linked ++ at j ∷ next1 j ∷ []))
       (append_assoc p.objects (Some table_object ∷ []) (container (written_by (write_category 1)) (next_number p2 ∷ []) ∷ Some listing_object ∷ [])
@@ -111,5 +111,5 @@ module _ (first k0 k1 k2 k3 : KernelModel) (p : Part) (n : ℕ) (users : List Us
       (omega arith)
 
   -- what stands then, and the two numbers
-  pub directory_stage : Boots first k3 (and_then p (directory_part n users)) × (root ≡ 4 + 2 * n) × (listing ≡ 5 + 2 * n)
+  pub directory_stage : Boots first k3 (and_then p (directory_part n session)) × (root ≡ 4 + 2 * n) × (listing ≡ 5 + 2 * n)
   directory_stage = (directory_boots, directory_root, directory_listing)

@@ -1,5 +1,6 @@
 pub mod DirectoryStage
 pub mod FirstAndLast
+pub mod GroupLemmas
 pub mod LastStage
 pub mod Parts
 pub mod ProcessStage

@@ -1,7 +1,5 @@
 -- How the code of a login runs its program.
-use Rattle.std.proofs.Common.{◌≡◌, ℕ, List, Result, Ok, Err, refl, sym, ap, ◌∙◌, subst}
-use Rattle.std.specs.Prelude.{IfOk}
-use Rattle.histar_flat.specs.declared.replies.Reply.{Reply}
+use Rattle.std.proofs.Common.{◌≡◌, ℕ, List, Result, ap, ◌∙◌, subst}
 use Rattle.histar_label.specs.Levels.{Levels}
 use Rattle.histar_label.specs.Floors.{join_of, floor_of}
 use Rattle.histar_object.specs.declared.objects.Entry.{Entry}

@@ -22,7 +22,7 @@ six_more : {A : Type 0} (xs : List A) (a b c d e f : A) → ((((((xs ++ a ∷ []
 six_more xs a b c d e f = simp append_assoc
 
 -- process 0, where each category and each number is the one that the kernel answered
-module _ (first k0 k1 k2 k3 k4 k5 k6 : KernelModel) (p : Part) (n read write outer inner thread : ℕ) (at : next_number p ≡ 6 + 2 * n) (made : next_made p ≡ own_read_category n) (b0 : Boots first k0 p)
+module _ (first k0 k1 k2 k3 k4 k5 k6 : KernelModel) (p : Part) (n owners read write outer inner thread : ℕ) (at : next_number p ≡ 6 + 2 * n) (made : next_made p ≡ own_read_category owners) (b0 : Boots first k0 p)
     (c1 : Called k0 k1 boot_thread_number calls.MakeCategory None) (is_read : read ≡ k0.kept.next_category)
     (c2 : Called k1 k2 boot_thread_number calls.MakeCategory None) (is_write : write ≡ k1.kept.next_category)
     (c3 : Called k2 k3 boot_thread_number (calls.MakeContainer root_number (written_by write)) None) (is_outer : outer ≡ k2.kept.next_object)
@@ -140,10 +140,10 @@ module _ (first k0 k1 k2 k3 k4 k5 k6 : KernelModel) (p : Part) (n read write out
       (append_assoc p.objects (container (written_by write) (next_number p3 ∷ []) ∷ []) (container (secret_of read write) (next_number p4 ∷ []) ∷ Some thread_object ∷ [])) outer_at c6 c6.state
 
   -- the categories and the numbers that the kernel answered
-  read_is : read ≡ own_read_category n
+  read_is : read ≡ own_read_category owners
   read_is = is_read ∙ next_made_is first k0 k0 p b0 ∙ made
 
-  write_is : write ≡ own_write_category n
+  write_is : write ≡ own_write_category owners
   unfolding p1
   write_is = is_write ∙ next_made_is first k1 k1 p1 b1 ∙ omega (arith, made)
 
@@ -155,10 +155,10 @@ module _ (first k0 k1 k2 k3 k4 k5 k6 : KernelModel) (p : Part) (n read write out
   process_thread = is_thread ∙ next_number_is first k4 k4 p4 b4 ∙ next4
 
   -- all six together
-  process_boots : Boots first k6 (and_then p (process_part n))
+  process_boots : Boots first k6 (and_then p (process_part n owners))
   unfolding call3 call4 call5 call6 outer_object inner_object thread_object process_object p1 p2 p3 p4 p5 p6 front5
   process_boots =
-      boots_same first k6 p6 (and_then p (process_part n)) b6
+      boots_same first k6 p6 (and_then p (process_part n owners)) b6
       (six_more p.calls calls.MakeCategory calls.MakeCategory call3 call4 call5 call6
       ∙ (λ j. p.calls ++ calls.MakeCategory ∷ calls.MakeCategory ∷ calls.MakeContainer root_number (written_by (write_is j)) ∷ calls.MakeContainer (outer_is j) (secret_of (read_is j) (write_is j))
       ∷ calls.MakeThread (inner_is j) (owner_of (read_is j) (write_is j)) (cleared_of (read_is j) (write_is j)) ∷ calls.MakeSegment (outer_is j) (written_by (write_is j)) (process_bytes (inner_is j) (process_thread j)) ∷ []))
@@ -168,5 +168,5 @@ module _ (first k0 k1 k2 k3 k4 k5 k6 : KernelModel) (p : Part) (n read write out
       (omega arith)
 
   -- what stands then, and the number of the thread
-  pub process_stage : Boots first k6 (and_then p (process_part n)) × (thread ≡ 8 + 2 * n)
+  pub process_stage : Boots first k6 (and_then p (process_part n owners)) × (thread ≡ 8 + 2 * n)
   process_stage = (process_boots, process_thread)

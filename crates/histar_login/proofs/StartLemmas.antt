@@ -7,28 +7,28 @@ use Rattle.histar_flat.specs.Words.{Name}
 use Rattle.std.specs.Int.{w64, to_be_bytes}
 use Rattle.histar_calls.specs.Categories.{read_category, write_category}
 use Rattle.histar_calls.proofs.LabellingLemmas.{take_next}
-use Rattle.histar_login.specs.Start.{numbered, user_entry, user_table, entry_of}
+use Rattle.histar_login.specs.Start.{numbered, user_entry, user_entries, entry_of}
 
 -- numbers in a row with the next one
 pub range-suc : (a n : ℕ) → range_with_len a (suc n) ≡ range_with_len a n ++ (a + n) ∷ []
 range-suc a zero = ap (λ x. x ∷ []) (sym (add-zero a))
 range-suc a (suc n) = ap (λ l. a ∷ l) (range-suc (a + 1) n ∙ ap (λ y. range_with_len (a + 1) n ++ y ∷ []) (omega arith))
 
-numbered-more : {A : Type 0} (f : ℕ → User → List A) (k : ℕ) (xs : List User) (x : User) → numbered f k (xs ++ x ∷ []) ≡ numbered f k xs ++ f (k + length xs) x
+numbered-more : {A B : Type 0} (f : ℕ → B → List A) (k : ℕ) (xs : List B) (x : B) → numbered f k (xs ++ x ∷ []) ≡ numbered f k xs ++ f (k + length xs) x
 numbered-more f k [] x = append-nil (f k x) ∙ ap (λ n. f n x) (sym (add-zero k))
 numbered-more f k (y ∷ xs) x =
     ap (λ l. f k y ++ l) (numbered-more f (k + 1) xs x) ∙ sym (append_assoc (f k y) (numbered f (k + 1) xs) (f (k + 1 + length xs) x))
     ∙ ap (λ n. (f k y ++ numbered f (k + 1) xs) ++ f n x) (omega arith)
 
--- the users with one more
-pub numbered_next : {A : Type 0} (f : ℕ → User → List A) (xs : List User) (i : ℕ) (x : User) → i < length xs → x ≡ get_or xs i x → numbered f 1 (take (i + 1) xs) ≡ numbered f 1 (take i xs) ++ f (i + 1) x
+-- the users, or the groups, with one more
+pub numbered_next : {A B : Type 0} (f : ℕ → B → List A) (xs : List B) (i : ℕ) (x : B) → i < length xs → x ≡ get_or xs i x → numbered f 1 (take (i + 1) xs) ≡ numbered f 1 (take i xs) ++ f (i + 1) x
 numbered_next f xs i x lt is =
     let at : 1 + length (take i xs) ≡ i + 1 = omega (arith, length-take-le i xs (omega arith)) in
     ap (numbered f 1) (take_next xs i x lt is) ∙ numbered-more f 1 (take i xs) x ∙ ap (λ n. numbered f 1 (take i xs) ++ f n x) at
 
--- the user table with one user more
+-- the users of the user table with one user more
 pub table_next : (xs : List User) (i : ℕ) (x : User) (name : Name) (before after : List ℕ) → i < length xs → x ≡ get_or xs i x → name ≡ x.name
-    → before ≡ user_table (take i xs) → after ≡ before ++ user_entry name (i + 1) (2 * i + 4) (2 * i + 3) → after ≡ user_table (take (i + 1) xs)
+    → before ≡ user_entries (take i xs) → after ≡ before ++ user_entry name (i + 1) (2 * i + 4) (2 * i + 3) → after ≡ user_entries (take (i + 1) xs)
 table_next xs i x name before after lt is named old new =
     let gate : 2 * i + 4 ≡ 2 + 2 * (i + 1) = omega arith in
     let password : 2 * i + 3 ≡ 1 + 2 * (i + 1) = omega arith in

@@ -1,5 +1,5 @@
 -- The programs of logins tell their refusals.
-use Rattle.std.proofs.Common.{◌≡◌, ℕ, ◌+◌, Bool, true, false, List, Option, None, Some, refl}
+use Rattle.std.proofs.Common.{ℕ, ◌+◌, Bool, true, false, List, Option, None, Some, refl}
 use Rattle.std.specs.Str.{bytes_eq}
 use Rattle.histar_rules.specs.declared.raw.RawCall.TheVariants.{OwnLabel, SetLabel, SetClearance, Read}
 use Rattle.histar_rules.specs.Sound.{root_number}

@@ -2,6 +2,7 @@
 use Rattle.std.specs.Prelude.{◌≡◌, ℕ, ◌+◌, ◌*◌, true, List, [], ◌∷◌, ◌++◌, length, Some}
 use Rattle.std.specs.List.{range_with_len}
 use Rattle.histar_flat.specs.declared.calls.User.{User}
+use Rattle.histar_flat.specs.Sessions.{Session}
 use Rattle.histar_object.specs.declared.objects.Object.{Object}
 use Rattle.histar_object.specs.Objects.{kind_is_thread}
 use Rattle.histar_object.specs.State.{Found}
@@ -11,7 +12,7 @@ use Rattle.histar_rules.specs.declared.raw.RawCall.TheVariants.{MakeCategory}
 use Rattle.histar_syscall.specs.KernelModel.{KernelModel, state}
 use Rattle.histar_syscall.specs.Runs.{Granted}
 use Rattle.histar_calls.specs.Labelling.{written_by}
-use Rattle.histar_login.specs.Start.{numbered, boot_category, container, state_with, of_user, of_users, of_directory, of_process}
+use Rattle.histar_login.specs.Start.{numbered, boot_category, owners_of, container, state_with, of_user, of_users, of_directory, of_process}
 use Rattle.histar_login.specs.Boot.{boot_thread_number, category_calls, user_calls, directory_calls, process_calls}
 
 -- A part of boot: its raw calls, the numbers that the root container links by them, the objects that they make, and how many
@@ -69,26 +70,35 @@ IsBeforeBoth number category p = (next_number p ≡ number) × (next_made p ≡ 
 abbrev pub IsAnywhere : Part → Type 0
 IsAnywhere p = Unit {0}
 
--- the two categories of a user, or of nobody
+-- the two categories of nobody, of a user or of a group
 abbrev pub two_categories : Part
 two_categories = record { calls = MakeCategory ∷ MakeCategory ∷ []; linked = []; objects = []; categories = 2 }
 
--- the categories of these users
-abbrev pub categories_part : List User → Part
-categories_part users = record { calls = numbered category_calls 1 users; linked = []; objects = []; categories = 2 * length users }
+-- two categories, made so often
+abbrev pub categories_part : ℕ → Part
+categories_part count = record { calls = category_calls count; linked = []; objects = []; categories = 2 * count }
 
 -- the password and the gate of user i
-abbrev pub user_part : ℕ → User → Part
-user_part i user = record { calls = user_calls i user; linked = (1 + 2 * i) ∷ (2 + 2 * i) ∷ []; objects = of_user i user; categories = 0 }
+abbrev pub user_part : Session → ℕ → User → Part
+user_part session i user = record { calls = user_calls session i user; linked = (1 + 2 * i) ∷ (2 + 2 * i) ∷ []; objects = of_user session i user; categories = 0 }
+
+-- the password and the gate of user i were made, where these go by the numbers of the user and of its groups
+abbrev pub MakesUser : KernelModel → KernelModel → ℕ → User → List ℕ → Type 0
+MakesUser old new i user owners = (session : Session) → owners ≡ owners_of session i user.name → BootsOn old new (IsBefore (1 + 2 * i)) (user_part session i user)
 
 -- the passwords and the gates of these users
-abbrev pub users_part : List User → Part
-users_part users = record { calls = numbered user_calls 1 users; linked = range_with_len 3 (2 * length users); objects = of_users users; categories = 0 }
+abbrev pub users_part : Session → List User → Part
+users_part session users = record {
+  calls = numbered (user_calls session) 1 users;
+  linked = range_with_len 3 (2 * length users);
+  objects = of_users session users;
+  categories = 0;
+}
 
 -- the user table and `/`
-abbrev pub directory_part : ℕ → List User → Part
-directory_part n users = record { calls = directory_calls n users; linked = (3 + 2 * n) ∷ (4 + 2 * n) ∷ []; objects = of_directory n users; categories = 0 }
+abbrev pub directory_part : ℕ → Session → Part
+directory_part n session = record { calls = directory_calls n session; linked = (3 + 2 * n) ∷ (4 + 2 * n) ∷ []; objects = of_directory n session; categories = 0 }
 
 -- process 0
-abbrev pub process_part : ℕ → Part
-process_part n = record { calls = process_calls n; linked = (6 + 2 * n) ∷ []; objects = of_process n; categories = 2 }
+abbrev pub process_part : ℕ → ℕ → Part
+process_part n owners = record { calls = process_calls n owners; linked = (6 + 2 * n) ∷ []; objects = of_process n owners; categories = 2 }

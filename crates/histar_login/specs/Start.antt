@@ -1,11 +1,14 @@
 -- The state in which a machine starts: a table of its objects in the order of their numbers, where the first has the number 1.
--- The users are numbered from 1 on in the order of the script, and nobody is number 0.
-use Rattle.std.specs.Prelude.{ℕ, zero, suc, ◌+◌, ◌*◌, List, [], ◌∷◌, ◌++◌, length, codes, None, Some, slice_index_or}
+-- The users are numbered from 1 on in the order of the script, and so are the groups; nobody is user number 0.
+use Rattle.std.specs.Prelude.{ℕ, zero, suc, ◌+◌, ◌*◌, ◌≤◌, List, [], ◌∷◌, ◌++◌, length, map, codes, None, Some, slice_index_or}
 use Rattle.std.specs.Int.{w64, to_be_bytes}
-use Rattle.std.specs.List.{range_with_len}
+use Rattle.std.specs.List.{filter_map, range_with_len}
 use Rattle.std.specs.FinSet as set
 use Rattle.histar_flat.specs.declared.calls.User.{User}
+use Rattle.histar_flat.specs.Sessions.{Group, Session, session_of, user_number, groups_of}
 use Rattle.histar_flat.specs.Words.{Name}
+use Rattle.histar_label.specs.declared.levels.Level.{Level}
+use Rattle.histar_label.specs.declared.levels.Level.TheVariants.{Star, L1, L2, L3}
 use Rattle.histar_label.specs.Levels.{Levels}
 use Rattle.histar_object.specs.declared.objects.Entry.TheVariants.{Login}
 use Rattle.histar_object.specs.declared.objects.Kind.TheVariants.{Segment, Container, Thread, Gate}
@@ -13,24 +16,57 @@ use Rattle.histar_object.specs.Objects.{Objects}
 use Rattle.histar_object.specs.State.{State, Found}
 use Rattle.histar_calls.specs.declared.places.Places.{Places}
 use Rattle.histar_calls.specs.Categories.{read_category, write_category}
-use Rattle.histar_calls.specs.Labelling.{written_by, secret_of, owner_of, cleared_of}
+use Rattle.histar_calls.specs.Labelling.{labelled, written_by, secret_of, owner_of, cleared_of}
 
--- what f gives for each user with the user's number, one after another, where the first user has the number i
-abbrev pub numbered : {A : Type 0} → (ℕ → User → List A) → ℕ → List User → List A
+-- these users and these groups
+abbrev pub session_with : List User → List Group → Session
+session_with users groups = record { users = users; groups = groups }
+
+-- a group has no more than 16 members
+abbrev pub IsSmall : Group → Type 0
+IsSmall group = length group.members ≤ 16
+
+-- what f gives for each user, or each group, with its number, one after another, where the first has the number i
+abbrev pub numbered : {A B : Type 0} → (ℕ → B → List A) → ℕ → List B → List A
 numbered f i [] = []
-numbered f i (user ∷ users) = f i user ++ numbered f (i + 1) users
+numbered f i (x ∷ xs) = f i x ++ numbered f (i + 1) xs
 
 -- the category that the boot thread owned alone, so that nobody owns it now
 abbrev pub boot_category : ℕ
 boot_category = 1
 
--- where there are so many users, the category that process 0 owns to keep its secrets
+-- how many users and groups there are together
+abbrev pub declared : Session → ℕ
+declared session = length session.users + length session.groups
+
+-- the number by which the categories of group k go, where there are so many users: groups are numbered on behind the users
+abbrev pub group_owner : ℕ → ℕ → ℕ
+group_owner users k = users + k
+
+-- where there are so many users and groups together, the category that process 0 owns to keep its secrets
 abbrev pub own_read_category : ℕ → ℕ
-own_read_category users = 4 + 2 * users
+own_read_category owners = 4 + 2 * owners
 
 -- and the one that it owns to keep its objects from being written
 abbrev pub own_write_category : ℕ → ℕ
-own_write_category users = 5 + 2 * users
+own_write_category owners = 5 + 2 * owners
+
+-- the numbers by which the categories go that user i owns: its own, and those of the groups that it is a member of
+abbrev pub owners_of : Session → ℕ → Name → List ℕ
+owners_of session i name = i ∷ map (group_owner (length session.users)) (groups_of session name)
+
+-- this level at both categories of each of these users and groups
+abbrev pub at_both : Level → List ℕ → List (ℕ × Level)
+at_both level [] = []
+at_both level (i ∷ owners) = (read_category i, level) ∷ (write_category i, level) ∷ at_both level owners
+
+-- the label that the gate of the user i of this name gives: it owns the categories of the user and of its groups
+abbrev pub gate_label : Session → ℕ → Name → Levels
+gate_label session i name = labelled (at_both Star (owners_of session i name)) L1
+
+-- and the clearance of that gate
+abbrev pub gate_clearance : Session → ℕ → Name → Levels
+gate_clearance session i name = labelled (at_both L3 (owners_of session i name)) L2
 
 -- a segment with these bytes
 abbrev pub segment : Levels → List ℕ → Found
@@ -45,15 +81,15 @@ abbrev pub of_root : ℕ → List Found
 of_root n = container (written_by boot_category) (range_with_len 3 (2 + 2 * n) ++ (6 + 2 * n) ∷ []) ∷ None ∷ []
 
 -- 1 + 2i and 2 + 2i are the password of user i, which its owner alone may read, and the gate that gives what the user owns
-abbrev pub of_user : ℕ → User → List Found
-of_user i user =
+abbrev pub of_user : Session → ℕ → User → List Found
+of_user session i user =
     segment (secret_of (read_category i) (write_category i)) user.password
-    ∷ Some (record { label = owner_of (read_category i) (write_category i); kind = Gate (cleared_of (read_category i) (write_category i)) (Login i) })
+    ∷ Some (record { label = gate_label session i user.name; kind = Gate (gate_clearance session i user.name) (Login i) })
     ∷ []
 
 -- 3 to 2 + 2n: the users from number 1 on
-abbrev pub of_users : List User → List Found
-of_users users = numbered of_user 1 users
+abbrev pub of_users : Session → List User → List Found
+of_users session users = numbered (of_user session) 1 users
 
 -- a user in the user table: the length of the name and the name, the user's two categories, its gate and its password
 unfoldable pub user_entry : Name → ℕ → ℕ → ℕ → List ℕ
@@ -66,14 +102,31 @@ user_entry name i gate password =
 abbrev pub entry_of : ℕ → User → List ℕ
 entry_of i user = user_entry user.name i (2 + 2 * i) (1 + 2 * i)
 
--- the user table: nobody, who has no gate and no password, and then the users
-abbrev pub user_table : List User → List ℕ
-user_table users = user_entry (codes "nobody") 0 0 0 ++ numbered entry_of 1 users
+-- the users in the user table: nobody, who has no gate and no password, and then the users
+abbrev pub user_entries : List User → List ℕ
+user_entries users = user_entry (codes "nobody") 0 0 0 ++ numbered entry_of 1 users
+
+-- group k in the user table, beside these users: the length of the name and the name, the group's two categories, how many members
+-- it has, and the numbers of these
+unfoldable pub group_entry : List User → ℕ → Group → List ℕ
+group_entry users k group =
+    (length group.name ∷ group.name)
+    ++ to_be_bytes w64 (read_category (group_owner (length users) k)) ++ to_be_bytes w64 (write_category (group_owner (length users) k))
+    ++ length group.members ∷ filter_map (user_number (session_of users)) group.members
+
+-- the groups in the user table, which has them only where a group is: a zero, which is no name's length, and the groups
+abbrev pub group_part : List User → List Group → List ℕ
+group_part users [] = []
+group_part users (group ∷ groups) = 0 ∷ numbered (group_entry users) 1 (group ∷ groups)
+
+-- the user table: the users, and then the groups
+abbrev pub user_table : Session → List ℕ
+user_table session = user_entries session.users ++ group_part session.users session.groups
 
 -- 3 + 2n is the user table, 4 + 2n is `/`, and 5 + 2n is its directory segment, which is empty; the first user alone may write the last two
-abbrev pub of_directory : ℕ → List User → List Found
-of_directory n users =
-    segment (written_by boot_category) (user_table users)
+abbrev pub of_directory : ℕ → Session → List Found
+of_directory n session =
+    segment (written_by boot_category) (user_table session)
     ∷ container (written_by (write_category 1)) ((5 + 2 * n) ∷ [])
     ∷ segment (written_by (write_category 1)) []
     ∷ []
@@ -82,18 +135,23 @@ of_directory n users =
 abbrev pub process_bytes : ℕ → ℕ → List ℕ
 process_bytes internal thread = (114 ∷ 0 ∷ 0 ∷ []) ++ to_be_bytes w64 internal ++ to_be_bytes w64 thread
 
--- 6 + 2n is the container of process 0, 7 + 2n its internal container, 8 + 2n its thread, which owns its own two categories alone, and 9 + 2n its process segment
-abbrev pub of_process : ℕ → List Found
-of_process n =
-    container (written_by (own_write_category n)) ((7 + 2 * n) ∷ (9 + 2 * n) ∷ [])
-    ∷ container (secret_of (own_read_category n) (own_write_category n)) ((8 + 2 * n) ∷ [])
-    ∷ Some (record { label = owner_of (own_read_category n) (own_write_category n); kind = Thread (cleared_of (own_read_category n) (own_write_category n)) })
-    ∷ segment (written_by (own_write_category n)) (process_bytes (7 + 2 * n) (8 + 2 * n))
+-- 6 + 2n is the container of process 0, 7 + 2n its internal container, 8 + 2n its thread, which owns its own two categories alone, and
+-- 9 + 2n its process segment; its categories come behind those of all users and groups
+abbrev pub of_process : ℕ → ℕ → List Found
+of_process n owners =
+    container (written_by (own_write_category owners)) ((7 + 2 * n) ∷ (9 + 2 * n) ∷ [])
+    ∷ container (secret_of (own_read_category owners) (own_write_category owners)) ((8 + 2 * n) ∷ [])
+    ∷ Some (record { label = owner_of (own_read_category owners) (own_write_category owners); kind = Thread (cleared_of (own_read_category owners) (own_write_category owners)) })
+    ∷ segment (written_by (own_write_category owners)) (process_bytes (7 + 2 * n) (8 + 2 * n))
     ∷ []
 
--- the objects of a machine with these users that has just started, from number 1 on
-abbrev pub start_objects : List User → List Found
-start_objects users = of_root (length users) ++ of_users users ++ of_directory (length users) users ++ of_process (length users)
+-- the objects of a machine with these users and groups that has just started, from number 1 on
+abbrev pub start_objects : Session → List Found
+start_objects session =
+    of_root (length session.users)
+    ++ of_users session session.users
+    ++ of_directory (length session.users) session
+    ++ of_process (length session.users) (declared session)
 
 -- what a table has at each number: the first entry is that of 1, and at 0 is nothing
 abbrev pub object_at : List Found → Objects Levels
@@ -104,9 +162,9 @@ object_at objects (suc k) = slice_index_or objects k None
 abbrev pub state_with : List Found → ℕ → State
 state_with objects next_category = record { objects = object_at objects; next_object = 1 + length objects; next_category = next_category }
 
--- the state in which a machine with these users starts, once boot made the categories 1 to 5 + 2n
-abbrev pub start_state : List User → State
-start_state users = state_with (start_objects users) (6 + 2 * length users)
+-- the state in which a machine with these n users and m groups starts, once boot made the categories 1 to 5 + 2n + 2m
+abbrev pub start_state : Session → State
+start_state session = state_with (start_objects session) (6 + 2 * declared session)
 
 -- where `/` is found: its container, its directory segment, and how many users there are
 abbrev pub places_of : ℕ → Places

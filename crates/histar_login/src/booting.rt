@@ -1,14 +1,16 @@
 //! Boots a machine by raw calls of its boot thread.
-ghost use Rattle.std.specs.Prelude.{◌≡◌, ℕ, ◌+◌, ◌*◌, ◌≤◌, ◌++◌, length, IfOk, OnOk, Ok};
+ghost use Rattle.std.specs.Prelude.{◌≡◌, ℕ, ◌+◌, ◌*◌, ◌≤◌, ◌++◌, All, length, IfOk, OnOk, Ok};
 ghost use Rattle.histar_rules.specs.Sound.{root_number};
 ghost use Rattle.histar_syscall.specs.KernelModel.{state};
+ghost use Rattle.histar_calls.specs.Labelling.{labelled};
 ghost use Rattle.histar_login.specs.Boot.{IsBooted, boot_thread_number};
-ghost use Rattle.histar_login.specs.Booting.{BootsOn, Tells, IsAnywhere, IsBefore, IsBeforeBoth, two_categories, categories_part, user_part, users_part, directory_part, process_part};
-ghost use Rattle.histar_login.specs.Start.{own_read_category, own_write_category, user_entry, user_table, process_bytes, start_state, places_of, thread_number};
+ghost use Rattle.histar_login.specs.Booting.{BootsOn, Tells, IsAnywhere, IsBefore, IsBeforeBoth, MakesUser, two_categories, categories_part, users_part, directory_part, process_part};
+ghost use Rattle.histar_login.specs.Start.{session_with, IsSmall, own_read_category, own_write_category, owners_of, at_both, process_bytes, start_state, places_of, thread_number};
 
+use crate::table::{group_owner, user_table};
 use histar_base::Bytes;
 use histar_calls::{Place, Places, Stopped, label_of, read_category, write_category};
-use histar_flat::User;
+use histar_flat::{Group, Name, User};
 use histar_label::{Category, Label, LabelStore, Level};
 use histar_object::{Entry, ObjId};
 use histar_syscall::{Kernel, Refusal};
@@ -31,20 +33,21 @@ fn boot_thread() -> ObjId
     ObjId::new(2)
 }
 
-/// The category that process 0 owns to keep its secrets, where there are so many users.
-pub fn own_read_category(users: u64) -> Category
-    requires { users ≤ 16 }
-    ensures { result ≡ own_read_category users }
+/// The category that process 0 owns to keep its secrets, where there are so many users and groups
+/// together.
+pub fn own_read_category(owners: u64) -> Category
+    requires { owners ≤ 24 }
+    ensures { result ≡ own_read_category owners }
 {
-    Category::new(4 + 2 * users)
+    Category::new(4 + 2 * owners)
 }
 
 /// The category that process 0 owns to keep its objects from being written.
-pub fn own_write_category(users: u64) -> Category
-    requires { users ≤ 16 }
-    ensures { result ≡ own_write_category users }
+pub fn own_write_category(owners: u64) -> Category
+    requires { owners ≤ 24 }
+    ensures { result ≡ own_write_category owners }
 {
-    Category::new(5 + 2 * users)
+    Category::new(5 + 2 * owners)
 }
 
 /// What a raw call of boot answered. Boot stops at one that was refused.
@@ -57,7 +60,7 @@ fn granted<A: Drop>(answer: Result<A, Refusal>) -> Result<A, Stopped>
     }
 }
 
-/// Makes a user's two categories.
+/// Makes the two categories of a user, of a group, or of nobody.
 fn make_two_categories<S: LabelStore + Drop>(kernel: &mut Kernel<S>) -> Result<(), Stopped>
     ensures { OnOk result (BootsOn kernel.old kernel.new IsAnywhere two_categories) }
 {
@@ -66,39 +69,77 @@ fn make_two_categories<S: LabelStore + Drop>(kernel: &mut Kernel<S>) -> Result<(
     Ok(())
 }
 
-/// Makes the categories of all users.
+/// Makes two categories so often.
 fn make_categories<S: LabelStore + Drop>(
     kernel: &mut Kernel<S>,
-    users: &[User],
+    count: usize,
 ) -> Result<(), Stopped>
-    ensures { OnOk result (BootsOn kernel.old kernel.new IsAnywhere (categories_part users.now)) }
+    ensures { OnOk result (BootsOn kernel.old kernel.new IsAnywhere (categories_part count)) }
 {
-    for _ in users {
+    for _ in 0..count {
         make_two_categories(kernel)?;
     }
     Ok(())
 }
 
-/// Makes a segment with a user's password, and the gate that gives the user's categories.
+/// The numbers by which the categories go that a user owns: its own, and those of the groups that it
+/// is a member of, which are numbered on behind the users.
+fn owners_of(
+    alloc: Global,
+    users: &[User],
+    groups: &[Group],
+    number: u8,
+    name: Name,
+) -> Result<Vec<u8>, AllocError>
+    requires users { length users.now ≤ 16 }
+    requires groups { length groups.now ≤ 8 }
+    ensures { IfOk result (λ owners. owners.items ≡ owners_of (session_with users.now groups.now) number name) }
+{
+    let mut owners = Vec::from_slice(alloc, &[number])?;
+    for (k, group) in groups.iter().enumerate() {
+        if group.has(name) {
+            owners.push(group_owner(users, k as u8 + 1))?;
+        }
+    }
+    Ok(owners)
+}
+
+/// The label with one level at both categories of each of these users and groups, and another at all
+/// others.
+fn label_at_both(
+    alloc: Global,
+    default: Level,
+    level: Level,
+    owners: &[u8],
+) -> Result<Label, AllocError>
+    ensures { IfOk result (λ label. label ≡ labelled (at_both level owners.now) default) }
+{
+    let mut label = Label::new(alloc, default);
+    for &owner in owners {
+        label = label.with(read_category(owner), level)?;
+        label = label.with(write_category(owner), level)?;
+    }
+    Ok(label)
+}
+
+/// Makes a segment with a user's password, and the gate that gives the categories of the user and of
+/// its groups.
 fn make_user<S: LabelStore + Drop>(
     alloc: Global,
     kernel: &mut Kernel<S>,
     number: u8,
     user: &User,
+    owners: &[u8],
 ) -> Result<(), Stopped>
-    ensures { OnOk result (BootsOn kernel.old kernel.new (IsBefore (1 + 2 * number)) (user_part number user.now)) }
+    ensures { OnOk result (MakesUser kernel.old kernel.new number user.now owners.now) }
 {
     let (read, write) = (read_category(number), write_category(number));
     let secret = label_of(alloc, Level::L1, &[(read, Level::L3), (write, Level::L0)])?;
     let password = Bytes::copy_of(alloc, user.password.as_bytes())?;
     let segment = kernel.make_segment(alloc, boot_thread(), root_container(), secret, password);
     granted(segment)?;
-    let given = label_of(
-        alloc,
-        Level::L1,
-        &[(read, Level::Star), (write, Level::Star)],
-    )?;
-    let most = label_of(alloc, Level::L2, &[(read, Level::L3), (write, Level::L3)])?;
+    let given = label_at_both(alloc, Level::L1, Level::Star, owners)?;
+    let most = label_at_both(alloc, Level::L2, Level::L3, owners)?;
     let entry = Entry::Login(number);
     let gate = kernel.make_gate(boot_thread(), root_container(), given, most, entry);
     granted(gate)?;
@@ -110,55 +151,18 @@ fn make_users<S: LabelStore + Drop>(
     alloc: Global,
     kernel: &mut Kernel<S>,
     users: &[User],
+    groups: &[Group],
 ) -> Result<(), Stopped>
-    requires { length users.now ≤ 16 }
-    ensures { OnOk result (BootsOn kernel.old kernel.new (IsBefore 3) (users_part users.now)) }
+    requires users { length users.now ≤ 16 }
+    requires groups { length groups.now ≤ 8 }
+    ensures { OnOk result (BootsOn kernel.old kernel.new (IsBefore 3) (users_part (session_with users.now groups.now) users.now)) }
 {
     for (i, user) in users.iter().enumerate() {
-        make_user(alloc, kernel, i as u8 + 1, user)?;
+        let number = i as u8 + 1;
+        let owners = owners_of(alloc, users, groups, number, user.name)?;
+        make_user(alloc, kernel, number, user, owners.as_slice())?;
     }
     Ok(())
-}
-
-/// Adds an entry to the user table: the length of the name, the name, the user's two categories, its
-/// gate and its password segment.
-fn push_entry(
-    table: &mut Vec<u8>,
-    name: &[u8],
-    number: u8,
-    gate: u64,
-    password: u64,
-) -> Result<(), AllocError>
-    requires { length name.now ≤ 32 }
-    ensures { OnOk result (table.new.items ≡ table.old.items ++ user_entry name.now number gate password) }
-{
-    table.push(name.len() as u8)?;
-    table.extend_from_slice(name)?;
-    table.extend_from_slice(&read_category(number).number().to_be_bytes())?;
-    table.extend_from_slice(&write_category(number).number().to_be_bytes())?;
-    table.extend_from_slice(&gate.to_be_bytes())?;
-    table.extend_from_slice(&password.to_be_bytes())?;
-    Ok(())
-}
-
-/// The bytes of the user table: nobody first, then the users in their order.
-fn user_table(alloc: Global, users: &[User]) -> Result<Bytes, AllocError>
-    requires { length users.now ≤ 16 }
-    ensures { IfOk result (λ b. b ≡ user_table users.now) }
-{
-    let mut table = Vec::new(alloc);
-    push_entry(&mut table, b"nobody", 0, 0, 0)?;
-    for (i, user) in users.iter().enumerate() {
-        let at = i as u64;
-        push_entry(
-            &mut table,
-            user.name.as_bytes(),
-            i as u8 + 1,
-            2 * at + 4,
-            2 * at + 3,
-        )?;
-    }
-    Ok(Bytes::from_vec(table))
 }
 
 /// Makes the user table, and `/` with its directory segment, which are the first user's to write.
@@ -166,13 +170,16 @@ fn make_directory<S: LabelStore + Drop>(
     alloc: Global,
     kernel: &mut Kernel<S>,
     users: &[User],
+    groups: &[Group],
 ) -> Result<Places, Stopped>
-    requires { length users.now ≤ 16 }
-    ensures boots { OnOk result (BootsOn kernel.old kernel.new (IsBefore (3 + 2 * length users.now)) (directory_part (length users.now) users.now)) }
+    requires users { length users.now ≤ 16 }
+    requires groups { length groups.now ≤ 8 }
+    requires members { All IsSmall groups.now }
+    ensures boots { OnOk result (BootsOn kernel.old kernel.new (IsBefore (3 + 2 * length users.now)) (directory_part (length users.now) (session_with users.now groups.now))) }
     ensures places { IfOk result (λ places. Tells kernel.old (IsBefore (3 + 2 * length users.now)) (places ≡ places_of (length users.now))) }
 {
     let guarded = label_of(alloc, Level::L1, &[(Category::new(BOOT), Level::L0)])?;
-    let table = user_table(alloc, users)?;
+    let table = user_table(alloc, users, groups)?;
     let segment = kernel.make_segment(alloc, boot_thread(), root_container(), guarded, table);
     granted(segment)?;
     let readable = label_of(alloc, Level::L1, &[(write_category(1), Level::L0)])?;
@@ -204,8 +211,8 @@ fn make_process<S: LabelStore + Drop>(
     alloc: Global,
     kernel: &mut Kernel<S>,
 ) -> Result<ObjId, Stopped>
-    ensures boots { OnOk result ((n : ℕ) → BootsOn kernel.old kernel.new (IsBeforeBoth (6 + 2 * n) (own_read_category n)) (process_part n)) }
-    ensures thread { IfOk result (λ thread. (n : ℕ) → Tells kernel.old (IsBeforeBoth (6 + 2 * n) (own_read_category n)) (thread ≡ thread_number n)) }
+    ensures boots { OnOk result ((n owners : ℕ) → BootsOn kernel.old kernel.new (IsBeforeBoth (6 + 2 * n) (own_read_category owners)) (process_part n owners)) }
+    ensures thread { IfOk result (λ thread. (n owners : ℕ) → Tells kernel.old (IsBeforeBoth (6 + 2 * n) (own_read_category owners)) (thread ≡ thread_number n)) }
 {
     let read = granted(kernel.make_category(boot_thread()))?;
     let write = granted(kernel.make_category(boot_thread()))?;
@@ -229,25 +236,27 @@ fn make_process<S: LabelStore + Drop>(
     Ok(thread)
 }
 
-/// Boots a machine: on the empty kernel the boot thread makes two categories for nobody and for each
-/// user, the users' passwords and gates, the user table, `/`, and process 0, and takes itself away.
-/// It answers the kernel, the places of `/`, and the thread of process 0.
+/// Boots a machine: on the empty kernel the boot thread makes two categories for nobody, for each user
+/// and for each group, the users' passwords and gates, the user table, `/`, and process 0, and takes
+/// itself away. It answers the kernel, the places of `/`, and the thread of process 0.
 pub fn boot<S: LabelStore + Drop>(
     alloc: Global,
     store: S,
     users: &[User],
+    groups: &[Group],
 ) -> Result<(Kernel<S>, Places, ObjId), Stopped>
-    requires { length users.now ≤ 16 }
-    ensures booted { IfOk result (λ r. IsBooted users.now r.0) }
-    ensures state { IfOk result (λ r. state r.0 ≡ start_state users.now) }
+    requires users { length users.now ≤ 16 }
+    requires groups { length groups.now ≤ 8 }
+    requires members { All IsSmall groups.now }
+    ensures booted { IfOk result (λ r. IsBooted (session_with users.now groups.now) r.0) }
+    ensures state { IfOk result (λ r. state r.0 ≡ start_state (session_with users.now groups.now)) }
     ensures places { IfOk result (λ r. r.1 ≡ places_of (length users.now)) }
     ensures thread { IfOk result (λ r. r.2 ≡ thread_number (length users.now)) }
 {
     let mut kernel = Kernel::new(alloc, store)?;
-    make_two_categories(&mut kernel)?;
-    make_categories(&mut kernel, users)?;
-    make_users(alloc, &mut kernel, users)?;
-    let places = make_directory(alloc, &mut kernel, users)?;
+    make_categories(&mut kernel, 1 + users.len() + groups.len())?;
+    make_users(alloc, &mut kernel, users, groups)?;
+    let places = make_directory(alloc, &mut kernel, users, groups)?;
     let thread = make_process(alloc, &mut kernel)?;
     granted(kernel.unlink(alloc, boot_thread(), root_container(), boot_thread()))?;
     Ok((kernel, places, thread))

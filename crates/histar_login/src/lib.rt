@@ -4,5 +4,6 @@
 mod booting;
 pub mod login;
 pub mod program_laws;
+mod table;
 
 pub use booting::boot;

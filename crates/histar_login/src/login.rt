@@ -1,14 +1,15 @@
 //! Logging in, by raw calls of the thread that logs in.
-ghost use Rattle.std.specs.Prelude.{◌≡◌, ◌+◌, ◌<◌, ◌≤◌, length, IfOk};
+ghost use Rattle.std.specs.Prelude.{◌≡◌, ◌≤◌, length, IfOk};
 ghost use Rattle.std.specs.Str.{bytes_eq};
 ghost use Rattle.histar_rules.specs.Sound.{root_number};
 ghost use Rattle.histar_calls.specs.Categories.{read_category, write_category};
 ghost use Rattle.histar_calls.specs.Parts.{ask};
 ghost use Rattle.histar_calls.specs.Programs.{Runs, RunsPart};
 ghost use Rattle.histar_calls.specs.Refusals.{settled};
-ghost use Rattle.histar_login.specs.Login.{place_of, user_label, user_clearance, gate_of, password_of, entering, label_if, clearance_if, reply_if, IsOfGate, login_program, login_as_program};
+ghost use Rattle.histar_login.specs.Login.{user_label, user_clearance, gate_of, password_of, entering, label_if, clearance_if, reply_if, IsOfGate, login_program, login_as_program};
 
 use crate::booting::{own_read_category, own_write_category};
+use crate::table::{number_of, place_of};
 use histar_base::Bytes;
 use histar_calls::{Ending, Stopped, label_of, read_category, settle, write_category};
 use histar_flat::{Errno, Name, Password, Reply, User};
@@ -53,21 +54,6 @@ fn gate_labels(alloc: Global, number: u8) -> Result<(Label, Label), AllocError>
     )?;
     let most = label_of(alloc, Level::L2, &[(read, Level::L3), (write, Level::L3)])?;
     Ok((given, most))
-}
-
-/// The place of the user with this name.
-fn place_of(users: &[User], name: Name) -> Option<usize>
-    ensures { result ≡ place_of users.now name }
-{
-    users.iter().position(|user| user.name == name)
-}
-
-/// The number of the user at a place: users are numbered from 1 on.
-fn number_of(place: usize) -> u8
-    requires { place < 16 }
-    ensures { result ≡ place + 1 }
-{
-    place as u8 + 1
 }
 
 /// The segment with a user's password.

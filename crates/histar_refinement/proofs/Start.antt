@@ -1,6 +1,6 @@
--- The state in which a machine without groups starts lays out the flat state at the start.
+-- The state in which a machine starts lays out the flat state at the start.
 use Rattle.std.proofs.Common.{◌≡◌, ◌≢◌, ℕ, zero, suc, ◌+◌, ◌*◌, ◌<◌, ◌≤◌, ◌⊎◌, inl, inr, Bool, true, false, cond, List, [], ◌∷◌, ◌++◌, length, get_or, drop, Option, None, Some, arith, refl, sym, ap, ◌∙◌, subst, append_assoc}
-use Rattle.std.specs.Prelude.{is_some, option_map, option_and_then, map, nat_lt, nat_le, unwrap_or}
+use Rattle.std.specs.Prelude.{is_some, option_map, option_and_then, map, nat_lt, nat_le}
 use Rattle.std.specs.List.{flat_map}
 use Rattle.std.specs.FinSet as set
 use Rattle.std.proofs.lemmas.Bool.Decides.{nat_tests}
@@ -23,16 +23,16 @@ use Rattle.histar_object.specs.Objects.{Objects, is_there, thread_of}
 use Rattle.histar_object.specs.State.{Found}
 use Rattle.histar_container.specs.Tree.{Address, objects_at}
 use Rattle.histar_container.proofs.Addresses.{same_tells}
-use Rattle.histar_calls.specs.Categories.{read_category, write_category}
+use Rattle.histar_calls.specs.Categories.{write_category}
 use Rattle.histar_calls.specs.Labelling.{written_by}
-use Rattle.histar_login.specs.Start.{numbered, of_user, of_users, of_directory, of_process, user_table, start_objects, start_state, object_at, process_bytes, own_read_category, own_write_category}
-use Rattle.histar_flat.specs.Sessions.{Session, user_number}
+use Rattle.histar_login.specs.Start.{numbered, declared, of_user, of_users, of_directory, of_process, user_table, start_objects, start_state, object_at, process_bytes, own_read_category, own_write_category}
+use Rattle.histar_flat.specs.Sessions.{Session, session_of, user_number}
 use Rattle.histar_flat.specs.Classes.{Process, nobody, knows}
 use Rattle.histar_flat.specs.Classes.Class.{Readable}
 use Rattle.histar_flat.specs.FlatState.{Node, Flat, is_given}
 use Rattle.histar_flat.specs.Meaning.{first_user, first_process, boot}
 use Rattle.histar_flat.specs.FlatState.Content.{Dir}
-use Rattle.histar_refinement.specs.Categories.{CategoryName, IsMade, boot_category, booted, is_for, IsKnown, IsServed, IsUsed}
+use Rattle.histar_refinement.specs.Categories.{CategoryName, IsMade, boot_category, is_for, IsKnown, IsServed, IsUsed}
 use Rattle.histar_refinement.specs.Categories.CategoryName.{OfBoot, ReadsUser, WritesUser, ReadsGroup, WritesGroup, ReadsProcess, WritesProcess, OfJob}
 use Rattle.histar_refinement.specs.Guards.{Rights, guarded_by, owning, cleared_at, guard_label, rights_label, rights_clearance}
 use Rattle.histar_refinement.specs.Labels.{class_guard, readable_guard, owned_as}
@@ -48,18 +48,16 @@ use Rattle.histar_refinement.proofs.Places.{address_process, address_inside}
 use Rattle.histar_refinement.proofs.StartNumbers.{is_left, process_address, inside_address, start_number}
 use Rattle.histar_refinement.proofs.StartNames.{place_of_number}
 use Rattle.histar_refinement.proofs.StartTable.{left_plain, slash_stands, listing_stands, home_stands, inside_stands, runner_stands, status_stands}
+use Rattle.histar_refinement.proofs.StartGates.{user_reads, user_writes, group_test, gate_label_is, gate_clearance_is}
 use Rattle.histar_refinement.proofs.StartTree.{start_naming, place_there, start_laid}
 use Rattle.histar_refinement.proofs.StartCategories.{start_category, start_as_made, start_made, start_different}
 
-module _ (users : List User) (some_user : 0 < length users) where
-  abbrev session : Session
-  session = record { users = users; groups = [] }
-
+module _ (session : Session) (some_user : 0 < length session.users) where
   abbrev f : Flat
   f = boot session
 
   abbrev slash_node : Node
-  slash_node = record { class = Readable (first_user users); content = Dir }
+  slash_node = record { class = Readable (first_user session.users); content = Dir }
 
   slash_got : get f.files [] ≡ Some slash_node
   slash_got = get_new empty [] slash_node
@@ -87,21 +85,21 @@ module _ (users : List User) (some_user : 0 < length users) where
   no_job job (inl (me, p, at, known)) = let is = (only_first me p at).1 in let k : false ≡ true = subst (λ (x : Process). knows x job ≡ true) (sym is) known in true≢false (sym k)
   no_job job (inr (q, there, at, serves)) = let is = only_slash q there at in let k : false ≡ true = subst (λ (x : Node). is_for x.class job ≡ true) (sym is) serves in true≢false (sym k)
 
-  low_test : (i : ℕ) → i ≤ length users → nat_le i (length users) ≡ true
+  low_test : (i : ℕ) → i ≤ length session.users → nat_le i (length session.users) ≡ true
   low_test i h = grind (arith, nat_tests, h)
 
   used_booted : (c : CategoryName) → IsUsed session f c → (q : ℕ) × (boot_category session c ≡ Some q)
   used_booted OfBoot u = (1, refl)
   used_booted (ReadsUser i) u = (2 + 2 * i, ap (λ b. cond b (Some (2 + 2 * i)) None) (low_test i u))
   used_booted (WritesUser i) u = (3 + 2 * i, ap (λ b. cond b (Some (3 + 2 * i)) None) (low_test i u))
-  used_booted (ReadsGroup k) u = absurd (omega (arith, u.0, u.1))
-  used_booted (WritesGroup k) u = absurd (omega (arith, u.0, u.1))
-  used_booted (ReadsProcess me) u = (4 + 2 * length users + 2 * 0, ap (λ (x : ProcName). boot_category session (ReadsProcess x)) (some_first me u))
-  used_booted (WritesProcess me) u = (5 + 2 * length users + 2 * 0, ap (λ (x : ProcName). boot_category session (WritesProcess x)) (some_first me u))
+  used_booted (ReadsGroup k) u = (2 + 2 * length session.users + 2 * k, ap (λ b. cond b (Some (2 + 2 * length session.users + 2 * k)) None) (group_test session k u.0 u.1))
+  used_booted (WritesGroup k) u = (3 + 2 * length session.users + 2 * k, ap (λ b. cond b (Some (3 + 2 * length session.users + 2 * k)) None) (group_test session k u.0 u.1))
+  used_booted (ReadsProcess me) u = (4 + 2 * length session.users + 2 * length session.groups, ap (λ (x : ProcName). boot_category session (ReadsProcess x)) (some_first me u))
+  used_booted (WritesProcess me) u = (5 + 2 * length session.users + 2 * length session.groups, ap (λ (x : ProcName). boot_category session (WritesProcess x)) (some_first me u))
   used_booted (OfJob job) u = absurd (no_job job u)
 
   -- the first user has the number 1
-  first_numbered : (names : List User) → 0 < length names → user_number (record { users = names; groups = [] }) (first_user names) ≡ Some 1
+  first_numbered : (names : List User) → 0 < length names → user_number (session_of names) (first_user names) ≡ Some 1
   first_numbered [] h = absurd (omega (arith, h))
   first_numbered (u ∷ names) h =
       let own : same u.name u.name ≡ true = elim (same_name_found u.name u.name) [ inl e ↦ e.0 | inr e ↦ absurd (e.1 refl) ] in
@@ -110,23 +108,23 @@ module _ (users : List User) (some_user : 0 < length users) where
 
   -- the objects and the labels
   abbrev objects : Objects Levels
-  objects = object_at (start_objects users)
+  objects = object_at (start_objects session)
 
   abbrev number : Numbers
-  number = start_number (length users)
+  number = start_number (length session.users)
 
   abbrev wish : Address Step → Found
   wish = expected session (start_category session) f number
 
   root_label : guard_label (start_category session) (readable_guard 1) ≡ written_by (write_category 1)
   root_label =
-      let low : nat_le 1 (length users) ≡ true = grind (arith, nat_tests, some_user) in
+      let low : nat_le 1 (length session.users) ≡ true = grind (arith, nat_tests, some_user) in
       ap (λ q. guarded_by [] (q ∷ [])) (start_as_made session (WritesUser 1) (3 + 2 * 1) (ap (λ b. cond b (Some (3 + 2 * 1)) None) low))
 
-  own_number : 4 + 2 * length users + 2 * 0 ≡ own_read_category (length users)
+  own_number : 4 + 2 * length session.users + 2 * length session.groups ≡ own_read_category (declared session)
   own_number = omega arith
 
-  own_write_number : 5 + 2 * length users + 2 * 0 ≡ own_write_category (length users)
+  own_write_number : 5 + 2 * length session.users + 2 * length session.groups ≡ own_write_category (declared session)
   own_write_number = omega arith
 
   -- where a number has a bare object, it has it at an address, and elsewhere nothing is
@@ -142,15 +140,15 @@ module _ (users : List User) (some_user : 0 < length users) where
   bare_there (Some o) = refl
 
   -- what boot left
-  same_user : (i : ℕ) (u : User) → i ≤ length users → of_user i u ≡ left_for_user session i u
+  same_user : (i : ℕ) (u : User) → i ≤ length session.users → of_user session i u ≡ left_for_user session i u
   same_user i u h =
-      let reads : booted session (ReadsUser i) ≡ read_category i = ap (λ b. unwrap_or (cond b (Some (2 + 2 * i)) None) 0) (low_test i h) in
-      let writes : booted session (WritesUser i) ≡ write_category i = ap (λ b. unwrap_or (cond b (Some (3 + 2 * i)) None) 0) (low_test i h) in
-      sym (λ k. Some (record { label = guarded_by (reads k ∷ []) (writes k ∷ []); kind = Segment u.password })
-      ∷ Some (record { label = owning (reads k ∷ writes k ∷ []) []; kind = Gate (cleared_at (reads k ∷ writes k ∷ [])) (Login i) }) ∷ [])
+      let reads = user_reads session i h in
+      let writes = user_writes session i h in
+      λ k. Some (record { label = guarded_by (sym reads k ∷ []) (sym writes k ∷ []); kind = Segment u.password })
+      ∷ Some (record { label = gate_label_is session u.name i h k; kind = Gate (gate_clearance_is session u.name i h k) (Login i) }) ∷ []
 
-  same_left : (i : ℕ) (some : List User) → i + length some ≤ length users + 1 → (table : Found) (back : List Found) (k : ℕ) → k ≤ 2 * length some
-      → get_or (numbered of_user i some ++ table ∷ back) k None ≡ get_or (numbered (left_for_user session) i some ++ table ∷ []) k None
+  same_left : (i : ℕ) (some : List User) → i + length some ≤ length session.users + 1 → (table : Found) (back : List Found) (k : ℕ) → k ≤ 2 * length some
+      → get_or (numbered (of_user session) i some ++ table ∷ back) k None ≡ get_or (numbered (left_for_user session) i some ++ table ∷ []) k None
   same_left i [] h table back zero le = refl
   same_left i [] h table back (suc k) le = absurd (omega (arith, le))
   same_left i (u ∷ some) h table back zero le = ap (λ (l : List Found). get_or (l ++ table ∷ []) 0 None) (same_user i u (omega (arith, h)))
@@ -164,45 +162,41 @@ module _ (users : List User) (some_user : 0 < length users) where
   beyond_left i (u ∷ some) table (suc zero) h = absurd (omega (arith, h))
   beyond_left i (u ∷ some) table (suc (suc k)) h = beyond_left (i + 1) some table k (omega (arith, h))
 
-  table_same : user_table users ++ [] ≡ user_table users
-  table_same = append-nil (user_table users)
-
-  left_same : (q : ℕ) → is_left (length users) q ≡ true → objects q ≡ left_by_boot session q
+  left_same : (q : ℕ) → is_left (length session.users) q ≡ true → objects q ≡ left_by_boot session q
   left_same zero e = absurd (grind (arith, nat_tests, e))
   left_same (suc zero) e = absurd (grind (arith, nat_tests, e))
   left_same (suc (suc zero)) e = absurd (grind (arith, nat_tests, e))
   left_same (suc (suc (suc k))) e =
-      ap (λ (l : List Found). get_or l k None) (append_assoc (of_users users) (of_directory (length users) users) (of_process (length users)))
-      ∙ same_left 1 users (omega arith) (segment (written_by 1) (user_table users)) (drop 1 (of_directory (length users) users) ++ of_process (length users)) k (grind (arith, nat_tests, e))
-      ∙ ap (λ (bytes : List ℕ). get_or (numbered (left_for_user session) 1 users ++ segment (written_by 1) bytes ∷ []) k None) (sym table_same)
+      ap (λ (l : List Found). get_or l k None) (append_assoc (of_users session session.users) (of_directory (length session.users) session) (of_process (length session.users) (declared session)))
+      ∙ same_left 1 session.users (omega arith) (segment (written_by 1) (user_table session)) (drop 1 (of_directory (length session.users) session) ++ of_process (length session.users) (declared session)) k (grind (arith, nat_tests, e))
 
-  nothing_left : (q : ℕ) → is_left (length users) q ≡ false → None ≡ left_by_boot session q
+  nothing_left : (q : ℕ) → is_left (length session.users) q ≡ false → None ≡ left_by_boot session q
   nothing_left zero e = refl
   nothing_left (suc zero) e = refl
   nothing_left (suc (suc zero)) e = refl
-  nothing_left (suc (suc (suc k))) e = sym (beyond_left 1 users _ k (grind (arith, nat_tests, e)))
+  nothing_left (suc (suc (suc k))) e = sym (beyond_left 1 session.users _ k (grind (arith, nat_tests, e)))
 
-  left_stands : (q : ℕ) (b : Bool) → is_left (length users) q ≡ b → bare (option_and_then objects (cond b (Some q) None)) ≡ left_by_boot session q
-  left_stands q true e = (left_plain users q e).bared ∙ left_same q e
+  left_stands : (q : ℕ) (b : Bool) → is_left (length session.users) q ≡ b → bare (option_and_then objects (cond b (Some q) None)) ≡ left_by_boot session q
+  left_stands q true e = (left_plain session q e).bared ∙ left_same q e
   left_stands q false e = nothing_left q e
 
   -- what the flat state has at `/`
-  slash_guarded : (kind : Kind Levels) → guarded_object session (start_category session) kind (class_guard session (Readable (first_user users))) ≡ Some (record { label = written_by (write_category 1); kind = kind })
+  slash_guarded : (kind : Kind Levels) → guarded_object session (start_category session) kind (class_guard session (Readable (first_user session.users))) ≡ Some (record { label = written_by (write_category 1); kind = kind })
   slash_guarded kind =
-      ap (λ (i : Option ℕ). guarded_object session (start_category session) kind (option_map readable_guard i)) (first_numbered users some_user)
+      ap (λ (i : Option ℕ). guarded_object session (start_category session) kind (option_map readable_guard i)) (first_numbered session.users some_user)
       ∙ ap (λ (l : Levels). Some (record { label = l; kind = kind })) root_label
 
-  slash_expected : node_at session (start_category session) f number (Some []) ≡ bare (objects (4 + 2 * length users))
-  slash_expected = ap (node_object session (start_category session)) slash_got ∙ slash_guarded (Container set.empty) ∙ sym (ap bare (slash_stands users))
+  slash_expected : node_at session (start_category session) f number (Some []) ≡ bare (objects (4 + 2 * length session.users))
+  slash_expected = ap (node_object session (start_category session)) slash_got ∙ slash_guarded (Container set.empty) ∙ sym (ap bare (slash_stands session))
 
-  listing_expected : listing_at session (start_category session) f number (Some []) ≡ bare (objects (5 + 2 * length users))
-  listing_expected = (λ i. listing_object session (start_category session) (nothing_spelled number [] i) (slash_got i)) ∙ slash_guarded (Segment []) ∙ sym (ap bare (listing_stands users))
+  listing_expected : listing_at session (start_category session) f number (Some []) ≡ bare (objects (5 + 2 * length session.users))
+  listing_expected = (λ i. listing_object session (start_category session) (nothing_spelled number [] i) (slash_got i)) ∙ slash_guarded (Segment []) ∙ sym (ap bare (listing_stands session))
 
-  node_if : (b : Bool) → node_at session (start_category session) f number (cond b (Some []) None) ≡ cond b (bare (objects (4 + 2 * length users))) None
+  node_if : (b : Bool) → node_at session (start_category session) f number (cond b (Some []) None) ≡ cond b (bare (objects (4 + 2 * length session.users))) None
   node_if true = slash_expected
   node_if false = refl
 
-  listing_if : (b : Bool) → listing_at session (start_category session) f number (cond b (Some []) None) ≡ cond b (bare (objects (5 + 2 * length users))) None
+  listing_if : (b : Bool) → listing_at session (start_category session) f number (cond b (Some []) None) ≡ cond b (bare (objects (5 + 2 * length session.users))) None
   listing_if true = listing_expected
   listing_if false = refl
 
@@ -237,44 +231,44 @@ module _ (users : List User) (some_user : 0 < length users) where
       by (Some []) is other = absurd (other (sym (address_inside a [] is)))
       by (Some (n ∷ q)) is other = others n q
 
-  home_if : (b : Bool) → home_at session (start_category session) f number (cond b (Some []) None) ≡ cond b (bare (objects (6 + 2 * length users))) None
-  home_if true = ap (λ q. container (guarded_by [] (q ∷ []))) own_write_number ∙ sym (ap bare (home_stands users))
+  home_if : (b : Bool) → home_at session (start_category session) f number (cond b (Some []) None) ≡ cond b (bare (objects (6 + 2 * length session.users))) None
+  home_if true = ap (λ q. container (guarded_by [] (q ∷ []))) own_write_number ∙ sym (ap bare (home_stands session))
   home_if false = refl
 
-  inside_expected : container_inside session (start_category session) f number (Some []) ≡ bare (objects (7 + 2 * length users))
-  inside_expected = (λ i. container (guarded_by (own_number i ∷ []) (own_write_number i ∷ []))) ∙ sym (ap bare (inside_stands users))
+  inside_expected : container_inside session (start_category session) f number (Some []) ≡ bare (objects (7 + 2 * length session.users))
+  inside_expected = (λ i. container (guarded_by (own_number i ∷ []) (own_write_number i ∷ []))) ∙ sym (ap bare (inside_stands session))
 
-  status_expected : status_at session (start_category session) f number (Some []) ≡ bare (objects (9 + 2 * length users))
+  status_expected : status_at session (start_category session) f number (Some []) ≡ bare (objects (9 + 2 * length session.users))
   status_expected =
-      (λ i. segment (guarded_by [] (own_write_number i ∷ [])) (append-nil (process_bytes (7 + 2 * length users) (8 + 2 * length users)) i))
-      ∙ sym (ap bare (status_stands users))
+      (λ i. segment (guarded_by [] (own_write_number i ∷ [])) (append-nil (process_bytes (7 + 2 * length session.users) (8 + 2 * length session.users)) i))
+      ∙ sym (ap bare (status_stands session))
 
-  runner_expected : user_number session nobody ≡ None → thread_at session (start_category session) f number (Some []) ≡ bare (objects (8 + 2 * length users))
+  runner_expected : user_number session nobody ≡ None → thread_at session (start_category session) f number (Some []) ≡ bare (objects (8 + 2 * length session.users))
   runner_expected no_one =
       ap (λ (o : Option ℕ). Some (thread_of (rights_label (start_category session) (rights o)) (rights_clearance (start_category session) (rights o)))) no_one
       ∙ (λ i. Some (thread_of (owning (own_number i ∷ own_write_number i ∷ []) []) (cleared_at (own_number i ∷ own_write_number i ∷ []))))
-      ∙ sym (ap bare (runner_stands users))
+      ∙ sym (ap bare (runner_stands session))
     where
       rights : Option ℕ → Rights
       rights o = record { owned = ReadsProcess [] ∷ WritesProcess [] ∷ owned_as session first_process o ++ map OfJob []; tainted = map OfJob [] }
 
-  module _ (no_one : user_number session nobody ≡ None) (room : (start_state users).next_object ≤ greatest) where
+  module _ (no_one : user_number session nobody ≡ None) (room : (start_state session).next_object ≤ greatest) where
     -- what stands at each address is what the flat state asks for there
-    start_expected : (a : Address Step) → bare (objects_at objects (start_naming (length users)) a) ≡ wish a
+    start_expected : (a : Address Step) → bare (objects_at objects (start_naming (length session.users)) a) ≡ wish a
     start_expected [] = refl
-    start_expected (Left q ∷ a) = found_if [] a (cond (is_left (length users) q) (Some q) None) (left_by_boot session q) (left_stands q (is_left (length users) q) refl)
-    start_expected (Slash ∷ a) = found_if [] a (Some (4 + 2 * length users)) _ refl ∙ sym (node_if (same_address [] a))
+    start_expected (Left q ∷ a) = found_if [] a (cond (is_left (length session.users) q) (Some q) None) (left_by_boot session q) (left_stands q (is_left (length session.users) q) refl)
+    start_expected (Slash ∷ a) = found_if [] a (Some (4 + 2 * length session.users)) _ refl ∙ sym (node_if (same_address [] a))
     start_expected (Listing ∷ []) = refl
-    start_expected (Listing ∷ Slash ∷ a) = found_if [] a (Some (5 + 2 * length users)) _ refl ∙ sym (listing_if (same_address [] a))
+    start_expected (Listing ∷ Slash ∷ a) = found_if [] a (Some (5 + 2 * length session.users)) _ refl ∙ sym (listing_if (same_address [] a))
     start_expected (Listing ∷ Named name ∷ a) = sym (no_listing name (path_at a))
     start_expected (Listing ∷ x ∷ a) = refl
     start_expected (Named name ∷ a) = sym (no_node name (path_at a))
-    start_expected (Home ∷ a) = found_if [] a (Some (6 + 2 * length users)) _ refl ∙ sym (home_if (same_address [] a))
-    start_expected (Status ∷ a) = found_if process_address a (Some (9 + 2 * length users)) _ refl
+    start_expected (Home ∷ a) = found_if [] a (Some (6 + 2 * length session.users)) _ refl ∙ sym (home_if (same_address [] a))
+    start_expected (Status ∷ a) = found_if process_address a (Some (9 + 2 * length session.users)) _ refl
         ∙ sym (process_wish (status_at session (start_category session) f number) _ refl status_expected (λ n q. refl) a)
-    start_expected (Inside ∷ a) = found_if process_address a (Some (7 + 2 * length users)) _ refl
+    start_expected (Inside ∷ a) = found_if process_address a (Some (7 + 2 * length session.users)) _ refl
         ∙ sym (process_wish (container_inside session (start_category session) f number) _ refl inside_expected (λ n q. refl) a)
-    start_expected (Runner ∷ a) = found_if inside_address a (Some (8 + 2 * length users)) _ refl
+    start_expected (Runner ∷ a) = found_if inside_address a (Some (8 + 2 * length session.users)) _ refl
         ∙ sym (inside_wish (thread_at session (start_category session) f number) _ refl (runner_expected no_one) (λ n q. refl) a)
     start_expected (Child n ∷ a) = by (process_at a)
       where
@@ -285,16 +279,16 @@ module _ (users : List User) (some_user : 0 < length users) where
     -- an address has a number exactly where the flat state asks for something
     number_there : (a : Address Step) (found : Option ℕ) → number a ≡ found → is_some found ≡ is_there (option_and_then objects found)
     number_there a None e = refl
-    number_there a (Some q) e = sym (place_there users q a (place_of_number (length users) q a e))
+    number_there a (Some q) e = sym (place_there session q a (place_of_number (length session.users) q a e))
 
-    start_stands : Stands same_step (start_state users) (start_naming (length users)) wish
+    start_stands : Stands same_step (start_state session) (start_naming (length session.users)) wish
     start_stands = record {
-      tree = start_laid users;
+      tree = start_laid session;
       objects = start_expected;
-      named = λ a. number_there a (number a) refl ∙ sym (bare_there (objects_at objects (start_naming (length users)) a)) ∙ ap is_there (start_expected a);
+      named = λ a. number_there a (number a) refl ∙ sym (bare_there (objects_at objects (start_naming (length session.users)) a)) ∙ ap is_there (start_expected a);
     }
 
-    as_booted_then : (a : Address Step) (q : ℕ) → boot_number (length users) a ≡ Some q → number a ≡ Some q
+    as_booted_then : (a : Address Step) (q : ℕ) → boot_number (length session.users) a ≡ Some q → number a ≡ Some q
     as_booted_then [] q e = e
     as_booted_then (Left k ∷ a) q e = e
     as_booted_then (Slash ∷ a) q e = e
@@ -309,12 +303,12 @@ module _ (users : List User) (some_user : 0 < length users) where
     first_is : IsProcess session (start_category session) first_process
     first_is = record { someone = λ r. inl refl; free = λ r u. (refl, refl); apart = λ r job e. refl; chain = tt; held = λ r. tt; few = omega arith; status = λ n e. absurd (none-some n e) }
 
-    slash_guard : class_guard session (Readable (first_user users)) ≡ Some (readable_guard 1)
-    slash_guard = ap (option_map readable_guard) (first_numbered users some_user)
+    slash_guard : class_guard session (Readable (first_user session.users)) ≡ Some (readable_guard 1)
+    slash_guard = ap (option_map readable_guard) (first_numbered session.users some_user)
 
-    start_is_laid : Laid session (start_state users) f
+    start_is_laid : Laid session (start_state session) f
     start_is_laid = record {
-      naming = start_naming (length users);
+      naming = start_naming (length session.users);
       category = start_category session;
       stands = start_stands;
       numbered = room;
@@ -331,8 +325,8 @@ module _ (users : List User) (some_user : 0 < length users) where
       boot_thread_gone = refl;
     }
       where
-        total : 6 + 2 * length users + 2 * 0 ≡ (start_state users).next_category
+        total : 6 + 2 * length session.users + 2 * length session.groups ≡ (start_state session).next_category
         total = omega arith
 
-    pub start_lays_out : LaysOut session (start_state users) f
+    pub start_lays_out : LaysOut session (start_state session) f
     start_lays_out = record { laid = start_is_laid; jobs_given = λ job u. absurd (no_job job u) }

@@ -1,16 +1,17 @@
--- What stands at each number at the start, where there are these users.
+-- What stands at each number at the start, where there are these users and groups.
 use Rattle.std.proofs.Common.{◌≡◌, ℕ, zero, suc, ◌+◌, ◌*◌, ◌-◌, ◌≤◌, true, List, [], ◌∷◌, ◌++◌, length, get_or, drop, None, Some, refl, sym, ap, ◌∙◌, subst, arith, append_assoc}
 use Rattle.std.proofs.lemmas.List.{length-append}
 use Rattle.std.proofs.lemmas.Bool.Decides.{nat_tests}
 use Rattle.std.specs.FinSet as set
 use Rattle.histar_flat.specs.declared.calls.User.{User}
+use Rattle.histar_flat.specs.Sessions.{Session}
 use Rattle.histar_label.specs.Levels.{Levels}
 use Rattle.histar_object.specs.declared.objects.Kind.TheVariants.{Thread}
 use Rattle.histar_object.specs.Objects.{is_there, links_in}
 use Rattle.histar_object.specs.State.{Found}
 use Rattle.histar_calls.specs.Categories.{write_category}
 use Rattle.histar_calls.specs.Labelling.{written_by, secret_of, owner_of, cleared_of}
-use Rattle.histar_login.specs.Start.{boot_category, own_read_category, own_write_category, segment, container, numbered, of_user, of_users, of_directory, of_process, process_bytes, user_table, start_objects, object_at}
+use Rattle.histar_login.specs.Start.{boot_category, declared, own_read_category, own_write_category, segment, container, numbered, of_user, of_users, of_directory, of_process, process_bytes, user_table, start_objects, object_at}
 use Rattle.histar_login.proofs.Stages.{length-numbered}
 use Rattle.histar_refinement.proofs.StartNumbers.{is_left}
 use Rattle.histar_refinement.specs.Stands.{bare}
@@ -27,62 +28,63 @@ behind [] back k = let same : 0 + k ≡ k = omega arith in ap (λ j. get_or back
 behind (x ∷ front) back k = let next : length (x ∷ front) + k ≡ suc (length front + k) = omega arith in ap (λ j. get_or (x ∷ front ++ back) j None) next ∙ behind front back k
 
 -- the users' passwords and gates are no containers, and a segment behind them is none
-users_plain : (i : ℕ) (users : List User) (label : Levels) (bytes : List ℕ) (back : List Found) (k : ℕ) → k ≤ 2 * length users → IsPlain (get_or (numbered of_user i users ++ segment label bytes ∷ back) k None)
-users_plain i [] label bytes back zero h = record { there = refl; bared = refl; linkless = refl }
-users_plain i [] label bytes back (suc k) h = absurd (omega arith)
-users_plain i (user ∷ users) label bytes back zero h = record { there = refl; bared = refl; linkless = refl }
-users_plain i (user ∷ users) label bytes back (suc zero) h = record { there = refl; bared = refl; linkless = refl }
-users_plain i (user ∷ users) label bytes back (suc (suc k)) h = users_plain (i + 1) users label bytes back k (omega arith)
+users_plain : (session : Session) (i : ℕ) (users : List User) (label : Levels) (bytes : List ℕ) (back : List Found) (k : ℕ) → k ≤ 2 * length users
+    → IsPlain (get_or (numbered (of_user session) i users ++ segment label bytes ∷ back) k None)
+users_plain session i [] label bytes back zero h = record { there = refl; bared = refl; linkless = refl }
+users_plain session i [] label bytes back (suc k) h = absurd (omega arith)
+users_plain session i (user ∷ users) label bytes back zero h = record { there = refl; bared = refl; linkless = refl }
+users_plain session i (user ∷ users) label bytes back (suc zero) h = record { there = refl; bared = refl; linkless = refl }
+users_plain session i (user ∷ users) label bytes back (suc (suc k)) h = users_plain session (i + 1) users label bytes back k (omega arith)
 
-module _ (users : List User) where
+module _ (session : Session) where
   -- what stands behind the root container
-  from_users : (k : ℕ) → object_at (start_objects users) (suc (suc (suc k))) ≡ get_or (of_users users ++ (of_directory (length users) users ++ of_process (length users))) k None
-  from_users k = ap (λ (l : List Found). get_or l k None) (append_assoc (of_users users) (of_directory (length users) users) (of_process (length users)))
+  from_users : (k : ℕ) → object_at (start_objects session) (suc (suc (suc k))) ≡ get_or (of_users session session.users ++ (of_directory (length session.users) session ++ of_process (length session.users) (declared session))) k None
+  from_users k = ap (λ (l : List Found). get_or l k None) (append_assoc (of_users session session.users) (of_directory (length session.users) session) (of_process (length session.users) (declared session)))
 
   -- what stands behind the users' passwords and gates
-  last_at : (k q : ℕ) → q ≡ 3 + 2 * length users + k → object_at (start_objects users) q ≡ get_or (of_directory (length users) users ++ of_process (length users)) k None
+  last_at : (k q : ℕ) → q ≡ 3 + 2 * length session.users + k → object_at (start_objects session) q ≡ get_or (of_directory (length session.users) session ++ of_process (length session.users) (declared session)) k None
   last_at k q e =
-      let is : q ≡ suc (suc (suc (length (of_users users) + k))) = omega (arith, length-numbered 1 users) in
-      ap (object_at (start_objects users)) is ∙ from_users (length (of_users users) + k) ∙ behind (of_users users) (of_directory (length users) users ++ of_process (length users)) k
+      let is : q ≡ suc (suc (suc (length (of_users session session.users) + k))) = omega (arith, length-numbered session 1 session.users) in
+      ap (object_at (start_objects session)) is ∙ from_users (length (of_users session session.users) + k) ∙ behind (of_users session session.users) (of_directory (length session.users) session ++ of_process (length session.users) (declared session)) k
 
   -- what boot left is there, and is no container
-  pub left_plain : (q : ℕ) → is_left (length users) q ≡ true → IsPlain (object_at (start_objects users) q)
+  pub left_plain : (q : ℕ) → is_left (length session.users) q ≡ true → IsPlain (object_at (start_objects session) q)
   left_plain zero e = absurd (grind (arith, nat_tests))
   left_plain (suc zero) e = absurd (grind (arith, nat_tests))
   left_plain (suc (suc zero)) e = absurd (grind (arith, nat_tests))
   left_plain (suc (suc (suc k))) e =
-      let back = drop 1 (of_directory (length users) users ++ of_process (length users)) in
-      subst IsPlain (sym (from_users k)) (users_plain 1 users (written_by boot_category) (user_table users) back k (grind (arith, nat_tests)))
+      let back = drop 1 (of_directory (length session.users) session ++ of_process (length session.users) (declared session)) in
+      subst IsPlain (sym (from_users k)) (users_plain session 1 session.users (written_by boot_category) (user_table session) back k (grind (arith, nat_tests)))
 
   -- `/` links its directory segment, and the first user alone may write it
-  pub slash_stands : object_at (start_objects users) (4 + 2 * length users) ≡ container (written_by (write_category 1)) ((5 + 2 * length users) ∷ [])
+  pub slash_stands : object_at (start_objects session) (4 + 2 * length session.users) ≡ container (written_by (write_category 1)) ((5 + 2 * length session.users) ∷ [])
   slash_stands = last_at 1 _ (omega arith)
 
   -- the directory segment of `/` is empty
-  pub listing_stands : object_at (start_objects users) (5 + 2 * length users) ≡ segment (written_by (write_category 1)) []
+  pub listing_stands : object_at (start_objects session) (5 + 2 * length session.users) ≡ segment (written_by (write_category 1)) []
   listing_stands = last_at 2 _ (omega arith)
 
   -- the container of process 0 links its internal container and its process segment
-  pub home_stands : object_at (start_objects users) (6 + 2 * length users) ≡ container (written_by (own_write_category (length users))) ((7 + 2 * length users) ∷ (9 + 2 * length users) ∷ [])
+  pub home_stands : object_at (start_objects session) (6 + 2 * length session.users) ≡ container (written_by (own_write_category (declared session))) ((7 + 2 * length session.users) ∷ (9 + 2 * length session.users) ∷ [])
   home_stands = last_at 3 _ (omega arith)
 
   -- the internal container of process 0 links its thread
-  pub inside_stands : object_at (start_objects users) (7 + 2 * length users) ≡ container (secret_of (own_read_category (length users)) (own_write_category (length users))) ((8 + 2 * length users) ∷ [])
+  pub inside_stands : object_at (start_objects session) (7 + 2 * length session.users) ≡ container (secret_of (own_read_category (declared session)) (own_write_category (declared session))) ((8 + 2 * length session.users) ∷ [])
   inside_stands = last_at 4 _ (omega arith)
 
   -- the thread of process 0 owns its own two categories alone
-  pub runner_stands : object_at (start_objects users) (8 + 2 * length users)
-      ≡ Some (record { label = owner_of (own_read_category (length users)) (own_write_category (length users)); kind = Thread (cleared_of (own_read_category (length users)) (own_write_category (length users))) })
+  pub runner_stands : object_at (start_objects session) (8 + 2 * length session.users)
+      ≡ Some (record { label = owner_of (own_read_category (declared session)) (own_write_category (declared session)); kind = Thread (cleared_of (own_read_category (declared session)) (own_write_category (declared session))) })
   runner_stands = last_at 5 _ (omega arith)
 
   -- the process segment names the internal container and the thread
-  pub status_stands : object_at (start_objects users) (9 + 2 * length users) ≡ segment (written_by (own_write_category (length users))) (process_bytes (7 + 2 * length users) (8 + 2 * length users))
+  pub status_stands : object_at (start_objects session) (9 + 2 * length session.users) ≡ segment (written_by (own_write_category (declared session))) (process_bytes (7 + 2 * length session.users) (8 + 2 * length session.users))
   status_stands = last_at 6 _ (omega arith)
 
   -- nothing stands behind the process segment
-  pub none_behind : (q : ℕ) → 10 + 2 * length users ≤ q → object_at (start_objects users) q ≡ None
-  none_behind q h = last_at (suc (suc (suc (suc (suc (suc (suc (q - (10 + 2 * length users))))))))) q (omega arith)
+  pub none_behind : (q : ℕ) → 10 + 2 * length session.users ≤ q → object_at (start_objects session) q ≡ None
+  none_behind q h = last_at (suc (suc (suc (suc (suc (suc (suc (q - (10 + 2 * length session.users))))))))) q (omega arith)
 
   -- so many objects stand at the start
-  pub length_start : length (start_objects users) ≡ 9 + 2 * length users
-  length_start = omega (arith, length-append (of_users users ++ of_directory (length users) users) (of_process (length users)), length-append (of_users users) (of_directory (length users) users), length-numbered 1 users)
+  pub length_start : length (start_objects session) ≡ 9 + 2 * length session.users
+  length_start = omega (arith, length-append (of_users session session.users ++ of_directory (length session.users) session) (of_process (length session.users) (declared session)), length-append (of_users session session.users) (of_directory (length session.users) session), length-numbered session 1 session.users)

@@ -6,7 +6,7 @@ use Rattle.std.specs.List.{list_any, range_with_len}
 use Rattle.std.specs.FinSet as set
 use Rattle.std.specs.Ordering.{nat_cmp}
 use Rattle.std.proofs.lemmas.Option.{same_Some}
-use Rattle.histar_flat.specs.declared.calls.User.{User}
+use Rattle.histar_flat.specs.Sessions.{Session}
 use Rattle.histar_label.specs.Levels.{Levels}
 use Rattle.histar_object.specs.Objects.{Objects, is_there, links_in}
 use Rattle.histar_object.specs.State.{Found}
@@ -178,22 +178,22 @@ module _ (n : ℕ) where
     | Some q ↦ λ e k. held_place q x a (place_of_number n q (x ∷ a) e)
   ] refl h
 
-module _ (users : List User) where
+module _ (session : Session) where
   -- the objects at the start
   abbrev objects : Objects Levels
-  objects = object_at (start_objects users)
+  objects = object_at (start_objects session)
 
   -- nothing stands where there is no address
-  free_none : (q : ℕ) → IsFree (length users) q → objects q ≡ None
+  free_none : (q : ℕ) → IsFree (length session.users) q → objects q ≡ None
   free_none q (inl e) = ap objects e
   free_none q (inr (inl e)) = ap objects e
-  free_none q (inr (inr h)) = none_behind users q h
+  free_none q (inr (inr h)) = none_behind session q h
 
   -- the object at each number is the one at its address
-  start_as_expected : (q : ℕ) → objects q ≡ wanted (objects_at objects (start_naming (length users))) (start_address (length users) q)
-  start_as_expected q = elim (seen (length users) q) [
-    | placed a p e ↦ sym (ap (wanted (objects_at objects (start_naming (length users)))) e ∙ ap (option_and_then objects) (number_of_place (length users) q a p))
-    | unplaced f e ↦ free_none q f ∙ sym (ap (wanted (objects_at objects (start_naming (length users)))) e)
+  start_as_expected : (q : ℕ) → objects q ≡ wanted (objects_at objects (start_naming (length session.users))) (start_address (length session.users) q)
+  start_as_expected q = elim (seen (length session.users) q) [
+    | placed a p e ↦ sym (ap (wanted (objects_at objects (start_naming (length session.users)))) e ∙ ap (option_and_then objects) (number_of_place (length session.users) q a p))
+    | unplaced f e ↦ free_none q f ∙ sym (ap (wanted (objects_at objects (start_naming (length session.users)))) e)
   ]
 
   -- what is equal to an object has its links
@@ -205,34 +205,34 @@ module _ (users : List User) where
   no_links q c h = ap (λ s. set.contains s c) h ∙ set.contains-empty nat_cmp c
 
   -- an object links exactly what stands one step below it
-  place_links : (q c : ℕ) (a : Address Step) → Place (length users) a q → set.contains (links_in (objects q)) c ≡ is_child same_step a (start_address (length users) c)
-  place_links p c b (on_root q e) = same_links q c _ _ (ap objects e) (root_links (length users) c)
-  place_links p c b (on_left q e) = no_links q c (left_plain users q e).linkless ∙ no_child (length users) (Left q ∷ []) refl refl refl refl c
-  place_links p c b (on_slash q e) = same_links q c _ _ (ap objects e ∙ slash_stands users) (slash_links (length users) c)
-  place_links p c b (on_listing q e) = no_links q c (ap links_in (ap objects e ∙ listing_stands users)) ∙ no_child (length users) (Listing ∷ Slash ∷ []) refl refl refl refl c
-  place_links p c b (on_home q e) = same_links q c _ _ (ap objects e ∙ home_stands users) (home_links (length users) c)
-  place_links p c b (on_inside q e) = same_links q c _ _ (ap objects e ∙ inside_stands users) (inside_links (length users) c)
-  place_links p c b (on_runner q e) = no_links q c (ap links_in (ap objects e ∙ runner_stands users)) ∙ no_child (length users) (Runner ∷ inside_address) refl refl refl refl c
-  place_links p c b (on_status q e) = no_links q c (ap links_in (ap objects e ∙ status_stands users)) ∙ no_child (length users) (Status ∷ process_address) refl refl refl refl c
+  place_links : (q c : ℕ) (a : Address Step) → Place (length session.users) a q → set.contains (links_in (objects q)) c ≡ is_child same_step a (start_address (length session.users) c)
+  place_links p c b (on_root q e) = same_links q c _ _ (ap objects e) (root_links (length session.users) c)
+  place_links p c b (on_left q e) = no_links q c (left_plain session q e).linkless ∙ no_child (length session.users) (Left q ∷ []) refl refl refl refl c
+  place_links p c b (on_slash q e) = same_links q c _ _ (ap objects e ∙ slash_stands session) (slash_links (length session.users) c)
+  place_links p c b (on_listing q e) = no_links q c (ap links_in (ap objects e ∙ listing_stands session)) ∙ no_child (length session.users) (Listing ∷ Slash ∷ []) refl refl refl refl c
+  place_links p c b (on_home q e) = same_links q c _ _ (ap objects e ∙ home_stands session) (home_links (length session.users) c)
+  place_links p c b (on_inside q e) = same_links q c _ _ (ap objects e ∙ inside_stands session) (inside_links (length session.users) c)
+  place_links p c b (on_runner q e) = no_links q c (ap links_in (ap objects e ∙ runner_stands session)) ∙ no_child (length session.users) (Runner ∷ inside_address) refl refl refl refl c
+  place_links p c b (on_status q e) = no_links q c (ap links_in (ap objects e ∙ status_stands session)) ∙ no_child (length session.users) (Status ∷ process_address) refl refl refl refl c
 
   -- something stands where there is an address
-  pub place_there : (q : ℕ) (a : Address Step) → Place (length users) a q → is_there (objects q) ≡ true
+  pub place_there : (q : ℕ) (a : Address Step) → Place (length session.users) a q → is_there (objects q) ≡ true
   place_there p b (on_root q e) = ap is_there (ap objects e)
-  place_there p b (on_left q e) = (left_plain users q e).there
-  place_there p b (on_slash q e) = ap is_there (ap objects e ∙ slash_stands users)
-  place_there p b (on_listing q e) = ap is_there (ap objects e ∙ listing_stands users)
-  place_there p b (on_home q e) = ap is_there (ap objects e ∙ home_stands users)
-  place_there p b (on_inside q e) = ap is_there (ap objects e ∙ inside_stands users)
-  place_there p b (on_runner q e) = ap is_there (ap objects e ∙ runner_stands users)
-  place_there p b (on_status q e) = ap is_there (ap objects e ∙ status_stands users)
+  place_there p b (on_left q e) = (left_plain session q e).there
+  place_there p b (on_slash q e) = ap is_there (ap objects e ∙ slash_stands session)
+  place_there p b (on_listing q e) = ap is_there (ap objects e ∙ listing_stands session)
+  place_there p b (on_home q e) = ap is_there (ap objects e ∙ home_stands session)
+  place_there p b (on_inside q e) = ap is_there (ap objects e ∙ inside_stands session)
+  place_there p b (on_runner q e) = ap is_there (ap objects e ∙ runner_stands session)
+  place_there p b (on_status q e) = ap is_there (ap objects e ∙ status_stands session)
 
   -- the objects at the start are laid
-  pub start_laid : IsLaid same_step objects (start_state users).next_object (objects_at objects (start_naming (length users))) (start_naming (length users))
+  pub start_laid : IsLaid same_step objects (start_state session).next_object (objects_at objects (start_naming (length session.users))) (start_naming (length session.users))
   start_laid = record {
     as_expected = start_as_expected;
-    numbered = λ q a h. number_of_place (length users) q a (place_of_address (length users) q a h);
-    addressed = λ a q h. address_of_place (length users) q a (place_of_number (length users) q a h);
-    held = start_held (length users);
-    links = λ q c a h. place_links q c a (place_of_address (length users) q a h);
-    unused = λ q h. start_unused (length users) q (omega (arith, length_start users));
+    numbered = λ q a h. number_of_place (length session.users) q a (place_of_address (length session.users) q a h);
+    addressed = λ a q h. address_of_place (length session.users) q a (place_of_number (length session.users) q a h);
+    held = start_held (length session.users);
+    links = λ q c a h. place_links q c a (place_of_address (length session.users) q a h);
+    unused = λ q h. start_unused (length session.users) q (omega (arith, length_start session));
   }

@@ -1,11 +1,10 @@
 -- What it comes to that a state lays out a flat state: who observes and modifies what, what is reached and found, that there is one
 -- such flat state at most, and the start.
-use Rattle.std.specs.Prelude.{◌≡◌, ℕ, ◌<◌, ◌≤◌, ◌⊎◌, ◌↔◌, true, List, [], ◌∷◌, length, Option, None, Some}
-use Rattle.histar_flat.specs.declared.calls.User.{User}
+use Rattle.std.specs.Prelude.{◌≡◌, ℕ, ◌<◌, ◌≤◌, ◌⊎◌, ◌↔◌, true, ◌∷◌, length, Option, None, Some}
 use Rattle.histar_flat.specs.Words.{Path, ProcName}
-use Rattle.histar_flat.specs.Sessions.{Session, user_number}
+use Rattle.histar_flat.specs.Sessions.{Session}
 use Rattle.histar_flat.specs.Files.{get}
-use Rattle.histar_flat.specs.Classes.{Process, nobody, may_read, may_write}
+use Rattle.histar_flat.specs.Classes.{Process, may_read, may_write}
 use Rattle.histar_flat.specs.FlatState.{Node, Flat, is_dir_at}
 use Rattle.histar_flat.specs.Meaning.{boot}
 use Rattle.histar_object.specs.Objects.{is_there}
@@ -71,8 +70,8 @@ abbrev pub DirectoriesAreFound : Type 0
 DirectoriesAreFound = (session : Session) (s : State) (f : Flat) (l : Laid session s f) (d : Path) (container listing : ℕ)
     → IsDirectoryAt session s d container listing ↔ ((is_dir_at f d ≡ true) × (l.naming.number (address_of d) ≡ Some container) × (l.naming.number (Listing ∷ address_of d) ≡ Some listing))
 
--- the state in which a machine starts lays out the flat state at the start, where some users are declared, of whom none is called
--- nobody, no group is, and the objects of boot have numbers
+-- the state in which a machine starts lays out the flat state at the start, where some users are declared and the objects of boot
+-- have numbers
 abbrev pub StartIsLaidOut : Type 0
-StartIsLaidOut = (users : List User) → 0 < length users → user_number (record { users = users; groups = [] }) nobody ≡ None → (start_state users).next_object ≤ greatest
-    → LaysOut (record { users = users; groups = [] }) (start_state users) (boot (record { users = users; groups = [] }))
+StartIsLaidOut = (session : Session) → 0 < length session.users → IsSession session → (start_state session).next_object ≤ greatest
+    → LaysOut session (start_state session) (boot session)

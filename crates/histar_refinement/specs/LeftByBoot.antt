@@ -1,15 +1,12 @@
 -- What boot left in the root container beside `/` and process 0: each user's password and gate, and the user table.
-use Rattle.std.specs.Prelude.{ℕ, ◌+◌, List, [], ◌∷◌, ◌++◌, length, None, Some}
-use Rattle.std.specs.Int.{w64, to_be_bytes}
-use Rattle.std.specs.List.{filter_map}
+use Rattle.std.specs.Prelude.{ℕ, List, [], ◌∷◌, ◌++◌, None, Some}
 use Rattle.histar_flat.specs.declared.calls.User.{User}
 use Rattle.histar_object.specs.declared.objects.Entry.TheVariants.{Login}
 use Rattle.histar_object.specs.declared.objects.Kind.TheVariants.{Segment, Gate}
 use Rattle.histar_object.specs.State.{Found}
 use Rattle.histar_login.specs.Start.{numbered, user_table, object_at}
-use Rattle.histar_flat.specs.Sessions.{Group, Session, user_number}
+use Rattle.histar_flat.specs.Sessions.{Session}
 use Rattle.histar_refinement.specs.Categories.{Categories, booted}
-use Rattle.histar_refinement.specs.Categories.CategoryName.{ReadsGroup, WritesGroup}
 use Rattle.histar_refinement.specs.Guards.{guard_label, rights_label, rights_clearance}
 use Rattle.histar_refinement.specs.Labels.{boot_guard, private_guard, gate_rights}
 
@@ -17,24 +14,6 @@ module _ (session : Session) where
   -- the categories of users and groups have the numbers that boot gave
   abbrev category : Categories
   category = booted session
-
-  -- a group in the user table: the length of the name and the name, the group's two categories, how many members it has, and the
-  -- numbers of these
-  abbrev pub group_bytes : ℕ → Group → List ℕ
-  group_bytes k g =
-      (length g.name ∷ g.name)
-      ++ to_be_bytes w64 (category (ReadsGroup k)) ++ to_be_bytes w64 (category (WritesGroup k))
-      ++ length g.members ∷ filter_map (user_number session) g.members
-
-  -- the groups one after another, where the first has the number k
-  abbrev pub groups_bytes : ℕ → List Group → List ℕ
-  groups_bytes k [] = []
-  groups_bytes k (g ∷ groups) = group_bytes k g ++ groups_bytes (k + 1) groups
-
-  -- the group part of the user table, which is there only where a group is: a zero, which is no name's length, and the groups
-  abbrev pub group_part : List Group → List ℕ
-  group_part [] = []
-  group_part (g ∷ groups) = 0 ∷ groups_bytes 1 (g ∷ groups)
 
   -- the password of user i, and the gate that gives what the user owns
   abbrev pub left_for_user : ℕ → User → List Found
@@ -47,7 +26,7 @@ module _ (session : Session) where
   abbrev pub left_objects : List Found
   left_objects =
       numbered left_for_user 1 session.users
-      ++ Some (record { label = guard_label category boot_guard; kind = Segment (user_table session.users ++ group_part session.groups) })
+      ++ Some (record { label = guard_label category boot_guard; kind = Segment (user_table session) })
       ∷ []
 
   -- what boot left under a number

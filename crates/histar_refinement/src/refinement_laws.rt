@@ -34,7 +34,7 @@ pub fn directories_are_found()
     ensures { DirectoriesAreFound }
 {}
 
-/// The state in which a machine without groups starts lays out the flat state at the start.
+/// The state in which a machine starts lays out the flat state at the start.
 pub fn the_start_is_laid_out()
     ensures { StartIsLaidOut }
 {}

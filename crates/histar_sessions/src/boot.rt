@@ -1,9 +1,12 @@
-//! The raw calls that boot a machine with one user, against a list that was written by hand.
+//! The raw calls that boot a machine, against lists that were written by hand: one with a user, and one
+//! with users and groups.
 use histar_base::Bytes;
-use histar_label::{Label, Level};
+use histar_flat::{Group, Name, User, read_password, read_user_name};
+use histar_label::{Label, Level, PlainStore};
+use histar_login::boot;
 use histar_object::Entry;
 use histar_shell::{Counted, Options, run};
-use histar_syscall::RawCall;
+use histar_syscall::{RawCall, TraceEntry};
 use std::alloc::{AllocError, Global};
 use std::test::Fail;
 
@@ -31,6 +34,42 @@ const CALLS: [&str; 16] = [
     "make container 8 {6:3,7:0,1}",
     "make thread 9 {6:*,7:*,1} {6:3,7:3,2}",
     "make segment 8 {7:0,1} 7200000000000000000009000000000000000a",
+    "unlink 1 2",
+];
+
+/// The raw calls that boot a machine with the users ann and bob, the group crew of bob alone, and the
+/// group all of both. The categories of crew are 8 and 9, those of all 10 and 11, and process 0's own
+/// 12 and 13. Behind the users the user table has a zero and then each group: its name, its categories,
+/// how many members it has, and their numbers.
+const CALLS_WITH_GROUPS: [&str; 24] = [
+    "make category",
+    "make category",
+    "make category",
+    "make category",
+    "make category",
+    "make category",
+    "make category",
+    "make category",
+    "make category",
+    "make category",
+    "make segment 1 {4:3,5:0,1} 6161",
+    "make gate 1 {4:*,5:*,10:*,11:*,1} {4:3,5:3,10:3,11:3,2} login 1",
+    "make segment 1 {6:3,7:0,1} 6262",
+    "make gate 1 {6:*,7:*,8:*,9:*,10:*,11:*,1} {6:3,7:3,8:3,9:3,10:3,11:3,2} login 2",
+    "make segment 1 {1:0,1} 066e6f626f64790000000000000002000000000000000300000000000000000000000000000000\
+    03616e6e0000000000000004000000000000000500000000000000040000000000000003\
+    03626f620000000000000006000000000000000700000000000000060000000000000005\
+    00\
+    0463726577000000000000000800000000000000090102\
+    03616c6c000000000000000a000000000000000b020102",
+    "make container 1 {5:0,1}",
+    "make segment 8 {5:0,1} ",
+    "make category",
+    "make category",
+    "make container 1 {13:0,1}",
+    "make container 10 {12:3,13:0,1}",
+    "make thread 11 {12:*,13:*,1} {12:3,13:3,2}",
+    "make segment 10 {13:0,1} 720000000000000000000b000000000000000c",
     "unlink 1 2",
 ];
 
@@ -109,18 +148,79 @@ fn call_text(alloc: Global, call: &RawCall) -> Result<String, AllocError> {
     }
 }
 
+/// Compares the raw calls of boot with those that are expected: each made by the boot thread on no line
+/// of a script, and granted.
+fn compare(
+    rt: &impl Abort,
+    alloc: Global,
+    entries: &[TraceEntry],
+    calls: &[&str],
+) -> Result<(), Fail> {
+    assert_eq!(rt; entries.len(), calls.len());
+    for (entry, call) in entries.iter().zip(calls.iter()) {
+        assert_eq!(rt; call_text(alloc, &entry.call)?.as_str(), *call);
+        assert_eq!(rt; entry.line, 0);
+        assert_eq!(rt; entry.thread.number(), 2);
+        assert!(rt; entry.denied.is_none());
+    }
+    Ok(())
+}
+
+/// A user's name, or a group's.
+fn name(text: &[u8]) -> Result<Name, Fail> {
+    Ok(read_user_name(text).ok_or("the name of a user")?)
+}
+
+/// A user with this password.
+fn user(called: &[u8], password: &[u8]) -> Result<User, Fail> {
+    Ok(User {
+        name: name(called)?,
+        password: read_password(password).ok_or("a password")?,
+    })
+}
+
 #[test]
 fn boots_by_sixteen_raw_calls(rt: HostRuntime) -> Result<(), Fail> {
     let mut reader = Counted::new(SCRIPT);
     let mut writer = Counted::new(Vec::new(rt.alloc()));
     let trace = run(rt.alloc(), &mut reader, &mut writer, Options {})?;
-    let entries = trace.entries();
-    assert_eq!(rt; entries.len(), CALLS.len());
-    for (entry, call) in entries.iter().zip(CALLS.iter()) {
-        assert_eq!(rt; call_text(rt.alloc(), &entry.call)?.as_str(), *call);
-        assert_eq!(rt; entry.line, 0);
-        assert_eq!(rt; entry.thread.number(), 2);
-        assert!(rt; entry.denied.is_none());
+    compare(&rt, rt.alloc(), trace.entries(), CALLS.as_slice())
+}
+
+#[test]
+fn boots_with_groups(rt: HostRuntime) -> Result<(), Fail> {
+    let alloc = rt.alloc();
+    let (ann, bob) = (name(b"ann")?, name(b"bob")?);
+    let users = [user(b"ann", b"aa")?, user(b"bob", b"bb")?];
+    let groups = [
+        Group::new(name(b"crew")?, Vec::from_slice(alloc, &[bob])?),
+        Group::new(name(b"all")?, Vec::from_slice(alloc, &[ann, bob])?),
+    ];
+    let (kernel, _, thread) = boot(alloc, PlainStore::new(alloc), &users, &groups)?;
+    compare(&rt, alloc, kernel.trace(), CALLS_WITH_GROUPS.as_slice())?;
+    assert_eq!(rt; thread.number(), 12);
+    Ok(())
+}
+
+#[test]
+fn boots_at_its_limits(rt: HostRuntime) -> Result<(), Fail> {
+    let alloc = rt.alloc();
+    let mut users = Vec::new(alloc);
+    let mut members = Vec::new(alloc);
+    for number in 0..16_u8 {
+        let called = [b'u', b'a' + number];
+        users.push(user(&called, b"x")?)?;
+        members.push(name(&called)?)?;
     }
+    let mut groups = Vec::new(alloc);
+    for number in 0..8_u8 {
+        let called = [b'g', b'a' + number];
+        let all = Vec::from_slice(alloc, members.as_slice())?;
+        groups.push(Group::new(name(&called)?, all))?;
+    }
+    let store = PlainStore::new(alloc);
+    let (kernel, _, thread) = boot(alloc, store, users.as_slice(), groups.as_slice())?;
+    assert_eq!(rt; kernel.trace().len(), 2 * (1 + 16 + 8) + 2 * 16 + 3 + 6 + 1);
+    assert_eq!(rt; thread.number(), 40);
     Ok(())
 }

@@ -83,9 +83,9 @@ record IsBootTrace (users : List User) (m : MachineModel) : Type 0 where
   pub run : IsRun empty_state entries (state m.kernel)
   pub own : AllByRecursion (IsBy 0 boot_thread_number) entries
 
-boot_trace : (users : List User) (m : MachineModel) → IsBooted users m.kernel → IsBootTrace users m
+boot_trace : (users : List User) (m : MachineModel) → IsBooted (session_of users) m.kernel → IsBootTrace users m
 boot_trace users m booted =
-    let granted = granted_run boot_thread_number booted.first m.kernel (boot_calls users) booted.made in
+    let granted = granted_run boot_thread_number booted.first m.kernel (boot_calls (session_of users)) booted.made in
     let part = chain_run boot_thread_number booted.first m.kernel granted.0 granted.1 in
     let entries = entries_of booted.first.line boot_thread_number granted.0 in
     record {

@@ -22,12 +22,12 @@ use Rattle.histar_shell.proofs.Users.{is_session}
 
 module _ (users : List User) (is_list : IsUserList users) where
   -- the objects of boot have numbers
-  room : (start_state users).next_object ≤ greatest
-  room = omega (arith, length_start users, is_list.most)
+  room : (start_state (session_of users)).next_object ≤ greatest
+  room = omega (arith, length_start (session_of users), is_list.most)
 
   -- the start state lays out the flat start
-  pub start_is_laid : LaysOut (session_of users) (start_state users) (boot (session_of users))
-  start_is_laid = start_lays_out users is_list.some (is_session users is_list).no_one room
+  pub start_is_laid : LaysOut (session_of users) (start_state (session_of users)) (boot (session_of users))
+  start_is_laid = start_lays_out (session_of users) is_list.some (is_session users is_list).no_one room
 
   -- what the process segment of process 0 tells at the start
   abbrev first_status : ProcessStatus
@@ -37,7 +37,7 @@ module _ (users : List User) (is_list : IsUserList users) where
   few k h = omega (arith, h)
 
   -- so the thread that it names is the one of process 0
-  start_thread : IsThreadOf (session_of users) (start_state users) [] (thread_number (length users))
+  start_thread : IsThreadOf (session_of users) (start_state (session_of users)) [] (thread_number (length users))
   start_thread = (
     6 + 2 * length users,
     9 + 2 * length users,
@@ -47,13 +47,13 @@ module _ (users : List User) (is_list : IsUserList users) where
       internal = few (7 + 2 * length users) (omega (arith, is_list.most));
       thread = few (8 + 2 * length users) (omega (arith, is_list.most));
       each = tt;
-      spelled = ap bytes_in (status_stands users) ∙ sym (append-nil (process_bytes (7 + 2 * length users) (8 + 2 * length users)));
+      spelled = ap bytes_in (status_stands (session_of users)) ∙ sym (append-nil (process_bytes (7 + 2 * length users) (8 + 2 * length users)));
     },
     refl,
     refl,
   )
 
-  start_is_ready : IsReady (session_of users) (start_state users) (boot (session_of users)) (thread_number (length users))
+  start_is_ready : IsReady (session_of users) (start_state (session_of users)) (boot (session_of users)) (thread_number (length users))
   start_is_ready = record { lays_out = start_is_laid; alone = first_at_start (session_of users); thread = start_thread }
 
   -- a machine that was booted shows the flat start

@@ -7,6 +7,7 @@ use Rattle.histar_flat.specs.declared.calls.UnixCall.{UnixCall}
 use Rattle.histar_flat.specs.declared.calls.UnixCall.TheVariants.{Create, Write, Read, Login}
 use Rattle.histar_flat.specs.declared.replies.Reply.{Reply}
 use Rattle.histar_flat.specs.declared.replies.Reply.TheVariants.{Gone}
+use Rattle.histar_flat.specs.Sessions.{session_of}
 use Rattle.histar_flat.specs.Words.{ProcName}
 use Rattle.histar_syscall.specs.KernelModel.{KernelModel, coded_kernel_model, state}
 use Rattle.histar_calls.specs.declared.places.Places.{Places}
@@ -33,13 +34,13 @@ pub record MachineModel : Type 0 where
 abbrev pub coded_machine_model : Coded MachineModel
 coded_machine_model = code_by (KernelModel × (Places × (ℕ × (List User × Bool)))) (coded× coded_kernel_model (coded× where_is.the_row.coded (coded× coded_ℕ (coded× (coded_list user.the_row.coded) coded_bool)))) (λ m. (m.kernel, (m.places, (m.thread, (m.users, m.is_stopped))))) (λ p. record { kernel = p.0; places = p.1.0; thread = p.1.1.0; users = p.1.1.1.0; is_stopped = p.1.1.1.1 }) (λ _. refl)
 
--- a machine that was booted with these users: it runs, and no raw call but those of boot was made
+-- a machine that was booted with these users, in no group: it runs, and no raw call but those of boot was made
 pub record IsStart (declared : List User) (m : MachineModel) : Type 0 where
   pub users : m.users ≡ declared
   pub places : m.places ≡ places_of (length declared)
   pub thread : m.thread ≡ thread_number (length declared)
-  pub state : state m.kernel ≡ start_state declared
-  pub booted : IsBooted declared m.kernel
+  pub state : state m.kernel ≡ start_state (session_of declared)
+  pub booted : IsBooted (session_of declared) m.kernel
   pub line : m.kernel.line ≡ 0
   pub runs : m.is_stopped ≡ false
 

@@ -74,7 +74,7 @@ impl<S: LabelStore + Drop> Machine<S> {
         ensures shows { IfOk result (ShowsStart users.now) }
     {
         let users = Vec::from_slice(alloc, users)?;
-        let (kernel, places, thread) = boot(alloc, store, users.as_slice())?;
+        let (kernel, places, thread) = boot(alloc, store, users.as_slice(), &[])?;
         Ok(Machine {
             kernel,
             places,

@@ -1,17 +1,24 @@
-use Rattle.std.proofs.Common.{None, length}
+use Rattle.std.proofs.Common.{◌≡◌, ℕ, ◌+◌, None, length, subst, arith}
 use Rattle.histar_rules.specs.declared.raw.RawCall.TheVariants.{Unlink}
 use Rattle.histar_rules.specs.Sound.{root_number}
 use Rattle.histar_syscall.specs.KernelModel.{Called}
 use Rattle.histar_login.specs.Boot.{boot_thread_number}
+use Rattle.histar_login.specs.Booting.{BootsOn, IsAnywhere, categories_part}
+use Rattle.histar_login.specs.Start.{session_with, declared}
 use Rattle.histar_login.proofs.Parts.{granted_as}
 use Rattle.histar_login.proofs.LastStage.{HasParts, has_parts, booted, started, first_parts, more_parts}
 use Rattle.histar_login.proofs.booting.boot.Given as given
 use Rattle.histar_login.proofs.booting.boot.Goals as goal
 
-parts : (g : given.Over) (c : goal.In_ok-granted g) → HasParts c.args.users.now c.in_ok-kernel.kernel c.make_users.new.kernel c.make_directory.new.kernel c.make_process.new.kernel
+parts : (g : given.Over) (c : goal.In_ok-granted g)
+    → HasParts (session_with c.args.users.now c.args.groups.now) c.in_ok-kernel.kernel c.make_users.new.kernel c.make_directory.new.kernel c.make_process.new.kernel
 parts g c =
-    has_parts c.args.users.now c.in_ok-kernel.kernel c.make_two_categories.new.kernel c.make_categories.new.kernel c.make_users.new.kernel c.make_directory.new.kernel c.make_process.new.kernel
-    c.in_ok-kernel.ensures.state c.in_ok-make_two_categories.ensures c.in_ok-make_categories.ensures c.in_ok-make_users.ensures c.in_ok-places.ensures.boots c.in_ok-thread.ensures.boots
+    let session = session_with c.args.users.now c.args.groups.now in
+    let count : 1 + length c.args.users.now + length c.args.groups.now ≡ 1 + declared session = omega arith in
+    has_parts session c.in_ok-kernel.kernel c.make_categories.new.kernel c.make_users.new.kernel c.make_directory.new.kernel c.make_process.new.kernel
+    c.in_ok-kernel.ensures.state
+    (subst (λ (n : ℕ). BootsOn c.in_ok-kernel.kernel c.make_categories.new.kernel IsAnywhere (categories_part n)) count c.in_ok-make_categories.ensures)
+    c.in_ok-make_users.ensures c.in_ok-places.ensures.boots c.in_ok-thread.ensures.boots
 
 unlinked : (g : given.Over) (c : goal.In_ok-granted g) → Called c.make_process.new.kernel c.unlink.new.self boot_thread_number (Unlink root_number boot_thread_number) None
 unlinked g c =
@@ -19,13 +26,13 @@ unlinked g c =
 
 pub returns-clause-booted : goal.returns-clause-booted
 returns-clause-booted g c =
-    booted c.args.users.now c.in_ok-kernel.kernel c.make_process.new.kernel c.unlink.new.self (parts g c).all (unlinked g c) c.in_ok-kernel.ensures.state c.in_ok-kernel.ensures.trace c.in_ok-kernel.ensures.line
+    booted (session_with c.args.users.now c.args.groups.now) c.in_ok-kernel.kernel c.make_process.new.kernel c.unlink.new.self (parts g c).all (unlinked g c) c.in_ok-kernel.ensures.state c.in_ok-kernel.ensures.trace c.in_ok-kernel.ensures.line
 
 pub returns-clause-state : goal.returns-clause-state
-returns-clause-state g c = started c.args.users.now c.in_ok-kernel.kernel c.make_process.new.kernel c.unlink.new.self (parts g c).all (unlinked g c)
+returns-clause-state g c = started (session_with c.args.users.now c.args.groups.now) c.in_ok-kernel.kernel c.make_process.new.kernel c.unlink.new.self (parts g c).all (unlinked g c)
 
 pub returns-clause-places : goal.returns-clause-places
-returns-clause-places g c = c.in_ok-places.ensures.places c.in_ok-kernel.kernel (first_parts c.args.users.now) (parts g c).is_next (parts g c).before
+returns-clause-places g c = c.in_ok-places.ensures.places c.in_ok-kernel.kernel (first_parts (session_with c.args.users.now c.args.groups.now)) (parts g c).is_next (parts g c).before
 
 pub returns-clause-thread : goal.returns-clause-thread
-returns-clause-thread g c = c.in_ok-thread.ensures.thread (length c.args.users.now) c.in_ok-kernel.kernel (more_parts c.args.users.now) (parts g c).is_after (parts g c).middle
+returns-clause-thread g c = c.in_ok-thread.ensures.thread (length c.args.users.now) (declared (session_with c.args.users.now c.args.groups.now)) c.in_ok-kernel.kernel (more_parts (session_with c.args.users.now c.args.groups.now)) (parts g c).is_after (parts g c).middle

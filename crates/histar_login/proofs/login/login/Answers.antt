@@ -1,9 +1,9 @@
-use Rattle.std.proofs.Common.{◌≡◌, ℕ, Option, None, Some, Ok, refl, sym, ap, ◌∙◌, length}
+use Rattle.std.proofs.Common.{Ok, sym, ap, length}
 use Rattle.histar_flat.specs.declared.replies.Errno.TheVariants.{ENOENT}
 use Rattle.histar_flat.specs.declared.replies.Reply.TheVariants.{Refused}
 use Rattle.histar_calls.specs.Programs.Program.{Answers}
 use Rattle.histar_calls.proofs.Running.{says, runs_as}
-use Rattle.histar_login.specs.Login.{place_of, login_at, login_program}
+use Rattle.histar_login.specs.Login.{login_at, login_program}
 use Rattle.histar_login.proofs.login.login.Goals as goal
 
 pub returns-in_default : goal.returns-in_default

@@ -1,5 +1,6 @@
 use Rattle.std.proofs.Common.{◌≡◌, List, length, refl, ap, ◌∙◌, subst}
 use Rattle.histar_flat.specs.declared.calls.User.{User}
+use Rattle.histar_flat.specs.Sessions.{session_of}
 use Rattle.histar_login.specs.Boot.{IsBooted}
 use Rattle.histar_login.specs.Start.{places_of, thread_number, start_state}
 use Rattle.histar_login.proofs.LastStage.{booted_line}
@@ -9,14 +10,14 @@ use Rattle.histar_shell.proofs.machine.Machine.boot.Goals as goal
 pub returns-clause-starts : goal.returns-clause-starts
 returns-clause-starts g c =
     let same : c.as_slice.result.now ≡ c.args.users.now = c.as_slice.ensures.value ∙ c.in_ok-users.ensures.items in
-    let booted : IsBooted c.args.users.now c.in_ok-kernel.kernel = subst (λ (l : List User). IsBooted l c.in_ok-kernel.kernel) same c.in_ok-kernel.ensures.booted in
+    let booted : IsBooted (session_of c.args.users.now) c.in_ok-kernel.kernel = subst (λ (l : List User). IsBooted (session_of l) c.in_ok-kernel.kernel) same c.in_ok-kernel.ensures.booted in
     record {
       users = c.in_ok-users.ensures.items;
       places = c.in_ok-kernel.ensures.places ∙ ap (λ (l : List User). places_of (length l)) same;
       thread = c.in_ok-kernel.ensures.thread ∙ ap (λ (l : List User). thread_number (length l)) same;
-      state = c.in_ok-kernel.ensures.state ∙ ap start_state same;
+      state = c.in_ok-kernel.ensures.state ∙ ap (λ (l : List User). start_state (session_of l)) same;
       booted = booted;
-      line = booted_line c.args.users.now c.in_ok-kernel.kernel booted;
+      line = booted_line (session_of c.args.users.now) c.in_ok-kernel.kernel booted;
       runs = refl;
     }
 

@@ -1,0 +1,50 @@
+//! Groups of users.
+ghost use Rattle.std.specs.Prelude.{◌≡◌};
+ghost use Rattle.histar_flat.specs.Sessions.{has};
+
+use crate::names::Name;
+use std::marker::Model;
+
+/// A group of users. Contracts see it as its name and the list of its members' names.
+#[derive(Drop)]
+pub struct Group {
+    name: Name,
+    members: Vec<Name>,
+}
+
+impl Model for Group {
+    ghost use Rattle.histar_flat.specs.Sessions.{Group};
+
+    ghost Value = { Group };
+
+    ghost view = { λ g. record { name = g.name; members = g.members.items } };
+}
+
+impl Group {
+    /// The group of this name, which has these members.
+    pub fn new(name: Name, members: Vec<Name>) -> Group
+        ensures { result ≡ record { name = name; members = members.items } }
+    {
+        Group { name, members }
+    }
+
+    pub fn name(&self) -> Name
+        ensures { result ≡ self.now.name }
+    {
+        self.name
+    }
+
+    /// The names of the members, in the order in which they were declared.
+    pub fn members(&self) -> &[Name]
+        ensures { result.now ≡ self.now.members }
+    {
+        self.members.as_slice()
+    }
+
+    /// Whether a user is a member.
+    pub fn has(&self, user: Name) -> bool
+        ensures { result ≡ has self.now.members user }
+    {
+        self.members.iter().any(|member| user == *member)
+    }
+}

@@ -1,6 +1,0 @@
-use Rattle.std.proofs.Common.{◌≡◌, take}
-use Rattle.histar_login.specs.Start.{user_table}
-use Rattle.histar_login.proofs.booting.user_table.Given as goal
-
-abbrev pub invariant-loop-i : goal.invariant-loop-i
-invariant-loop-i l = l.table.items ≡ user_table (take l.i l.users)

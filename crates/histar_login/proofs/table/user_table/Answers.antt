@@ -1,0 +1,11 @@
+use Rattle.histar_flat.proofs.WordLemmas.{short_name}
+use Rattle.histar_login.proofs.StartLemmas.{table_next}
+use Rattle.histar_login.proofs.table.user_table.Goals as goal
+
+pub push_user-requires-in-loop-i : goal.push_user-requires-in-loop-i
+push_user-requires-in-loop-i c = rw c.as_bytes.ensures.value (short_name _ c.as_bytes.ensures.right)
+
+pub loop-i-preserved : goal.loop-i-preserved
+loop-i-preserved c =
+    table_next c.args.users.now c.loop-i.i c.index-users-i.result c.as_bytes.result.now c.loop-i.table.items c.push_user-in-loop-i.new.table.items
+    c.loop-i-test.true c.index-users-i.is c.as_bytes.ensures.value c.loop-i.invariant c.in_ok-push_user-2.ensures

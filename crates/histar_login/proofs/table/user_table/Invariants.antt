@@ -1,0 +1,6 @@
+use Rattle.std.proofs.Common.{◌≡◌, take}
+use Rattle.histar_login.specs.Start.{user_entries}
+use Rattle.histar_login.proofs.table.user_table.Given as goal
+
+abbrev pub invariant-loop-i : goal.invariant-loop-i
+invariant-loop-i l = l.table.items ≡ user_entries (take l.i l.users)

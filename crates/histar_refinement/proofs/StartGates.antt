@@ -1,0 +1,112 @@
+-- The labels of the gates that boot makes, which own the categories of a user and of its groups.
+use Rattle.std.proofs.Common.{◌≡◌, ℕ, ◌+◌, ◌*◌, ◌≤◌, ◌||◌, ◌&&◌, ◌==◌, Bool, true, false, cond, List, [], ◌∷◌, ◌++◌, length, None, Some, if◌then◌else◌, refl, sym, ap, ◌∙◌, arith}
+use Rattle.std.specs.Prelude.{map, nat_le, unwrap_or}
+use Rattle.std.proofs.lemmas.Bool.Decides.{nat_tests}
+use Rattle.std.proofs.lemmas.List.{append-nil, map-append}
+use Rattle.histar_flat.specs.Sessions.{Group, Session, has, numbers_with}
+use Rattle.histar_flat.specs.Words.{Name}
+use Rattle.histar_label.specs.declared.levels.Level.{Level}
+use Rattle.histar_label.specs.declared.levels.Level.TheVariants.{Star, L1, L2, L3}
+use Rattle.histar_calls.specs.Categories.{read_category, write_category}
+use Rattle.histar_calls.specs.Labelling.{labelled}
+use Rattle.histar_login.specs.Start.{group_owner, owners_of, at_both, gate_label, gate_clearance}
+use Rattle.histar_refinement.specs.Categories.{CategoryName, booted}
+use Rattle.histar_refinement.specs.Categories.CategoryName.{ReadsUser, WritesUser, ReadsGroup, WritesGroup}
+use Rattle.histar_refinement.specs.Guards.{each_at, owning, cleared_at, rights_label, rights_clearance}
+use Rattle.histar_refinement.specs.Labels.{reading, writing, gate_rights}
+use Rattle.histar_refinement.proofs.Members.{is_in, is_in-append}
+use Rattle.histar_refinement.proofs.Levelled.{same_owning, same_cleared}
+
+-- both categories of each of these users and groups
+abbrev both_of : List ℕ → List ℕ
+both_of [] = []
+both_of (i ∷ owners) = read_category i ∷ write_category i ∷ both_of owners
+
+-- one level at these
+at_both_is : (level : Level) (owners : List ℕ) → at_both level owners ≡ each_at level (both_of owners)
+at_both_is level [] = refl
+at_both_is level (i ∷ owners) = ap (λ (l : List (ℕ × Level)). (read_category i, level) ∷ (write_category i, level) ∷ l) (at_both_is level owners)
+
+-- tests of two before tests of others, in another order
+turned : (a b c d : Bool) → (a || (b || (c || d))) ≡ ((a || c) || (b || d))
+turned true b c d = refl
+turned false true true d = refl
+turned false true false d = refl
+turned false false true d = refl
+turned false false false d = refl
+
+-- they are the categories for reading and those for writing
+both_are : (owners : List ℕ) (q : ℕ) → is_in (both_of owners) q ≡ is_in (map read_category owners ++ map write_category owners) q
+both_are owners q = by owners ∙ sym (is_in-append (map read_category owners) (map write_category owners) q)
+  where
+    by : (some : List ℕ) → is_in (both_of some) q ≡ (is_in (map read_category some) q || is_in (map write_category some) q)
+    by [] = refl
+    by (i ∷ some) =
+        ap (λ b. q == read_category i || (q == write_category i || b)) (by some)
+        ∙ turned (q == read_category i) (q == write_category i) (is_in (map read_category some) q) (is_in (map write_category some) q)
+
+module _ (session : Session) where
+  -- a user's two categories have boot's numbers
+  low_test : (i : ℕ) → i ≤ length session.users → nat_le i (length session.users) ≡ true
+  low_test i h = grind (arith, nat_tests, h)
+
+  pub user_reads : (i : ℕ) → i ≤ length session.users → booted session (ReadsUser i) ≡ read_category i
+  user_reads i h = ap (λ b. unwrap_or (cond b (Some (2 + 2 * i)) None) 0) (low_test i h)
+
+  pub user_writes : (i : ℕ) → i ≤ length session.users → booted session (WritesUser i) ≡ write_category i
+  user_writes i h = ap (λ b. unwrap_or (cond b (Some (3 + 2 * i)) None) 0) (low_test i h)
+
+  -- and so have a group's
+  pub group_test : (k : ℕ) → 1 ≤ k → k ≤ length session.groups → (nat_le 1 k && nat_le k (length session.groups)) ≡ true
+  group_test k low high = grind (arith, nat_tests, low, high)
+
+  group_reads : (k : ℕ) → 1 ≤ k → k ≤ length session.groups → booted session (ReadsGroup k) ≡ read_category (group_owner (length session.users) k)
+  group_reads k low high =
+      let number : 2 + 2 * length session.users + 2 * k ≡ 2 + 2 * (length session.users + k) = omega arith in
+      ap (λ b. unwrap_or (cond b (Some (2 + 2 * length session.users + 2 * k)) None) 0) (group_test k low high) ∙ number
+
+  group_writes : (k : ℕ) → 1 ≤ k → k ≤ length session.groups → booted session (WritesGroup k) ≡ write_category (group_owner (length session.users) k)
+  group_writes k low high =
+      let number : 3 + 2 * length session.users + 2 * k ≡ 3 + 2 * (length session.users + k) = omega arith in
+      ap (λ b. unwrap_or (cond b (Some (3 + 2 * length session.users + 2 * k)) None) 0) (group_test k low high) ∙ number
+
+  module _ (name_of : ℕ → CategoryName) (category : ℕ → ℕ) (same : (k : ℕ) → 1 ≤ k → k ≤ length session.groups → booted session (name_of k) ≡ category (group_owner (length session.users) k)) where
+    -- the categories of a user's groups have boot's numbers
+    groups_same : (k : ℕ) (groups : List Group) (name : Name) → 1 ≤ k → k + length groups ≤ length session.groups + 1
+        → map (booted session) (map name_of (numbers_with k groups name)) ≡ map category (map (group_owner (length session.users)) (numbers_with k groups name))
+    groups_same k [] name low high = refl
+    groups_same k (g ∷ groups) name low high =
+        let high_here : k ≤ length session.groups = omega (arith, high) in
+        by (has g.members name) (same k low high_here) (groups_same (k + 1) groups name (omega arith) (omega (arith, high)))
+      where
+        by : (b : Bool) → booted session (name_of k) ≡ category (group_owner (length session.users) k)
+            → map (booted session) (map name_of (numbers_with (k + 1) groups name)) ≡ map category (map (group_owner (length session.users)) (numbers_with (k + 1) groups name))
+            → map (booted session) (map name_of (if b then k ∷ numbers_with (k + 1) groups name else numbers_with (k + 1) groups name))
+            ≡ map category (map (group_owner (length session.users)) (if b then k ∷ numbers_with (k + 1) groups name else numbers_with (k + 1) groups name))
+        by true here more = λ j. here j ∷ more j
+        by false here more = more
+
+  module _ (name : Name) (i : ℕ) (declared : i ≤ length session.users) where
+    -- what a user owns
+    abbrev owners : List ℕ
+    owners = owners_of session i name
+
+    -- the names of what a user reads and writes by have the numbers of what it owns
+    owned_is : map (booted session) (reading session name i ++ writing session name i) ≡ map read_category owners ++ map write_category owners
+    owned_is =
+        map-append (booted session) (reading session name i) (writing session name i)
+        ∙ (λ j. (user_reads i declared j ∷ groups_same ReadsGroup read_category group_reads 1 session.groups name (omega arith) (omega arith) j)
+        ++ (user_writes i declared j ∷ groups_same WritesGroup write_category group_writes 1 session.groups name (omega arith) (omega arith) j))
+
+    -- the gate that boot makes has the label that is asked for, and the clearance
+    pub gate_label_is : gate_label session i name ≡ rights_label (booted session) (gate_rights session name i)
+    gate_label_is =
+        ap (λ (l : List (ℕ × Level)). labelled l L1) (at_both_is Star owners ∙ sym (append-nil (each_at Star (both_of owners))))
+        ∙ same_owning (both_of owners) [] (map read_category owners ++ map write_category owners) [] (both_are owners) (λ q. refl)
+        ∙ ap (λ (l : List ℕ). owning l []) (sym owned_is)
+
+    pub gate_clearance_is : gate_clearance session i name ≡ rights_clearance (booted session) (gate_rights session name i)
+    gate_clearance_is =
+        ap (λ (l : List (ℕ × Level)). labelled l L2) (at_both_is L3 owners)
+        ∙ same_cleared (both_of owners) (map read_category owners ++ map write_category owners) (both_are owners)
+        ∙ ap cleared_at (sym owned_is ∙ ap (map (booted session)) (sym (append-nil (reading session name i ++ writing session name i))))
