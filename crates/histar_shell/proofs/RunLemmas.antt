@@ -7,10 +7,11 @@ use Rattle.std.proofs.KnownBytes.{Keeps-refl}
 use Rattle.histar_script.specs.declared.fault.Fault.{Fault}
 use Rattle.histar_script.specs.declared.fault.Fault.TheVariants.{BadScript, TooLong, OutOfMemory, ReadFailed, WriteFailed}
 use Rattle.histar_script.specs.Script.{Reading}
-use Rattle.histar_script.specs.Outcome.{Gives}
+use Rattle.histar_script.specs.Outcome.{Gives, input_fault}
 use Rattle.histar_script.specs.Reading.{script_of}
 use Rattle.histar_devices.specs.Input.{TakesAll, TakesSome}
-use Rattle.histar_devices.specs.DeviceFaults.{IsInputFault}
+use Rattle.histar_devices.specs.declared.input.InputError.{InputError}
+use Rattle.histar_devices.specs.declared.input.InputError.TheVariants as input
 use Rattle.histar_shell.specs.Outcome.{IsOutputFault, IsFaultAt, TakesAtFault, AnswersScript, BeginsScript, WritesAtFault}
 use Rattle.histar_shell.specs.Machine.{MachineModel, IsStart}
 use Rattle.histar_shell.specs.Session.{AnswersCalls, BeginsAnswers}
@@ -37,30 +38,21 @@ same_script (Some input) (Some rest) taken takes =
     ]
 
 -- what reading the input may fail by is no fault of the script
-pub input_fault_agrees : (f : Fault) (left : Option (List ℕ)) → IsInputFault f → IfSome left (λ input. IsFaultAt (script_of input) f)
-input_fault_agrees f None h = tt
-input_fault_agrees (BadScript n) (Some input) h = absurd h
-input_fault_agrees TooLong (Some input) h = absurd h
-input_fault_agrees OutOfMemory (Some input) h = tt
-input_fault_agrees ReadFailed (Some input) h = tt
-input_fault_agrees WriteFailed (Some input) h = absurd h
+pub input_fault_agrees : (e : InputError) (left : Option (List ℕ)) → IfSome left (λ input. IsFaultAt (script_of input) (input_fault e))
+input_fault_agrees e None = tt
+input_fault_agrees input.OutOfMemory (Some text) = tt
+input_fault_agrees input.ReadFailed (Some text) = tt
 
 -- and nothing was written then
-pub input_fault_writes : (f : Fault) (left w : Option (List ℕ)) → IsInputFault f → IfSome left (λ input. WritesAtFault w w (script_of input) f)
-input_fault_writes f None w h = tt
-input_fault_writes (BadScript n) (Some input) w h = absurd h
-input_fault_writes TooLong (Some input) w h = absurd h
-input_fault_writes OutOfMemory (Some input) w h = inl (Keeps-refl w)
-input_fault_writes ReadFailed (Some input) w h = Keeps-refl w
-input_fault_writes WriteFailed (Some input) w h = absurd h
+pub input_fault_writes : (e : InputError) (left w : Option (List ℕ)) → IfSome left (λ input. WritesAtFault w w (script_of input) (input_fault e))
+input_fault_writes e None w = tt
+input_fault_writes input.OutOfMemory (Some text) w = inl (Keeps-refl w)
+input_fault_writes input.ReadFailed (Some text) w = Keeps-refl w
 
 -- but some of the input may have been taken
-pub input_fault_takes : (f : Fault) (left after : Option (List ℕ)) → IsInputFault f → TakesSome left after → TakesAtFault left after f
-input_fault_takes (BadScript n) left after h takes = absurd h
-input_fault_takes TooLong left after h takes = absurd h
-input_fault_takes OutOfMemory left after h takes = takes
-input_fault_takes ReadFailed left after h takes = takes
-input_fault_takes WriteFailed left after h takes = absurd h
+pub input_fault_takes : (e : InputError) (left after : Option (List ℕ)) → TakesSome left after → TakesAtFault left after (input_fault e)
+input_fault_takes input.OutOfMemory left after takes = takes
+input_fault_takes input.ReadFailed left after takes = takes
 
 -- once all was taken, every fault may follow
 pub takes_at_fault : (f : Fault) (left after : Option (List ℕ)) (taken : List ℕ) → TakesAll left after taken → TakesAtFault left after f

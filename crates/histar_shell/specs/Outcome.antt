@@ -1,5 +1,5 @@
 -- What the answer of a run says of its input and of its output.
-use Rattle.std.specs.Prelude.{◌≡◌, ℕ, ◌⊎◌, List, Option, Result, Ok, Err, IsOk, IfErr, MatchResult}
+use Rattle.std.specs.Prelude.{◌≡◌, ℕ, ◌⊎◌, Bool, true, false, List, Option, Result, Ok, Err, IsOk, IfErr, MatchResult}
 use Rattle.std.specs.Io.KnownBytes.{Keeps}
 use Rattle.histar_script.specs.declared.fault.Fault.{Fault}
 use Rattle.histar_script.specs.declared.fault.Fault.TheVariants.{BadScript, TooLong, OutOfMemory, ReadFailed, WriteFailed}
@@ -8,6 +8,24 @@ use Rattle.histar_devices.specs.Input.{TakesAll, TakesSome}
 use Rattle.histar_shell.specs.Machine.{MachineModel, IsStart}
 use Rattle.histar_shell.specs.Session.{AnswersCalls, BeginsAnswers}
 use Rattle.histar_syscall.specs.declared.trace.TraceEntry.{TraceEntry}
+
+-- the answer is that a read failed
+abbrev pub is_read_failed : {A : Type 0} → Result A Fault → Bool
+is_read_failed (Ok x) = false
+is_read_failed (Err (BadScript n)) = false
+is_read_failed (Err TooLong) = false
+is_read_failed (Err OutOfMemory) = false
+is_read_failed (Err ReadFailed) = true
+is_read_failed (Err WriteFailed) = false
+
+-- the answer is that a write failed
+abbrev pub is_write_failed : {A : Type 0} → Result A Fault → Bool
+is_write_failed (Ok x) = false
+is_write_failed (Err (BadScript n)) = false
+is_write_failed (Err TooLong) = false
+is_write_failed (Err OutOfMemory) = false
+is_write_failed (Err ReadFailed) = false
+is_write_failed (Err WriteFailed) = true
 
 -- the faults that answering calls can have
 abbrev pub IsOutputFault : Fault → Type 0

@@ -2,10 +2,9 @@
 ghost use Rattle.std.specs.Prelude.{◌≡◌, IfErr, IfSome, OnOk, OnErr};
 ghost use Rattle.histar_script.specs.Reading.{script_of};
 ghost use Rattle.histar_devices.specs.Device.{CountsFailure};
-ghost use Rattle.histar_devices.specs.DeviceFaults.{is_read_failed, is_write_failed};
 ghost use Rattle.histar_shell.specs.Session.{AnswersCall, AnswersCalls, BeginsAnswer, BeginsAnswers};
 ghost use Rattle.histar_shell.specs.Meaning.{RunsAsMeant};
-ghost use Rattle.histar_shell.specs.Outcome.{AgreesWith, IsOutputFault, TakesInput, WritesAnswers, WritesNothing};
+ghost use Rattle.histar_shell.specs.Outcome.{AgreesWith, IsOutputFault, TakesInput, WritesAnswers, WritesNothing, is_read_failed, is_write_failed};
 
 use crate::machine::{Machine, Trace};
 use crate::output::reply_line;
@@ -100,5 +99,6 @@ fn answer_call<S: LabelStore + Drop, W: Sink>(
         return Err(Fault::OutOfMemory);
     };
     let line = reply_line(alloc, number, &reply)?;
-    write_bytes(writer, line.as_slice())
+    write_bytes(writer, line.as_slice())?;
+    Ok(())
 }

@@ -1,5 +1,6 @@
 use Rattle.std.proofs.Common.{Result, Ok, Err}
 use Rattle.std.proofs.lemmas.Result.{err_from_is_err_and}
+use Rattle.histar_devices.specs.declared.input.InputError.TheVariants as input
 use Rattle.histar_script.specs.declared.fault.Fault.TheVariants.{OutOfMemory}
 use Rattle.histar_script.specs.declared.fault.Fault.{Fault}
 use Rattle.histar_script.specs.Script.{Reading}
@@ -12,17 +13,17 @@ use Rattle.histar_shell.proofs.session.run.Goals as goal
 pub returns-in_err-input-clause-taken : goal.returns-in_err-input-clause-taken
 returns-in_err-input-clause-taken g c =
     let p = err_from_is_err_and c.from_residual.result c.from_residual.ensures.1 in
-    rw (p.1, p.2) (input_fault_takes c.in_err-input.field-0.0 _ _ c.in_err-input.ensures.faults c.in_err-input.ensures.err)
+    rw (p.1, p.2) (input_fault_takes c.in_err-input.field-0.0 _ _ c.in_err-input.ensures.err)
 
 pub returns-in_err-input-clause-faults_of_input : goal.returns-in_err-input-clause-faults_of_input
 returns-in_err-input-clause-faults_of_input g c =
     let p = err_from_is_err_and c.from_residual.result c.from_residual.ensures.1 in
-    rw (p.1, p.2) (input_fault_agrees c.in_err-input.field-0.0 _ c.in_err-input.ensures.faults)
+    rw (p.1, p.2) (input_fault_agrees c.in_err-input.field-0.0 _)
 
 pub returns-in_err-input-clause-answers : goal.returns-in_err-input-clause-answers
 returns-in_err-input-clause-answers g c =
     let p = err_from_is_err_and c.from_residual.result c.from_residual.ensures.1 in
-    rw (p.1, p.2) (input_fault_writes c.in_err-input.field-0.0 _ _ c.in_err-input.ensures.faults)
+    rw (p.1, p.2) (input_fault_writes c.in_err-input.field-0.0 _ _)
 
 pub returns-in_err-script-clause-taken : goal.returns-in_err-script-clause-taken
 returns-in_err-script-clause-taken g c =
@@ -44,10 +45,10 @@ pub returns-in_default-clause-taken : goal.returns-in_default-clause-taken
 returns-in_default-clause-taken g c = takes_at_fault OutOfMemory _ _ _ c.in_ok-input.ensures.ok
 
 pub returns-in_default-clause-faults_of_input : goal.returns-in_default-clause-faults_of_input
-returns-in_default-clause-faults_of_input g c = input_fault_agrees OutOfMemory _ tt
+returns-in_default-clause-faults_of_input g c = input_fault_agrees input.OutOfMemory _
 
 pub returns-in_default-clause-answers : goal.returns-in_default-clause-answers
-returns-in_default-clause-answers g c = input_fault_writes OutOfMemory _ _ tt
+returns-in_default-clause-answers g c = input_fault_writes input.OutOfMemory _ _
 
 pub returns-in_err-answer_calls-clause-taken : goal.returns-in_err-answer_calls-clause-taken
 returns-in_err-answer_calls-clause-taken g c =
