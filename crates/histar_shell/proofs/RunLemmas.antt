@@ -11,8 +11,9 @@ use Rattle.histar_script.specs.Script.{Reading}
 use Rattle.histar_devices.specs.declared.input.InputError.{InputError}
 use Rattle.histar_devices.specs.declared.input.InputError.TheVariants as input
 use Rattle.histar_script.specs.Outcome.{Gives, input_fault}
+use Rattle.histar_script.specs.Lines.{most_script_bytes}
 use Rattle.histar_script.specs.Reading.{script_of}
-use Rattle.histar_devices.specs.Input.{TakesAll, TakesSome}
+use Rattle.histar_devices.specs.Input.{most_taken, TakesAll, TakesSome}
 use Rattle.histar_shell.specs.Outcome.{IsOutputFault, IsFaultAt, AgreesWith, AnswersScript, BeginsScript, WritesAtFault, WritesAnswers, is_read_failed}
 use Rattle.histar_shell.specs.Meaning.{RunsAsMeant}
 use Rattle.histar_shell.specs.Run.{RunsText, RunsTaken, StopsReading, RunsInput, LeavesSink}
@@ -116,14 +117,14 @@ runs_taken left rest old new taken text result takes same runs no_read_failed =
     at_result (Err WriteFailed) h none = h
 
 -- a text of more bytes than a script may have is too long
-long_is : (text : List ℕ) → 1048576 < length text → script_of text ≡ Err TooLong
-long_is text lt = let e : ltb 1048576 (length text) ≡ true = search (rules, tests) in rw e refl
+long_is : (text : List ℕ) → most_script_bytes < length text → script_of text ≡ Err TooLong
+long_is text lt = let e : ltb most_script_bytes (length text) ≡ true = search (rules, tests) in rw e refl
 
 -- what was taken says what the whole input says
 same_script : (input : List ℕ) (rest : Option (List ℕ)) (taken : List ℕ) → TakesAll (Some input) rest taken → script_of taken ≡ script_of input
 same_script input None taken takes = absurd takes.consumed
 same_script input (Some rest) taken takes =
-    elim (cases_lt (length taken) 1048577) [
+    elim (cases_lt (length taken) most_taken) [
       | inl lt ↦ sym (ap script_of (takes.consumed ∙ ap (λ (l : List ℕ). taken ++ l) (takes.ended lt) ∙ append-nil taken))
       | inr le ↦ long_is taken (omega arith) ∙ sym (long_is input (omega (arith, ap length takes.consumed, length-append taken rest)))
     ]
