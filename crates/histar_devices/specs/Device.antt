@@ -1,9 +1,13 @@
 -- What a device counts.
 use Rattle.std.specs.Prelude.{◌≡◌, ℕ, ◌+◌, ◌-◌, ◌^◌, Bool, true, ◌&&◌, ◌==◌, nat_lt, min, List, length, Result, Ok, Err, if◌then◌else◌}
 
--- one more failed call, up to the greatest number of 64 bits
+-- the greatest number of 64 bits
+abbrev pub greatest : ℕ
+greatest = 2 ^ 64 - 1
+
+-- one more failed call, as far as the count goes
 abbrev pub raised : ℕ → ℕ
-raised count = min (count + 1) (2 ^ 64 - 1)
+raised count = min (count + 1) greatest
 
 -- a call raises the count exactly where it fails
 abbrev pub CountsFailure : ℕ → ℕ → Bool → Type 0

@@ -7,7 +7,7 @@ use Rattle.histar_flat.specs.declared.replies.Errno.{Errno}
 use Rattle.histar_flat.specs.declared.replies.Errno.TheVariants.{ENOENT, ENOTDIR, EISDIR, EEXIST, EACCES, EPERM, ENOTEMPTY, EBUSY, ENOSPC, EFBIG, ESRCH, EAGAIN, EAUTH}
 use Rattle.histar_flat.specs.declared.replies.Reply.{Reply}
 use Rattle.histar_flat.specs.declared.replies.Reply.TheVariants.{Done, Data, Entries, Stats, Child, Running, Exited, User as UserReply, Refused, Gone}
-use Rattle.histar_flat.specs.Words.{Path, ProcName}
+use Rattle.histar_flat.specs.Words.{Path, ProcName, most_numbers}
 use Rattle.histar_flat.specs.PathOrder.{same, parent}
 use Rattle.histar_flat.specs.Sessions.{Session, user_named}
 use Rattle.histar_flat.specs.Files.{get}
@@ -27,10 +27,6 @@ most_bytes = 4096
 -- how many children may be born to a process
 abbrev pub most_children : ℕ
 most_children = 64
-
--- how many numbers may stand in a process's name after the first
-abbrev pub most_numbers : ℕ
-most_numbers = 7
 
 -- the path is not `/`
 abbrev pub is_below_root : Path → Bool

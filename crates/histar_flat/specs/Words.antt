@@ -19,6 +19,18 @@ Path = List Name
 abbrev pub ProcName : Type 0
 ProcName = List ℕ
 
+-- the most bytes of a name or a password
+abbrev pub most_word_bytes : ℕ
+most_word_bytes = 32
+
+-- the most names of a path
+abbrev pub most_names : ℕ
+most_names = 8
+
+-- the most numbers of a process's name
+abbrev pub most_numbers : ℕ
+most_numbers = 7
+
 -- a letter: a to z
 abbrev pub is_letter : ℕ → Bool
 is_letter b = nat_le 97 b && nat_le b 122
@@ -45,7 +57,7 @@ begins_with_letter (b ∷ bs) = is_letter b
 
 -- a name: 1 to 32 such bytes, not `.` and not `..`
 unfoldable pub is_name : List ℕ → Bool
-is_name bs = nat_lt 0 (length bs) && nat_le (length bs) 32 && list_all is_name_byte bs && not (is_dots bs)
+is_name bs = nat_lt 0 (length bs) && nat_le (length bs) most_word_bytes && list_all is_name_byte bs && not (is_dots bs)
 
 -- a name that a user may have: it begins with a letter and is not `nobody`
 unfoldable pub is_user_name : List ℕ → Bool
@@ -53,7 +65,7 @@ is_user_name bs = is_name bs && begins_with_letter bs && not (bytes_eq bs (codes
 
 -- a password: 1 to 32 such bytes
 unfoldable pub is_password : List ℕ → Bool
-is_password bs = nat_lt 0 (length bs) && nat_le (length bs) 32 && list_all is_password_byte bs
+is_password bs = nat_lt 0 (length bs) && nat_le (length bs) most_word_bytes && list_all is_password_byte bs
 
 -- the name that the bytes are, if they are one
 abbrev pub name_of : List ℕ → Option Name

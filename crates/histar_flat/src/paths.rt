@@ -1,24 +1,26 @@
 //! Paths.
 ghost use Rattle.std.specs.Prelude.{◌≡◌, ◌≤◌, [], ◌∷◌, length, slice_get, codes};
 ghost use Rattle.std.specs.Option.{option_copied};
+ghost use Rattle.histar_flat.specs.Words.{most_names};
 
 use crate::names::Name;
 use std::marker::Model;
 
 /// The most names of a path.
-pub const MAX_DEPTH: usize = 8;
+pub const MOST_NAMES: usize = 8;
 
 /// `/`, or up to eight names. Contracts see a path as the list of its names, the last one first:
 /// `/` is the empty list, and a name before the path of a directory is an entry of it.
 #[derive(Clone, Copy)]
 pub struct Path {
-    names: [Name; MAX_DEPTH],
+    names: [Name; MOST_NAMES],
     len: u8,
 }
 
 impl Model for Path {
     ghost use Rattle.std.specs.Prelude.{ℕ, List, length, take};
     ghost use Rattle.histar_flat.specs.Padding.{padded, IsPadded, unused_name};
+    ghost use Rattle.histar_flat.specs.Words.{most_names};
     ghost use Rattle.histar_flat.specs.PaddingLaws.{padded-take, length-kept};
     ghost use Rattle.std.proofs.Common.{refl};
 
@@ -26,11 +28,11 @@ impl Model for Path {
 
     ghost view = { λ p. take p.len p.names };
 
-    ghost invariant = { λ p. IsPadded 8 unused_name p.names p.len };
+    ghost invariant = { λ p. IsPadded most_names unused_name p.names p.len };
 
-    ghost inverse = { λ q. record { names = padded 8 unused_name q; len = length q } };
+    ghost inverse = { λ q. record { names = padded most_names unused_name q; len = length q } };
 
-    ghost inverse_ok = { λ a h. Prim.rw (padded-take 8 unused_name a.names a.len h, length-kept 8 unused_name a.names a.len h) refl };
+    ghost inverse_ok = { λ a h. Prim.rw (padded-take most_names unused_name a.names a.len h, length-kept most_names unused_name a.names a.len h) refl };
 }
 
 impl Path {
@@ -38,7 +40,7 @@ impl Path {
     pub fn of(name: Name) -> Path
         ensures { result ≡ name ∷ [] }
     {
-        let mut names = [unused_name(); MAX_DEPTH];
+        let mut names = [unused_name(); MOST_NAMES];
         names[0] = name;
         Path { names, len: 1 }
     }
@@ -60,7 +62,7 @@ impl Path {
     /// How many names the path has.
     pub fn depth(&self) -> usize
         ensures value { result ≡ length self.now }
-        ensures most { result ≤ 8 }
+        ensures most { result ≤ most_names }
     {
         self.len as usize
     }

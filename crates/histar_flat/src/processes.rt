@@ -1,23 +1,25 @@
 //! Names of processes.
 ghost use Rattle.std.specs.Prelude.{◌≡◌, ◌↔◌, ◌≤◌, [], length, IsTrue};
+ghost use Rattle.histar_flat.specs.Words.{most_numbers};
 
 use std::marker::Model;
 
 /// The most numbers after the leading 0 of a process's name.
-pub const MAX_NUMBERS: usize = 7;
+pub const MOST_NUMBERS: usize = 7;
 
 /// `0`, then up to seven numbers, each of which is the number of a child. Contracts see a process's
 /// name as the list of the numbers after the 0, the last one first: process 0 is the empty list, and
 /// a number before a process's name is a child of it.
 #[derive(Clone, Copy)]
 pub struct ProcName {
-    numbers: [u8; MAX_NUMBERS],
+    numbers: [u8; MOST_NUMBERS],
     len: u8,
 }
 
 impl Model for ProcName {
     ghost use Rattle.std.specs.Prelude.{ℕ, List, length, take};
     ghost use Rattle.histar_flat.specs.Padding.{padded, IsPadded};
+    ghost use Rattle.histar_flat.specs.Words.{most_numbers};
     ghost use Rattle.histar_flat.specs.PaddingLaws.{padded-take, length-kept};
     ghost use Rattle.std.proofs.Common.{refl};
 
@@ -25,11 +27,11 @@ impl Model for ProcName {
 
     ghost view = { λ p. take p.len p.numbers };
 
-    ghost invariant = { λ p. IsPadded 7 0 p.numbers p.len };
+    ghost invariant = { λ p. IsPadded most_numbers 0 p.numbers p.len };
 
-    ghost inverse = { λ ns. record { numbers = padded 7 0 ns; len = length ns } };
+    ghost inverse = { λ ns. record { numbers = padded most_numbers 0 ns; len = length ns } };
 
-    ghost inverse_ok = { λ a h. Prim.rw (padded-take 7 0 a.numbers a.len h, length-kept 7 0 a.numbers a.len h) refl };
+    ghost inverse_ok = { λ a h. Prim.rw (padded-take most_numbers 0 a.numbers a.len h, length-kept most_numbers 0 a.numbers a.len h) refl };
 }
 
 impl ProcName {
@@ -38,7 +40,7 @@ impl ProcName {
         ensures { result ≡ [] }
     {
         ProcName {
-            numbers: [0; MAX_NUMBERS],
+            numbers: [0; MOST_NUMBERS],
             len: 0,
         }
     }
@@ -53,7 +55,7 @@ impl ProcName {
     /// The numbers after the leading 0, the last one first.
     pub fn numbers(&self) -> &[u8]
         ensures value { result.now ≡ self.now }
-        ensures most { length self.now ≤ 7 }
+        ensures most { length self.now ≤ most_numbers }
     {
         &self.numbers[..self.len as usize]
     }

@@ -8,7 +8,7 @@ use crate::calls::Mode;
 use crate::names::{Name, Password};
 use crate::paths::Path;
 use crate::processes::ProcName;
-use crate::words::MAX_WORD;
+use crate::words::MOST_WORD_BYTES;
 
 /// The name that the bytes are.
 pub fn read_name(text: &[u8]) -> Option<Name>
@@ -81,7 +81,7 @@ pub fn read_mode(text: &[u8]) -> Option<Mode>
 fn is_name(text: &[u8]) -> bool
     ensures { result ≡ name text.now }
 {
-    !text.is_empty() && text.len() <= MAX_WORD && has_name_bytes(text) && !is_dots(text)
+    !text.is_empty() && text.len() <= MOST_WORD_BYTES && has_name_bytes(text) && !is_dots(text)
 }
 
 #[tactic(auto, unfolding(crate::specs::Words::is_user_name))]
@@ -96,7 +96,7 @@ fn is_user_name(text: &[u8]) -> bool
 fn is_password(text: &[u8]) -> bool
     ensures { result ≡ password text.now }
 {
-    !text.is_empty() && text.len() <= MAX_WORD && has_password_bytes(text)
+    !text.is_empty() && text.len() <= MOST_WORD_BYTES && has_password_bytes(text)
 }
 
 fn has_name_bytes(text: &[u8]) -> bool

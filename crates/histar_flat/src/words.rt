@@ -1,22 +1,24 @@
 //! Short runs of bytes that are copied like numbers.
 ghost use Rattle.std.specs.Prelude.{◌≡◌, ◌≤◌, length};
 ghost use Rattle.histar_flat.specs.Padding.{padded};
+ghost use Rattle.histar_flat.specs.Words.{most_word_bytes};
 
 use std::marker::Model;
 
 /// The most bytes that a name or a password has.
-pub const MAX_WORD: usize = 32;
+pub const MOST_WORD_BYTES: usize = 32;
 
 /// At most 32 bytes, whatever they are; names and passwords are kept in it.
 #[derive(Clone, Copy)]
 pub struct Word {
-    bytes: [u8; MAX_WORD],
+    bytes: [u8; MOST_WORD_BYTES],
     len: u8,
 }
 
 impl Model for Word {
     ghost use Rattle.std.specs.Prelude.{ℕ, List, length, take};
     ghost use Rattle.histar_flat.specs.Padding.{padded, IsPadded};
+    ghost use Rattle.histar_flat.specs.Words.{most_word_bytes};
     ghost use Rattle.histar_flat.specs.PaddingLaws.{padded-take, length-kept};
     ghost use Rattle.std.proofs.Common.{refl};
 
@@ -24,17 +26,17 @@ impl Model for Word {
 
     ghost view = { λ w. take w.len w.bytes };
 
-    ghost invariant = { λ w. IsPadded 32 0 w.bytes w.len };
+    ghost invariant = { λ w. IsPadded most_word_bytes 0 w.bytes w.len };
 
-    ghost inverse = { λ bs. record { bytes = padded 32 0 bs; len = length bs } };
+    ghost inverse = { λ bs. record { bytes = padded most_word_bytes 0 bs; len = length bs } };
 
-    ghost inverse_ok = { λ a h. Prim.rw (padded-take 32 0 a.bytes a.len h, length-kept 32 0 a.bytes a.len h) refl };
+    ghost inverse_ok = { λ a h. Prim.rw (padded-take most_word_bytes 0 a.bytes a.len h, length-kept most_word_bytes 0 a.bytes a.len h) refl };
 }
 
 impl Word {
     /// A copy of the bytes.
     pub fn of(text: &[u8]) -> Word
-        requires { length text.now ≤ 32 }
+        requires { length text.now ≤ most_word_bytes }
         ensures { result ≡ text.now }
     {
         Word {
@@ -50,11 +52,11 @@ impl Word {
     }
 }
 
-fn padded_bytes(text: &[u8]) -> [u8; MAX_WORD]
-    requires { length text.now ≤ 32 }
-    ensures { result ≡ padded 32 0 text.now }
+fn padded_bytes(text: &[u8]) -> [u8; MOST_WORD_BYTES]
+    requires { length text.now ≤ most_word_bytes }
+    ensures { result ≡ padded most_word_bytes 0 text.now }
 {
-    let mut bytes = [0; MAX_WORD];
+    let mut bytes = [0; MOST_WORD_BYTES];
     bytes[..text.len()].copy_from_slice(text);
     bytes
 }

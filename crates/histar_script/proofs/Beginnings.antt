@@ -8,7 +8,7 @@ use Rattle.histar_flat.specs.declared.calls.User.{User}
 use Rattle.histar_flat.specs.Words.{is_name, is_user_name, is_password}
 use Rattle.histar_script.specs.declared.items.Item.{Item}
 use Rattle.histar_script.specs.declared.items.Item.TheVariants as items
-use Rattle.histar_script.specs.Lines.{lines_of, is_plain, is_plain_byte}
+use Rattle.histar_script.specs.Lines.{lines_of, is_plain, is_plain_byte, most_line_bytes}
 use Rattle.histar_script.specs.Script.{Reading, nothing_read}
 use Rattle.histar_script.specs.Grammar.{Says, Adds, Takes, TakesAll, BeginsSome}
 
@@ -56,7 +56,7 @@ plain_bytes (b ∷ bs) h = let p = and_parts (is_plain_byte b) (list_all is_plai
 said_is_one_line : (line : List ℕ) (i : Item) → Says line i → IsOneLine line
 unfolding is_plain
 said_is_one_line line i (inl h) = rw h.0 refl
-said_is_one_line line i (inr h) = plain_bytes line (and_parts (leb (length line) 1024) (list_all is_plain_byte line) h.0).1
+said_is_one_line line i (inr h) = plain_bytes line (and_parts (leb (length line) most_line_bytes) (list_all is_plain_byte line) h.0).1
 
 -- lines that are taken are lines each
 taken_are_lines : (s : Reading) (k : ℕ) (lines : List (List ℕ)) (t : Reading) → TakesAll s k lines t → AllByRecursion IsOneLine lines

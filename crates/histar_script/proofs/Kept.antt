@@ -9,7 +9,7 @@ use Rattle.histar_flat.specs.declared.calls.CallLine.{CallLine}
 use Rattle.histar_script.specs.declared.items.Item.{Item}
 use Rattle.histar_script.specs.declared.items.Item.TheVariants as items
 use Rattle.histar_script.specs.Lines.{lines_of}
-use Rattle.histar_script.specs.Script.{Reading, nothing_read, IsUserList, IsNumbered}
+use Rattle.histar_script.specs.Script.{Reading, most_users, nothing_read, IsUserList, IsNumbered}
 use Rattle.histar_script.specs.Grammar.{Says, Adds, TakesAll, IsScript}
 
 -- a user whose name may be one
@@ -30,7 +30,7 @@ IsAmong n c = (0 < c.line) × (c.line ≤ n)
 
 -- what was read in the first n lines is in order
 record Kept (s : Reading) (n : ℕ) : Type 0 where
-  most : length s.users ≤ 16
+  most : length s.users ≤ most_users
   named : All IsNamed s.users
   distinct : AllPairs Differ s.users
   rising : AllPairs Precedes s.calls

@@ -12,7 +12,7 @@ use Rattle.histar_script.specs.declared.fault.Fault.TheVariants.{BadScript}
 use Rattle.histar_script.specs.declared.items.Item.{Item}
 use Rattle.histar_script.specs.declared.items.Item.TheVariants as items
 use Rattle.histar_script.specs.Lines.{lines_of}
-use Rattle.histar_script.specs.Script.{Reading, nothing_read}
+use Rattle.histar_script.specs.Script.{Reading, most_users, nothing_read}
 use Rattle.histar_script.specs.Reading.{item_of, has_user, with_item, with_line, with_lines, reading}
 use Rattle.histar_script.specs.Grammar.{Adds, Takes, TakesAll, IsScript}
 use Rattle.histar_script.proofs.Chains.{bind_some, chosen, none_left, some_left, not_empty}
@@ -37,10 +37,10 @@ adds : (s : Reading) (n : ℕ) (i : Item) (t : Reading) → with_item s n i ≡ 
 unfolding with_item
 adds s n items.Comment t e = cc
 adds s n (items.User u) t e =
-    let g = cond_some (eqb (length s.calls) 0 && ltb (length s.users) 16 && not (has_user s.users u.name)) (record { users = s.users ++ u ∷ []; calls = s.calls }) t e in
-    let p = and_parts (eqb (length s.calls) 0 && ltb (length s.users) 16) (not (has_user s.users u.name)) g.0 in
-    let q = and_parts (eqb (length s.calls) 0) (ltb (length s.users) 16) p.0 in
-    (none_left s.calls q.0, ltb-true (length s.users) 16 q.1, All-from_recursion (λ v. v.name ≢ u.name) s.users (no_other s.users u.name (not-true (has_user s.users u.name) p.1)), sym g.1)
+    let g = cond_some (eqb (length s.calls) 0 && ltb (length s.users) most_users && not (has_user s.users u.name)) (record { users = s.users ++ u ∷ []; calls = s.calls }) t e in
+    let p = and_parts (eqb (length s.calls) 0 && ltb (length s.users) most_users) (not (has_user s.users u.name)) g.0 in
+    let q = and_parts (eqb (length s.calls) 0) (ltb (length s.users) most_users) p.0 in
+    (none_left s.calls q.0, ltb-true (length s.users) most_users q.1, All-from_recursion (λ v. v.name ≢ u.name) s.users (no_other s.users u.name (not-true (has_user s.users u.name) p.1)), sym g.1)
 adds s n (items.Call p c) t e =
     elim (chosen (eqb (length s.users) 0) None (Some (record { users = s.users; calls = s.calls ++ (record { line = n; process = p; call = c }) ∷ [] })) (Some t) e) [
       | inl h ↦ absurd cc
@@ -53,7 +53,7 @@ unfolding with_item
 adds_again s n items.Comment t h = ap (λ (x : Reading). Some x) (sym h)
 adds_again s n (items.User u) t h =
     let none : eqb (length s.calls) 0 ≡ true = rw h.0 refl in
-    let room : ltb (length s.users) 16 ≡ true = lt-ltb (length s.users) 16 h.1 in
+    let room : ltb (length s.users) most_users ≡ true = lt-ltb (length s.users) most_users h.1 in
     rw (none, room, no_user s.users u.name (recursion_from_All (λ v. v.name ≢ u.name) s.users h.2)) (ap (λ (x : Reading). Some x) (sym h.3))
 adds_again s n (items.Call p c) t h = rw (not_empty s.users h.0) (ap (λ (x : Reading). Some x) (sym h.1))
 
@@ -65,7 +65,7 @@ line_takes s n line t e =
     (a.0, item_takes line a.0 a.1, adds s n a.0 t a.2)
 
 -- and the other way
-line_again : (s : Reading) (n : ℕ) (line : List ℕ) (t : Reading) → Takes s n line t → with_line s n line ≡ Some t
+pub line_again : (s : Reading) (n : ℕ) (line : List ℕ) (t : Reading) → Takes s n line t → with_line s n line ≡ Some t
 unfolding with_line
 line_again s n line t h = rw (item_again line h.0 h.1) (adds_again s n h.0 t h.2)
 

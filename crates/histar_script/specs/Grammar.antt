@@ -9,7 +9,7 @@ use Rattle.histar_flat.specs.Texts.{path_text, process_text, mode_text}
 use Rattle.histar_script.specs.declared.items.Item.{Item}
 use Rattle.histar_script.specs.declared.items.Item.TheVariants as items
 use Rattle.histar_script.specs.Lines.{lines_of, is_plain, ◌space◌}
-use Rattle.histar_script.specs.Script.{Reading, nothing_read}
+use Rattle.histar_script.specs.Script.{Reading, most_users, nothing_read}
 
 -- `user NAME PASSWORD`, the name being one that a user may have
 pub record IsUserText (text : List ℕ) (u : User) : Type 0 where
@@ -38,7 +38,7 @@ Says line item = ((line ≡ []) × (item ≡ items.Comment)) ⊎ (IsTrue (is_pla
 -- a user line comes before the calls, is one of at most 16, and has a new name; a call line comes after some user line
 abbrev pub Adds : Reading → ℕ → Item → Reading → Type 0
 Adds old n items.Comment new = new ≡ old
-Adds old n (items.User u) new = (old.calls ≡ []) × (length old.users < 16) × All (λ v. v.name ≢ u.name) old.users × (new ≡ record { users = old.users ++ u ∷ []; calls = old.calls })
+Adds old n (items.User u) new = (old.calls ≡ []) × (length old.users < most_users) × All (λ v. v.name ≢ u.name) old.users × (new ≡ record { users = old.users ++ u ∷ []; calls = old.calls })
 Adds old n (items.Call p c) new = (0 < length old.users) × (new ≡ record { users = old.users; calls = old.calls ++ (record { line = n; process = p; call = c }) ∷ [] })
 
 -- line n says an item that adds to what was read

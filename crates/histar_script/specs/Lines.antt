@@ -12,17 +12,29 @@ unfoldable pub lines_of : List ℕ → List (List ℕ)
 lines_of [] = []
 lines_of (b ∷ bs) = if b == 10 then [] ∷ lines_of bs else onto_line b (lines_of bs)
 
--- more than 1,048,576 bytes or more than 16,384 lines
+-- the most bytes of a script: 1,048,576
+abbrev pub most_script_bytes : ℕ
+most_script_bytes = 1048576
+
+-- the most lines of a script: 16,384
+abbrev pub most_script_lines : ℕ
+most_script_lines = 16384
+
+-- the most bytes of a line: 1,024
+abbrev pub most_line_bytes : ℕ
+most_line_bytes = 1024
+
+-- more bytes or more lines than a script may have
 abbrev pub is_too_long : List ℕ → Bool
-is_too_long text = nat_lt 1048576 (length text) || nat_lt 16384 (length (lines_of text))
+is_too_long text = nat_lt most_script_bytes (length text) || nat_lt most_script_lines (length (lines_of text))
 
 -- a printable byte
 abbrev pub is_plain_byte : ℕ → Bool
 is_plain_byte b = nat_le 32 b && nat_le b 126
 
--- a line of at most 1,024 printable bytes
+-- a line of printable bytes, and no more of them than a line may have
 unfoldable pub is_plain : List ℕ → Bool
-is_plain line = nat_le (length line) 1024 && list_all is_plain_byte line
+is_plain line = nat_le (length line) most_line_bytes && list_all is_plain_byte line
 
 -- two texts with one space between them
 infixr 60 ◌space◌

@@ -12,7 +12,7 @@ use Rattle.histar_script.specs.declared.fault.Fault.TheVariants.{BadScript, TooL
 use Rattle.histar_script.specs.declared.items.Item.{Item}
 use Rattle.histar_script.specs.declared.items.Item.TheVariants as items
 use Rattle.histar_script.specs.Lines.{lines_of, is_too_long, is_plain, split_word}
-use Rattle.histar_script.specs.Script.{Reading, nothing_read}
+use Rattle.histar_script.specs.Script.{Reading, most_users, nothing_read}
 
 -- with what is there, go on
 infixl 10 ◌>>=◌
@@ -106,7 +106,7 @@ is_empty xs = length xs == 0
 -- what is read after a line that says this, unless it may not stand here
 unfoldable pub with_item : Reading → ℕ → Item → Option Reading
 with_item s n items.Comment = Some s
-with_item s n (items.User u) = if is_empty s.calls && nat_lt (length s.users) 16 && not (has_user s.users u.name) then Some (record { users = s.users ++ u ∷ []; calls = s.calls }) else None
+with_item s n (items.User u) = if is_empty s.calls && nat_lt (length s.users) most_users && not (has_user s.users u.name) then Some (record { users = s.users ++ u ∷ []; calls = s.calls }) else None
 with_item s n (items.Call p c) = if is_empty s.users then None else Some (record { users = s.users; calls = s.calls ++ (record { line = n; process = p; call = c }) ∷ [] })
 
 -- what is read after line n

@@ -13,10 +13,14 @@ pub record Reading : Type 0 where
 abbrev pub nothing_read : Reading
 nothing_read = record { users = []; calls = [] }
 
+-- the most users of a script: 16
+abbrev pub most_users : ℕ
+most_users = 16
+
 -- the users of a script: 1 to 16, each with a name that a user may have and that no other one has
 pub record IsUserList (users : List User) : Type 0 where
   pub some : 0 < length users
-  pub most : length users ≤ 16
+  pub most : length users ≤ most_users
   pub named : All (λ u. IsTrue (is_user_name u.name)) users
   pub distinct : AllPairs (λ u v. u.name ≢ v.name) users
 

@@ -6,7 +6,8 @@ ghost use Rattle.histar_script.specs.Lines.{lines_of, is_plain as plain, is_plai
 
 use memchr::memchr;
 
-const MAX_LINE: usize = 1_024;
+/// The most bytes of a line.
+const MOST_LINE_BYTES: usize = 1_024;
 
 /// The first line of a text that is not empty, and what follows it.
 pub fn split_line(text: &[u8]) -> (&[u8], &[u8])
@@ -50,7 +51,7 @@ pub fn split_word(text: &[u8]) -> (&[u8], Option<&[u8]>)
 pub fn is_plain(line: &[u8]) -> bool
     ensures { result ≡ plain line.now }
 {
-    line.len() <= MAX_LINE && has_plain_bytes(line)
+    line.len() <= MOST_LINE_BYTES && has_plain_bytes(line)
 }
 
 fn has_plain_bytes(line: &[u8]) -> bool

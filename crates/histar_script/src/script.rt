@@ -1,6 +1,6 @@
 //! Reading a whole script.
-ghost use Rattle.std.specs.Prelude.{ℕ, List, IfOk, false, ◌≡◌, ◌≤◌, [], length, IsTrue, IsErrOf, Ok, Err};
-ghost use Rattle.histar_script.specs.Lines.{lines_of, is_too_long as too_long};
+ghost use Rattle.std.specs.Prelude.{ℕ, IfOk, false, ◌≡◌, ◌≤◌, [], length, IsTrue, IsErrOf, Ok, Err};
+ghost use Rattle.histar_script.specs.Lines.{lines_of, most_script_bytes, is_too_long as too_long};
 ghost use Rattle.histar_script.specs.Script.{Reading, IsUserList, IsNumbered};
 ghost use Rattle.histar_script.specs.Grammar.{IsScript, IsFirstBad};
 ghost use Rattle.histar_script.specs.Reading.{reading, script_of, with_item, has_user as user_known};
@@ -14,11 +14,14 @@ use histar_flat::{CallLine, Name, ProcName, UnixCall, User};
 use std::alloc::Global;
 use std::marker::Model;
 
-const MAX_BYTES: usize = 1_048_576;
+/// The most bytes of a script.
+const MOST_SCRIPT_BYTES: usize = 1_048_576;
 
-const MAX_LINES: usize = 16_384;
+/// The most lines of a script.
+const MOST_SCRIPT_LINES: usize = 16_384;
 
-const MAX_USERS: usize = 16;
+/// The most users of a script.
+const MOST_USERS: usize = 16;
 
 /// The users and the calls of a script.
 #[derive(Drop)]
@@ -78,7 +81,7 @@ impl Script {
         ensures { GivesNext line result self.new (with_item self.old line (Item.User user)) }
     {
         let is_right = self.calls.is_empty()
-            && self.users.len() < MAX_USERS
+            && self.users.len() < MOST_USERS
             && !has_user(self.users.as_slice(), user.name);
         if !is_right {
             return Err(Fault::BadScript(line));
@@ -113,7 +116,7 @@ fn has_user(users: &[User], name: Name) -> bool
 fn is_too_long(text: &[u8]) -> bool
     ensures { result ≡ too_long text.now }
 {
-    text.len() > MAX_BYTES || count_lines(text) > MAX_LINES
+    text.len() > MOST_SCRIPT_BYTES || count_lines(text) > MOST_SCRIPT_LINES
 }
 
 /// The script that the bytes are. The whole text is read before anything is made of it. At `OutOfMemory` nothing
@@ -142,7 +145,7 @@ pub fn read_script(alloc: Global, text: &[u8]) -> Result<Script, Fault>
 
 #[tactic(auto, unfolding(crate::specs::Reading::with_lines, crate::specs::Reading::with_line, crate::specs::Reading::reading))]
 fn read_lines(alloc: Global, text: &[u8]) -> Result<Script, Fault>
-    requires { length text.now ≤ 1048576 }
+    requires { length text.now ≤ most_script_bytes }
     ensures { Gives result (reading text.now) }
 {
     let mut script = Script::new(alloc);
@@ -162,8 +165,3 @@ fn read_lines(alloc: Global, text: &[u8]) -> Result<Script, Fault>
     }
     Ok(script)
 }
-
-/// A text is one script at most.
-pub fn one_reading()
-    ensures { (text : List ℕ) (a b : Reading) → IsScript text a → IsScript text b → a ≡ b }
-{}

@@ -1,6 +1,6 @@
 //! The machine: a labelled kernel with its start state, and what each call line has it do.
 ghost use Rattle.std.specs.Prelude.{◌≡◌, ◌≤◌, length, IfOk};
-ghost use Rattle.histar_script.specs.Script.{IsUserList};
+ghost use Rattle.histar_script.specs.Script.{IsUserList, most_users};
 ghost use Rattle.histar_shell.specs.Machine.{AnswersLine, IsStart, Makes};
 ghost use Rattle.histar_shell.specs.Meaning.{FollowsMeaning, ShowsStart};
 
@@ -54,6 +54,7 @@ pub struct Machine<S: LabelStore + Drop> {
 
 impl<S: LabelStore + Drop> Model for Machine<S> {
     ghost use Rattle.std.specs.Prelude.{◌≤◌, length};
+    ghost use Rattle.histar_script.specs.Script.{most_users};
     ghost use Rattle.histar_shell.specs.Machine.{MachineModel, coded_machine_model};
 
     ghost Value = { MachineModel };
@@ -62,7 +63,7 @@ impl<S: LabelStore + Drop> Model for Machine<S> {
 
     ghost view = { λ m. record { kernel = m.kernel; places = m.places; thread = m.thread; users = m.users.items; is_stopped = m.is_stopped } };
 
-    ghost invariant = { λ m. length m.users.items ≤ 16 };
+    ghost invariant = { λ m. length m.users.items ≤ most_users };
 }
 
 impl<S: LabelStore + Drop> Machine<S> {
@@ -136,7 +137,7 @@ fn make<S: LabelStore + Drop>(
     thread: ObjId,
     call: UnixCall,
 ) -> Result<Reply, Stopped>
-    requires { length users.now ≤ 16 }
+    requires { length users.now ≤ most_users }
     ensures { Makes users.now places.now kernel.old kernel.new thread call result }
 {
     match call {

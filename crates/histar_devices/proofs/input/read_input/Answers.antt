@@ -1,6 +1,7 @@
 use Rattle.std.proofs.Common.{◌+◌, ◌≤◌, length, take, rules}
 use Rattle.std.proofs.lemmas.List.{length-take}
 use Rattle.std.proofs.lemmas.Result.{err_from_is_err_and}
+use Rattle.histar_devices.specs.Input.{most_taken}
 use Rattle.histar_devices.proofs.InputLemmas.{takes_piece}
 use Rattle.histar_devices.proofs.input.read_input.Goals as goal
 
@@ -8,5 +9,5 @@ pub returns-in_err-extend_from_slice-in-Ok-clause-err : goal.returns-in_err-exte
 returns-in_err-extend_from_slice-in-Ok-clause-err g c =
     let p = err_from_is_err_and c.from_residual.result c.from_residual.ensures.1 in
     let piece = take c.in-Ok.n c.pull.new.buffer in
-    let within : length c.chunks.input.items + length piece ≤ 1048577 = search (rules, length-take) in
+    let within : length c.chunks.input.items + length piece ≤ most_taken = search (rules, length-take) in
     rw p.1 (takes_piece _ _ _ c.chunks.input.items piece c.chunks.invariant.taken c.in-Ok.ensures.bytes.0 within)
