@@ -8,6 +8,15 @@ use histar_base::Bytes;
 use histar_label::{Category, Label};
 use histar_object::{Entry, ObjId};
 
+/// How a read tells the bytes of its segment.
+#[derive(Clone, Copy)]
+pub enum Reading {
+    /// Its answer has a copy of them.
+    Copied,
+    /// Its answer has none: they are lent after it.
+    Lent,
+}
+
 /// What a granted raw call answers.
 #[derive(Drop)]
 pub enum Answer {

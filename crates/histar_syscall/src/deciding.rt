@@ -1,14 +1,13 @@
 //! How a raw call is decided: each by the function of its kind.
-ghost use Rattle.std.specs.Prelude.{◌≡◌, Some};
 ghost use Rattle.histar_object.specs.Objects.{objects_of};
 ghost use Rattle.histar_container.specs.ObjectsModel.{state_of};
 ghost use Rattle.histar_container.specs.Tree.{AreTree};
 ghost use Rattle.histar_rules.specs.Rules.{Decides};
-ghost use Rattle.histar_syscall.specs.Answers.{answer_by};
+ghost use Rattle.histar_syscall.specs.Answers.{IsRightAnswer};
 
-use crate::answers::Answer;
+use crate::answers::{Answer, Reading};
 use crate::containers::{label_of, make_container, own_label, unlink};
-use crate::segments::{make_segment, may_read, read, write};
+use crate::segments::{make_segment, read, write};
 use histar_container::LabelledObjects;
 use histar_gate::{enter, make_gate};
 use histar_label::LabelStore;
@@ -16,15 +15,6 @@ use histar_object::ObjId;
 use histar_rules::{RawCall, Refusal};
 use histar_thread::{make_category, make_thread, set_clearance, set_label};
 use std::alloc::Global;
-
-/// How a read tells the bytes of its segment.
-#[derive(Clone, Copy)]
-pub enum Reading {
-    /// Its answer has a copy of them.
-    Copied,
-    /// Its answer has none: they are lent after it.
-    Lent,
-}
 
 /// Decides a raw call on the objects, and answers it where it is granted.
 pub fn decide<S: LabelStore + Drop>(
@@ -35,7 +25,7 @@ pub fn decide<S: LabelStore + Drop>(
     reading: Reading,
 ) -> Result<Answer, Refusal>
     requires { AreTree (objects_of objects.old.objects) }
-    ensures { Decides objects.old objects.new thread call.now result (λ answer. answer_by reading (state_of objects.old) thread call.now ≡ Some answer) }
+    ensures { Decides objects.old objects.new thread call.now result (IsRightAnswer reading (state_of objects.old) thread call.now) }
 {
     match call {
         RawCall::MakeCategory => Ok(Answer::Category(make_category(objects, thread)?)),
@@ -62,12 +52,9 @@ pub fn decide<S: LabelStore + Drop>(
         RawCall::Enter(container, gate, wanted, clearance, shown) => {
             Ok(Answer::Entry(enter(objects, thread, *container, *gate, wanted, clearance, shown)?))
         }
-        RawCall::Read(container, segment) => match reading {
-            Reading::Copied => Ok(Answer::Bytes(read(
-                objects, alloc, thread, *container, *segment,
-            )?)),
-            Reading::Lent => may_read(objects, thread, *container, *segment).map(|()| Answer::Done),
-        },
+        RawCall::Read(container, segment) => {
+            read(objects, alloc, thread, *container, *segment, reading)
+        }
         RawCall::Write(container, segment, keep, bytes) => {
             write(objects, alloc, thread, *container, *segment, *keep, bytes).map(|()| Answer::Done)
         }

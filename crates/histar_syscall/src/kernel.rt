@@ -5,11 +5,11 @@ ghost use Rattle.histar_object.specs.State.{empty_state};
 ghost use Rattle.histar_rules.specs.Rules.{IsNextNumber, AreBytesOf, AreLabelsOf, IsLabelOf, IsEntryOf};
 ghost use Rattle.histar_rules.specs.Sound.{IsSound};
 ghost use Rattle.histar_rules.specs.declared.raw.RawCall.TheVariants as calls;
-ghost use Rattle.histar_syscall.specs.Answers.{answer, answer_by};
+ghost use Rattle.histar_syscall.specs.Answers.{answer, IsRightAnswer};
 ghost use Rattle.histar_syscall.specs.KernelModel.{Answered, ReadsLent, EndsAs, state};
 
-use crate::answers::Answer;
-use crate::deciding::{Reading, decide};
+use crate::answers::{Answer, Reading};
+use crate::deciding::decide;
 use crate::starting::empty_objects;
 use crate::trace::{TraceEntry, log};
 use histar_base::Bytes;
@@ -31,6 +31,7 @@ pub struct Kernel<S: LabelStore + Drop> {
     objects: LabelledObjects<S>,
     line: u32,
     trace: Vec<TraceEntry>,
+    // The memory of calls that are handed none.
     alloc: Global,
 }
 
@@ -93,21 +94,22 @@ impl<S: LabelStore + Drop> Kernel<S> {
     /// Makes one raw call of any kind.
     pub fn call(&mut self, alloc: Global, thread: ObjId, call: RawCall) -> Result<Answer, Refusal>
         ensures answered { Answered self.old self.new thread call result (λ a. answer (state self.old) thread call ≡ Some a) }
-        // The objects are sound before the call and after it.
+
+        // The objects of every kernel are sound.
         ensures sound { IsSound (state self.old) × IsSound (state self.new) }
     {
-        self.make(alloc, thread, call, Reading::Copied)
+        self.carry_out(alloc, thread, call, Reading::Copied)
     }
 
     // The one door to the trace: makes room in it, has the call decided, and writes its entry.
-    fn make(
+    fn carry_out(
         &mut self,
         alloc: Global,
         thread: ObjId,
         call: RawCall,
         reading: Reading,
     ) -> Result<Answer, Refusal>
-        ensures answered { Answered self.old self.new thread call result (λ a. answer_by reading (state self.old) thread call ≡ Some a) }
+        ensures answered { Answered self.old self.new thread call result (IsRightAnswer reading (state self.old) thread call) }
         ensures sound { IsSound (state self.old) × IsSound (state self.new) }
     {
         self.trace.reserve(1)?;
@@ -238,7 +240,7 @@ impl<S: LabelStore + Drop> Kernel<S> {
             (ReadsLent self.old thread container segment result)) }
     {
         let call = RawCall::Read(container, segment);
-        self.make(self.alloc, thread, call, Reading::Lent)?;
+        self.carry_out(self.alloc, thread, call, Reading::Lent)?;
         Ok(self.bytes(segment))
     }
 
