@@ -11,31 +11,31 @@ use std::marker::Model;
 #[derive(Clone, Copy, Debug, PartialEq, Eq)]
 pub enum Errno {
     /// There is no such file, directory or user.
-    ENOENT = 1,
+    ENOENT,
     /// What stands on the way of a path is no directory.
-    ENOTDIR = 2,
+    ENOTDIR,
     /// The call wants a file, and a directory stands there.
-    EISDIR = 3,
+    EISDIR,
     /// Something stands there already.
-    EEXIST = 4,
+    EEXIST,
     /// The process may not look there, or not change what is there.
-    EACCES = 5,
+    EACCES,
     /// The process may not make a thing of this mode.
-    EPERM = 6,
+    EPERM,
     /// The directory has entries.
-    ENOTEMPTY = 7,
+    ENOTEMPTY,
     /// `/` can't be taken away or renamed.
-    EBUSY = 8,
+    EBUSY,
     /// The directory has 64 entries.
-    ENOSPC = 9,
+    ENOSPC,
     /// The file would have more than 4,096 bytes.
-    EFBIG = 10,
+    EFBIG,
     /// There is no such process.
-    ESRCH = 11,
+    ESRCH,
     /// The process had 64 children, or its name has no room for another number.
-    EAGAIN = 12,
+    EAGAIN,
     /// The password is another one.
-    EAUTH = 13,
+    EAUTH,
 }
 
 impl Errno {

@@ -1,5 +1,5 @@
 -- However many raw calls confined threads make, what is visible stays.
-use Rattle.std.proofs.Common.{◌≡◌, ℕ, ◌≤◌, List, [], ◌∷◌, Option, None, Some, arith, take, sym, ap, ◌∙◌, subst}
+use Rattle.std.proofs.Common.{◌≡◌, ℕ, zero, suc, ◌<◌, ◌≤◌, List, [], ◌∷◌, length, Option, None, Some, arith, take, sym, ap, ◌∙◌, subst}
 use Rattle.std.specs.List.{All}
 use Rattle.std.proofs.lemmas.List.Elements.{All-head, All-tail, All-take}
 use Rattle.histar_object.specs.State.{State}
@@ -53,14 +53,30 @@ all_stay v old new (asked ∷ more) sound confined made path =
     all_stay v made.0 new more steps.sound (still_confined v (state old) (state made.0) asked more sound confined steps) made.2 path
     ∙ visible_stays (state old) (state made.0) v sound steps.moved path
 
--- what confined threads do is not seen
-pub confinement : (v : ℕ) (old new : KernelModel) (calls : List (ℕ × RawCall)) → IsSound (state old) → AreConfined (state old) v calls → MadeAll old calls new → visible (state new) v ≡ visible (state old) v
-confinement v old new calls sound confined made i path = all_stay v old new calls sound confined made path i
+some_calls : (asked : ℕ × RawCall) (more : List (ℕ × RawCall)) → 0 < length (asked ∷ more)
+some_calls asked more = omega arith
+
+some_taken : (n : ℕ) (calls : List (ℕ × RawCall)) → 0 < length (take n calls) → 0 < n
+some_taken zero calls some = some
+some_taken (suc n) calls some = omega arith
+
+-- what confined threads do is not seen; where they do nothing, no kernel has to be sound
+pub confinement : (v : ℕ) (old new : KernelModel) (calls : List (ℕ × RawCall)) → (0 < length calls → IsSound (state old)) → AreConfined (state old) v calls → MadeAll old calls new → visible (state new) v ≡ visible (state old) v
+unfolding MadeAll
+confinement v old new [] sound confined made = ap (λ (s : State). visible s v) made.state
+confinement v old new (asked ∷ more) sound confined made = λ i path. all_stay v old new (asked ∷ more) (sound (some_calls asked more)) confined made path i
 
 -- fewer calls are confined too
 confined_take : (v : ℕ) (s : State) (calls : List (ℕ × RawCall)) (n : ℕ) → AreConfined s v calls → AreConfined s v (take n calls)
 confined_take v s calls n confined = record { made = confined.made; gates = confined.gates; callers = All-take (λ (asked : ℕ × RawCall). IsTaintedCaller s v asked.0) n calls confined.callers }
 
 -- nor is a beginning of what they do
-pub confinement_stopped : (v : ℕ) (old mid new : KernelModel) (calls : List (ℕ × RawCall)) (n : ℕ) → IsSound (state old) → AreConfined (state old) v calls → MadeAll old (take n calls) mid → IsUnchanged mid new → visible (state new) v ≡ visible (state old) v
-confinement_stopped v old mid new calls n sound confined made same = confinement v old new (take n calls) sound (confined_take v (state old) calls n confined) (all_unchanged old mid new (take n calls) made same)
+pub confinement_stopped : (v : ℕ) (old mid new : KernelModel) (calls : List (ℕ × RawCall)) (n : ℕ) → (0 < n → IsSound (state old)) → AreConfined (state old) v calls → MadeAll old (take n calls) mid → IsUnchanged mid new → visible (state new) v ≡ visible (state old) v
+confinement_stopped v old mid new calls n sound confined made same =
+    confinement v old new (take n calls) (λ some. sound (some_taken n calls some)) (confined_take v (state old) calls n confined) (all_unchanged old mid new (take n calls) made same)
+
+-- after a call that found the kernel sound, and those before it, the kernel was sound before the first
+pub sound_before : (old mid : KernelModel) (calls : List (ℕ × RawCall)) (n : ℕ) → (0 < n → IsSound (state old)) → MadeAll old (take n calls) mid → IsSound (state mid) → IsSound (state old)
+unfolding MadeAll
+sound_before old mid calls zero sound made now = subst IsSound made.state now
+sound_before old mid calls (suc n) sound made now = sound (omega arith)

@@ -1,4 +1,5 @@
 pub mod Rooms
+pub mod Tellings
 pub mod Runs
 pub mod Sessions
 pub mod Beginnings

@@ -1,12 +1,14 @@
 -- What raw calls answer.
-use Rattle.std.specs.Prelude.{ℕ, Option, None, Some, option_map}
+use Rattle.std.specs.Prelude.{◌≡◌, ℕ, Option, None, Some, option_map}
 use Rattle.histar_label.specs.Levels.{Levels}
 use Rattle.histar_object.specs.Objects.{label_there, clearance_there, bytes_in, entry_there}
 use Rattle.histar_object.specs.State.{State}
 use Rattle.histar_rules.specs.declared.raw.RawCall.{RawCall}
 use Rattle.histar_rules.specs.declared.raw.RawCall.TheVariants.{MakeCategory, OwnLabel, SetLabel, SetClearance, MakeSegment, MakeContainer, MakeThread, MakeGate, Enter, Read, Write, Unlink, LabelOf}
-use Rattle.histar_syscall.specs.declared.calling.Answer.{Answer}
-use Rattle.histar_syscall.specs.declared.calling.Answer.TheVariants as answers
+use Rattle.histar_syscall.specs.declared.answers.Answer.{Answer}
+use Rattle.histar_syscall.specs.declared.answers.Answer.TheVariants as answers
+use Rattle.histar_syscall.specs.declared.answers.Reading.{Reading}
+use Rattle.histar_syscall.specs.declared.answers.Reading.TheVariants.{Copied, Lent}
 
 -- a label and a clearance, where both are there
 abbrev pub own_labels : Option Levels → Option Levels → Option Answer
@@ -30,3 +32,13 @@ answer s t (Read d o) = Some (answers.Bytes (bytes_in (s.objects o)))
 answer s t (Write d o keep bytes) = Some answers.Done
 answer s t (Unlink d o) = Some answers.Done
 answer s t (LabelOf d o) = option_map answers.Label (label_there (s.objects o))
+
+-- the same, where the bytes of a segment are lent after the call and its answer has none
+abbrev pub answer_before_lending : State → ℕ → RawCall → Option Answer
+answer_before_lending s t (Read d o) = Some answers.Done
+answer_before_lending s t call = answer s t call
+
+-- the answer is the one that the state gives, by how a read tells its bytes
+abbrev pub IsRightAnswer : Reading → State → ℕ → RawCall → Answer → Type 0
+IsRightAnswer Copied s t call told = answer s t call ≡ Some told
+IsRightAnswer Lent s t call told = answer_before_lending s t call ≡ Some told

@@ -1,15 +1,18 @@
 -- What the contracts of the kernel cite.
-use Rattle.std.specs.Prelude.{◌≡◌, ℕ, List, [], ◌∷◌, ◌++◌, Option, None, Some, Result, Ok, Err, refl}
+use Rattle.std.specs.Prelude.{◌≡◌, ℕ, List, [], ◌∷◌, ◌++◌, Option, None, Some, Result, Ok, Err, ⊤, refl}
+use Rattle.std.specs.Borrow.{RattleType, Bor, MutBor, Fml, follows_so}
+use mathlib.Core.Option.{none}
 use Rattle.std.specs.Coded.{Coded, code_by, coded×, coded_ℕ, coded_list}
 use Rattle.histar_container.specs.ObjectsModel.{ObjectsModel, coded_objects_model, state_of}
 use Rattle.histar_object.specs.State.{State}
 use Rattle.histar_rules.specs.declared.raw.Denied.{Denied}
 use Rattle.histar_rules.specs.declared.raw.RawCall.{RawCall}
+use Rattle.histar_rules.specs.declared.raw.RawCall.TheVariants.{Read}
 use Rattle.histar_rules.specs.declared.raw.Refusal.{Refusal}
 use Rattle.histar_rules.specs.declared.raw.Refusal.TheVariants as refusals
 use Rattle.histar_syscall.specs.declared.trace.TraceEntry.{TraceEntry}
 use Rattle.histar_syscall.specs.contracts.trace.TraceEntry as entry
-use Rattle.histar_rules.specs.Rules.{check, Leaves}
+use Rattle.histar_rules.specs.Rules.{check, Leaves, AreBytesOf}
 
 -- what a kernel keeps: its objects, the line that was begun last, and the trace of its calls
 pub record KernelModel : Type 0 where
@@ -49,3 +52,11 @@ abbrev pub logged : {A : Type 0} → List TraceEntry → ℕ → ℕ → RawCall
 logged trace line t call (Ok answer) = trace ++ record { line = line; thread = t; call = call; denied = None } ∷ []
 logged trace line t call (Err (refusals.Denied denied)) = trace ++ record { line = line; thread = t; call = call; denied = Some denied } ∷ []
 logged trace line t call (Err refusals.OutOfMemory) = trace
+
+-- a read was made that lends its bytes, and they are those of the segment
+abbrev pub ReadsLent : KernelModel → ℕ → ℕ → ℕ → Result (Bor (List ℕ)) Refusal → KernelModel → Type 0
+ReadsLent old t container segment result new = Answered old new t (Read container segment) result (λ bytes. AreBytesOf old.kept segment bytes.now)
+
+-- a kernel that lends what may only be looked at ends as the call left it
+abbrev pub EndsAs : (R : RattleType) → MutBor R.Denot → (R.Denot → Type 0) → Fml
+EndsAs R kernel IsLeft = follows_so R R kernel.ghost_name none (λ _ _. ⊤) IsLeft

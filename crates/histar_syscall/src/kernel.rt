@@ -1,22 +1,22 @@
 //! The kernel and its raw calls.
-ghost use Rattle.std.specs.Prelude.{◌≡◌, [], IfOk};
+ghost use Rattle.std.specs.Prelude.{◌≡◌, [], Some, IfOk};
 ghost use Rattle.histar_object.specs.Objects.{objects_of, bytes_in};
 ghost use Rattle.histar_object.specs.State.{empty_state};
 ghost use Rattle.histar_rules.specs.Rules.{IsNextNumber, AreBytesOf, AreLabelsOf, IsLabelOf, IsEntryOf};
 ghost use Rattle.histar_rules.specs.Sound.{IsSound};
 ghost use Rattle.histar_rules.specs.declared.raw.RawCall.TheVariants as calls;
-ghost use Rattle.histar_syscall.specs.KernelModel.{Answered, state};
+ghost use Rattle.histar_syscall.specs.Answers.{answer, IsRightAnswer};
+ghost use Rattle.histar_syscall.specs.KernelModel.{Answered, ReadsLent, EndsAs, state};
 
+use crate::answers::{Answer, Reading};
+use crate::deciding::decide;
 use crate::starting::empty_objects;
 use crate::trace::{TraceEntry, log};
-use crate::{containers, segments};
 use histar_base::Bytes;
 use histar_container::LabelledObjects;
-use histar_gate as gates;
 use histar_label::{Category, Label, LabelStore, OutOfMemory};
 use histar_object::{Entry, ObjId};
 use histar_rules::{RawCall, Refusal};
-use histar_thread as threads;
 use std::alloc::Global;
 use std::marker::Model;
 
@@ -31,6 +31,8 @@ pub struct Kernel<S: LabelStore + Drop> {
     objects: LabelledObjects<S>,
     line: u32,
     trace: Vec<TraceEntry>,
+    // The memory of calls that are handed none.
+    alloc: Global,
 }
 
 impl<S: LabelStore + Drop> Model for Kernel<S> {
@@ -49,10 +51,7 @@ impl<S: LabelStore + Drop> Model for Kernel<S> {
 
 #[tactic(auto, using(crate::proofs::Rooms::answered, crate::proofs::Rooms::exits, crate::proofs::Rooms::stays_sound))]
 impl<S: LabelStore + Drop> Kernel<S> {
-    ghost use Rattle.std.specs.Prelude.{⊤};
-    ghost use mathlib.Core.Option.{none};
-    ghost use types.Logic.{sem};
-    ghost use denote.Follow.{follows_so};
+    ghost use Rattle.std.specs.Borrow.{sem};
     ghost use Rattle.histar_syscall.specs.contracts.kernel.Kernel.{the_row};
 
     /// The empty kernel: the root container, and the boot thread in it, which owns category 1. No line
@@ -67,6 +66,7 @@ impl<S: LabelStore + Drop> Kernel<S> {
             objects,
             line: 0,
             trace: Vec::new(alloc),
+            alloc,
         })
     }
 
@@ -84,14 +84,6 @@ impl<S: LabelStore + Drop> Kernel<S> {
         self.trace.as_slice()
     }
 
-    /// The objects as they are, read with no call: for texts that no thread asks for.
-    pub fn objects(&self) -> &LabelledObjects<S>
-        ensures objects { result.now ≡ self.now.kept }
-        ensures sound { IsSound (state self.now) }
-    {
-        &self.objects
-    }
-
     /// The calls so far, moved out.
     pub fn into_trace(self) -> Vec<TraceEntry>
         ensures { result.items ≡ self.trace }
@@ -99,47 +91,55 @@ impl<S: LabelStore + Drop> Kernel<S> {
         self.trace
     }
 
+    /// Makes one raw call of any kind.
+    pub fn call(&mut self, alloc: Global, thread: ObjId, call: RawCall) -> Result<Answer, Refusal>
+        ensures answered { Answered self.old self.new thread call result (λ a. answer (state self.old) thread call ≡ Some a) }
+
+        // The objects of every kernel are sound.
+        ensures sound { IsSound (state self.old) × IsSound (state self.new) }
+    {
+        self.carry_out(alloc, thread, call, Reading::Copied)
+    }
+
+    // The one door to the trace: makes room in it, has the call decided, and writes its entry.
+    fn carry_out(
+        &mut self,
+        alloc: Global,
+        thread: ObjId,
+        call: RawCall,
+        reading: Reading,
+    ) -> Result<Answer, Refusal>
+        ensures answered { Answered self.old self.new thread call result (IsRightAnswer reading (state self.old) thread call) }
+        ensures sound { IsSound (state self.old) × IsSound (state self.new) }
+    {
+        self.trace.reserve(1)?;
+        let answer = decide(&mut self.objects, alloc, thread, &call, reading);
+        log(&mut self.trace, self.line, thread, call, &answer);
+        answer
+    }
+
     /// Makes a category. The thread owns it from then on, and may give anyone level 3 there.
     pub fn make_category(&mut self, thread: ObjId) -> Result<Category, Refusal>
         ensures { Answered self.old self.new thread calls.MakeCategory result (λ category. category ≡ self.old.kept.next_category) }
     {
-        self.trace.reserve(1)?;
-        let answer = threads::make_category(&mut self.objects, thread);
-        log(
-            &mut self.trace,
-            self.line,
-            thread,
-            RawCall::MakeCategory,
-            &answer,
-        );
-        answer
+        let answer = self.call(self.alloc, thread, RawCall::MakeCategory)?;
+        Ok(answer.into_category())
     }
 
     /// The thread's own label and clearance.
     pub fn own_label(&mut self, thread: ObjId) -> Result<(Label, Label), Refusal>
         ensures { Answered self.old self.new thread calls.OwnLabel result (AreLabelsOf self.old.kept thread) }
     {
-        self.trace.reserve(1)?;
-        let answer = containers::own_label(&self.objects, thread);
-        log(
-            &mut self.trace,
-            self.line,
-            thread,
-            RawCall::OwnLabel,
-            &answer,
-        );
-        answer
+        let answer = self.call(self.alloc, thread, RawCall::OwnLabel)?;
+        Ok(answer.into_own_label())
     }
 
     /// Gives the thread another label, which lies between its own label and its clearance.
     pub fn set_label(&mut self, thread: ObjId, label: Label) -> Result<(), Refusal>
         ensures { Answered self.old self.new thread (calls.SetLabel label) result (λ _. Unit {0}) }
     {
-        self.trace.reserve(1)?;
-        let answer = threads::set_label(&mut self.objects, thread, &label);
-        let call = RawCall::SetLabel(label);
-        log(&mut self.trace, self.line, thread, call, &answer);
-        answer
+        self.call(self.alloc, thread, RawCall::SetLabel(label))?;
+        Ok(())
     }
 
     /// Gives the thread another clearance, which is above its own label, and above its old clearance
@@ -147,11 +147,8 @@ impl<S: LabelStore + Drop> Kernel<S> {
     pub fn set_clearance(&mut self, thread: ObjId, clearance: Label) -> Result<(), Refusal>
         ensures { Answered self.old self.new thread (calls.SetClearance clearance) result (λ _. Unit {0}) }
     {
-        self.trace.reserve(1)?;
-        let answer = threads::set_clearance(&mut self.objects, thread, &clearance);
-        let call = RawCall::SetClearance(clearance);
-        log(&mut self.trace, self.line, thread, call, &answer);
-        answer
+        self.call(self.alloc, thread, RawCall::SetClearance(clearance))?;
+        Ok(())
     }
 
     /// Makes a segment in a container, and answers its number.
@@ -165,12 +162,8 @@ impl<S: LabelStore + Drop> Kernel<S> {
     ) -> Result<ObjId, Refusal>
         ensures { Answered self.old self.new thread (calls.MakeSegment container label bytes) result (IsNextNumber self.old.kept) }
     {
-        self.trace.reserve(1)?;
-        let objects = &mut self.objects;
-        let answer = segments::make_segment(objects, alloc, thread, container, &label, &bytes);
         let call = RawCall::MakeSegment(container, label, bytes);
-        log(&mut self.trace, self.line, thread, call, &answer);
-        answer
+        Ok(self.call(alloc, thread, call)?.into_object())
     }
 
     /// Makes a container in a container, and answers its number.
@@ -183,12 +176,8 @@ impl<S: LabelStore + Drop> Kernel<S> {
     ) -> Result<ObjId, Refusal>
         ensures { Answered self.old self.new thread (calls.MakeContainer container label) result (IsNextNumber self.old.kept) }
     {
-        self.trace.reserve(1)?;
-        let objects = &mut self.objects;
-        let answer = containers::make_container(objects, alloc, thread, container, &label);
         let call = RawCall::MakeContainer(container, label);
-        log(&mut self.trace, self.line, thread, call, &answer);
-        answer
+        Ok(self.call(alloc, thread, call)?.into_object())
     }
 
     /// Makes a thread in a container, and answers its number. The new thread owns no more than its
@@ -202,12 +191,8 @@ impl<S: LabelStore + Drop> Kernel<S> {
     ) -> Result<ObjId, Refusal>
         ensures { Answered self.old self.new thread (calls.MakeThread container label clearance) result (IsNextNumber self.old.kept) }
     {
-        self.trace.reserve(1)?;
-        let objects = &mut self.objects;
-        let answer = threads::make_thread(objects, thread, container, &label, &clearance);
         let call = RawCall::MakeThread(container, label, clearance);
-        log(&mut self.trace, self.line, thread, call, &answer);
-        answer
+        Ok(self.call(self.alloc, thread, call)?.into_object())
     }
 
     /// Makes a gate in a container, and answers its number. The gate gives its label to who enters it,
@@ -222,12 +207,8 @@ impl<S: LabelStore + Drop> Kernel<S> {
     ) -> Result<ObjId, Refusal>
         ensures { Answered self.old self.new thread (calls.MakeGate container label clearance entry) result (IsNextNumber self.old.kept) }
     {
-        self.trace.reserve(1)?;
-        let objects = &mut self.objects;
-        let answer = gates::make_gate(objects, thread, container, &label, &clearance, entry);
         let call = RawCall::MakeGate(container, label, clearance, entry);
-        log(&mut self.trace, self.line, thread, call, &answer);
-        answer
+        Ok(self.call(self.alloc, thread, call)?.into_object())
     }
 
     /// Enters a gate that a container links: the thread gets the label and the clearance that it wants,
@@ -243,14 +224,8 @@ impl<S: LabelStore + Drop> Kernel<S> {
     ) -> Result<Entry, Refusal>
         ensures { Answered self.old self.new thread (calls.Enter container gate wanted clearance shown) result (IsEntryOf self.old.kept gate) }
     {
-        self.trace.reserve(1)?;
-        let objects = &mut self.objects;
-        let answer = gates::enter(
-            objects, thread, container, gate, &wanted, &clearance, &shown,
-        );
         let call = RawCall::Enter(container, gate, wanted, clearance, shown);
-        log(&mut self.trace, self.line, thread, call, &answer);
-        answer
+        Ok(self.call(self.alloc, thread, call)?.into_entry())
     }
 
     /// The bytes of a segment that the container links, lent by the kernel, which is free again when they
@@ -261,21 +236,12 @@ impl<S: LabelStore + Drop> Kernel<S> {
         container: ObjId,
         segment: ObjId,
     ) -> Result<&[u8], Refusal>
-        ensures* { sem 𝓛 (follows_so (the_row S.row S.Id.row S.LabelStore S.Id.PartialEq) (the_row S.row S.Id.row S.LabelStore S.Id.PartialEq) self.entry.ghost_name none (λ _ _. ⊤) (λ new. Answered self.old new thread (calls.Read container segment) result (λ bytes. AreBytesOf self.old.kept segment bytes.now))) }
+        ensures* { sem 𝓛 (EndsAs (the_row S.row S.Id.row S.LabelStore S.Id.PartialEq) self.entry
+            (ReadsLent self.old thread container segment result)) }
     {
-        self.look(thread, container, segment)?;
-        Ok(self.bytes(segment))
-    }
-
-    // The call of a read, which leaves the objects as they are.
-    fn look(&mut self, thread: ObjId, container: ObjId, segment: ObjId) -> Result<(), Refusal>
-        ensures { Answered self.old self.new thread (calls.Read container segment) result (λ _. Unit {0}) }
-    {
-        self.trace.reserve(1)?;
-        let answer = segments::may_read(&mut self.objects, thread, container, segment);
         let call = RawCall::Read(container, segment);
-        log(&mut self.trace, self.line, thread, call, &answer);
-        answer
+        self.carry_out(self.alloc, thread, call, Reading::Lent)?;
+        Ok(self.bytes(segment))
     }
 
     // The bytes of a segment, and none of anything else.
@@ -298,11 +264,8 @@ impl<S: LabelStore + Drop> Kernel<S> {
     ) -> Result<Bytes, Refusal>
         ensures { Answered self.old self.new thread (calls.Read container segment) result (AreBytesOf self.old.kept segment) }
     {
-        self.trace.reserve(1)?;
-        let answer = segments::read(&mut self.objects, alloc, thread, container, segment);
         let call = RawCall::Read(container, segment);
-        log(&mut self.trace, self.line, thread, call, &answer);
-        answer
+        Ok(self.call(alloc, thread, call)?.into_bytes())
     }
 
     /// Keeps at most so many bytes of a segment that the container links, and puts these behind them.
@@ -317,12 +280,9 @@ impl<S: LabelStore + Drop> Kernel<S> {
     ) -> Result<(), Refusal>
         ensures { Answered self.old self.new thread (calls.Write container segment keep bytes) result (λ _. Unit {0}) }
     {
-        self.trace.reserve(1)?;
-        let objects = &mut self.objects;
-        let answer = segments::write(objects, alloc, thread, container, segment, keep, &bytes);
         let call = RawCall::Write(container, segment, keep, bytes);
-        log(&mut self.trace, self.line, thread, call, &answer);
-        answer
+        self.call(alloc, thread, call)?;
+        Ok(())
     }
 
     /// Takes an object that the container links away, with all that hangs below it, its threads too.
@@ -335,11 +295,8 @@ impl<S: LabelStore + Drop> Kernel<S> {
     ) -> Result<(), Refusal>
         ensures { Answered self.old self.new thread (calls.Unlink container object) result (λ _. Unit {0}) }
     {
-        self.trace.reserve(1)?;
-        let answer = containers::unlink(&mut self.objects, alloc, thread, container, object);
-        let call = RawCall::Unlink(container, object);
-        log(&mut self.trace, self.line, thread, call, &answer);
-        answer
+        self.call(alloc, thread, RawCall::Unlink(container, object))?;
+        Ok(())
     }
 
     /// The label of an object that the container links and that is no thread.
@@ -351,10 +308,7 @@ impl<S: LabelStore + Drop> Kernel<S> {
     ) -> Result<Label, Refusal>
         ensures { Answered self.old self.new thread (calls.LabelOf container object) result (IsLabelOf self.old.kept object) }
     {
-        self.trace.reserve(1)?;
-        let answer = containers::label_of(&mut self.objects, thread, container, object);
         let call = RawCall::LabelOf(container, object);
-        log(&mut self.trace, self.line, thread, call, &answer);
-        answer
+        Ok(self.call(self.alloc, thread, call)?.into_label())
     }
 }

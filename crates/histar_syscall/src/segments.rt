@@ -4,10 +4,12 @@ ghost use Rattle.std.specs.Option.{option_copied};
 ghost use Rattle.histar_base.specs.Refusals.{unless, ◌orelse◌};
 ghost use Rattle.histar_object.specs.Objects.{objects_of, bytes_in, or_no_bytes};
 ghost use Rattle.histar_container.specs.ObjectsModel.{state_of};
-ghost use Rattle.histar_rules.specs.Rules.{check, Tells, fits_segment, has_number, Decides, IsNextNumber, AreBytesOf};
+ghost use Rattle.histar_rules.specs.Rules.{check, Tells, fits_segment, has_number, Decides, IsNextNumber};
 ghost use Rattle.histar_rules.specs.declared.raw.Denied.TheVariants.{TooBig};
 ghost use Rattle.histar_rules.specs.declared.raw.RawCall.TheVariants as calls;
+ghost use Rattle.histar_syscall.specs.Answers.{IsRightAnswer};
 
+use crate::answers::{Answer, Reading};
 use histar_base::Bytes;
 use histar_container::LabelledObjects;
 use histar_label::{Label, LabelStore};
@@ -82,31 +84,23 @@ fn check_read<S: LabelStore + Drop>(
     require(objects.observes(thread, segment), Denied::Observe)
 }
 
-/// The call of a read, whose bytes are looked up after it.
-pub fn may_read<S: LabelStore + Drop>(
-    objects: &mut LabelledObjects<S>,
-    thread: ObjId,
-    container: ObjId,
-    segment: ObjId,
-) -> Result<(), Refusal>
-    ensures { Decides objects.old objects.new thread (calls.Read container segment) result (λ _. Unit {0}) }
-{
-    check_read(objects, thread, container, segment)?;
-    Ok(())
-}
-
-/// Copies the bytes of a segment that the container links.
+/// Reads a segment that the container links: its bytes are copied, or lent after the call.
 pub fn read<S: LabelStore + Drop>(
     objects: &mut LabelledObjects<S>,
     alloc: Global,
     thread: ObjId,
     container: ObjId,
     segment: ObjId,
-) -> Result<Bytes, Refusal>
-    ensures { Decides objects.old objects.new thread (calls.Read container segment) result (AreBytesOf objects.old segment) }
+    reading: Reading,
+) -> Result<Answer, Refusal>
+    ensures { Decides objects.old objects.new thread (calls.Read container segment) result
+        (IsRightAnswer reading (state_of objects.old) thread (calls.Read container segment)) }
 {
     check_read(objects, thread, container, segment)?;
-    Ok(copied(alloc, objects.bytes(segment))?)
+    match reading {
+        Reading::Copied => Ok(Answer::Bytes(copied(alloc, objects.bytes(segment))?)),
+        Reading::Lent => Ok(Answer::Done),
+    }
 }
 
 // The bytes once more, and none where there are none.

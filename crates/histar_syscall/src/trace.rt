@@ -3,6 +3,7 @@ ghost use Rattle.std.specs.Prelude.{◌≡◌, ◌<◌};
 ghost use Rattle.std.specs.Vec.{vec_len, vec_capacity};
 ghost use Rattle.histar_syscall.specs.KernelModel.{logged};
 
+use crate::answers::Answer;
 use histar_object::ObjId;
 use histar_rules::{Denied, RawCall, Refusal};
 
@@ -16,12 +17,12 @@ pub struct TraceEntry {
 }
 
 /// Adds the entry of a call to the trace, which has room. A call that found no memory has none.
-pub(crate) fn log<A: Drop>(
+pub(crate) fn log(
     trace: &mut Vec<TraceEntry>,
     line: u32,
     thread: ObjId,
     call: RawCall,
-    answer: &Result<A, Refusal>,
+    answer: &Result<Answer, Refusal>,
 )
     requires { vec_len trace.old < vec_capacity trace.old }
     ensures { trace.new.items ≡ logged trace.old.items line thread call answer.now }
