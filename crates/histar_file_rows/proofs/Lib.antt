@@ -7,3 +7,4 @@ pub mod Write
 pub mod Create
 pub mod ListCall
 pub mod Mkdir
+pub mod Append

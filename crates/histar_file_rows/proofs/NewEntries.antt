@@ -58,7 +58,7 @@ module _ (s : State) (t d n : ℕ) (label clearance above : Levels) (links : Lin
   -- the segment is written
   pub written_after : is_below_raised above label ≡ true → (is_below label above && is_below_raised above label) ≡ true → (bytes : List ℕ) → length bytes ≤ 4096 → check (added s d o) t (Write d n 0 bytes) ≡ None
   written_after seen may bytes few =
-      write_check (added s d o) t label clearance (stays t below_thread other_thread ∙ thread) d above (set.insert links s.next_object) grown seen n still_linked above old (stays n below_listing other_listing ∙ listing) bytes
+      write_check (added s d o) t label clearance (stays t below_thread other_thread ∙ thread) d above (set.insert links s.next_object) grown seen n still_linked above old (stays n below_listing other_listing ∙ listing) 0 bytes
       ∙ (λ i. unless (may i) Modify orelse unless (fits (length old) (length bytes) few i) TooBig)
 
   -- a container that was added may be used as its label says
@@ -86,5 +86,5 @@ module _ (s : State) (t d n : ℕ) (label clearance above : Levels) (links : Lin
       pub written_after_both : is_below_raised above label ≡ true → (is_below label above && is_below_raised above label) ≡ true → (bytes : List ℕ) → length bytes ≤ 4096 → check (added (added s d o) s.next_object c) t (Write d n 0 bytes) ≡ None
       written_after_both seen may bytes few =
           write_check (added (added s d o) s.next_object c) t label clearance (stays_then t below_thread ∙ stays t below_thread other_thread ∙ thread) d above (set.insert links s.next_object) (stays_then d below_holder ∙ grown) seen n still_linked above old
-          (stays_then n below_listing ∙ stays n below_listing other_listing ∙ listing) bytes
+          (stays_then n below_listing ∙ stays n below_listing other_listing ∙ listing) 0 bytes
           ∙ (λ i. unless (may i) Modify orelse unless (fits (length old) (length bytes) few i) TooBig)

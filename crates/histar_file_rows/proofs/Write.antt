@@ -85,7 +85,7 @@ module _ (session : Session) (ok : IsSession session) (old new : KernelModel) (f
         let there = stands session ok (state old) f t ready d is_dir in
         ap (λ (s : State). check s t next) stays
         ∙ write_file_said session (state old) f ready.lays_out.laid ok [] ready.alone.process t (runs session ok (state old) f t ready) d there.0 there.1 container (place_at session ok (state old) f t ready d).listing
-        (at_container session ok (state old) f t ready d is_dir) (at_listing session ok (state old) f t ready d is_dir) (seen session ok (state old) f t ready d open_so_far) m o numbered class held at bytes
+        (at_container session ok (state old) f t ready d is_dir) (at_listing session ok (state old) f t ready d is_dir) (seen session ok (state old) f t ready d open_so_far) m o numbered class held at 0 bytes
         ∙ ap (λ (b : Bool). unless (may_write session ready.alone.process class) Modify orelse unless b TooBig) (kept_none (length held) (length bytes))
 
     right_is : writes session f ready.alone.process (m ∷ d) ≡ may_write session ready.alone.process class

@@ -1,6 +1,6 @@
 //! The file calls of process 0 are the rows of the flat rules. Each law is the contract of a function
 //! that does nothing.
-ghost use Rattle.histar_rows.specs.Laws.{CreatesAreRows, ReadsAreRows, WritesAreRows};
+ghost use Rattle.histar_rows.specs.Laws.{AppendsAreRows, CreatesAreRows, ListsAreRows, MkdirsAreRows, ReadsAreRows, WritesAreRows};
 
 /// A read does what the flat rule of `read` says.
 pub fn reads_are_rows()
@@ -12,7 +12,22 @@ pub fn writes_are_rows()
     ensures { WritesAreRows }
 {}
 
+/// An append does what the flat rule of `append` says.
+pub fn appends_are_rows()
+    ensures { AppendsAreRows }
+{}
+
 /// A create does what the flat rule of `create` says.
 pub fn creates_are_rows()
     ensures { CreatesAreRows }
+{}
+
+/// A mkdir does what the flat rule of `mkdir` says.
+pub fn mkdirs_are_rows()
+    ensures { MkdirsAreRows }
+{}
+
+/// A list does what the flat rule of `list` says.
+pub fn lists_are_rows()
+    ensures { ListsAreRows }
 {}

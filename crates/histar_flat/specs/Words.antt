@@ -79,10 +79,6 @@ user_name_of bs = if is_user_name bs then Some bs else None
 abbrev pub password_of : List ℕ → Option Password
 password_of bs = if is_password bs then Some bs else None
 
--- the most names of a path
-abbrev pub most_names : ℕ
-most_names = 8
-
 -- a path that can be named: `/`, or up to so many names
 abbrev pub is_path : Path → Bool
 is_path path = nat_le (length path) most_names && list_all is_name path

@@ -96,7 +96,7 @@ module _ (session : Session) (s : State) (f : Flat) (l : Laid session s f) (ok :
     -- the write of the directory segment, with a directory that can be listed
     pub write_listing_said : (dir : Entries) → IsListable dir → check s t (Write D N 0 (spelling dir)) ≡ unless (may_write session p class) Modify
     write_listing_said dir h =
-        write_check s t label clearance thread D above links holder observed N listing_inside above (spelling (directory_of f.files l.naming.number d)) listing (spelling dir)
+        write_check s t label clearance thread D above links holder observed N listing_inside above (spelling (directory_of f.files l.naming.number d)) listing 0 (spelling dir)
         ∙ (λ i. unless (may_change i) Modify orelse unless (fits (spelling (directory_of f.files l.naming.number d)) (spelling dir) (spelling_fits dir h) i) TooBig)
         ∙ or_none (may_write session p class) Modify
 
@@ -171,6 +171,6 @@ module _ (session : Session) (s : State) (f : Flat) (l : Laid session s f) (ok :
             ∙ ap (λ b. unless b Observe) (observes_class session me p l.category l.different ok kind file_guard.0 file_guard.1)
 
         -- and written unless the process may not write it, or the bytes are too many
-        pub write_file_said : (bytes : List ℕ) → check s t (Write D O 0 bytes) ≡ (unless (may_write session p kind) Modify orelse unless (fits_segment (min 0 (length old) + length bytes)) TooBig)
-        write_file_said bytes = write_check s t label clearance thread D above links holder observed O inside (guard_label l.category file_guard.0) old file bytes
-            ∙ ap (λ b. unless b Modify orelse unless (fits_segment (min 0 (length old) + length bytes)) TooBig) (modifies_class session me p l.category l.different ok kind file_guard.0 file_guard.1)
+        pub write_file_said : (keep : ℕ) (bytes : List ℕ) → check s t (Write D O keep bytes) ≡ (unless (may_write session p kind) Modify orelse unless (fits_segment (min keep (length old) + length bytes)) TooBig)
+        write_file_said keep bytes = write_check s t label clearance thread D above links holder observed O inside (guard_label l.category file_guard.0) old file keep bytes
+            ∙ ap (λ b. unless b Modify orelse unless (fits_segment (min keep (length old) + length bytes)) TooBig) (modifies_class session me p l.category l.different ok kind file_guard.0 file_guard.1)

@@ -60,10 +60,10 @@ module _ (s : State) (t : ℕ) (label clearance : Levels) (thread : s.objects t 
           read_check = ap (λ (c : Option Denied). c orelse unless (observes (s.objects t) (s.objects o)) Observe) segment_passes ∙ (λ i. unless (observes (thread i) (segment i)) Observe)
 
           -- and written unless it may not be modified, or would hold too many bytes
-          pub write_check : (bytes : List ℕ) → check s t (Write d o 0 bytes) ≡ (unless (is_below label below && is_below_raised below label) Modify orelse unless (fits_segment (min 0 (length held) + length bytes)) TooBig)
-          write_check bytes =
-              ap (λ (c : Option Denied). c orelse unless (modifies (s.objects t) (s.objects o)) Modify orelse unless (fits_segment (min 0 (length (bytes_in (s.objects o))) + length bytes)) TooBig) segment_passes
-              ∙ (λ i. unless (modifies (thread i) (segment i)) Modify orelse unless (fits_segment (min 0 (length (bytes_in (segment i))) + length bytes)) TooBig)
+          pub write_check : (keep : ℕ) (bytes : List ℕ) → check s t (Write d o keep bytes) ≡ (unless (is_below label below && is_below_raised below label) Modify orelse unless (fits_segment (min keep (length held) + length bytes)) TooBig)
+          write_check keep bytes =
+              ap (λ (c : Option Denied). c orelse unless (modifies (s.objects t) (s.objects o)) Modify orelse unless (fits_segment (min keep (length (bytes_in (s.objects o))) + length bytes)) TooBig) segment_passes
+              ∙ (λ i. unless (modifies (thread i) (segment i)) Modify orelse unless (fits_segment (min keep (length (bytes_in (segment i))) + length bytes)) TooBig)
 
         -- what is linked is taken away unless the container may not be modified
         pub unlink_check : check s t (Unlink d o) ≡ unless (is_below label above && is_below_raised above label) Modify

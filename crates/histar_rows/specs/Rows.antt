@@ -1,5 +1,5 @@
 -- What one line of a script does to the kernel, and what all lines do.
-use Rattle.std.specs.Prelude.{◌≡◌, ◌≢◌, ℕ, ◌+◌, Bool, true, false, ◌&&◌, not, ◌⊎◌, IsTrue, List, [], ◌∷◌, ◌++◌, length, Option, None, Some, is_some, option_map, Result, Ok, Err, if◌then◌else◌}
+use Rattle.std.specs.Prelude.{◌≡◌, ◌≢◌, ℕ, ◌+◌, ◌≤◌, Bool, true, false, ◌&&◌, not, ◌⊎◌, IsTrue, List, [], ◌∷◌, ◌++◌, length, Option, None, Some, is_some, option_map, Result, Ok, Err, if◌then◌else◌}
 use Rattle.std.specs.List.{AllByRecursion}
 use Rattle.histar_flat.specs.declared.calls.CallLine.{CallLine}
 use Rattle.histar_flat.specs.declared.calls.UnixCall.{UnixCall}
@@ -10,9 +10,11 @@ use Rattle.histar_flat.specs.declared.replies.Reply.TheVariants.{Done, Data, Ref
 use Rattle.histar_flat.specs.Words.{Path, ProcName, is_path}
 use Rattle.histar_flat.specs.Modes.{is_line_mode}
 use Rattle.histar_flat.specs.Sessions.{Session}
-use Rattle.histar_flat.specs.Classes.{Process}
+use Rattle.histar_flat.specs.Files.{get}
+use Rattle.histar_flat.specs.Classes.{Class, Process}
 use Rattle.histar_flat.specs.FlatState.{Flat, is_dir_at, into}
-use Rattle.histar_flat.specs.FlatCalls.{running, reply_to, flat_after}
+use Rattle.histar_flat.specs.FlatState.Content.{File}
+use Rattle.histar_flat.specs.FlatCalls.{most_bytes, running, reply_to, flat_after}
 use Rattle.histar_object.specs.State.{State}
 use Rattle.histar_rules.specs.declared.raw.Denied.{Denied}
 use Rattle.histar_rules.specs.declared.raw.Denied.TheVariants.{TooBig}
@@ -187,8 +189,14 @@ abbrev pub DoesItsRow : Session → Flat → UnixCall → KernelModel → Kernel
 DoesItsRow session f call old new t (Ok reply) = (reply ≡ reply_to session f [] call) × IsAnswered session f call old new t
 DoesItsRow session f call old new t (Err stopped) = IsUnanswered old new t
 
--- Where a call of process 0 is made: the state lays out this flat state, in which process 0 is alone, and the thread is its own.
+-- each file holds as many bytes as a segment can hold
+abbrev pub AreFilesSmall : Flat → Type 0
+AreFilesSmall f = (q : Path) (class : Class) (bytes : List ℕ) → get f.files q ≡ Some (record { class = class; content = File bytes }) → length bytes ≤ most_bytes
+
+-- Where a call of process 0 is made: the state lays out this flat state, in which process 0 is alone and files are small enough, and
+-- the thread is the process's own.
 pub record IsReady (session : Session) (s : State) (f : Flat) (t : ℕ) : Type 0 where
   pub lays_out : LaysOut session s f
   pub alone : IsFirstAlone f
+  pub small : AreFilesSmall f
   pub thread : IsThreadOf session s [] t

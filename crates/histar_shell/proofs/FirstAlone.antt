@@ -1,7 +1,7 @@
 -- While scripts have the calls that they have, process 0 runs alone, in no job, and holds none.
 use Rattle.std.proofs.Common.{◌≡◌, ℕ, None, Some, Option, [], refl, sym, ap, ◌∙◌, subst}
 use Rattle.histar_flat.specs.declared.calls.UnixCall.{UnixCall}
-use Rattle.histar_flat.specs.declared.calls.UnixCall.TheVariants.{Create, Write, Read, Login}
+use Rattle.histar_flat.specs.declared.calls.UnixCall.TheVariants.{Create, Mkdir, Write, Append, Read, List as ListCall, Login}
 use Rattle.histar_flat.specs.declared.replies.Errno.{Errno}
 use Rattle.histar_flat.specs.Sessions.{Session}
 use Rattle.histar_flat.specs.Classes.{Process}
@@ -16,7 +16,7 @@ first_at_start session = record { process = first_process; stands = refl; runs =
 
 module _ (session : Session) (f : Flat) (h : IsFirstAlone f) where
   -- process 0 runs
-  first_runs : running f [] ≡ Some h.process
+  pub first_runs : running f [] ≡ Some h.process
   first_runs = ap if_running h.stands ∙ ap (λ (x : Option ℕ). elim x [ None ↦ Some h.process | Some n ↦ None ]) h.runs
 
   -- a call that was refused changes nothing
@@ -27,6 +27,9 @@ module _ (session : Session) (f : Flat) (h : IsFirstAlone f) where
   -- the change of a call that a line can make keeps it so
   after_change : (call : UnixCall) → IsScriptable call → IsFirstAlone (changed session f [] h.process call)
   after_change (Create q mode) can = record { process = h.process; stands = h.stands; runs = h.runs; free = h.free; holds_none = h.holds_none; others = h.others }
+  after_change (Mkdir q mode) can = record { process = h.process; stands = h.stands; runs = h.runs; free = h.free; holds_none = h.holds_none; others = h.others }
+  after_change (Append q bytes) can = record { process = h.process; stands = h.stands; runs = h.runs; free = h.free; holds_none = h.holds_none; others = h.others }
+  after_change (ListCall q) can = h
   after_change (Write q bytes) can = record { process = h.process; stands = h.stands; runs = h.runs; free = h.free; holds_none = h.holds_none; others = h.others }
   after_change (Read q) can = h
   after_change (Login name password) can = record { process = record h.process { user = name; held = [] }; stands = refl; runs = h.runs; free = h.free; holds_none = refl; others = h.others }

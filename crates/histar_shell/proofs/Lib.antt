@@ -3,6 +3,7 @@ pub mod RunLemmas
 pub mod Lines
 pub mod Users
 pub mod FirstAlone
+pub mod SmallFiles
 pub mod RowRuns
 pub mod CallRows
 pub mod LineMeanings

@@ -2,7 +2,7 @@
 use Rattle.std.proofs.Common.{◌≡◌, ℕ, Bool, true, false, List, [], ◌∷◌, length, Option, None, Result, Ok, Err, refl, sym, ap, ◌∙◌, subst, append-nil}
 use Rattle.histar_flat.specs.declared.calls.User.{User}
 use Rattle.histar_flat.specs.declared.calls.UnixCall.{UnixCall}
-use Rattle.histar_flat.specs.declared.calls.UnixCall.TheVariants.{Create, Write, Read, Login}
+use Rattle.histar_flat.specs.declared.calls.UnixCall.TheVariants.{Create, Mkdir, Write, Append, Read, List as ListCall, Login}
 use Rattle.histar_flat.specs.declared.replies.Reply.{Reply}
 use Rattle.histar_flat.specs.declared.replies.Reply.TheVariants.{Gone}
 use Rattle.histar_flat.specs.Words.{ProcName}
@@ -21,6 +21,7 @@ use Rattle.histar_rows.specs.Laws.{CallsAreRows}
 use Rattle.histar_rows.specs.Rows.{IsScriptable, IsLine, IsReady, HasReadsOf, DoesItsRow}
 use Rattle.histar_shell.specs.Machine.{MachineModel, on_line, Makes, HasMade, AnswersRunning, AnswersIf, AnswersLine}
 use Rattle.histar_shell.specs.Meaning.{Shows, EndsAsMeant, FollowsMeaning}
+use Rattle.histar_shell.proofs.SmallFiles.{small_after}
 use Rattle.histar_shell.proofs.FirstAlone.{first_after}
 use Rattle.histar_shell.proofs.Users.{is_session}
 
@@ -29,8 +30,11 @@ module _ (rows : CallsAreRows) (old new : MachineModel) (f : Flat) (shows : Show
   made_row : (k : KernelModel) → IsReady (session_of old.users) (state k) f old.thread → (call : UnixCall) (result : Result Reply Stopped) → IsScriptable call
       → Makes old.users (places_of (length old.users)) k new.kernel old.thread call result → DoesItsRow (session_of old.users) f call k new.kernel old.thread result
   made_row k ready (Create path mode) result can made = rows.create (session_of old.users) (is_session old.users shows.users) path mode can.0 can.1 k new.kernel f old.thread result ready made
-  made_row k ready (Write path bytes) result can made = rows.write (session_of old.users) (is_session old.users shows.users) path bytes can k new.kernel f old.thread result ready made
-  made_row k ready (Read path) result can made = rows.read (session_of old.users) (is_session old.users shows.users) path can k new.kernel f old.thread result ready made
+  made_row k ready (Write path bytes) result can made = rows.write (session_of old.users) (is_session old.users shows.users) path bytes k new.kernel f old.thread result ready made
+  made_row k ready (Mkdir path mode) result can made = rows.mkdir (session_of old.users) (is_session old.users shows.users) path mode can.0 can.1 k new.kernel f old.thread result ready made
+  made_row k ready (Append path bytes) result can made = rows.append (session_of old.users) (is_session old.users shows.users) path bytes k new.kernel f old.thread result ready made
+  made_row k ready (ListCall path) result can made = rows.list (session_of old.users) (is_session old.users shows.users) path k new.kernel f old.thread result ready made
+  made_row k ready (Read path) result can made = rows.read (session_of old.users) (is_session old.users shows.users) path k new.kernel f old.thread result ready made
   made_row k ready (Login name password) result can made = rows.login old.users (is_session old.users shows.users) name password k new.kernel f old.thread result ready made
   made_row k ready _ result can made = absurd can
 
@@ -61,7 +65,7 @@ module _ (rows : CallsAreRows) (old new : MachineModel) (f : Flat) (shows : Show
         trace = row.1.trace;
         row = row.1.row;
         shows = still_shows line call (Ok reply) (flat_after (session_of old.users) f [] call) h
-            (record { lays_out = row.1.row.lays_out; alone = first_after (session_of old.users) f shows.ready.alone call can; thread = row.1.thread });
+            (record { lays_out = row.1.row.lays_out; alone = first_after (session_of old.users) f shows.ready.alone call can; small = small_after f shows.ready.small (session_of old.users) shows.ready.alone call can; thread = row.1.thread });
       }
   made_ends line call (Err stopped) can h =
       let out = row_of_made line call (Err stopped) can h in

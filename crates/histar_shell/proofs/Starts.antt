@@ -17,6 +17,7 @@ use Rattle.histar_refinement.proofs.StartTable.{status_stands, length_start}
 use Rattle.histar_rows.specs.Rows.{IsReady}
 use Rattle.histar_shell.specs.Machine.{MachineModel, IsStart}
 use Rattle.histar_shell.specs.Meaning.{Shows}
+use Rattle.histar_shell.proofs.SmallFiles.{small_at_start}
 use Rattle.histar_shell.proofs.FirstAlone.{first_at_start}
 use Rattle.histar_shell.proofs.Users.{is_session}
 
@@ -54,7 +55,7 @@ module _ (users : List User) (is_list : IsUserList users) where
   )
 
   start_is_ready : IsReady (session_of users) (start_state (session_of users)) (boot (session_of users)) (thread_number (length users))
-  start_is_ready = record { lays_out = start_is_laid; alone = first_at_start (session_of users); thread = start_thread }
+  start_is_ready = record { lays_out = start_is_laid; alone = first_at_start (session_of users); small = small_at_start (session_of users); thread = start_thread }
 
   -- a machine that was booted shows the flat start
   pub start_shows : (m : MachineModel) → IsStart users m → Shows m (boot (session_of users))

@@ -4,7 +4,7 @@ use Rattle.std.specs.Coded.{Coded, code_by, coded×, coded_ℕ, coded_bool, code
 use Rattle.histar_flat.specs.declared.calls.User.{User}
 use Rattle.histar_flat.specs.contracts.calls.User as user
 use Rattle.histar_flat.specs.declared.calls.UnixCall.{UnixCall}
-use Rattle.histar_flat.specs.declared.calls.UnixCall.TheVariants.{Create, Write, Read, Login}
+use Rattle.histar_flat.specs.declared.calls.UnixCall.TheVariants.{Create, Mkdir, Write, Append, Read, List as ListCall, Login}
 use Rattle.histar_flat.specs.declared.replies.Reply.{Reply}
 use Rattle.histar_flat.specs.declared.replies.Reply.TheVariants.{Gone}
 use Rattle.histar_flat.specs.Sessions.{session_of}
@@ -15,6 +15,9 @@ use Rattle.histar_calls.specs.contracts.places.Places as where_is
 use Rattle.histar_calls.specs.Programs.{Program, Runs}
 use Rattle.histar_calls.specs.Programs.Program.{Stops}
 use Rattle.histar_calls.specs.Create.{create_program}
+use Rattle.histar_calls.specs.Mkdir.{mkdir_program}
+use Rattle.histar_calls.specs.Append.{append_program}
+use Rattle.histar_calls.specs.ListCall.{list_program}
 use Rattle.histar_calls.specs.Write.{write_program}
 use Rattle.histar_calls.specs.Read.{read_program}
 use Rattle.histar_login.specs.Boot.{IsBooted}
@@ -51,8 +54,11 @@ on_line line k = record { kept = k.kept; line = line; trace = k.trace }
 -- the program of raw calls that a call runs; a call that no line can hold stops before its first
 abbrev pub program_of : List User → Places → UnixCall → Program
 program_of users places (Create path mode) = create_program places path mode
+program_of users places (Mkdir path mode) = mkdir_program places path mode
 program_of users places (Write path bytes) = write_program places path bytes
+program_of users places (Append path bytes) = append_program places path bytes
 program_of users places (Read path) = read_program places path
+program_of users places (ListCall path) = list_program places path
 program_of users places (Login name password) = login_program users name password
 program_of users places _ = Stops
 

@@ -4,7 +4,7 @@ ghost use Rattle.histar_script.specs.Script.{IsUserList, most_users};
 ghost use Rattle.histar_shell.specs.Machine.{AnswersLine, IsStart, Makes};
 ghost use Rattle.histar_shell.specs.Meaning.{FollowsMeaning, ShowsStart};
 
-use histar_calls::{Places, Stopped, create, read, write};
+use histar_calls::{Places, Stopped, append, create, list, mkdir, read, write};
 use histar_flat::{ProcName, Reply, UnixCall, User};
 use histar_label::LabelStore;
 use histar_login::{boot, login};
@@ -142,8 +142,11 @@ fn make<S: LabelStore + Drop>(
 {
     match call {
         UnixCall::Create(path, mode) => create::create(kernel, alloc, places, thread, &path, mode),
+        UnixCall::Mkdir(path, mode) => mkdir::mkdir(kernel, alloc, places, thread, &path, mode),
         UnixCall::Read(path) => read::read(kernel, alloc, places, thread, &path),
         UnixCall::Write(path, bytes) => write::write(kernel, alloc, places, thread, &path, bytes),
+        UnixCall::Append(path, bytes) => append::append(kernel, alloc, places, thread, &path, bytes),
+        UnixCall::List(path) => list::list(kernel, alloc, places, thread, &path),
         UnixCall::Login(name, password) => login::login(
             kernel, alloc, users, thread, name, password,
         ),
