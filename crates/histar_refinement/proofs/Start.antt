@@ -53,6 +53,16 @@ use Rattle.histar_refinement.proofs.StartTree.{start_naming, place_there, start_
 use Rattle.histar_refinement.proofs.StartCategories.{start_category, start_as_made, start_made, start_different}
 
 module _ (session : Session) (some_user : 0 < length session.users) where
+  -- how many users there are, how many groups, and how many of both
+  abbrev n : ℕ
+  n = length session.users
+
+  abbrev m : ℕ
+  m = length session.groups
+
+  abbrev owners : ℕ
+  owners = declared session
+
   abbrev f : Flat
   f = boot session
 
@@ -85,17 +95,17 @@ module _ (session : Session) (some_user : 0 < length session.users) where
   no_job job (inl (me, p, at, known)) = let is = (only_first me p at).1 in let k : false ≡ true = subst (λ (x : Process). knows x job ≡ true) (sym is) known in true≢false (sym k)
   no_job job (inr (q, there, at, serves)) = let is = only_slash q there at in let k : false ≡ true = subst (λ (x : Node). is_for x.class job ≡ true) (sym is) serves in true≢false (sym k)
 
-  low_test : (i : ℕ) → i ≤ length session.users → nat_le i (length session.users) ≡ true
+  low_test : (i : ℕ) → i ≤ n → nat_le i n ≡ true
   low_test i h = grind (arith, nat_tests, h)
 
   used_booted : (c : CategoryName) → IsUsed session f c → (q : ℕ) × (boot_category session c ≡ Some q)
   used_booted OfBoot u = (1, refl)
   used_booted (ReadsUser i) u = (2 + 2 * i, ap (λ b. cond b (Some (2 + 2 * i)) None) (low_test i u))
   used_booted (WritesUser i) u = (3 + 2 * i, ap (λ b. cond b (Some (3 + 2 * i)) None) (low_test i u))
-  used_booted (ReadsGroup k) u = (2 + 2 * length session.users + 2 * k, ap (λ b. cond b (Some (2 + 2 * length session.users + 2 * k)) None) (group_test session k u.0 u.1))
-  used_booted (WritesGroup k) u = (3 + 2 * length session.users + 2 * k, ap (λ b. cond b (Some (3 + 2 * length session.users + 2 * k)) None) (group_test session k u.0 u.1))
-  used_booted (ReadsProcess me) u = (4 + 2 * length session.users + 2 * length session.groups, ap (λ (x : ProcName). boot_category session (ReadsProcess x)) (some_first me u))
-  used_booted (WritesProcess me) u = (5 + 2 * length session.users + 2 * length session.groups, ap (λ (x : ProcName). boot_category session (WritesProcess x)) (some_first me u))
+  used_booted (ReadsGroup k) u = (2 + 2 * n + 2 * k, ap (λ b. cond b (Some (2 + 2 * n + 2 * k)) None) (group_test session k u.0 u.1))
+  used_booted (WritesGroup k) u = (3 + 2 * n + 2 * k, ap (λ b. cond b (Some (3 + 2 * n + 2 * k)) None) (group_test session k u.0 u.1))
+  used_booted (ReadsProcess me) u = (4 + 2 * n + 2 * m, ap (λ (x : ProcName). boot_category session (ReadsProcess x)) (some_first me u))
+  used_booted (WritesProcess me) u = (5 + 2 * n + 2 * m, ap (λ (x : ProcName). boot_category session (WritesProcess x)) (some_first me u))
   used_booted (OfJob job) u = absurd (no_job job u)
 
   -- the first user has the number 1
@@ -111,20 +121,20 @@ module _ (session : Session) (some_user : 0 < length session.users) where
   objects = object_at (start_objects session)
 
   abbrev number : Numbers
-  number = start_number (length session.users)
+  number = start_number n
 
   abbrev wish : Address Step → Found
   wish = expected session (start_category session) f number
 
   root_label : guard_label (start_category session) (readable_guard 1) ≡ written_by (write_category 1)
   root_label =
-      let low : nat_le 1 (length session.users) ≡ true = grind (arith, nat_tests, some_user) in
+      let low : nat_le 1 n ≡ true = grind (arith, nat_tests, some_user) in
       ap (λ q. guarded_by [] (q ∷ [])) (start_as_made session (WritesUser 1) (3 + 2 * 1) (ap (λ b. cond b (Some (3 + 2 * 1)) None) low))
 
-  own_number : 4 + 2 * length session.users + 2 * length session.groups ≡ own_read_category (declared session)
+  own_number : 4 + 2 * n + 2 * m ≡ own_read_category owners
   own_number = omega arith
 
-  own_write_number : 5 + 2 * length session.users + 2 * length session.groups ≡ own_write_category (declared session)
+  own_write_number : 5 + 2 * n + 2 * m ≡ own_write_category owners
   own_write_number = omega arith
 
   -- where a number has a bare object, it has it at an address, and elsewhere nothing is
@@ -140,14 +150,14 @@ module _ (session : Session) (some_user : 0 < length session.users) where
   bare_there (Some o) = refl
 
   -- what boot left
-  same_user : (i : ℕ) (u : User) → i ≤ length session.users → of_user session i u ≡ left_for_user session i u
+  same_user : (i : ℕ) (u : User) → i ≤ n → of_user session i u ≡ left_for_user session i u
   same_user i u h =
       let reads = user_reads session i h in
       let writes = user_writes session i h in
       λ k. Some (record { label = guarded_by (sym reads k ∷ []) (sym writes k ∷ []); kind = Segment u.password })
       ∷ Some (record { label = gate_label_is session u.name i h k; kind = Gate (gate_clearance_is session u.name i h k) (Login i) }) ∷ []
 
-  same_left : (i : ℕ) (some : List User) → i + length some ≤ length session.users + 1 → (table : Found) (back : List Found) (k : ℕ) → k ≤ 2 * length some
+  same_left : (i : ℕ) (some : List User) → i + length some ≤ n + 1 → (table : Found) (back : List Found) (k : ℕ) → k ≤ 2 * length some
       → get_or (numbered (of_user session) i some ++ table ∷ back) k None ≡ get_or (numbered (left_for_user session) i some ++ table ∷ []) k None
   same_left i [] h table back zero le = refl
   same_left i [] h table back (suc k) le = absurd (omega (arith, le))
@@ -162,21 +172,21 @@ module _ (session : Session) (some_user : 0 < length session.users) where
   beyond_left i (u ∷ some) table (suc zero) h = absurd (omega (arith, h))
   beyond_left i (u ∷ some) table (suc (suc k)) h = beyond_left (i + 1) some table k (omega (arith, h))
 
-  left_same : (q : ℕ) → is_left (length session.users) q ≡ true → objects q ≡ left_by_boot session q
+  left_same : (q : ℕ) → is_left n q ≡ true → objects q ≡ left_by_boot session q
   left_same zero e = absurd (grind (arith, nat_tests, e))
   left_same (suc zero) e = absurd (grind (arith, nat_tests, e))
   left_same (suc (suc zero)) e = absurd (grind (arith, nat_tests, e))
   left_same (suc (suc (suc k))) e =
-      ap (λ (l : List Found). get_or l k None) (append_assoc (of_users session session.users) (of_directory (length session.users) session) (of_process (length session.users) (declared session)))
-      ∙ same_left 1 session.users (omega arith) (segment (written_by 1) (user_table session)) (drop 1 (of_directory (length session.users) session) ++ of_process (length session.users) (declared session)) k (grind (arith, nat_tests, e))
+      ap (λ (l : List Found). get_or l k None) (append_assoc (of_users session session.users) (of_directory n session) (of_process n owners))
+      ∙ same_left 1 session.users (omega arith) (segment (written_by 1) (user_table session)) (drop 1 (of_directory n session) ++ of_process n owners) k (grind (arith, nat_tests, e))
 
-  nothing_left : (q : ℕ) → is_left (length session.users) q ≡ false → None ≡ left_by_boot session q
+  nothing_left : (q : ℕ) → is_left n q ≡ false → None ≡ left_by_boot session q
   nothing_left zero e = refl
   nothing_left (suc zero) e = refl
   nothing_left (suc (suc zero)) e = refl
   nothing_left (suc (suc (suc k))) e = sym (beyond_left 1 session.users _ k (grind (arith, nat_tests, e)))
 
-  left_stands : (q : ℕ) (b : Bool) → is_left (length session.users) q ≡ b → bare (option_and_then objects (cond b (Some q) None)) ≡ left_by_boot session q
+  left_stands : (q : ℕ) (b : Bool) → is_left n q ≡ b → bare (option_and_then objects (cond b (Some q) None)) ≡ left_by_boot session q
   left_stands q true e = (left_plain session q e).bared ∙ left_same q e
   left_stands q false e = nothing_left q e
 
@@ -186,17 +196,17 @@ module _ (session : Session) (some_user : 0 < length session.users) where
       ap (λ (i : Option ℕ). guarded_object session (start_category session) kind (option_map readable_guard i)) (first_numbered session.users some_user)
       ∙ ap (λ (l : Levels). Some (record { label = l; kind = kind })) root_label
 
-  slash_expected : node_at session (start_category session) f number (Some []) ≡ bare (objects (4 + 2 * length session.users))
+  slash_expected : node_at session (start_category session) f number (Some []) ≡ bare (objects (4 + 2 * n))
   slash_expected = ap (node_object session (start_category session)) slash_got ∙ slash_guarded (Container set.empty) ∙ sym (ap bare (slash_stands session))
 
-  listing_expected : listing_at session (start_category session) f number (Some []) ≡ bare (objects (5 + 2 * length session.users))
+  listing_expected : listing_at session (start_category session) f number (Some []) ≡ bare (objects (5 + 2 * n))
   listing_expected = (λ i. listing_object session (start_category session) (nothing_spelled number [] i) (slash_got i)) ∙ slash_guarded (Segment []) ∙ sym (ap bare (listing_stands session))
 
-  node_if : (b : Bool) → node_at session (start_category session) f number (cond b (Some []) None) ≡ cond b (bare (objects (4 + 2 * length session.users))) None
+  node_if : (b : Bool) → node_at session (start_category session) f number (cond b (Some []) None) ≡ cond b (bare (objects (4 + 2 * n))) None
   node_if true = slash_expected
   node_if false = refl
 
-  listing_if : (b : Bool) → listing_at session (start_category session) f number (cond b (Some []) None) ≡ cond b (bare (objects (5 + 2 * length session.users))) None
+  listing_if : (b : Bool) → listing_at session (start_category session) f number (cond b (Some []) None) ≡ cond b (bare (objects (5 + 2 * n))) None
   listing_if true = listing_expected
   listing_if false = refl
 
@@ -231,19 +241,19 @@ module _ (session : Session) (some_user : 0 < length session.users) where
       by (Some []) is other = absurd (other (sym (address_inside a [] is)))
       by (Some (n ∷ q)) is other = others n q
 
-  home_if : (b : Bool) → home_at session (start_category session) f number (cond b (Some []) None) ≡ cond b (bare (objects (6 + 2 * length session.users))) None
+  home_if : (b : Bool) → home_at session (start_category session) f number (cond b (Some []) None) ≡ cond b (bare (objects (6 + 2 * n))) None
   home_if true = ap (λ q. container (guarded_by [] (q ∷ []))) own_write_number ∙ sym (ap bare (home_stands session))
   home_if false = refl
 
-  inside_expected : container_inside session (start_category session) f number (Some []) ≡ bare (objects (7 + 2 * length session.users))
+  inside_expected : container_inside session (start_category session) f number (Some []) ≡ bare (objects (7 + 2 * n))
   inside_expected = (λ i. container (guarded_by (own_number i ∷ []) (own_write_number i ∷ []))) ∙ sym (ap bare (inside_stands session))
 
-  status_expected : status_at session (start_category session) f number (Some []) ≡ bare (objects (9 + 2 * length session.users))
+  status_expected : status_at session (start_category session) f number (Some []) ≡ bare (objects (9 + 2 * n))
   status_expected =
-      (λ i. segment (guarded_by [] (own_write_number i ∷ [])) (append-nil (process_bytes (7 + 2 * length session.users) (8 + 2 * length session.users)) i))
+      (λ i. segment (guarded_by [] (own_write_number i ∷ [])) (append-nil (process_bytes (7 + 2 * n) (8 + 2 * n)) i))
       ∙ sym (ap bare (status_stands session))
 
-  runner_expected : user_number session nobody ≡ None → thread_at session (start_category session) f number (Some []) ≡ bare (objects (8 + 2 * length session.users))
+  runner_expected : user_number session nobody ≡ None → thread_at session (start_category session) f number (Some []) ≡ bare (objects (8 + 2 * n))
   runner_expected no_one =
       ap (λ (o : Option ℕ). Some (thread_of (rights_label (start_category session) (rights o)) (rights_clearance (start_category session) (rights o)))) no_one
       ∙ (λ i. Some (thread_of (owning (own_number i ∷ own_write_number i ∷ []) []) (cleared_at (own_number i ∷ own_write_number i ∷ []))))
@@ -254,21 +264,21 @@ module _ (session : Session) (some_user : 0 < length session.users) where
 
   module _ (no_one : user_number session nobody ≡ None) (room : (start_state session).next_object ≤ greatest) where
     -- what stands at each address is what the flat state asks for there
-    start_expected : (a : Address Step) → bare (objects_at objects (start_naming (length session.users)) a) ≡ wish a
+    start_expected : (a : Address Step) → bare (objects_at objects (start_naming n) a) ≡ wish a
     start_expected [] = refl
-    start_expected (Left q ∷ a) = found_if [] a (cond (is_left (length session.users) q) (Some q) None) (left_by_boot session q) (left_stands q (is_left (length session.users) q) refl)
-    start_expected (Slash ∷ a) = found_if [] a (Some (4 + 2 * length session.users)) _ refl ∙ sym (node_if (same_address [] a))
+    start_expected (Left q ∷ a) = found_if [] a (cond (is_left n q) (Some q) None) (left_by_boot session q) (left_stands q (is_left n q) refl)
+    start_expected (Slash ∷ a) = found_if [] a (Some (4 + 2 * n)) _ refl ∙ sym (node_if (same_address [] a))
     start_expected (Listing ∷ []) = refl
-    start_expected (Listing ∷ Slash ∷ a) = found_if [] a (Some (5 + 2 * length session.users)) _ refl ∙ sym (listing_if (same_address [] a))
+    start_expected (Listing ∷ Slash ∷ a) = found_if [] a (Some (5 + 2 * n)) _ refl ∙ sym (listing_if (same_address [] a))
     start_expected (Listing ∷ Named name ∷ a) = sym (no_listing name (path_at a))
     start_expected (Listing ∷ x ∷ a) = refl
     start_expected (Named name ∷ a) = sym (no_node name (path_at a))
-    start_expected (Home ∷ a) = found_if [] a (Some (6 + 2 * length session.users)) _ refl ∙ sym (home_if (same_address [] a))
-    start_expected (Status ∷ a) = found_if process_address a (Some (9 + 2 * length session.users)) _ refl
+    start_expected (Home ∷ a) = found_if [] a (Some (6 + 2 * n)) _ refl ∙ sym (home_if (same_address [] a))
+    start_expected (Status ∷ a) = found_if process_address a (Some (9 + 2 * n)) _ refl
         ∙ sym (process_wish (status_at session (start_category session) f number) _ refl status_expected (λ n q. refl) a)
-    start_expected (Inside ∷ a) = found_if process_address a (Some (7 + 2 * length session.users)) _ refl
+    start_expected (Inside ∷ a) = found_if process_address a (Some (7 + 2 * n)) _ refl
         ∙ sym (process_wish (container_inside session (start_category session) f number) _ refl inside_expected (λ n q. refl) a)
-    start_expected (Runner ∷ a) = found_if inside_address a (Some (8 + 2 * length session.users)) _ refl
+    start_expected (Runner ∷ a) = found_if inside_address a (Some (8 + 2 * n)) _ refl
         ∙ sym (inside_wish (thread_at session (start_category session) f number) _ refl (runner_expected no_one) (λ n q. refl) a)
     start_expected (Child n ∷ a) = by (process_at a)
       where
@@ -279,16 +289,16 @@ module _ (session : Session) (some_user : 0 < length session.users) where
     -- an address has a number exactly where the flat state asks for something
     number_there : (a : Address Step) (found : Option ℕ) → number a ≡ found → is_some found ≡ is_there (option_and_then objects found)
     number_there a None e = refl
-    number_there a (Some q) e = sym (place_there session q a (place_of_number (length session.users) q a e))
+    number_there a (Some q) e = sym (place_there session q a (place_of_number n q a e))
 
-    start_stands : Stands same_step (start_state session) (start_naming (length session.users)) wish
+    start_stands : Stands same_step (start_state session) (start_naming n) wish
     start_stands = record {
       tree = start_laid session;
       objects = start_expected;
-      named = λ a. number_there a (number a) refl ∙ sym (bare_there (objects_at objects (start_naming (length session.users)) a)) ∙ ap is_there (start_expected a);
+      named = λ a. number_there a (number a) refl ∙ sym (bare_there (objects_at objects (start_naming n) a)) ∙ ap is_there (start_expected a);
     }
 
-    as_booted_then : (a : Address Step) (q : ℕ) → boot_number (length session.users) a ≡ Some q → number a ≡ Some q
+    as_booted_then : (a : Address Step) (q : ℕ) → boot_number n a ≡ Some q → number a ≡ Some q
     as_booted_then [] q e = e
     as_booted_then (Left k ∷ a) q e = e
     as_booted_then (Slash ∷ a) q e = e
@@ -308,7 +318,7 @@ module _ (session : Session) (some_user : 0 < length session.users) where
 
     start_is_laid : Laid session (start_state session) f
     start_is_laid = record {
-      naming = start_naming (length session.users);
+      naming = start_naming n;
       category = start_category session;
       stands = start_stands;
       numbered = room;
@@ -325,7 +335,7 @@ module _ (session : Session) (some_user : 0 < length session.users) where
       boot_thread_gone = refl;
     }
       where
-        total : 6 + 2 * length session.users + 2 * length session.groups ≡ (start_state session).next_category
+        total : 6 + 2 * n + 2 * m ≡ (start_state session).next_category
         total = omega arith
 
     pub start_lays_out : LaysOut session (start_state session) f

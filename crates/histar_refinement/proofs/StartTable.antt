@@ -37,54 +37,62 @@ users_plain session i (user ∷ users) label bytes back (suc zero) h = record { 
 users_plain session i (user ∷ users) label bytes back (suc (suc k)) h = users_plain session (i + 1) users label bytes back k (omega arith)
 
 module _ (session : Session) where
+  -- how many users there are
+  abbrev pub n : ℕ
+  n = length session.users
+
+  -- and how many users and groups together
+  abbrev pub owners : ℕ
+  owners = declared session
+
   -- what stands behind the root container
-  from_users : (k : ℕ) → object_at (start_objects session) (suc (suc (suc k))) ≡ get_or (of_users session session.users ++ (of_directory (length session.users) session ++ of_process (length session.users) (declared session))) k None
-  from_users k = ap (λ (l : List Found). get_or l k None) (append_assoc (of_users session session.users) (of_directory (length session.users) session) (of_process (length session.users) (declared session)))
+  from_users : (k : ℕ) → object_at (start_objects session) (suc (suc (suc k))) ≡ get_or (of_users session session.users ++ (of_directory n session ++ of_process n owners)) k None
+  from_users k = ap (λ (l : List Found). get_or l k None) (append_assoc (of_users session session.users) (of_directory n session) (of_process n owners))
 
   -- what stands behind the users' passwords and gates
-  last_at : (k q : ℕ) → q ≡ 3 + 2 * length session.users + k → object_at (start_objects session) q ≡ get_or (of_directory (length session.users) session ++ of_process (length session.users) (declared session)) k None
+  last_at : (k q : ℕ) → q ≡ 3 + 2 * n + k → object_at (start_objects session) q ≡ get_or (of_directory n session ++ of_process n owners) k None
   last_at k q e =
       let is : q ≡ suc (suc (suc (length (of_users session session.users) + k))) = omega (arith, length-numbered session 1 session.users) in
-      ap (object_at (start_objects session)) is ∙ from_users (length (of_users session session.users) + k) ∙ behind (of_users session session.users) (of_directory (length session.users) session ++ of_process (length session.users) (declared session)) k
+      ap (object_at (start_objects session)) is ∙ from_users (length (of_users session session.users) + k) ∙ behind (of_users session session.users) (of_directory n session ++ of_process n owners) k
 
   -- what boot left is there, and is no container
-  pub left_plain : (q : ℕ) → is_left (length session.users) q ≡ true → IsPlain (object_at (start_objects session) q)
+  pub left_plain : (q : ℕ) → is_left n q ≡ true → IsPlain (object_at (start_objects session) q)
   left_plain zero e = absurd (grind (arith, nat_tests))
   left_plain (suc zero) e = absurd (grind (arith, nat_tests))
   left_plain (suc (suc zero)) e = absurd (grind (arith, nat_tests))
   left_plain (suc (suc (suc k))) e =
-      let back = drop 1 (of_directory (length session.users) session ++ of_process (length session.users) (declared session)) in
+      let back = drop 1 (of_directory n session ++ of_process n owners) in
       subst IsPlain (sym (from_users k)) (users_plain session 1 session.users (written_by boot_category) (user_table session) back k (grind (arith, nat_tests)))
 
   -- `/` links its directory segment, and the first user alone may write it
-  pub slash_stands : object_at (start_objects session) (4 + 2 * length session.users) ≡ container (written_by (write_category 1)) ((5 + 2 * length session.users) ∷ [])
+  pub slash_stands : object_at (start_objects session) (4 + 2 * n) ≡ container (written_by (write_category 1)) ((5 + 2 * n) ∷ [])
   slash_stands = last_at 1 _ (omega arith)
 
   -- the directory segment of `/` is empty
-  pub listing_stands : object_at (start_objects session) (5 + 2 * length session.users) ≡ segment (written_by (write_category 1)) []
+  pub listing_stands : object_at (start_objects session) (5 + 2 * n) ≡ segment (written_by (write_category 1)) []
   listing_stands = last_at 2 _ (omega arith)
 
   -- the container of process 0 links its internal container and its process segment
-  pub home_stands : object_at (start_objects session) (6 + 2 * length session.users) ≡ container (written_by (own_write_category (declared session))) ((7 + 2 * length session.users) ∷ (9 + 2 * length session.users) ∷ [])
+  pub home_stands : object_at (start_objects session) (6 + 2 * n) ≡ container (written_by (own_write_category owners)) ((7 + 2 * n) ∷ (9 + 2 * n) ∷ [])
   home_stands = last_at 3 _ (omega arith)
 
   -- the internal container of process 0 links its thread
-  pub inside_stands : object_at (start_objects session) (7 + 2 * length session.users) ≡ container (secret_of (own_read_category (declared session)) (own_write_category (declared session))) ((8 + 2 * length session.users) ∷ [])
+  pub inside_stands : object_at (start_objects session) (7 + 2 * n) ≡ container (secret_of (own_read_category owners) (own_write_category owners)) ((8 + 2 * n) ∷ [])
   inside_stands = last_at 4 _ (omega arith)
 
   -- the thread of process 0 owns its own two categories alone
-  pub runner_stands : object_at (start_objects session) (8 + 2 * length session.users)
-      ≡ Some (record { label = owner_of (own_read_category (declared session)) (own_write_category (declared session)); kind = Thread (cleared_of (own_read_category (declared session)) (own_write_category (declared session))) })
+  pub runner_stands : object_at (start_objects session) (8 + 2 * n)
+      ≡ Some (record { label = owner_of (own_read_category owners) (own_write_category owners); kind = Thread (cleared_of (own_read_category owners) (own_write_category owners)) })
   runner_stands = last_at 5 _ (omega arith)
 
   -- the process segment names the internal container and the thread
-  pub status_stands : object_at (start_objects session) (9 + 2 * length session.users) ≡ segment (written_by (own_write_category (declared session))) (process_bytes (7 + 2 * length session.users) (8 + 2 * length session.users))
+  pub status_stands : object_at (start_objects session) (9 + 2 * n) ≡ segment (written_by (own_write_category owners)) (process_bytes (7 + 2 * n) (8 + 2 * n))
   status_stands = last_at 6 _ (omega arith)
 
   -- nothing stands behind the process segment
-  pub none_behind : (q : ℕ) → 10 + 2 * length session.users ≤ q → object_at (start_objects session) q ≡ None
-  none_behind q h = last_at (suc (suc (suc (suc (suc (suc (suc (q - (10 + 2 * length session.users))))))))) q (omega arith)
+  pub none_behind : (q : ℕ) → 10 + 2 * n ≤ q → object_at (start_objects session) q ≡ None
+  none_behind q h = last_at (suc (suc (suc (suc (suc (suc (suc (q - (10 + 2 * n))))))))) q (omega arith)
 
   -- so many objects stand at the start
-  pub length_start : length (start_objects session) ≡ 9 + 2 * length session.users
-  length_start = omega (arith, length-append (of_users session session.users ++ of_directory (length session.users) session) (of_process (length session.users) (declared session)), length-append (of_users session session.users) (of_directory (length session.users) session), length-numbered session 1 session.users)
+  pub length_start : length (start_objects session) ≡ 9 + 2 * n
+  length_start = omega (arith, length-append (of_users session session.users ++ of_directory n session) (of_process n owners), length-append (of_users session session.users) (of_directory n session), length-numbered session 1 session.users)

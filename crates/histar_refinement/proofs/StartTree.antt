@@ -179,21 +179,25 @@ module _ (n : ℕ) where
   ] refl h
 
 module _ (session : Session) where
+  -- how many users there are
+  abbrev n : ℕ
+  n = length session.users
+
   -- the objects at the start
   abbrev objects : Objects Levels
   objects = object_at (start_objects session)
 
   -- nothing stands where there is no address
-  free_none : (q : ℕ) → IsFree (length session.users) q → objects q ≡ None
+  free_none : (q : ℕ) → IsFree n q → objects q ≡ None
   free_none q (inl e) = ap objects e
   free_none q (inr (inl e)) = ap objects e
   free_none q (inr (inr h)) = none_behind session q h
 
   -- the object at each number is the one at its address
-  start_as_expected : (q : ℕ) → objects q ≡ wanted (objects_at objects (start_naming (length session.users))) (start_address (length session.users) q)
-  start_as_expected q = elim (seen (length session.users) q) [
-    | placed a p e ↦ sym (ap (wanted (objects_at objects (start_naming (length session.users)))) e ∙ ap (option_and_then objects) (number_of_place (length session.users) q a p))
-    | unplaced f e ↦ free_none q f ∙ sym (ap (wanted (objects_at objects (start_naming (length session.users)))) e)
+  start_as_expected : (q : ℕ) → objects q ≡ wanted (objects_at objects (start_naming n)) (start_address n q)
+  start_as_expected q = elim (seen n q) [
+    | placed a p e ↦ sym (ap (wanted (objects_at objects (start_naming n))) e ∙ ap (option_and_then objects) (number_of_place n q a p))
+    | unplaced f e ↦ free_none q f ∙ sym (ap (wanted (objects_at objects (start_naming n))) e)
   ]
 
   -- what is equal to an object has its links
@@ -205,18 +209,18 @@ module _ (session : Session) where
   no_links q c h = ap (λ s. set.contains s c) h ∙ set.contains-empty nat_cmp c
 
   -- an object links exactly what stands one step below it
-  place_links : (q c : ℕ) (a : Address Step) → Place (length session.users) a q → set.contains (links_in (objects q)) c ≡ is_child same_step a (start_address (length session.users) c)
-  place_links p c b (on_root q e) = same_links q c _ _ (ap objects e) (root_links (length session.users) c)
-  place_links p c b (on_left q e) = no_links q c (left_plain session q e).linkless ∙ no_child (length session.users) (Left q ∷ []) refl refl refl refl c
-  place_links p c b (on_slash q e) = same_links q c _ _ (ap objects e ∙ slash_stands session) (slash_links (length session.users) c)
-  place_links p c b (on_listing q e) = no_links q c (ap links_in (ap objects e ∙ listing_stands session)) ∙ no_child (length session.users) (Listing ∷ Slash ∷ []) refl refl refl refl c
-  place_links p c b (on_home q e) = same_links q c _ _ (ap objects e ∙ home_stands session) (home_links (length session.users) c)
-  place_links p c b (on_inside q e) = same_links q c _ _ (ap objects e ∙ inside_stands session) (inside_links (length session.users) c)
-  place_links p c b (on_runner q e) = no_links q c (ap links_in (ap objects e ∙ runner_stands session)) ∙ no_child (length session.users) (Runner ∷ inside_address) refl refl refl refl c
-  place_links p c b (on_status q e) = no_links q c (ap links_in (ap objects e ∙ status_stands session)) ∙ no_child (length session.users) (Status ∷ process_address) refl refl refl refl c
+  place_links : (q c : ℕ) (a : Address Step) → Place n a q → set.contains (links_in (objects q)) c ≡ is_child same_step a (start_address n c)
+  place_links p c b (on_root q e) = same_links q c _ _ (ap objects e) (root_links n c)
+  place_links p c b (on_left q e) = no_links q c (left_plain session q e).linkless ∙ no_child n (Left q ∷ []) refl refl refl refl c
+  place_links p c b (on_slash q e) = same_links q c _ _ (ap objects e ∙ slash_stands session) (slash_links n c)
+  place_links p c b (on_listing q e) = no_links q c (ap links_in (ap objects e ∙ listing_stands session)) ∙ no_child n (Listing ∷ Slash ∷ []) refl refl refl refl c
+  place_links p c b (on_home q e) = same_links q c _ _ (ap objects e ∙ home_stands session) (home_links n c)
+  place_links p c b (on_inside q e) = same_links q c _ _ (ap objects e ∙ inside_stands session) (inside_links n c)
+  place_links p c b (on_runner q e) = no_links q c (ap links_in (ap objects e ∙ runner_stands session)) ∙ no_child n (Runner ∷ inside_address) refl refl refl refl c
+  place_links p c b (on_status q e) = no_links q c (ap links_in (ap objects e ∙ status_stands session)) ∙ no_child n (Status ∷ process_address) refl refl refl refl c
 
   -- something stands where there is an address
-  pub place_there : (q : ℕ) (a : Address Step) → Place (length session.users) a q → is_there (objects q) ≡ true
+  pub place_there : (q : ℕ) (a : Address Step) → Place n a q → is_there (objects q) ≡ true
   place_there p b (on_root q e) = ap is_there (ap objects e)
   place_there p b (on_left q e) = (left_plain session q e).there
   place_there p b (on_slash q e) = ap is_there (ap objects e ∙ slash_stands session)
@@ -227,12 +231,12 @@ module _ (session : Session) where
   place_there p b (on_status q e) = ap is_there (ap objects e ∙ status_stands session)
 
   -- the objects at the start are laid
-  pub start_laid : IsLaid same_step objects (start_state session).next_object (objects_at objects (start_naming (length session.users))) (start_naming (length session.users))
+  pub start_laid : IsLaid same_step objects (start_state session).next_object (objects_at objects (start_naming n)) (start_naming n)
   start_laid = record {
     as_expected = start_as_expected;
-    numbered = λ q a h. number_of_place (length session.users) q a (place_of_address (length session.users) q a h);
-    addressed = λ a q h. address_of_place (length session.users) q a (place_of_number (length session.users) q a h);
-    held = start_held (length session.users);
-    links = λ q c a h. place_links q c a (place_of_address (length session.users) q a h);
-    unused = λ q h. start_unused (length session.users) q (omega (arith, length_start session));
+    numbered = λ q a h. number_of_place n q a (place_of_address n q a h);
+    addressed = λ a q h. address_of_place n q a (place_of_number n q a h);
+    held = start_held n;
+    links = λ q c a h. place_links q c a (place_of_address n q a h);
+    unused = λ q h. start_unused n q (omega (arith, length_start session));
   }

@@ -1,5 +1,8 @@
 //! The raw calls that boot a machine, against lists that were written by hand: one with a user, and one
 //! with users and groups.
+ghost use Rattle.std.specs.Prelude.{◌≡◌, ◌≤◌, All, length, IfOk};
+ghost use Rattle.histar_login.specs.Start.{IsSmall};
+
 use histar_base::Bytes;
 use histar_flat::{Group, Name, User, read_password, read_user_name};
 use histar_label::{Label, Level, PlainStore};
@@ -8,6 +11,7 @@ use histar_object::Entry;
 use histar_shell::{Counted, Options, run};
 use histar_syscall::{RawCall, TraceEntry};
 use std::alloc::{AllocError, Global};
+use std::process::Abort;
 use std::test::Fail;
 
 /// A machine with one user, whom nobody calls.
@@ -202,22 +206,47 @@ fn boots_with_groups(rt: HostRuntime) -> Result<(), Fail> {
     Ok(())
 }
 
+/// Sixteen users.
+fn most_users(alloc: Global) -> Result<Vec<User>, Fail>
+    ensures { IfOk result (λ users. length users.items ≤ 16) }
+{
+    let mut users = Vec::new(alloc);
+    for number in 0..16_u8 {
+        users.push(user(&[b'u', b'a' + number], b"x")?)?;
+    }
+    Ok(users)
+}
+
+/// Eight groups, of which each has all these users as members.
+fn most_groups(alloc: Global, users: &[User]) -> Result<Vec<Group>, Fail>
+    requires { length users.now ≤ 16 }
+    ensures few { IfOk result (λ groups. length groups.items ≤ 8) }
+    ensures small { IfOk result (λ groups. All IsSmall groups.items) }
+{
+    let mut groups = Vec::new(alloc);
+    for number in 0..8_u8 {
+        let members = names_of(alloc, users)?;
+        groups.push(Group::new(name(&[b'g', b'a' + number])?, members))?;
+    }
+    Ok(groups)
+}
+
+/// The names of users.
+fn names_of(alloc: Global, users: &[User]) -> Result<Vec<Name>, Fail>
+    ensures { IfOk result (λ names. length names.items ≡ length users.now) }
+{
+    let mut names = Vec::new(alloc);
+    for user in users {
+        names.push(user.name)?;
+    }
+    Ok(names)
+}
+
 #[test]
 fn boots_at_its_limits(rt: HostRuntime) -> Result<(), Fail> {
     let alloc = rt.alloc();
-    let mut users = Vec::new(alloc);
-    let mut members = Vec::new(alloc);
-    for number in 0..16_u8 {
-        let called = [b'u', b'a' + number];
-        users.push(user(&called, b"x")?)?;
-        members.push(name(&called)?)?;
-    }
-    let mut groups = Vec::new(alloc);
-    for number in 0..8_u8 {
-        let called = [b'g', b'a' + number];
-        let all = Vec::from_slice(alloc, members.as_slice())?;
-        groups.push(Group::new(name(&called)?, all))?;
-    }
+    let users = most_users(alloc)?;
+    let groups = most_groups(alloc, users.as_slice())?;
     let store = PlainStore::new(alloc);
     let (kernel, _, thread) = boot(alloc, store, users.as_slice(), groups.as_slice())?;
     assert_eq!(rt; kernel.trace().len(), 2 * (1 + 16 + 8) + 2 * 16 + 3 + 6 + 1);
