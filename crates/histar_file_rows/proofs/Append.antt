@@ -1,5 +1,5 @@
 -- An append does what the flat rule of `append` says.
-use Rattle.std.proofs.Common.{arith, ◌+◌, ◌≡◌, ℕ, Bool, true, false, List, [], ◌∷◌, ◌++◌, Option, None, Some, Result, Ok, Err, inl, inr, refl, sym, ap, ◌∙◌, subst, length}
+use Rattle.std.proofs.Common.{arith, ◌+◌, ◌≡◌, ℕ, Bool, true, false, List, [], ◌∷◌, ◌++◌, Option, None, Some, Result, refl, sym, ap, ◌∙◌, subst, length}
 use Rattle.std.specs.Prelude.{◌≤◌, min, nat_le, take}
 use Rattle.std.proofs.lemmas.List.{length-append, take_all}
 use Rattle.histar_refinement.proofs.Standing.{guard_at, file_found}
@@ -9,11 +9,11 @@ use Rattle.histar_flat.specs.declared.calls.UnixCall.TheVariants as calls
 use Rattle.histar_flat.specs.declared.replies.Errno.{Errno}
 use Rattle.histar_flat.specs.declared.replies.Errno.TheVariants.{EACCES, EFBIG, EISDIR}
 use Rattle.histar_flat.specs.declared.replies.Reply.{Reply}
-use Rattle.histar_flat.specs.declared.replies.Reply.TheVariants.{Done, Refused}
+use Rattle.histar_flat.specs.declared.replies.Reply.TheVariants.{Done}
 use Rattle.histar_flat.specs.Words.{Name, Path}
 use Rattle.histar_flat.specs.Sessions.{Session}
 use Rattle.histar_flat.specs.Files.{get}
-use Rattle.histar_flat.specs.Classes.{Class, may_read, may_write}
+use Rattle.histar_flat.specs.Classes.{Class, may_write}
 use Rattle.histar_flat.specs.FlatState.{Flat, Node, is_some_and, bytes_of, bytes_at, writes, into, with_bytes as with_file_bytes}
 use Rattle.histar_flat.specs.FlatState.Content.{File}
 use Rattle.histar_flat.specs.FlatCalls.{refused, most_bytes}
@@ -44,7 +44,7 @@ use Rattle.histar_refinement.proofs.StatusFound.{thread_led}
 use Rattle.histar_refinement.proofs.Writing.{laid_overwritten, lays_out_overwritten}
 use Rattle.histar_rows.specs.Rows.{IsReady}
 use Rattle.histar_rows.specs.Laws.{AppendsAreRows}
-use Rattle.histar_rows.proofs.Chains.{all_granted, entries_of, Chain}
+use Rattle.histar_rows.proofs.Chains.{all_granted, Chain}
 use Rattle.histar_rows.proofs.Steps.{Goal, granted_step, refused_step, refused_at_once, answered_step}
 use Rattle.histar_rows.proofs.Walks.{runs, place_at, walk_reads, stands, at_container, at_listing, dir, seen, file_number, has_walk, walked_then, walked_also}
 use Rattle.histar_file_rows.proofs.Files.{reached, file_step}

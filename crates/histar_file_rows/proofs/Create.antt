@@ -1,11 +1,10 @@
 -- A create does what the flat rule of `create` says.
-use Rattle.std.proofs.Common.{◌≡◌, ℕ, ◌+◌, ◌<◌, ◌≤◌, Bool, true, false, List, [], ◌∷◌, ◌++◌, Option, None, Some, Result, Ok, Err, arith, refl, sym, ap, ◌∙◌, subst, length}
-use Rattle.std.specs.Prelude.{IsTrue, nat_lt, nat_le, is_some}
+use Rattle.std.proofs.Common.{◌≡◌, ℕ, ◌<◌, Bool, true, false, List, [], ◌∷◌, ◌++◌, Option, None, Some, Result, arith, refl, sym, ap, ◌∙◌, subst, length}
+use Rattle.std.specs.Prelude.{IsTrue, is_some}
 use Rattle.std.specs.FinMap as map
 use Rattle.std.specs.FinSet as set
 use Rattle.std.proofs.lemmas.Bool.Decides.{nat_tests}
 use Rattle.std.proofs.lemmas.Option.{same_Some}
-use Rattle.std.proofs.lemmas.List.{append-nil}
 use Rattle.histar_base.specs.Refusals.{◌orelse◌, unless}
 use Rattle.histar_flat.specs.declared.calls.Mode.{Mode}
 use Rattle.histar_flat.specs.declared.calls.UnixCall.{UnixCall}
@@ -22,7 +21,7 @@ use Rattle.histar_flat.specs.Classes.{Class, Process, class_made, may_read, may_
 use Rattle.histar_flat.specs.FlatState.{Flat, Node, is_some_and, is_dir_at, entries_in, writes, with_node, into}
 use Rattle.histar_flat.specs.FlatState.Content.{Dir, File}
 use Rattle.histar_flat.specs.FlatCalls.{refused, most_entries, class_or_open}
-use Rattle.histar_label.specs.Levels.{Levels, is_below, is_below_raised}
+use Rattle.histar_label.specs.Levels.{Levels}
 use Rattle.histar_object.specs.declared.objects.Kind.TheVariants.{Segment, Thread}
 use Rattle.histar_object.specs.declared.objects.Object.{Object}
 use Rattle.histar_object.specs.Objects.{links_in, label_there}
@@ -46,8 +45,8 @@ use Rattle.histar_calls.specs.Create.{create_program}
 use Rattle.histar_login.specs.Start.{places_of}
 use Rattle.histar_container.specs.Tree.{Address, Naming}
 use Rattle.histar_refinement.specs.Sessions.{IsSession}
-use Rattle.histar_refinement.specs.Guards.{Guard, guard_label, rights_clearance}
-use Rattle.histar_refinement.specs.Labels.{class_guard, thread_rights}
+use Rattle.histar_refinement.specs.Guards.{guard_label, rights_clearance}
+use Rattle.histar_refinement.specs.Labels.{thread_rights}
 use Rattle.histar_refinement.specs.Addresses.{Step, same_step, address_of, home_of}
 use Rattle.histar_refinement.specs.Addresses.Step.{Listing, Inside, Runner}
 use Rattle.histar_refinement.specs.Expected.{expected}

@@ -1,5 +1,5 @@
 -- A call on a file: it is found, or the call is refused as the flat rules refuse it.
-use Rattle.std.proofs.Common.{◌≡◌, ℕ, Bool, true, false, List, [], ◌∷◌, Option, None, Some, Result, Ok, Err, refl, sym, ap, ◌∙◌, subst, length}
+use Rattle.std.proofs.Common.{◌≡◌, ℕ, true, List, [], ◌∷◌, Option, None, Some, Result, refl, ◌∙◌, subst, length}
 use Rattle.std.specs.Prelude.{not}
 use Rattle.std.specs.FinMap as map
 use Rattle.histar_base.specs.Refusals.{◌orelse◌, unless}
@@ -19,7 +19,6 @@ use Rattle.histar_rules.specs.declared.raw.RawCall.{RawCall}
 use Rattle.histar_syscall.specs.KernelModel.{KernelModel, state}
 use Rattle.histar_layout.specs.declared.entry.Target.{Target}
 use Rattle.histar_calls.specs.declared.ending.Stopped.{Stopped}
-use Rattle.histar_calls.specs.declared.directory.Directory.{Directory}
 use Rattle.histar_calls.specs.declared.find.FoundFile.{FoundFile}
 use Rattle.histar_calls.specs.Programs.{Program, Runs}
 use Rattle.histar_calls.specs.Parts.{find_file, file_at, given}

@@ -1,22 +1,19 @@
 -- A list does what the flat rule of `list` says.
-use Rattle.std.proofs.Common.{◌≡◌, ◌≢◌, ℕ, Bool, true, false, List, [], ◌∷◌, Option, None, Some, Result, Ok, Err, refl, sym, ap, ◌∙◌, subst, length}
+use Rattle.std.proofs.Common.{◌≡◌, ℕ, true, [], ◌∷◌, Result, refl, sym, ap, ◌∙◌, subst, length}
 use Rattle.histar_base.specs.Refusals.{◌orelse◌, unless}
 use Rattle.histar_flat.specs.declared.calls.UnixCall.{UnixCall}
 use Rattle.histar_flat.specs.declared.calls.UnixCall.TheVariants as calls
-use Rattle.histar_flat.specs.declared.replies.Errno.{Errno}
 use Rattle.histar_flat.specs.declared.replies.Errno.TheVariants.{EACCES, ENOENT, ENOTDIR}
 use Rattle.histar_flat.specs.declared.replies.Reply.{Reply}
 use Rattle.histar_flat.specs.declared.replies.Reply.TheVariants.{Entries}
-use Rattle.histar_flat.specs.Words.{Name, Path}
+use Rattle.histar_flat.specs.Words.{Path}
 use Rattle.histar_flat.specs.Sessions.{Session}
-use Rattle.histar_flat.specs.FlatState.{Flat, Node, is_some_and, is_dir, reads, into, entries_in}
+use Rattle.histar_flat.specs.FlatState.{Flat, is_some_and, is_dir, reads, into, entries_in}
 use Rattle.histar_flat.specs.FlatCalls.{refused}
 use Rattle.histar_object.specs.State.{State}
-use Rattle.histar_rules.specs.declared.raw.RawCall.{RawCall}
 use Rattle.histar_syscall.specs.KernelModel.{KernelModel, state}
 use Rattle.histar_layout.specs.Listing.{names_in}
 use Rattle.histar_calls.specs.declared.ending.Stopped.{Stopped}
-use Rattle.histar_calls.specs.declared.directory.Directory.{Directory}
 use Rattle.histar_calls.specs.Programs.{Runs}
 use Rattle.histar_calls.specs.Programs.Program.{Answers}
 use Rattle.histar_calls.specs.ListCall.{list_program}
@@ -30,7 +27,6 @@ use Rattle.histar_refinement.proofs.Making.{entry_leads}
 use Rattle.histar_refinement.proofs.Standing.{root_is_dir}
 use Rattle.histar_rows.specs.Rows.{IsReady}
 use Rattle.histar_rows.specs.Laws.{ListsAreRows}
-use Rattle.histar_rows.proofs.Chains.{all_granted}
 use Rattle.histar_rows.proofs.Steps.{Goal, answered_step}
 use Rattle.histar_rows.proofs.Walks.{walk_reads, has_way, among_granted_all, walk_step}
 

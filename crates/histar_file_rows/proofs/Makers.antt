@@ -1,5 +1,5 @@
 -- What a process makes: the label that its thread hands in is that of the class that it makes, or lies outside the thread's range.
-use Rattle.std.proofs.Common.{◌≡◌, ◌≢◌, ℕ, ◌+◌, ◌≤◌, ◌&&◌, Bool, true, false, List, [], ◌∷◌, Option, None, Some, arith, inl, inr, refl, sym, ap, ◌∙◌, length, if◌then◌else◌}
+use Rattle.std.proofs.Common.{◌≡◌, ◌≢◌, ℕ, ◌≤◌, ◌&&◌, Bool, true, false, List, [], ◌∷◌, Option, None, Some, arith, inl, inr, refl, sym, ap, ◌∙◌, length, if◌then◌else◌}
 use Rattle.std.specs.Prelude.{IsTrue, is_some}
 use mathlib.Core.Bool.{true≢false}
 use Rattle.histar_flat.specs.declared.calls.Mode.{Mode}

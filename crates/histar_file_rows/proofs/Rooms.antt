@@ -1,5 +1,5 @@
 -- A call that makes an entry: there is room for it, or the call is refused as the flat rules refuse it.
-use Rattle.std.proofs.Common.{◌≡◌, ℕ, ◌≤◌, ◌<◌, ◌==◌, Bool, true, false, List, [], ◌∷◌, Option, None, Some, Result, Ok, Err, arith, refl, sym, ap, ◌∙◌, subst, length}
+use Rattle.std.proofs.Common.{◌≡◌, ℕ, ◌≤◌, ◌==◌, Bool, true, false, List, [], ◌∷◌, Option, None, Some, Result, arith, refl, ◌∙◌, subst, length}
 use Rattle.std.specs.Prelude.{not, nat_lt}
 use Rattle.std.specs.FinMap as map
 use Rattle.std.proofs.lemmas.Bool.Decides.{nat_tests}
@@ -22,7 +22,6 @@ use Rattle.histar_layout.specs.Directory.{Entries}
 use Rattle.histar_layout.specs.Directory as layout
 use Rattle.histar_layout.specs.declared.entry.Target.{Target}
 use Rattle.histar_calls.specs.declared.ending.Stopped.{Stopped}
-use Rattle.histar_calls.specs.declared.directory.Directory.{Directory}
 use Rattle.histar_calls.specs.declared.find.Room.{Room}
 use Rattle.histar_calls.specs.Programs.{Program, Runs}
 use Rattle.histar_calls.specs.Parts.{find_room, room_at, given}

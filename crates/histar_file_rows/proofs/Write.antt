@@ -1,5 +1,5 @@
 -- A write does what the flat rule of `write` says.
-use Rattle.std.proofs.Common.{arith, ◌+◌, ◌≡◌, ℕ, Bool, true, false, List, [], ◌∷◌, ◌++◌, Option, None, Some, Result, Ok, Err, inl, inr, refl, sym, ap, ◌∙◌, subst, length}
+use Rattle.std.proofs.Common.{arith, ◌+◌, ◌≡◌, ℕ, Bool, true, false, List, [], ◌∷◌, ◌++◌, Option, None, Some, Result, refl, sym, ap, ◌∙◌, subst, length}
 use Rattle.std.specs.Prelude.{min, nat_le}
 use Rattle.histar_base.specs.Refusals.{◌orelse◌, unless}
 use Rattle.histar_flat.specs.declared.calls.UnixCall.{UnixCall}
@@ -7,11 +7,11 @@ use Rattle.histar_flat.specs.declared.calls.UnixCall.TheVariants as calls
 use Rattle.histar_flat.specs.declared.replies.Errno.{Errno}
 use Rattle.histar_flat.specs.declared.replies.Errno.TheVariants.{EACCES, EFBIG, EISDIR}
 use Rattle.histar_flat.specs.declared.replies.Reply.{Reply}
-use Rattle.histar_flat.specs.declared.replies.Reply.TheVariants.{Done, Refused}
+use Rattle.histar_flat.specs.declared.replies.Reply.TheVariants.{Done}
 use Rattle.histar_flat.specs.Words.{Name, Path}
 use Rattle.histar_flat.specs.Sessions.{Session}
 use Rattle.histar_flat.specs.Files.{get}
-use Rattle.histar_flat.specs.Classes.{Class, may_read, may_write}
+use Rattle.histar_flat.specs.Classes.{Class, may_write}
 use Rattle.histar_flat.specs.FlatState.{Flat, Node, is_some_and, writes, into, with_bytes as with_file_bytes}
 use Rattle.histar_flat.specs.FlatState.Content.{File}
 use Rattle.histar_flat.specs.FlatCalls.{refused, most_bytes}
@@ -41,7 +41,7 @@ use Rattle.histar_refinement.proofs.StatusFound.{thread_led}
 use Rattle.histar_refinement.proofs.Writing.{laid_overwritten, lays_out_overwritten}
 use Rattle.histar_rows.specs.Rows.{IsReady}
 use Rattle.histar_rows.specs.Laws.{WritesAreRows}
-use Rattle.histar_rows.proofs.Chains.{all_granted, entries_of, Chain}
+use Rattle.histar_rows.proofs.Chains.{all_granted, Chain}
 use Rattle.histar_rows.proofs.Steps.{Goal, granted_step, refused_step, refused_at_once, answered_step}
 use Rattle.histar_rows.proofs.Walks.{runs, place_at, walk_reads, stands, at_container, at_listing, dir, seen, file_number, has_walk, walked_then, walked_also}
 use Rattle.histar_file_rows.proofs.Files.{reached, file_step}
