@@ -1,6 +1,8 @@
 -- How much of its input a run takes.
-use Rattle.std.specs.Prelude.{ℕ, ◌<◌, ◌≤◌, List, Option, length}
+use Rattle.std.specs.Prelude.{ℕ, ◌<◌, ◌≤◌, Bool, true, false, List, Option, Result, Ok, Err, length}
 use Rattle.std.specs.Io.KnownBytes.{Consumes, IsAtEnd}
+use Rattle.histar_devices.specs.declared.input.InputError.{InputError}
+use Rattle.histar_devices.specs.declared.input.InputError.TheVariants.{ReadFailed, OutOfMemory}
 
 -- the most bytes that a run takes: one more than a script may have
 abbrev pub most_taken : ℕ
@@ -17,3 +19,9 @@ pub record TakesSome (old new : Option (List ℕ)) : Type 0 where
   pub taken : List ℕ
   pub consumed : Consumes old new taken
   pub within : length taken ≤ most_taken
+
+-- the answer is that a read failed
+abbrev pub is_read_failed : {A : Type 0} → Result A InputError → Bool
+is_read_failed (Ok x) = false
+is_read_failed (Err ReadFailed) = true
+is_read_failed (Err OutOfMemory) = false

@@ -1,4 +1,3 @@
 pub mod Device
-pub mod DeviceFaults
 pub mod Input
 pub mod Writing

@@ -1,12 +1,12 @@
 //! Reading the whole of a source.
-ghost use Rattle.std.specs.Prelude.{IfOk, IfErr, OnErr};
+ghost use Rattle.std.specs.Prelude.{◌≡◌, IfOk, OnErr};
+ghost use Rattle.histar_devices.specs.declared.input.InputError.TheVariants.{OutOfMemory};
 ghost use Rattle.histar_devices.specs.Device.{CountsFailure};
-ghost use Rattle.histar_devices.specs.Input.{TakesAll, TakesSome};
-ghost use Rattle.histar_devices.specs.DeviceFaults.{IsInputFault, is_read_failed};
+ghost use Rattle.histar_devices.specs.Input.{TakesAll, TakesSome, is_read_failed};
 
 use crate::device::Source;
-use histar_script::Fault;
-use std::alloc::Global;
+use std::alloc::{AllocError, Global};
+use thiserror::Error;
 
 /// The most bytes that a run takes of its input: one more than a script may have, which is enough
 /// to know that it has too many.
@@ -15,13 +15,30 @@ const MOST_TAKEN: usize = 1_048_577;
 /// How many bytes one read asks for.
 const CHUNK: usize = 4096;
 
+/// Why the whole of a source was not read.
+#[derive(Clone, Copy, Debug, PartialEq, Eq, Error)]
+pub enum InputError {
+    /// A call of the source answered with an error.
+    #[error("read failed")]
+    ReadFailed,
+    #[error("out of memory")]
+    OutOfMemory,
+}
+
+impl From<AllocError> for InputError {
+    ghost from_gives = { λ _ e. e ≡ OutOfMemory };
+
+    fn from(_e: AllocError) -> InputError {
+        InputError::OutOfMemory
+    }
+}
+
 /// The bytes of a source up to its end, or as many as show that they are too many.
 ///
-/// Each failed read is a fault, of whatever kind it is, and no read is tried again.
-pub fn read_input<R: Source>(alloc: Global, reader: &mut R) -> Result<Vec<u8>, Fault>
+/// Each failed read is an error, of whatever kind it is, and no read is tried again.
+pub fn read_input<R: Source>(alloc: Global, reader: &mut R) -> Result<Vec<u8>, InputError>
     ensures ok { IfOk result (λ input. TakesAll (R.left reader.old) (R.left reader.new) input.items) }
     ensures err { OnErr result (TakesSome (R.left reader.old) (R.left reader.new)) }
-    ensures faults { IfErr result IsInputFault }
     ensures count { CountsFailure (R.failures reader.old) (R.failures reader.new) (is_read_failed result) }
 {
     let mut input = Vec::new(alloc);
@@ -31,7 +48,7 @@ pub fn read_input<R: Source>(alloc: Global, reader: &mut R) -> Result<Vec<u8>, F
         match reader.pull(&mut chunk[..room]) {
             Ok(0) => break 'chunks,
             Ok(n) => input.extend_from_slice(&chunk[..n])?,
-            Err(_) => return Err(Fault::ReadFailed),
+            Err(_) => return Err(InputError::ReadFailed),
         }
     }
     Ok(input)

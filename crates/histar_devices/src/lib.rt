@@ -7,5 +7,5 @@ mod input;
 mod writing;
 
 pub use device::{Counted, Sink, Source};
-pub use input::read_input;
-pub use writing::write_bytes;
+pub use input::{InputError, read_input};
+pub use writing::{WriteFailed, write_bytes};

@@ -9,3 +9,4 @@ pub mod Beginnings
 pub mod Kept
 pub mod FirstBad
 pub mod Answered
+pub mod BadLines

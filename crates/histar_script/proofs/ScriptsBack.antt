@@ -65,7 +65,7 @@ line_takes s n line t e =
     (a.0, item_takes line a.0 a.1, adds s n a.0 t a.2)
 
 -- and the other way
-line_again : (s : Reading) (n : ℕ) (line : List ℕ) (t : Reading) → Takes s n line t → with_line s n line ≡ Some t
+pub line_again : (s : Reading) (n : ℕ) (line : List ℕ) (t : Reading) → Takes s n line t → with_line s n line ≡ Some t
 unfolding with_line
 line_again s n line t h = rw (item_again line h.0 h.1) (adds_again s n h.0 t h.2)
 

@@ -3,3 +3,4 @@ pub mod Script
 pub mod Reading
 pub mod Outcome
 pub mod Grammar
+pub mod Laws

@@ -1,8 +1,15 @@
--- What a function answers where memory may run out.
+-- What a function answers where memory may run out, and the faults of devices.
 use Rattle.std.specs.Prelude.{◌≡◌, ℕ, Option, Some, None, Result, Ok, Err}
 use Rattle.histar_script.specs.declared.fault.Fault.{Fault}
 use Rattle.histar_script.specs.declared.fault.Fault.TheVariants.{BadScript, TooLong, OutOfMemory, ReadFailed, WriteFailed}
+use Rattle.histar_devices.specs.declared.input.InputError.{InputError}
+use Rattle.histar_devices.specs.declared.input.InputError.TheVariants as input
 use Rattle.histar_script.specs.Script.{Reading}
+
+-- the fault that an error of the input is
+abbrev pub input_fault : InputError → Fault
+input_fault input.ReadFailed = ReadFailed
+input_fault input.OutOfMemory = OutOfMemory
 
 -- the answer is this, unless memory ran out; no reading or writing failed
 abbrev pub Gives : {A : Type 0} → Result A Fault → Result A Fault → Type 0

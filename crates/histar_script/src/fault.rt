@@ -1,7 +1,9 @@
 //! What can go wrong.
 ghost use Rattle.std.specs.Prelude.{◌≡◌};
-ghost use Rattle.histar_script.specs.declared.fault.Fault.TheVariants.{OutOfMemory};
+ghost use Rattle.histar_script.specs.declared.fault.Fault.TheVariants.{OutOfMemory, WriteFailed};
+ghost use Rattle.histar_script.specs.Outcome.{input_fault};
 
+use histar_devices::{InputError, WriteFailed};
 use std::alloc::{AllocError, AllocFailed};
 use thiserror::Error;
 
@@ -37,5 +39,24 @@ impl<T: Drop> From<AllocFailed<T>> for Fault {
 
     fn from(_e: AllocFailed<T>) -> Fault {
         Fault::OutOfMemory
+    }
+}
+
+impl From<InputError> for Fault {
+    ghost from_gives = { λ error fault. fault ≡ input_fault error };
+
+    fn from(error: InputError) -> Fault {
+        match error {
+            InputError::ReadFailed => Fault::ReadFailed,
+            InputError::OutOfMemory => Fault::OutOfMemory,
+        }
+    }
+}
+
+impl From<WriteFailed> for Fault {
+    ghost from_gives = { λ _ fault. fault ≡ WriteFailed };
+
+    fn from(_error: WriteFailed) -> Fault {
+        Fault::WriteFailed
     }
 }

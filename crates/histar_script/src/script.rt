@@ -1,5 +1,5 @@
 //! Reading a whole script.
-ghost use Rattle.std.specs.Prelude.{ℕ, List, IfOk, false, ◌≡◌, ◌≤◌, [], length, IsTrue, IsErrOf, Ok, Err};
+ghost use Rattle.std.specs.Prelude.{ℕ, IfOk, false, ◌≡◌, ◌≤◌, [], length, IsTrue, IsErrOf, Ok, Err};
 ghost use Rattle.histar_script.specs.Lines.{lines_of, is_too_long as too_long};
 ghost use Rattle.histar_script.specs.Script.{Reading, IsUserList, IsNumbered};
 ghost use Rattle.histar_script.specs.Grammar.{IsScript, IsFirstBad};
@@ -162,8 +162,3 @@ fn read_lines(alloc: Global, text: &[u8]) -> Result<Script, Fault>
     }
     Ok(script)
 }
-
-/// A text is one script at most.
-pub fn one_reading()
-    ensures { (text : List ℕ) (a b : Reading) → IsScript text a → IsScript text b → a ≡ b }
-{}

@@ -1,13 +1,12 @@
 -- Answering call lines one by one.
 use Rattle.std.proofs.Common.{◌≡◌, ℕ, ◌+◌, ◌<◌, List, [], ◌∷◌, ◌++◌, length, take, drop, get_or, Option, Result, Ok, Err, refl, sym, ap, ap₂, subst, ◌∙◌, append-nil, append_assoc, take-append-drop}
-use Rattle.std.specs.Prelude.{MatchResult, OnOk, OnErr}
+use Rattle.std.specs.Prelude.{MatchResult}
 use Rattle.std.proofs.lemmas.List.{map-append, drop_more}
 use Rattle.std.proofs.lemmas.Grind.{flat_map-append}
 use Rattle.std.proofs.KnownBytes.{Appends-nil, Appends-kept, Appends-trans, Keeps-refl}
 use Rattle.std.specs.Io.KnownBytes.{Appends, Keeps}
 use Rattle.histar_calls.specs.declared.ending.Stopped.{Stopped}
 use Rattle.histar_flat.specs.declared.replies.Reply.{Reply}
-use Rattle.histar_script.specs.declared.fault.Fault.{Fault}
 use Rattle.histar_flat.specs.declared.calls.CallLine.{CallLine}
 use Rattle.histar_devices.specs.Writing.{AppendsFront}
 use Rattle.histar_devices.proofs.WritingLemmas.{sent_none}
@@ -92,14 +91,12 @@ begins_more first mid last a b c calls front rest call parts done begun =
     ] begun.answered begun.written
 
 -- a whole line that tells the machine's reply answers the call line
-pub answers_where_ok : (result : Result (Unit {0}) Fault) (before after : MachineModel) (old new : Option (List ℕ)) (call : CallLine) (reply : Reply) (line bytes : List ℕ) → AnswersLine before after call.line call.process call.call (Ok reply) → line ≡ line_text call.line reply → bytes ≡ line → OnOk result (Appends old new bytes) → OnOk result (AnswersCall before after old new call)
-answers_where_ok (Ok x) before after old new call reply line bytes answered text same written = record { reply = reply; answered = answered; written = subst (Appends old new) (same ∙ text) written }
-answers_where_ok (Err e) before after old new call reply line bytes answered text same written = tt
+pub answers_written : (before after : MachineModel) (old new : Option (List ℕ)) (call : CallLine) (reply : Reply) (line bytes : List ℕ) → AnswersLine before after call.line call.process call.call (Ok reply) → line ≡ line_text call.line reply → bytes ≡ line → Appends old new bytes → AnswersCall before after old new call
+answers_written before after old new call reply line bytes answered text same written = record { reply = reply; answered = answered; written = subst (Appends old new) (same ∙ text) written }
 
 -- and a beginning of it begins to
-pub begins_where_err : (result : Result (Unit {0}) Fault) (before after : MachineModel) (old new : Option (List ℕ)) (call : CallLine) (reply : Reply) (line bytes : List ℕ) → AnswersLine before after call.line call.process call.call (Ok reply) → line ≡ line_text call.line reply → bytes ≡ line → OnErr result (AppendsFront old new bytes) → OnErr result (BeginsAnswer before after old new call)
-begins_where_err (Ok x) before after old new call reply line bytes answered text same written = tt
-begins_where_err (Err e) before after old new call reply line bytes answered text same written = record { outcome = Ok reply; answered = answered; written = subst (AppendsFront old new) (same ∙ text) written }
+pub begins_written : (before after : MachineModel) (old new : Option (List ℕ)) (call : CallLine) (reply : Reply) (line bytes : List ℕ) → AnswersLine before after call.line call.process call.call (Ok reply) → line ≡ line_text call.line reply → bytes ≡ line → AppendsFront old new bytes → BeginsAnswer before after old new call
+begins_written before after old new call reply line bytes answered text same written = record { outcome = Ok reply; answered = answered; written = subst (AppendsFront old new) (same ∙ text) written }
 
 -- a reply of which nothing was written
 pub begins_unwritten : (before after : MachineModel) (a : Option (List ℕ)) (call : CallLine) (reply : Reply) → AnswersLine before after call.line call.process call.call (Ok reply) → BeginsAnswer before after a a call

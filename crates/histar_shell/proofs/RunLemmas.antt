@@ -1,114 +1,73 @@
 -- What a run says, put together from what its parts say.
-use Rattle.std.proofs.Common.{◌≡◌, ℕ, ◌<◌, true, ltb, List, ◌++◌, length, Option, Some, None, Result, Ok, Err, refl, sym, ap, subst, ◌∙◌, arith, rules, tests, append-nil, inl, inr}
+use Rattle.std.proofs.Common.{◌≡◌, ℕ, ◌<◌, true, false, ltb, List, ◌++◌, length, Option, Some, None, Result, Ok, Err, refl, sym, ap, subst, ◌∙◌, arith, rules, tests, append-nil, inl, inr}
 use Rattle.std.specs.Prelude.{IfSome, IsOk, is_ok}
-use Rattle.std.proofs.lemmas.Bool.{cases_lt}
+use Rattle.std.specs.Io.KnownBytes.{Keeps}
+use Rattle.std.proofs.lemmas.Bool.{cases_lt, false≢true}
 use Rattle.std.proofs.lemmas.List.{length-append}
 use Rattle.std.proofs.KnownBytes.{Keeps-refl}
 use Rattle.histar_script.specs.declared.fault.Fault.{Fault}
 use Rattle.histar_script.specs.declared.fault.Fault.TheVariants.{BadScript, TooLong, OutOfMemory, ReadFailed, WriteFailed}
 use Rattle.histar_script.specs.Script.{Reading}
-use Rattle.histar_script.specs.Outcome.{Gives}
+use Rattle.histar_devices.specs.declared.input.InputError.{InputError}
+use Rattle.histar_devices.specs.declared.input.InputError.TheVariants as input
+use Rattle.histar_script.specs.Outcome.{Gives, input_fault}
 use Rattle.histar_script.specs.Reading.{script_of}
 use Rattle.histar_devices.specs.Input.{TakesAll, TakesSome}
-use Rattle.histar_devices.specs.DeviceFaults.{IsInputFault}
-use Rattle.histar_shell.specs.Outcome.{IsOutputFault, IsFaultAt, TakesAtFault, AnswersScript, BeginsScript, WritesAtFault}
+use Rattle.histar_shell.specs.Outcome.{IsOutputFault, IsFaultAt, AgreesWith, AnswersScript, BeginsScript, WritesAtFault, WritesAnswers, is_read_failed}
+use Rattle.histar_shell.specs.Meaning.{RunsAsMeant}
+use Rattle.histar_shell.specs.Run.{RunsText, RunsTaken, StopsReading, RunsInput, LeavesSink}
 use Rattle.histar_shell.specs.Machine.{MachineModel, IsStart}
 use Rattle.histar_shell.specs.Session.{AnswersCalls, BeginsAnswers}
 use Rattle.histar_syscall.specs.declared.trace.TraceEntry.{TraceEntry}
 use Rattle.histar_flat.specs.declared.calls.User.{User}
 use Rattle.histar_flat.specs.declared.calls.CallLine.{CallLine}
+use Rattle.histar_rows.specs.Laws.{CallsAreRows}
+use Rattle.histar_shell.proofs.SessionMeanings.{meant_run}
 
--- the script that the bytes that were taken are is that of the whole input
-abbrev pub IsScriptOfAll : Option (List ℕ) → List ℕ → Type 0
-IsScriptOfAll left taken = IfSome left (λ input. script_of input ≡ script_of taken)
+-- what a run answers
+abbrev Answer : Type 0
+Answer = Result (List TraceEntry) Fault
 
--- a text of more bytes than a script may have is too long
-long_is : (text : List ℕ) → 1048576 < length text → script_of text ≡ Err TooLong
-long_is text lt = let e : ltb 1048576 (length text) ≡ true = search (rules, tests) in rw e refl
+-- ---- a text that is run
 
--- what was taken says what the whole input says
-pub same_script : (left after : Option (List ℕ)) (taken : List ℕ) → TakesAll left after taken → IsScriptOfAll left taken
-same_script None after taken takes = tt
-same_script (Some input) None taken takes = absurd takes.consumed
-same_script (Some input) (Some rest) taken takes =
-    elim (cases_lt (length taken) 1048577) [
-      | inl lt ↦ ap script_of (takes.consumed ∙ ap (λ (l : List ℕ). taken ++ l) (takes.ended lt) ∙ append-nil taken)
-      | inr le ↦ long_is input (omega (arith, ap length takes.consumed, length-append taken rest)) ∙ sym (long_is taken (omega arith))
-    ]
-
--- what reading the input may fail by is no fault of the script
-pub input_fault_agrees : (f : Fault) (left : Option (List ℕ)) → IsInputFault f → IfSome left (λ input. IsFaultAt (script_of input) f)
-input_fault_agrees f None h = tt
-input_fault_agrees (BadScript n) (Some input) h = absurd h
-input_fault_agrees TooLong (Some input) h = absurd h
-input_fault_agrees OutOfMemory (Some input) h = tt
-input_fault_agrees ReadFailed (Some input) h = tt
-input_fault_agrees WriteFailed (Some input) h = absurd h
-
--- and nothing was written then
-pub input_fault_writes : (f : Fault) (left w : Option (List ℕ)) → IsInputFault f → IfSome left (λ input. WritesAtFault w w (script_of input) f)
-input_fault_writes f None w h = tt
-input_fault_writes (BadScript n) (Some input) w h = absurd h
-input_fault_writes TooLong (Some input) w h = absurd h
-input_fault_writes OutOfMemory (Some input) w h = inl (Keeps-refl w)
-input_fault_writes ReadFailed (Some input) w h = Keeps-refl w
-input_fault_writes WriteFailed (Some input) w h = absurd h
-
--- but some of the input may have been taken
-pub input_fault_takes : (f : Fault) (left after : Option (List ℕ)) → IsInputFault f → TakesSome left after → TakesAtFault left after f
-input_fault_takes (BadScript n) left after h takes = absurd h
-input_fault_takes TooLong left after h takes = absurd h
-input_fault_takes OutOfMemory left after h takes = takes
-input_fault_takes ReadFailed left after h takes = takes
-input_fault_takes WriteFailed left after h takes = absurd h
-
--- once all was taken, every fault may follow
-pub takes_at_fault : (f : Fault) (left after : Option (List ℕ)) (taken : List ℕ) → TakesAll left after taken → TakesAtFault left after f
-takes_at_fault (BadScript n) left after taken takes = (taken, takes)
-takes_at_fault TooLong left after taken takes = (taken, takes)
-takes_at_fault OutOfMemory left after taken takes = record { taken = taken; consumed = takes.consumed; within = takes.within }
-takes_at_fault ReadFailed left after taken takes = record { taken = taken; consumed = takes.consumed; within = takes.within }
-takes_at_fault WriteFailed left after taken takes = (taken, takes)
+-- its answers are those of its meaning
+pub runs_text : (rows : CallsAreRows) (text : List ℕ) (old new : Option (List ℕ)) (result : Answer) → AgreesWith (script_of text) result → WritesAnswers old new (script_of text) result → RunsText text old new result
+runs_text rows text old new result agrees answers = record { faults = agrees; answers = answers; means = meant_run rows old new text result answers }
 
 -- what reading the script answers is the fault in it, or want of memory
-pub script_fault_agrees : (f : Fault) (left : Option (List ℕ)) (taken : List ℕ) → IsScriptOfAll left taken → Gives (Err f) (script_of taken) → IfSome left (λ input. IsFaultAt (script_of input) f)
-script_fault_agrees f None taken same given = tt
-script_fault_agrees (BadScript n) (Some input) taken same given = same ∙ given
-script_fault_agrees TooLong (Some input) taken same given = same ∙ given
-script_fault_agrees OutOfMemory (Some input) taken same given = tt
-script_fault_agrees ReadFailed (Some input) taken same given = tt
-script_fault_agrees WriteFailed (Some input) taken same given = absurd given
+script_fault_agrees : (f : Fault) (read : Result Reading Fault) → Gives (Err f) read → IsFaultAt read f
+script_fault_agrees (BadScript n) read given = given
+script_fault_agrees TooLong read given = given
+script_fault_agrees OutOfMemory read given = tt
+script_fault_agrees ReadFailed read given = absurd given
+script_fault_agrees WriteFailed read given = absurd given
 
 -- and nothing was written then
-pub script_fault_writes : (f : Fault) (left w : Option (List ℕ)) (taken : List ℕ) → Gives (Err f) (script_of taken) → IfSome left (λ input. WritesAtFault w w (script_of input) f)
-script_fault_writes f None w taken given = tt
-script_fault_writes (BadScript n) (Some input) w taken given = Keeps-refl w
-script_fault_writes TooLong (Some input) w taken given = Keeps-refl w
-script_fault_writes OutOfMemory (Some input) w taken given = inl (Keeps-refl w)
-script_fault_writes ReadFailed (Some input) w taken given = Keeps-refl w
-script_fault_writes WriteFailed (Some input) w taken given = absurd given
+script_fault_writes : (f : Fault) (w : Option (List ℕ)) (read : Result Reading Fault) → Gives (Err f) read → WritesAtFault w w read f
+script_fault_writes (BadScript n) w read given = Keeps-refl w
+script_fault_writes TooLong w read given = Keeps-refl w
+script_fault_writes OutOfMemory w read given = inl (Keeps-refl w)
+script_fault_writes ReadFailed w read given = absurd given
+script_fault_writes WriteFailed w read given = absurd given
 
--- once the script was read, it is right
-pub is_right : (left : Option (List ℕ)) (taken : List ℕ) (script : Reading) → IsScriptOfAll left taken → script_of taken ≡ Ok script → IfSome left (λ input. IsOk (script_of input))
-is_right None taken script same given = tt
-is_right (Some input) taken script same given = ap is_ok (same ∙ given)
+-- a text in which reading finds a fault
+pub faulty_text : (rows : CallsAreRows) (text : List ℕ) (w : Option (List ℕ)) (f : Fault) → Gives (Err f) (script_of text) → RunsText text w w (Err f)
+faulty_text rows text w f given = runs_text rows text w w (Err f) (script_fault_agrees f (script_of text) given) (script_fault_writes f w (script_of text) given)
 
--- and answering its calls fails by no fault of a script
-pub answer_fault_agrees : (f : Fault) (left : Option (List ℕ)) → IsOutputFault f → IfSome left (λ input. IsOk (script_of input)) → IfSome left (λ input. IsFaultAt (script_of input) f)
-answer_fault_agrees f None h right = tt
-answer_fault_agrees (BadScript n) (Some input) h right = absurd h
-answer_fault_agrees TooLong (Some input) h right = absurd h
-answer_fault_agrees OutOfMemory (Some input) h right = tt
-answer_fault_agrees ReadFailed (Some input) h right = absurd h
-answer_fault_agrees WriteFailed (Some input) h right = right
+-- a text for which no machine was booted
+pub unbooted_text : (rows : CallsAreRows) (text : List ℕ) (w : Option (List ℕ)) → RunsText text w w (Err OutOfMemory)
+unbooted_text rows text w = runs_text rows text w w (Err OutOfMemory) tt (inl (Keeps-refl w))
 
--- what holds of each reading of the script that was read holds of that of the input
-pub at_script : (P : Result Reading Fault → Type 0) (left : Option (List ℕ)) (taken : List ℕ) (script : Reading) → IsScriptOfAll left taken → script_of taken ≡ Ok script → ((read : Result Reading Fault) → read ≡ Ok script → P read) → IfSome left (λ input. P (script_of input))
-at_script P None taken script same given holds = tt
-at_script P (Some input) taken script same given holds = holds (script_of input) (same ∙ given)
+-- answering the calls fails by no fault of a script
+answer_fault_agrees : (f : Fault) (read : Result Reading Fault) → IsOutputFault f → IsOk read → IsFaultAt read f
+answer_fault_agrees (BadScript n) read h right = absurd h
+answer_fault_agrees TooLong read h right = absurd h
+answer_fault_agrees OutOfMemory read h right = tt
+answer_fault_agrees ReadFailed read h right = absurd h
+answer_fault_agrees WriteFailed read h right = right
 
--- a beginning of the answers was written where answering failed
-pub answer_fault_writes : (f : Fault) (old new : Option (List ℕ)) (read : Result Reading Fault) → IsOutputFault f → BeginsScript old new read → WritesAtFault old new read f
+-- and a beginning of the answers was written then
+answer_fault_writes : (f : Fault) (old new : Option (List ℕ)) (read : Result Reading Fault) → IsOutputFault f → BeginsScript old new read → WritesAtFault old new read f
 answer_fault_writes (BadScript n) old new read h begun = absurd h
 answer_fault_writes TooLong old new read h begun = absurd h
 answer_fault_writes OutOfMemory old new read h begun = inr begun
@@ -126,3 +85,91 @@ begins_script old new script start calls starts listed begun read is_read = reco
 -- the calls of the script were answered, and the trace is that of the machine at the end
 pub answers_script : (old new : Option (List ℕ)) (script : Reading) (start end : MachineModel) (calls : List CallLine) (trace : List TraceEntry) → IsStart script.users start → calls ≡ script.calls → AnswersCalls start end old new calls → trace ≡ end.kernel.trace → (read : Result Reading Fault) → read ≡ Ok script → AnswersScript old new read trace
 answers_script old new script start end calls trace starts listed answered recorded read is_read = record { script = script; is_read = is_read; start = start; starts = starts; end = end; answered = subst (λ (l : List CallLine). AnswersCalls start end old new l) listed answered; recorded = recorded }
+
+-- a text of which a beginning of the calls was answered
+pub begun_text : (rows : CallsAreRows) (text : List ℕ) (old new : Option (List ℕ)) (f : Fault) (script : Reading) → script_of text ≡ Ok script → IsOutputFault f → BeginsScript old new (script_of text) → RunsText text old new (Err f)
+begun_text rows text old new f script given h begun =
+    runs_text rows text old new (Err f) (answer_fault_agrees f (script_of text) h (ap is_ok given)) (answer_fault_writes f old new (script_of text) h begun)
+
+-- a text of which all calls were answered
+pub answered_text : (rows : CallsAreRows) (text : List ℕ) (old new : Option (List ℕ)) (trace : List TraceEntry) (script : Reading) → script_of text ≡ Ok script → AnswersScript old new (script_of text) trace → RunsText text old new (Ok trace)
+answered_text rows text old new trace script given answers = runs_text rows text old new (Ok trace) (ap is_ok given) answers
+
+-- ---- an input that is taken
+
+-- an error of the input stops the reading
+pub stops_reading : (e : InputError) (left rest w : Option (List ℕ)) → TakesSome left rest → RunsInput left rest w w (Err (input_fault e))
+stops_reading input.OutOfMemory left rest w takes = inl (record { takes = takes; keeps = Keeps-refl w })
+stops_reading input.ReadFailed left rest w takes = record { takes = takes; keeps = Keeps-refl w }
+
+-- what was taken is run
+pub runs_taken : (left rest old new : Option (List ℕ)) (taken text : List ℕ) (result : Answer) → TakesAll left rest taken → text ≡ taken → RunsText text old new result → is_read_failed result ≡ false → RunsInput left rest old new result
+runs_taken left rest old new taken text result takes same runs no_read_failed =
+    at_result result (record { taken = taken; takes = takes; runs = subst (λ (t : List ℕ). RunsText t old new result) same runs }) no_read_failed
+  where
+    at_result : (r : Answer) → RunsTaken left rest old new r → is_read_failed r ≡ false → RunsInput left rest old new r
+    at_result (Ok trace) h none = h
+    at_result (Err (BadScript n)) h none = h
+    at_result (Err TooLong) h none = h
+    at_result (Err OutOfMemory) h none = inr h
+    at_result (Err ReadFailed) h none = absurd (false≢true (sym none))
+    at_result (Err WriteFailed) h none = h
+
+-- a text of more bytes than a script may have is too long
+long_is : (text : List ℕ) → 1048576 < length text → script_of text ≡ Err TooLong
+long_is text lt = let e : ltb 1048576 (length text) ≡ true = search (rules, tests) in rw e refl
+
+-- what was taken says what the whole input says
+same_script : (input : List ℕ) (rest : Option (List ℕ)) (taken : List ℕ) → TakesAll (Some input) rest taken → script_of taken ≡ script_of input
+same_script input None taken takes = absurd takes.consumed
+same_script input (Some rest) taken takes =
+    elim (cases_lt (length taken) 1048577) [
+      | inl lt ↦ sym (ap script_of (takes.consumed ∙ ap (λ (l : List ℕ). taken ++ l) (takes.ended lt) ∙ append-nil taken))
+      | inr le ↦ long_is taken (omega arith) ∙ sym (long_is input (omega (arith, ap length takes.consumed, length-append taken rest)))
+    ]
+
+-- what was run is the script of the whole input
+same_run : (input taken : List ℕ) (old new : Option (List ℕ)) (result : Answer) → script_of taken ≡ script_of input → RunsText taken old new result → RunsText input old new result
+same_run input taken old new result same runs = record {
+  faults = subst (λ (read : Result Reading Fault). AgreesWith read result) same runs.faults;
+  answers = subst (λ (read : Result Reading Fault). WritesAnswers old new read result) same runs.answers;
+  means = subst (λ (read : Result Reading Fault). RunsAsMeant old new read result) same runs.means;
+}
+
+-- a known input that was taken was run
+taken_known : (left rest old new : Option (List ℕ)) (result : Answer) → RunsTaken left rest old new result → IfSome left (λ input. RunsText input old new result)
+taken_known None rest old new result h = tt
+taken_known (Some input) rest old new result h = same_run input h.taken old new result (same_script input rest h.taken h.takes) h.runs
+
+-- a known input of which some was taken was run as far as that
+stopped_known : (left rest old new : Option (List ℕ)) (result : Answer) → ((input : List ℕ) → Keeps old new → RunsText input old new result) → StopsReading left rest old new → IfSome left (λ input. RunsText input old new result)
+stopped_known None rest old new result runs h = tt
+stopped_known (Some input) rest old new result runs h = runs input h.keeps
+
+-- a known input was run
+pub input_known : (left rest old new : Option (List ℕ)) (result : Answer) → RunsInput left rest old new result → IfSome left (λ input. RunsText input old new result)
+input_known left rest old new (Ok trace) h = taken_known left rest old new (Ok trace) h
+input_known left rest old new (Err (BadScript n)) h = taken_known left rest old new (Err (BadScript n)) h
+input_known left rest old new (Err TooLong) h = taken_known left rest old new (Err TooLong) h
+input_known left rest old new (Err OutOfMemory) (inl h) = stopped_known left rest old new (Err OutOfMemory) (λ text keeps. record { faults = tt; answers = inl keeps; means = inl keeps }) h
+input_known left rest old new (Err OutOfMemory) (inr h) = taken_known left rest old new (Err OutOfMemory) h
+input_known left rest old new (Err ReadFailed) h = stopped_known left rest old new (Err ReadFailed) (λ text keeps. record { faults = tt; answers = keeps; means = keeps }) h
+input_known left rest old new (Err WriteFailed) h = taken_known left rest old new (Err WriteFailed) h
+
+-- ---- a sink that is left alone
+
+-- what was not called is as it was
+pub sink_left : {W : Type 0} (w : W) (f : Fault) → LeavesSink w w f
+sink_left w (BadScript n) = refl
+sink_left w TooLong = refl
+sink_left w OutOfMemory = tt
+sink_left w ReadFailed = refl
+sink_left w WriteFailed = tt
+
+-- answering calls has none of the faults at which it is
+pub sink_called : {W : Type 0} (old new : W) (f : Fault) → IsOutputFault f → LeavesSink old new f
+sink_called old new (BadScript n) h = absurd h
+sink_called old new TooLong h = absurd h
+sink_called old new OutOfMemory h = tt
+sink_called old new ReadFailed h = absurd h
+sink_called old new WriteFailed h = tt

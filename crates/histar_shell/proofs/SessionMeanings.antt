@@ -1,6 +1,5 @@
 -- A run is as its script means: the fold of its lines.
-use Rattle.std.proofs.Common.{◌≡◌, ℕ, List, [], ◌∷◌, ◌++◌, Option, None, Some, Result, Ok, Err, refl, sym, ap, ◌∙◌, subst, append-nil, append_assoc, inl, inr}
-use Rattle.std.specs.Prelude.{IfSome}
+use Rattle.std.proofs.Common.{◌≡◌, ℕ, List, [], ◌∷◌, ◌++◌, Option, Result, Ok, Err, refl, sym, ap, ◌∙◌, subst, append-nil, append_assoc, inl, inr}
 use Rattle.std.specs.List.{AllByRecursion}
 use Rattle.std.specs.Io.KnownBytes.{Appends}
 use Rattle.std.proofs.lemmas.Grind.{flat_map-append}
@@ -172,11 +171,6 @@ meant_at_fault rows old new text ReadFailed h = h
 meant_at_fault rows old new text WriteFailed h = begun_script rows old new text h
 
 -- what a run answers is as its script means
-meant_run : (rows : CallsAreRows) (old new : Option (List ℕ)) (text : List ℕ) (result : Result (List TraceEntry) Fault) → WritesAnswers old new (script_of text) result → RunsAsMeant old new (script_of text) result
+pub meant_run : (rows : CallsAreRows) (old new : Option (List ℕ)) (text : List ℕ) (result : Result (List TraceEntry) Fault) → WritesAnswers old new (script_of text) result → RunsAsMeant old new (script_of text) result
 meant_run rows old new text (Ok trace) h = let says = script_says text h.script h.is_read in writes_meaning rows h.script says.0 says.1 h.start h.starts old new (script_of text) h.is_read trace h.end h.answered h.recorded
 meant_run rows old new text (Err fault) h = meant_at_fault rows old new text fault h
-
--- where the input is known
-pub runs_as_meant : (rows : CallsAreRows) (left old new : Option (List ℕ)) (result : Result (List TraceEntry) Fault) → IfSome left (λ text. WritesAnswers old new (script_of text) result) → IfSome left (λ text. RunsAsMeant old new (script_of text) result)
-runs_as_meant rows None old new result h = tt
-runs_as_meant rows (Some text) old new result h = meant_run rows old new text result h

@@ -3,3 +3,4 @@ pub mod Outcome
 pub mod Machine
 pub mod Session
 pub mod Meaning
+pub mod Run

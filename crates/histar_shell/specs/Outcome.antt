@@ -1,13 +1,30 @@
--- What the answer of a run says of its input and of its output.
-use Rattle.std.specs.Prelude.{◌≡◌, ℕ, ◌⊎◌, List, Option, Result, Ok, Err, IsOk, IfErr, MatchResult}
+-- What the answer of a run says of its script and of its output.
+use Rattle.std.specs.Prelude.{◌≡◌, ℕ, ◌⊎◌, Bool, true, false, List, Option, Result, Ok, Err, IsOk, MatchResult}
 use Rattle.std.specs.Io.KnownBytes.{Keeps}
 use Rattle.histar_script.specs.declared.fault.Fault.{Fault}
 use Rattle.histar_script.specs.declared.fault.Fault.TheVariants.{BadScript, TooLong, OutOfMemory, ReadFailed, WriteFailed}
 use Rattle.histar_script.specs.Script.{Reading}
-use Rattle.histar_devices.specs.Input.{TakesAll, TakesSome}
 use Rattle.histar_shell.specs.Machine.{MachineModel, IsStart}
 use Rattle.histar_shell.specs.Session.{AnswersCalls, BeginsAnswers}
 use Rattle.histar_syscall.specs.declared.trace.TraceEntry.{TraceEntry}
+
+-- the answer is that a read failed
+abbrev pub is_read_failed : {A : Type 0} → Result A Fault → Bool
+is_read_failed (Ok x) = false
+is_read_failed (Err (BadScript n)) = false
+is_read_failed (Err TooLong) = false
+is_read_failed (Err OutOfMemory) = false
+is_read_failed (Err ReadFailed) = true
+is_read_failed (Err WriteFailed) = false
+
+-- the answer is that a write failed
+abbrev pub is_write_failed : {A : Type 0} → Result A Fault → Bool
+is_write_failed (Ok x) = false
+is_write_failed (Err (BadScript n)) = false
+is_write_failed (Err TooLong) = false
+is_write_failed (Err OutOfMemory) = false
+is_write_failed (Err ReadFailed) = false
+is_write_failed (Err WriteFailed) = true
 
 -- the faults that answering calls can have
 abbrev pub IsOutputFault : Fault → Type 0
@@ -16,30 +33,6 @@ IsOutputFault TooLong = ⊥
 IsOutputFault OutOfMemory = Unit {0}
 IsOutputFault ReadFailed = ⊥
 IsOutputFault WriteFailed = Unit {0}
-
--- After a bad script, one that is too long and a failed read nothing was written.
-abbrev pub IsQuietFault : Option (List ℕ) → Option (List ℕ) → Fault → Type 0
-IsQuietFault old new (BadScript n) = Keeps old new
-IsQuietFault old new TooLong = Keeps old new
-IsQuietFault old new OutOfMemory = Unit {0}
-IsQuietFault old new ReadFailed = Keeps old new
-IsQuietFault old new WriteFailed = Unit {0}
-
--- whatever the devices are, nothing was written at those faults
-abbrev pub WritesNothing : {A : Type 0} → Option (List ℕ) → Option (List ℕ) → Result A Fault → Type 0
-WritesNothing old new result = IfErr result (IsQuietFault old new)
-
--- At want of memory and at a failed read some of the input was taken, else all that a run takes.
-abbrev pub TakesAtFault : Option (List ℕ) → Option (List ℕ) → Fault → Type 0
-TakesAtFault old new (BadScript n) = (taken : List ℕ) × TakesAll old new taken
-TakesAtFault old new TooLong = (taken : List ℕ) × TakesAll old new taken
-TakesAtFault old new OutOfMemory = TakesSome old new
-TakesAtFault old new ReadFailed = TakesSome old new
-TakesAtFault old new WriteFailed = (taken : List ℕ) × TakesAll old new taken
-
--- the input was taken to its end or to the most that a run takes of it, and never further
-abbrev pub TakesInput : {A : Type 0} → Option (List ℕ) → Option (List ℕ) → Result A Fault → Type 0
-TakesInput old new result = MatchResult result (λ _. (taken : List ℕ) × TakesAll old new taken) (TakesAtFault old new)
 
 -- A fault in a script is answered as what it is. The others are no faults of a script, and a write fails only after a
 -- right one.

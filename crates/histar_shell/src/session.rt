@@ -1,11 +1,9 @@
 //! A run, from bytes to bytes.
-ghost use Rattle.std.specs.Prelude.{◌≡◌, IfErr, IfSome, OnOk, OnErr};
-ghost use Rattle.histar_script.specs.Reading.{script_of};
+ghost use Rattle.std.specs.Prelude.{◌≡◌, false, IfErr, IfSome, OnOk, OnErr};
 ghost use Rattle.histar_devices.specs.Device.{CountsFailure};
-ghost use Rattle.histar_devices.specs.DeviceFaults.{is_read_failed, is_write_failed};
 ghost use Rattle.histar_shell.specs.Session.{AnswersCall, AnswersCalls, BeginsAnswer, BeginsAnswers};
-ghost use Rattle.histar_shell.specs.Meaning.{RunsAsMeant};
-ghost use Rattle.histar_shell.specs.Outcome.{AgreesWith, IsOutputFault, TakesInput, WritesAnswers, WritesNothing};
+ghost use Rattle.histar_shell.specs.Outcome.{IsOutputFault, is_read_failed, is_write_failed};
+ghost use Rattle.histar_shell.specs.Run.{LeavesSink, RunsInput, RunsText};
 
 use crate::machine::{Machine, Trace};
 use crate::output::reply_line;
@@ -29,29 +27,34 @@ pub fn run<R: Source, W: Sink>(
     writer: &mut W,
     options: Options,
 ) -> Result<Trace, Fault>
-    // After a bad script, one that is too long and a failed read nothing was written.
-    ensures nothing { WritesNothing (W.written writer.old) (W.written writer.new) result }
+    // After a bad script, one that is too long and a failed read the sink is as it was.
+    ensures nothing { IfErr result (LeavesSink writer.old writer.new) }
 
     // A device has failed exactly where its fault is the answer.
     ensures reads { CountsFailure (R.failures reader.old) (R.failures reader.new) (is_read_failed result) }
     ensures writes { CountsFailure (W.failures writer.old) (W.failures writer.new) (is_write_failed result) }
 
-    // The input is taken to its end, but never more than 1,048,577 bytes of it.
-    ensures taken { TakesInput (R.left reader.old) (R.left reader.new) result }
+    // Whatever the source tells, the run took bytes of it, to its end but never more than 1,048,577, and ran the script that
+    // these are: their fault is answered, or exactly the text of the script's meaning is written, and the trace is that of the
+    // meaning, line by line.
+    ensures runs { RunsInput (R.left reader.old) (R.left reader.new) (W.written writer.old) (W.written writer.new) result }
 
-    // Where the input is known: the fault in it is answered. A machine that starts with its users answers its call lines, in
-    // their order; what is written tells the machine's replies, and the trace is the machine's.
-    ensures faults_of_input { IfSome (R.left reader.old) (λ input. AgreesWith (script_of input) result) }
-    ensures answers { IfSome (R.left reader.old) (λ input. WritesAnswers (W.written writer.old) (W.written writer.new)
-        (script_of input) result) }
-
-    // So exactly the text of the script's meaning is written, and the trace is that of the meaning, line by line.
-    ensures means { IfSome (R.left reader.old) (λ input. RunsAsMeant (W.written writer.old) (W.written writer.new)
-        (script_of input) result) }
+    // So where the input is known, the script of the whole input was run.
+    ensures known { IfSome (R.left reader.old) (λ input. RunsText input (W.written writer.old) (W.written writer.new) result) }
 {
     let Options {} = options;
     let input = read_input(alloc, reader)?;
-    let script = read_script(alloc, input.as_slice())?;
+    run_text(alloc, input.as_slice(), writer)
+}
+
+/// Runs the script that a text is.
+fn run_text<W: Sink>(alloc: Global, text: &[u8], writer: &mut W) -> Result<Trace, Fault>
+    ensures nothing { IfErr result (LeavesSink writer.old writer.new) }
+    ensures reads { is_read_failed result ≡ false }
+    ensures writes { CountsFailure (W.failures writer.old) (W.failures writer.new) (is_write_failed result) }
+    ensures runs { RunsText text.now (W.written writer.old) (W.written writer.new) result }
+{
+    let script = read_script(alloc, text)?;
     let (users, calls) = script.into_parts();
     let store = PlainStore::new(alloc);
     let Ok(mut machine) = Machine::boot(alloc, store, users.as_slice()) else {
@@ -100,5 +103,6 @@ fn answer_call<S: LabelStore + Drop, W: Sink>(
         return Err(Fault::OutOfMemory);
     };
     let line = reply_line(alloc, number, &reply)?;
-    write_bytes(writer, line.as_slice())
+    write_bytes(writer, line.as_slice())?;
+    Ok(())
 }

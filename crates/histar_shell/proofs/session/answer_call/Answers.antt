@@ -3,18 +3,19 @@ use Rattle.std.proofs.lemmas.Result.{err_from_is_err_and}
 use Rattle.histar_calls.specs.declared.ending.Stopped.{Stopped}
 use Rattle.histar_flat.specs.declared.replies.Reply.{Reply}
 use Rattle.histar_shell.specs.Machine.{AnswersLine}
-use Rattle.histar_shell.proofs.AnswerLemmas.{answers_where_ok, begins_unanswered, begins_unwritten, begins_where_err}
+use Rattle.histar_shell.proofs.AnswerLemmas.{answers_written, begins_unanswered, begins_unwritten, begins_written}
 use Rattle.histar_shell.proofs.session.answer_call.Goals as goal
 
 pub returns-clause-ok : goal.returns-clause-ok
 returns-clause-ok g c =
     let answered = subst (λ (r : Result Reply Stopped). AnswersLine c.args.machine.now c.step.new.self c.args.call.line c.args.call.process c.args.call.call r) c.in-Ok.is c.step.ensures.answers in
-    answers_where_ok c.write_bytes.result _ _ _ _ c.args.call c.in-Ok.reply c.in_ok-line.line.items c.as_slice.result.now answered c.in_ok-line.ensures c.as_slice.ensures.value c.write_bytes.ensures.ok
+    answers_written _ _ _ _ c.args.call c.in-Ok.reply c.in_ok-line.line.items c.as_slice.result.now answered c.in_ok-line.ensures c.as_slice.ensures.value c.in_ok-write_bytes.ensures.ok
 
-pub returns-clause-err : goal.returns-clause-err
-returns-clause-err g c =
+pub returns-in_err-write_bytes-clause-err : goal.returns-in_err-write_bytes-clause-err
+returns-in_err-write_bytes-clause-err g c =
+    let p = err_from_is_err_and c.from_residual-in_err-write_bytes.result c.from_residual-in_err-write_bytes.ensures.1 in
     let answered = subst (λ (r : Result Reply Stopped). AnswersLine c.args.machine.now c.step.new.self c.args.call.line c.args.call.process c.args.call.call r) c.in-Ok.is c.step.ensures.answers in
-    begins_where_err c.write_bytes.result _ _ _ _ c.args.call c.in-Ok.reply c.in_ok-line.line.items c.as_slice.result.now answered c.in_ok-line.ensures c.as_slice.ensures.value c.write_bytes.ensures.err
+    rw p.1 (begins_written _ _ _ _ c.args.call c.in-Ok.reply c.in_ok-line.line.items c.as_slice.result.now answered c.in_ok-line.ensures c.as_slice.ensures.value c.in_err-write_bytes.ensures.err)
 
 pub returns-in_default-clause-err : goal.returns-in_default-clause-err
 returns-in_default-clause-err g c =

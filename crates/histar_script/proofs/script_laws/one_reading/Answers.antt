@@ -1,5 +1,5 @@
 use Rattle.histar_script.proofs.Answered.{one_script}
-use Rattle.histar_script.proofs.script.one_reading.Goals as goal
+use Rattle.histar_script.proofs.script_laws.one_reading.Goals as goal
 
 pub returns : goal.returns
 returns c = one_script

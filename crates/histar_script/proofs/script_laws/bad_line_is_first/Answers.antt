@@ -1,0 +1,6 @@
+use Rattle.histar_script.proofs.FirstBad.{first_bad}
+use Rattle.histar_script.proofs.BadLines.{bad_again}
+use Rattle.histar_script.proofs.script_laws.bad_line_is_first.Goals as goal
+
+pub returns : goal.returns
+returns c = λ text n. (first_bad text n, bad_again text n)

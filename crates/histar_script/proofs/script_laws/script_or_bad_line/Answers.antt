@@ -1,0 +1,5 @@
+use Rattle.histar_script.proofs.BadLines.{script_or_bad}
+use Rattle.histar_script.proofs.script_laws.script_or_bad_line.Goals as goal
+
+pub returns : goal.returns
+returns c = script_or_bad

@@ -1,0 +1,22 @@
+//! What reading comes to, whatever memory does. Each law is the contract of a function that does nothing.
+ghost use Rattle.histar_script.specs.Laws.{ReadingIsGrammar, BadLineIsFirst, ScriptOrBadLine, OneReading};
+
+/// A text is read as a script exactly where it is that script by the grammar.
+pub fn reading_is_grammar()
+    ensures { ReadingIsGrammar }
+{}
+
+/// A line is answered as the bad one exactly where it is the first bad line by the grammar.
+pub fn bad_line_is_first()
+    ensures { BadLineIsFirst }
+{}
+
+/// Each text is a script or has a first bad line, so reading it answers nothing else.
+pub fn script_or_bad_line()
+    ensures { ScriptOrBadLine }
+{}
+
+/// A text is one script at most.
+pub fn one_reading()
+    ensures { OneReading }
+{}
