@@ -1,5 +1,7 @@
 pub mod PaddingLemmas
 pub mod WordLemmas
+pub mod SplitLemmas
+pub mod PathLemmas
 pub mod Refusals
 pub mod Finding
 pub mod FileLemmas

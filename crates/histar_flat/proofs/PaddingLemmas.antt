@@ -1,7 +1,8 @@
 -- A list fits in an array that is filled up.
-use Rattle.std.proofs.Common.{◌≡◌, ℕ, ◌-◌, ◌≤◌, List, length, take, replicate, refl, ap, arith, length-append}
-use Rattle.std.proofs.lemmas.List.{length-replicate, take_at}
+use Rattle.std.proofs.Common.{◌≡◌, ℕ, zero, suc, ◌+◌, ◌-◌, ◌≤◌, List, [], ◌∷◌, ◌++◌, length, take, drop, replicate, slice_set, refl, sym, ap, ◌∙◌, arith, length-append}
+use Rattle.std.proofs.lemmas.List.{length-replicate, length-drop, take_at, take-replicate}
 use Rattle.histar_flat.specs.Padding.{padded, IsPadded}
+use Rattle.histar_flat.specs.PaddingLaws.{length-kept}
 
 -- the list stands at the front
 pub take-padded : {A : Type 0} (places : ℕ) (fill : A) (items : List A) → take (length items) (padded places fill items) ≡ items
@@ -20,3 +21,43 @@ padded_fits places fill items short = record {
   whole = length-padded places fill items short;
   filled = ap (padded places fill) (take-padded places fill items);
 }
+
+-- an item in the place of the one in front
+fronted : {A : Type 0} (item : A) (front rest : List A) → length front ≡ 1 → slice_set (front ++ rest) 0 item ≡ item ∷ rest
+fronted item [] rest one = absurd (omega (arith, one))
+fronted item (x ∷ []) rest one = refl
+fronted item (x ∷ y ∷ xs) rest one = absurd (omega (arith, one))
+
+-- one more item in one more place
+padded_more : {A : Type 0} (places : ℕ) (fill item : A) (items : List A) → padded (suc places) fill (item ∷ items) ≡ item ∷ padded places fill items
+unfolding padded
+padded_more {A} places fill item items =
+    let left : suc places - suc (length items) ≡ places - length items = omega arith in
+    ap (λ n. item ∷ items ++ replicate n fill) left
+
+-- one place less of an array without items
+take_unused : {A : Type 0} (places : ℕ) (fill : A) → take places (padded (suc places) fill []) ≡ padded places fill []
+unfolding padded
+take_unused places fill =
+    let whole : suc places - 0 ≡ suc places = omega arith in
+    let rest : places - 0 ≡ places = omega arith in
+    rw (whole, rest) (take-replicate places (suc places) fill (omega arith))
+
+-- one place less is filled up
+take_less : {A : Type 0} (places : ℕ) (fill : A) (items : List A) → length items ≤ places → take places (padded (suc places) fill items) ≡ padded places fill items
+take_less places fill [] short = take_unused places fill
+take_less zero fill (x ∷ xs) short = absurd (omega arith)
+take_less (suc places) fill (x ∷ xs) short =
+    ap (take (suc places)) (padded_more (suc places) fill x xs) ∙ ap (λ l. x ∷ l) (take_less places fill xs (omega arith)) ∙ sym (padded_more places fill x xs)
+
+-- the last place comes to the front and takes an item
+pub padded_front : {A : Type 0} (places : ℕ) (fill item : A) (items : List A) (len : ℕ) → IsPadded (suc places) fill items len → len ≤ places → IsPadded (suc places) fill (slice_set (drop (length items - 1) items ++ take (length items - 1) items) 0 item) (len + 1)
+padded_front places fill item items len is room =
+    let kept : length (take len items) ≡ len = length-kept (suc places) fill items len is in
+    let last : length items - 1 ≡ places = omega (arith, is.whole) in
+    let one : length (drop places items) ≡ 1 = omega (arith, length-drop places items, is.whole) in
+    let front : take places items ≡ padded places fill (take len items) = ap (take places) (sym is.filled) ∙ take_less places fill (take len items) (omega (arith, kept)) in
+    let made = fronted item (drop places items) (take places items) one ∙ ap (λ l. item ∷ l) front ∙ sym (padded_more places fill item (take len items)) in
+    let more : length (item ∷ take len items) ≡ len + 1 = omega (arith, kept) in
+    let fits = padded_fits (suc places) fill (item ∷ take len items) (omega (arith, kept)) in
+    rw (last, made, ← more) fits

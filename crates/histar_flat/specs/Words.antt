@@ -1,5 +1,5 @@
 -- Names, passwords, paths and processes: what they are, and which bytes are read as one.
-use Rattle.std.specs.Prelude.{ℕ, Bool, true, false, not, ◌&&◌, ◌||◌, ◌==◌, nat_le, nat_lt, List, [], ◌∷◌, length, codes, Option, Some, None, option_map, if◌then◌else◌}
+use Rattle.std.specs.Prelude.{ℕ, zero, suc, Bool, true, false, not, ◌&&◌, ◌||◌, ◌==◌, nat_le, nat_lt, List, [], ◌∷◌, length, codes, Option, Some, None, if◌then◌else◌}
 use Rattle.std.specs.List.{list_all}
 use Rattle.std.specs.Str.{bytes_eq}
 
@@ -88,10 +88,32 @@ abbrev pub is_process : ProcName → Bool
 is_process [] = true
 is_process (n ∷ p) = false
 
--- the path that the bytes are, if they are one: a slash and a name
+-- what stands before each name of a path, a slash
+abbrev pub slash : ℕ
+slash = 47
+
+-- the bytes before the first one that is the separator, and those after it where there is one
+unfoldable pub split_at_first : ℕ → List ℕ → List ℕ × Option (List ℕ)
+split_at_first separator [] = ([], None)
+split_at_first separator (b ∷ bs) = if b == separator then ([], Some bs) else (b ∷ (split_at_first separator bs).0, (split_at_first separator bs).1)
+
+-- the path that names with slashes between them lead to from a directory, if they are at most so many
+unfoldable pub path_from : ℕ → Path → List ℕ → Option Path
+path_from zero directory bs = None
+path_from (suc most) directory bs =
+    if is_name (split_at_first slash bs).0 then
+    elim (split_at_first slash bs).1 [ None ↦ Some ((split_at_first slash bs).0 ∷ directory) | Some rest ↦ path_from most ((split_at_first slash bs).0 ∷ directory) rest ]
+    else None
+
+-- the path that stands after its first slash: nothing is `/`
+abbrev pub path_from_root : List ℕ → Option Path
+path_from_root [] = Some []
+path_from_root (b ∷ bs) = path_from most_names [] (b ∷ bs)
+
+-- the path that the bytes are, if they are one: `/`, `/NAME`, `/NAME/NAME` ..
 abbrev pub path_of : List ℕ → Option Path
 path_of [] = None
-path_of (b ∷ bs) = if b == 47 then option_map (λ name. name ∷ []) (name_of bs) else None
+path_of (b ∷ bs) = if b == slash then path_from_root bs else None
 
 -- the process that the bytes name, if they name one: `0`
 abbrev pub process_of : List ℕ → Option ProcName

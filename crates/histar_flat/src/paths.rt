@@ -1,5 +1,5 @@
 //! Paths.
-ghost use Rattle.std.specs.Prelude.{◌≡◌, ◌≤◌, [], ◌∷◌, length, slice_get, codes};
+ghost use Rattle.std.specs.Prelude.{◌≡◌, ◌<◌, ◌≤◌, [], ◌∷◌, length, slice_get, codes};
 ghost use Rattle.std.specs.Option.{option_copied};
 ghost use Rattle.histar_flat.specs.Words.{most_names};
 
@@ -36,13 +36,28 @@ impl Model for Path {
 }
 
 impl Path {
-    /// The path of an entry of `/`.
-    pub fn of(name: Name) -> Path
-        ensures { result ≡ name ∷ [] }
+    /// `/`
+    pub fn root() -> Path
+        ensures { result ≡ [] }
     {
-        let mut names = [unused_name(); MOST_NAMES];
+        Path {
+            names: [unused_name(); MOST_NAMES],
+            len: 0,
+        }
+    }
+
+    /// The path of the entry of this directory that has the name.
+    pub fn entry(&self, name: Name) -> Path
+        requires { length self.now < most_names }
+        ensures { result ≡ name ∷ self.now }
+    {
+        let mut names = self.names;
+        names.rotate_right(1);
         names[0] = name;
-        Path { names, len: 1 }
+        Path {
+            names,
+            len: self.len + 1,
+        }
     }
 
     /// The names of the path, the last one first.

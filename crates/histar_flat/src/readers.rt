@@ -1,14 +1,16 @@
 //! Readers of single words.
-ghost use Rattle.std.specs.Prelude.{◌≡◌, IsTrue};
+ghost use Rattle.std.specs.Prelude.{◌≡◌, [], IsTrue};
 ghost use Rattle.std.specs.List.{list_all};
+ghost use Rattle.std.specs.Option.{option_copied};
 ghost use Rattle.histar_flat.specs.Modes.{mode_of};
-ghost use Rattle.histar_flat.specs.Words.{name_of, user_name_of, password_of, path_of, process_of, is_name_byte as name_byte, is_dots as dots, is_letter as letter, begins_with_letter as letter_first, is_name as name, is_user_name as user_name, is_password_byte as password_byte, is_password as password};
+ghost use Rattle.histar_flat.specs.Words.{most_names, path_from, split_at_first as split, name_of, user_name_of, password_of, path_of, process_of, is_name_byte as name_byte, is_dots as dots, is_letter as letter, begins_with_letter as letter_first, is_name as name, is_user_name as user_name, is_password_byte as password_byte, is_password as password};
 
 use crate::calls::Mode;
 use crate::names::{Name, Password};
-use crate::paths::Path;
+use crate::paths::{MOST_NAMES, Path};
 use crate::processes::ProcName;
 use crate::words::MOST_WORD_BYTES;
+use memchr::memchr;
 
 /// The name that the bytes are.
 pub fn read_name(text: &[u8]) -> Option<Name>
@@ -40,16 +42,42 @@ pub fn read_password(text: &[u8]) -> Option<Password>
     Some(Password::of(text))
 }
 
-/// The path that the bytes are: a slash and one name.
+/// The path that the bytes are: `/`, or up to eight names with a slash before each.
 pub fn read_path(text: &[u8]) -> Option<Path>
     ensures { result ≡ path_of text.now }
 {
     match text {
-        [b'/', rest @ ..] => {
-            let name = read_name(rest)?;
-            Some(Path::of(name))
-        }
+        [b'/'] => Some(Path::root()),
+        [b'/', names @ ..] => read_names(names),
         _ => None,
+    }
+}
+
+/// The path that names with slashes between them lead to from `/`.
+fn read_names(text: &[u8]) -> Option<Path>
+    ensures { result ≡ path_from most_names [] text.now }
+{
+    let mut path = Path::root();
+    let mut rest = text;
+    for _ in 0..MOST_NAMES {
+        let (word, after) = split_at_first(rest, b'/');
+        path = path.entry(read_name(word)?);
+        match after {
+            None => return Some(path),
+            Some(names) => rest = names,
+        }
+    }
+    None
+}
+
+/// The bytes before the first one that is the separator, and those after it where there is one.
+pub fn split_at_first(text: &[u8], separator: u8) -> (&[u8], Option<&[u8]>)
+    ensures before { result.0.now ≡ (split separator text.now).0 }
+    ensures after { option_copied result.1 ≡ (split separator text.now).1 }
+{
+    match memchr(separator, text) {
+        None => (text, None),
+        Some(at) => (&text[..at], Some(&text[at + 1..])),
     }
 }
 
@@ -64,7 +92,7 @@ pub fn read_process(text: &[u8]) -> Option<ProcName>
     }
 }
 
-/// The mode that the bytes name: `private` or `readable`.
+/// The mode that the bytes name: `private`, `readable` or `open`.
 pub fn read_mode(text: &[u8]) -> Option<Mode>
     ensures { result ≡ mode_of text.now }
 {
@@ -72,6 +100,8 @@ pub fn read_mode(text: &[u8]) -> Option<Mode>
         Some(Mode::Private)
     } else if text == b"readable".as_slice() {
         Some(Mode::Readable)
+    } else if text == b"open".as_slice() {
+        Some(Mode::Open)
     } else {
         None
     }

@@ -1,17 +1,9 @@
--- Where a line or a word ends, and what the rest of the text says.
+-- Where a line ends, and what the rest of the text says.
 use Rattle.std.proofs.Common.{◌≡◌, ℕ, zero, suc, ◌<◌, false, eqb, List, [], ◌∷◌, length, take, drop, Some, None, refl, arith}
 use Rattle.std.proofs.lemmas.Bool.{false_from_ne_true}
 use Rattle.memchr.specs.Find.{Nowhere, Passes, is_byte}
 use Rattle.histar_script.specs.Lines.{lines_of}
-use Rattle.histar_script.specs.Lines.{split_word}
-
--- the first byte is another one
-head_fails : (a b : ℕ) (bs : List ℕ) (k : ℕ) → 0 < k → Nowhere (Passes (is_byte a) (b ∷ bs)) 0 k → eqb b a ≡ false
-head_fails a b bs k lt none = false_from_ne_true (eqb b a) (λ h. none 0 (omega arith) lt h)
-
--- the byte stands nowhere in the rest
-tail_nowhere : (a b : ℕ) (bs : List ℕ) (k : ℕ) → Nowhere (Passes (is_byte a) (b ∷ bs)) 0 (suc k) → Nowhere (Passes (is_byte a) bs) 0 k
-tail_nowhere a b bs k none i low high h = none (suc i) (omega arith) (omega arith) h
+use Rattle.histar_flat.proofs.SplitLemmas.{head_fails, tail_nowhere}
 
 -- the first line ends at the first byte 10
 pub lines_at : (text : List ℕ) (k : ℕ) → k < length text → Nowhere (Passes (is_byte 10) text) 0 k → Passes (is_byte 10) text k → lines_of text ≡ take k text ∷ lines_of (drop (suc k) text)
@@ -28,21 +20,6 @@ lines_whole [] lt none = absurd (omega arith)
 lines_whole (b ∷ []) lt none = rw (head_fails 10 b [] 1 (omega arith) none) refl
 lines_whole (b ∷ c ∷ bs) lt none =
     rw (head_fails 10 b (c ∷ bs) (suc (length (c ∷ bs))) (omega arith) none, lines_whole (c ∷ bs) (omega arith) (tail_nowhere 10 b (c ∷ bs) (length (c ∷ bs)) none)) refl
-
--- the first word ends at the first space
-pub word_at : (text : List ℕ) (k : ℕ) → k < length text → Nowhere (Passes (is_byte 32) text) 0 k → Passes (is_byte 32) text k → split_word text ≡ (take k text, Some (drop (suc k) text))
-unfolding split_word
-word_at [] k lt none here = absurd (omega arith)
-word_at (b ∷ bs) zero lt none here = rw here refl
-word_at (b ∷ bs) (suc k) lt none here =
-    rw (head_fails 32 b bs (suc k) (omega arith) none, word_at bs k (omega arith) (tail_nowhere 32 b bs k none) here) refl
-
--- without a space the text is one word
-pub word_whole : (text : List ℕ) → Nowhere (Passes (is_byte 32) text) 0 (length text) → split_word text ≡ (text, None)
-unfolding split_word
-word_whole [] none = refl
-word_whole (b ∷ bs) none =
-    rw (head_fails 32 b bs (suc (length bs)) (omega arith) none, word_whole bs (tail_nowhere 32 b bs (length bs) none)) refl
 
 -- a text without bytes has no line to count
 pub lines-empty : (text : List ℕ) → length text ≡ 0 → length (lines_of text) ≡ 0

@@ -1,9 +1,10 @@
 -- The grammar: what a line says, which script a text is, and which line is bad.
 use Rattle.std.specs.Prelude.{◌≡◌, ◌≢◌, ℕ, ◌+◌, ◌-◌, ◌<◌, ◌≤◌, ◌⊎◌, IsTrue, All, List, [], ◌∷◌, ◌++◌, length, take, codes}
+use Rattle.histar_flat.specs.declared.calls.Mode.{Mode}
 use Rattle.histar_flat.specs.declared.calls.User.{User}
 use Rattle.histar_flat.specs.declared.calls.UnixCall.{UnixCall}
-use Rattle.histar_flat.specs.declared.calls.UnixCall.TheVariants.{Create, Write, Read, Login}
-use Rattle.histar_flat.specs.Words.{is_name, is_user_name, is_password, is_path, is_process}
+use Rattle.histar_flat.specs.declared.calls.UnixCall.TheVariants.{Create, Mkdir, Write, Append, Read, List as ListCall, Login}
+use Rattle.histar_flat.specs.Words.{Path, is_name, is_user_name, is_password, is_path, is_process}
 use Rattle.histar_flat.specs.Modes.{is_line_mode}
 use Rattle.histar_flat.specs.Texts.{path_text, process_text, mode_text}
 use Rattle.histar_script.specs.declared.items.Item.{Item}
@@ -17,11 +18,26 @@ pub record IsUserText (text : List ℕ) (u : User) : Type 0 where
   pub name : IsTrue (is_user_name u.name)
   pub password : IsTrue (is_password u.password)
 
--- `create PATH MODE`, `write PATH BYTES` with any bytes, `read PATH`, or `login NAME PASSWORD` with any name; no other call has a line
+-- a word, a path that can be named, and a mode that a line can name
+abbrev pub SpellsMode : List ℕ → List ℕ → Path → Mode → Type 0
+SpellsMode text word path mode = (text ≡ word space path_text path space mode_text mode) × IsTrue (is_path path) × IsTrue (is_line_mode mode)
+
+-- a word, a path that can be named, and any bytes
+abbrev pub SpellsBytes : List ℕ → List ℕ → Path → List ℕ → Type 0
+SpellsBytes text word path bytes = (text ≡ word space path_text path space bytes) × IsTrue (is_path path)
+
+-- a word and a path that can be named
+abbrev pub SpellsPath : List ℕ → List ℕ → Path → Type 0
+SpellsPath text word path = (text ≡ word space path_text path) × IsTrue (is_path path)
+
+-- `create PATH MODE`, `mkdir PATH MODE`, `write PATH BYTES`, `append PATH BYTES`, `read PATH`, `list PATH`, or `login NAME PASSWORD` with any name; no other call has a line
 abbrev pub IsCallText : List ℕ → UnixCall → Type 0
-IsCallText text (Create path mode) = (text ≡ codes "create" space path_text path space mode_text mode) × IsTrue (is_path path) × IsTrue (is_line_mode mode)
-IsCallText text (Write path bytes) = (text ≡ codes "write" space path_text path space bytes) × IsTrue (is_path path)
-IsCallText text (Read path) = (text ≡ codes "read" space path_text path) × IsTrue (is_path path)
+IsCallText text (Create path mode) = SpellsMode text (codes "create") path mode
+IsCallText text (Mkdir path mode) = SpellsMode text (codes "mkdir") path mode
+IsCallText text (Write path bytes) = SpellsBytes text (codes "write") path bytes
+IsCallText text (Append path bytes) = SpellsBytes text (codes "append") path bytes
+IsCallText text (Read path) = SpellsPath text (codes "read") path
+IsCallText text (ListCall path) = SpellsPath text (codes "list") path
 IsCallText text (Login name password) = (text ≡ codes "login" space name space password) × IsTrue (is_name name) × IsTrue (is_password password)
 IsCallText text _ = ⊥
 

@@ -1,6 +1,7 @@
 -- Lines of a text, and their first words.
-use Rattle.std.specs.Prelude.{ℕ, ◌||◌, ◌&&◌, Bool, List, [], ◌∷◌, ◌++◌, length, nat_lt, nat_le, Option, Some, None, if◌then◌else◌, ◌==◌}
+use Rattle.std.specs.Prelude.{ℕ, ◌||◌, ◌&&◌, Bool, List, [], ◌∷◌, ◌++◌, length, nat_lt, nat_le, Option, if◌then◌else◌, ◌==◌}
 use Rattle.std.specs.List.{list_all}
+use Rattle.histar_flat.specs.Words.{split_at_first}
 
 -- a byte before the first line of what follows
 abbrev pub onto_line : ℕ → List (List ℕ) → List (List ℕ)
@@ -42,6 +43,5 @@ abbrev pub ◌space◌ : List ℕ → List ℕ → List ℕ
 word space rest = word ++ 32 ∷ rest
 
 -- the bytes before the first space, and those after it where there is one
-unfoldable pub split_word : List ℕ → List ℕ × Option (List ℕ)
-split_word [] = ([], None)
-split_word (b ∷ bs) = if b == 32 then ([], Some bs) else (b ∷ (split_word bs).0, (split_word bs).1)
+abbrev pub split_word : List ℕ → List ℕ × Option (List ℕ)
+split_word = split_at_first 32

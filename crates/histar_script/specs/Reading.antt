@@ -1,11 +1,12 @@
 -- Reading a script from its first line to its last, up to the first bad line.
-use Rattle.std.specs.Prelude.{ℕ, ◌+◌, Bool, not, ◌&&◌, List, [], ◌∷◌, ◌++◌, length, codes, Option, Some, None, Result, Ok, Err, option_and_then, nat_lt, ◌==◌, if◌then◌else◌}
+use Rattle.std.specs.Prelude.{ℕ, ◌+◌, Bool, not, ◌&&◌, List, [], ◌∷◌, ◌++◌, length, codes, Option, Some, None, Result, Ok, Err, option_and_then, option_map, nat_lt, ◌==◌, if◌then◌else◌}
 use Rattle.std.specs.List.{list_any}
 use Rattle.std.specs.Str.{bytes_eq}
+use Rattle.histar_flat.specs.declared.calls.Mode.{Mode}
 use Rattle.histar_flat.specs.declared.calls.User.{User}
 use Rattle.histar_flat.specs.declared.calls.UnixCall.{UnixCall}
-use Rattle.histar_flat.specs.declared.calls.UnixCall.TheVariants.{Create, Write, Read, Login}
-use Rattle.histar_flat.specs.Words.{Name, name_of, user_name_of, password_of, path_of, process_of}
+use Rattle.histar_flat.specs.declared.calls.UnixCall.TheVariants.{Create, Mkdir, Write, Append, Read, List as ListCall, Login}
+use Rattle.histar_flat.specs.Words.{Name, Path, name_of, user_name_of, password_of, path_of, process_of}
 use Rattle.histar_flat.specs.Modes.{mode_of}
 use Rattle.histar_script.specs.declared.fault.Fault.{Fault}
 use Rattle.histar_script.specs.declared.fault.Fault.TheVariants.{BadScript, TooLong}
@@ -28,25 +29,19 @@ user_of text = do
   Some (record { name = name; password = password })
 
 -- PATH MODE
-unfoldable pub create_of : List ℕ → Option UnixCall
-create_of text = do
+unfoldable pub path_mode_of : List ℕ → Option (Path × Mode)
+path_mode_of text = do
   path ← path_of (split_word text).0
   rest ← (split_word text).1
   mode ← mode_of rest
-  Some (Create path mode)
+  Some (path, mode)
 
 -- PATH BYTES
-unfoldable pub write_of : List ℕ → Option UnixCall
-write_of text = do
+unfoldable pub path_bytes_of : List ℕ → Option (Path × List ℕ)
+path_bytes_of text = do
   path ← path_of (split_word text).0
   bytes ← (split_word text).1
-  Some (Write path bytes)
-
--- PATH
-unfoldable pub read_of : List ℕ → Option UnixCall
-read_of text = do
-  path ← path_of text
-  Some (Read path)
+  Some (path, bytes)
 
 -- NAME PASSWORD of a login
 unfoldable pub login_of : List ℕ → Option UnixCall
@@ -59,11 +54,14 @@ login_of text = do
 -- the call of this word, with what follows the word
 abbrev pub call_named : List ℕ → List ℕ → Option UnixCall
 call_named word rest =
-    if bytes_eq word (codes "create") then create_of rest
-    else (if bytes_eq word (codes "write") then write_of rest
-    else (if bytes_eq word (codes "read") then read_of rest
+    if bytes_eq word (codes "create") then option_map (λ w. Create w.0 w.1) (path_mode_of rest)
+    else (if bytes_eq word (codes "mkdir") then option_map (λ w. Mkdir w.0 w.1) (path_mode_of rest)
+    else (if bytes_eq word (codes "write") then option_map (λ w. Write w.0 w.1) (path_bytes_of rest)
+    else (if bytes_eq word (codes "append") then option_map (λ w. Append w.0 w.1) (path_bytes_of rest)
+    else (if bytes_eq word (codes "read") then option_map (λ path. Read path) (path_of rest)
+    else (if bytes_eq word (codes "list") then option_map (λ path. ListCall path) (path_of rest)
     else (if bytes_eq word (codes "login") then login_of rest
-    else None)))
+    else None))))))
 
 -- a call: its word, and what follows it
 unfoldable pub call_of : List ℕ → Option UnixCall

@@ -1,12 +1,12 @@
-//! Reading what a line says. `Ok(None)` is a bad line; the bytes of a `write` are copied, so memory may run out.
+//! Reading what a line says. `Ok(None)` is a bad line; the bytes of a `write` or an `append` are copied, so memory may run out.
 ghost use Rattle.std.specs.Prelude.{◌≡◌, IfOk};
-ghost use Rattle.histar_script.specs.Reading.{user_of, create_of, write_of, read_of, login_of, call_of, words_item, item_of};
+ghost use Rattle.histar_script.specs.Reading.{user_of, path_mode_of, path_bytes_of, login_of, call_of, words_item, item_of};
 
 use crate::items::Item;
 use crate::lines::{is_plain, split_word};
 use histar_base::Bytes;
 use histar_flat::{
-    UnixCall, User, read_mode, read_name, read_password, read_path, read_process, read_user_name,
+    Mode, Path, UnixCall, User, read_mode, read_name, read_password, read_path, read_process, read_user_name,
 };
 use std::alloc::{AllocError, Global};
 
@@ -22,20 +22,20 @@ fn read_user(text: &[u8]) -> Option<User>
 }
 
 /// `PATH MODE`
-#[tactic(auto, unfolding(crate::specs::Reading::create_of))]
-fn read_create(text: &[u8]) -> Option<UnixCall>
-    ensures { result ≡ create_of text.now }
+#[tactic(auto, unfolding(crate::specs::Reading::path_mode_of))]
+fn read_path_and_mode(text: &[u8]) -> Option<(Path, Mode)>
+    ensures { result ≡ path_mode_of text.now }
 {
     let (word, rest) = split_word(text);
     let path = read_path(word)?;
     let mode = read_mode(rest?)?;
-    Some(UnixCall::Create(path, mode))
+    Some((path, mode))
 }
 
 /// `PATH BYTES`
-#[tactic(auto, unfolding(crate::specs::Reading::write_of))]
-fn read_write(alloc: Global, text: &[u8]) -> Result<Option<UnixCall>, AllocError>
-    ensures { IfOk result (λ call. call ≡ write_of text.now) }
+#[tactic(auto, unfolding(crate::specs::Reading::path_bytes_of))]
+fn read_path_and_bytes(alloc: Global, text: &[u8]) -> Result<Option<(Path, Bytes)>, AllocError>
+    ensures { IfOk result (λ parts. parts ≡ path_bytes_of text.now) }
 {
     let (word, rest) = split_word(text);
     let Some(path) = read_path(word) else {
@@ -45,16 +45,7 @@ fn read_write(alloc: Global, text: &[u8]) -> Result<Option<UnixCall>, AllocError
         return Ok(None);
     };
     let bytes = Bytes::copy_of(alloc, bytes)?;
-    Ok(Some(UnixCall::Write(path, bytes)))
-}
-
-/// `PATH`
-#[tactic(auto, unfolding(crate::specs::Reading::read_of))]
-fn read_read(text: &[u8]) -> Option<UnixCall>
-    ensures { result ≡ read_of text.now }
-{
-    let path = read_path(text)?;
-    Some(UnixCall::Read(path))
+    Ok(Some((path, bytes)))
 }
 
 /// `NAME PASSWORD`, with any name.
@@ -78,11 +69,19 @@ fn read_call(alloc: Global, text: &[u8]) -> Result<Option<UnixCall>, AllocError>
         return Ok(None);
     };
     if word == b"create".as_slice() {
-        Ok(read_create(rest))
+        Ok(read_path_and_mode(rest).map(|(path, mode)| UnixCall::Create(path, mode)))
+    } else if word == b"mkdir".as_slice() {
+        Ok(read_path_and_mode(rest).map(|(path, mode)| UnixCall::Mkdir(path, mode)))
     } else if word == b"write".as_slice() {
-        read_write(alloc, rest)
+        let parts = read_path_and_bytes(alloc, rest)?;
+        Ok(parts.map(|(path, bytes)| UnixCall::Write(path, bytes)))
+    } else if word == b"append".as_slice() {
+        let parts = read_path_and_bytes(alloc, rest)?;
+        Ok(parts.map(|(path, bytes)| UnixCall::Append(path, bytes)))
     } else if word == b"read".as_slice() {
-        Ok(read_read(rest))
+        Ok(read_path(rest).map(UnixCall::Read))
+    } else if word == b"list".as_slice() {
+        Ok(read_path(rest).map(UnixCall::List))
     } else if word == b"login".as_slice() {
         Ok(read_login(rest))
     } else {

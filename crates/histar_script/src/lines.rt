@@ -4,6 +4,7 @@ ghost use Rattle.std.specs.Option.{option_copied};
 ghost use Rattle.std.specs.List.{list_all};
 ghost use Rattle.histar_script.specs.Lines.{lines_of, is_plain as plain, is_plain_byte as plain_byte, split_word as word_split};
 
+use histar_flat::split_at_first;
 use memchr::memchr;
 
 /// The most bytes of a line.
@@ -40,10 +41,7 @@ pub fn split_word(text: &[u8]) -> (&[u8], Option<&[u8]>)
     ensures word { result.0.now ≡ (word_split text.now).0 }
     ensures rest { option_copied result.1 ≡ (word_split text.now).1 }
 {
-    match memchr(b' ', text) {
-        None => (text, None),
-        Some(at) => (&text[..at], Some(&text[at + 1..])),
-    }
+    split_at_first(text, b' ')
 }
 
 /// Whether a line is short enough and printable.

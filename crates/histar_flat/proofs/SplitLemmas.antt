@@ -1,0 +1,28 @@
+-- Where the part of a text before a separator ends.
+use Rattle.std.proofs.Common.{◌≡◌, ℕ, zero, suc, ◌<◌, false, eqb, List, [], ◌∷◌, length, take, drop, Some, None, refl, arith}
+use Rattle.std.proofs.lemmas.Bool.{false_from_ne_true}
+use Rattle.memchr.specs.Find.{Nowhere, Passes, is_byte}
+use Rattle.histar_flat.specs.Words.{split_at_first}
+
+-- the first byte is another one
+pub head_fails : (a b : ℕ) (bs : List ℕ) (k : ℕ) → 0 < k → Nowhere (Passes (is_byte a) (b ∷ bs)) 0 k → eqb b a ≡ false
+head_fails a b bs k lt none = false_from_ne_true (eqb b a) (λ h. none 0 (omega arith) lt h)
+
+-- the byte stands nowhere in the rest
+pub tail_nowhere : (a b : ℕ) (bs : List ℕ) (k : ℕ) → Nowhere (Passes (is_byte a) (b ∷ bs)) 0 (suc k) → Nowhere (Passes (is_byte a) bs) 0 k
+tail_nowhere a b bs k none i low high h = none (suc i) (omega arith) (omega arith) h
+
+-- the first part ends at the first separator
+pub split_found : (a : ℕ) (text : List ℕ) (k : ℕ) → k < length text → Nowhere (Passes (is_byte a) text) 0 k → Passes (is_byte a) text k → split_at_first a text ≡ (take k text, Some (drop (suc k) text))
+unfolding split_at_first
+split_found a [] k lt none here = absurd (omega arith)
+split_found a (b ∷ bs) zero lt none here = rw here refl
+split_found a (b ∷ bs) (suc k) lt none here =
+    rw (head_fails a b bs (suc k) (omega arith) none, split_found a bs k (omega arith) (tail_nowhere a b bs k none) here) refl
+
+-- without a separator the text is one part
+pub split_whole : (a : ℕ) (text : List ℕ) → Nowhere (Passes (is_byte a) text) 0 (length text) → split_at_first a text ≡ (text, None)
+unfolding split_at_first
+split_whole a [] none = refl
+split_whole a (b ∷ bs) none =
+    rw (head_fails a b bs (suc (length bs)) (omega arith) none, split_whole a bs (tail_nowhere a b bs (length bs) none)) refl
