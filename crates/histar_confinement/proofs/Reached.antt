@@ -73,5 +73,5 @@ same_numbers s t v same q o is =
 -- confined threads leave the same numbers visible
 pub numbers_stay : SameNumbersAreVisible
 numbers_stay old new v calls sound confined made q o =
-    let same = confinement v old new calls sound confined made in
+    let same = confinement v old new calls (λ some. sound) confined made in
     (same_numbers (state new) (state old) v same q o, same_numbers (state old) (state new) v (sym same) q o)
