@@ -38,6 +38,7 @@ pub enum Answer {
 
 impl Answer {
     /// The category of an answer that tells one.
+    #[inline(always)]
     pub(crate) fn into_category(self) -> Category
         requires { (category : ℕ) × (self ≡ answers.Category category) }
         ensures { self ≡ answers.Category result }
@@ -49,6 +50,7 @@ impl Answer {
     }
 
     /// The label and the clearance of an answer that tells both.
+    #[inline(always)]
     pub(crate) fn into_own_label(self) -> (Label, Label)
         requires { (label : Levels) × (clearance : Levels) × (self ≡ answers.OwnLabel label clearance) }
         ensures { self ≡ answers.OwnLabel result.0 result.1 }
@@ -60,6 +62,7 @@ impl Answer {
     }
 
     /// The number of an answer that tells one.
+    #[inline(always)]
     pub(crate) fn into_object(self) -> ObjId
         requires { (number : ℕ) × (self ≡ answers.Object number) }
         ensures { self ≡ answers.Object result }
@@ -71,6 +74,7 @@ impl Answer {
     }
 
     /// The entry of an answer that tells one.
+    #[inline(always)]
     pub(crate) fn into_entry(self) -> Entry
         requires { (entry : GateEntry) × (self ≡ answers.Entry entry) }
         ensures { self ≡ answers.Entry result }
@@ -82,6 +86,7 @@ impl Answer {
     }
 
     /// The bytes of an answer that tells some.
+    #[inline(always)]
     pub(crate) fn into_bytes(self) -> Bytes
         requires { (bytes : List ℕ) × (self ≡ answers.Bytes bytes) }
         ensures { self ≡ answers.Bytes result }
@@ -93,6 +98,7 @@ impl Answer {
     }
 
     /// The label of an answer that tells one.
+    #[inline(always)]
     pub(crate) fn into_label(self) -> Label
         requires { (label : Levels) × (self ≡ answers.Label label) }
         ensures { self ≡ answers.Label result }

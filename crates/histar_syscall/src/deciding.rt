@@ -17,6 +17,7 @@ use histar_thread::{make_category, make_thread, set_clearance, set_label};
 use std::alloc::Global;
 
 /// Decides a raw call on the objects, and answers it where it is granted.
+#[inline(always)]
 pub fn decide<S: LabelStore + Drop>(
     objects: &mut LabelledObjects<S>,
     alloc: Global,

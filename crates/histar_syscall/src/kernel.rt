@@ -92,6 +92,7 @@ impl<S: LabelStore + Drop> Kernel<S> {
     }
 
     /// Makes one raw call of any kind.
+    #[inline(always)]
     pub fn call(&mut self, alloc: Global, thread: ObjId, call: RawCall) -> Result<Answer, Refusal>
         ensures answered { Answered self.old self.new thread call result (λ a. answer (state self.old) thread call ≡ Some a) }
 
@@ -102,6 +103,7 @@ impl<S: LabelStore + Drop> Kernel<S> {
     }
 
     // The one door to the trace: makes room in it, has the call decided, and writes its entry.
+    #[inline(always)]
     fn carry_out(
         &mut self,
         alloc: Global,

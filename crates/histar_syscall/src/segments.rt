@@ -85,6 +85,7 @@ fn check_read<S: LabelStore + Drop>(
 }
 
 /// Reads a segment that the container links: its bytes are copied, or lent after the call.
+#[inline(always)]
 pub fn read<S: LabelStore + Drop>(
     objects: &mut LabelledObjects<S>,
     alloc: Global,

@@ -17,6 +17,7 @@ pub struct TraceEntry {
 }
 
 /// Adds the entry of a call to the trace, which has room. A call that found no memory has none.
+#[inline(always)]
 pub(crate) fn log(
     trace: &mut Vec<TraceEntry>,
     line: u32,
