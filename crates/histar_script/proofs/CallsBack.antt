@@ -1,19 +1,22 @@
 -- Calls are read from the texts that spell them, and from no others.
-use Rattle.std.proofs.Common.{◌≡◌, ℕ, true, cond, List, Option, Some, None, codes, refl, sym, ap, subst, ◌∙◌, inl, inr, IsTrue}
+use Rattle.std.proofs.Common.{◌≡◌, ℕ, true, cond, List, Option, Some, codes, refl, sym, ap, subst, ◌∙◌, inl, inr, IsTrue}
 use Rattle.std.proofs.lemmas.Option.{cond_some}
+use Rattle.std.specs.Option.{option_map}
 use Rattle.std.specs.Str.{bytes_eq}
 use Rattle.histar_flat.specs.declared.calls.Mode.{Mode}
 use Rattle.histar_flat.specs.declared.calls.User.{User}
 use Rattle.histar_flat.specs.declared.calls.UnixCall.{UnixCall}
-use Rattle.histar_flat.specs.declared.calls.UnixCall.TheVariants.{Create, Write, Read, Login}
-use Rattle.histar_flat.specs.Words.{Path, is_name, is_user_name, is_password, is_path, name_of, user_name_of, password_of, path_of}
+use Rattle.histar_flat.specs.declared.calls.UnixCall.TheVariants.{Create, Mkdir, Write, Append, Read, List as ListCall, Login}
+use Rattle.histar_flat.specs.Words.{Path, split_at_first, is_name, is_user_name, is_password, is_path, name_of, user_name_of, password_of, path_of}
 use Rattle.histar_flat.specs.Modes.{mode_of, is_line_mode}
 use Rattle.histar_flat.specs.Texts.{path_text, mode_text}
 use Rattle.histar_script.specs.Lines.{split_word, ◌space◌}
-use Rattle.histar_script.specs.Reading.{◌>>=◌, user_of, create_of, write_of, read_of, login_of, call_named, call_of}
-use Rattle.histar_script.specs.Grammar.{IsCallText}
-use Rattle.histar_script.proofs.Chains.{bind_some, chosen}
-use Rattle.histar_script.proofs.WordsBack.{split_name, split_path, user_name_is_name, parted, same_bytes, path_takes, path_again, mode_takes, mode_again}
+use Rattle.histar_script.specs.Reading.{◌>>=◌, user_of, path_mode_of, path_bytes_of, login_of, call_named, call_of}
+use Rattle.histar_script.specs.Grammar.{SpellsMode, SpellsBytes, SpellsPath, IsCallText}
+use Rattle.histar_script.proofs.Chains.{bind_some, mapped, chosen}
+use Rattle.histar_script.proofs.Parting.{parted}
+use Rattle.histar_script.proofs.PathsBack.{split_path, path_takes, path_again}
+use Rattle.histar_script.proofs.WordsBack.{split_name, user_name_is_name, same_bytes, mode_takes, mode_again}
 
 -- ---- NAME PASSWORD of a user line
 
@@ -49,53 +52,44 @@ user_again name password h k = rw (split_name name password (user_name_is_name n
 
 -- ---- what follows the word of a call
 
--- a `create` that is read is spelled so
-create_takes : (text : List ℕ) (c : UnixCall) → create_of text ≡ Some c → IsCallText (codes "create" space text) c
-unfolding create_of
-create_takes text c e =
-    let w = split_word text in
-    let a = bind_some (path_of w.0) (λ path. w.1 >>= λ rest. mode_of rest >>= λ mode. Some (Create path mode)) c e in
-    let b = bind_some w.1 (λ rest. mode_of rest >>= λ mode. Some (Create a.0 mode)) c a.2 in
-    let d = bind_some (mode_of b.0) (λ mode. Some (Create a.0 mode)) c b.2 in
-    let path = path_takes w.0 a.0 a.1 in
-    let spelled : text ≡ path_text a.0 space mode_text d.0 = parted text (path_text a.0) b.0 path.0 b.1 ∙ ap (λ (l : List ℕ). path_text a.0 space l) (mode_takes b.0 d.0 d.1).0 in
-    let same : Create a.0 d.0 ≡ c = cc in
-    subst (IsCallText (codes "create" space text)) same (ap (λ (l : List ℕ). codes "create" space l) spelled, path.1, (mode_takes b.0 d.0 d.1).1)
+-- a path and a mode that are read are spelled so
+mode_part : (text word : List ℕ) (w : Path × Mode) → path_mode_of text ≡ Some w → SpellsMode (word space text) word w.0 w.1
+unfolding path_mode_of
+mode_part text word w e =
+    let parts = split_word text in
+    let a = bind_some (path_of parts.0) (λ path. parts.1 >>= λ rest. mode_of rest >>= λ mode. Some (path, mode)) w e in
+    let b = bind_some parts.1 (λ rest. mode_of rest >>= λ mode. Some (a.0, mode)) w a.2 in
+    let d = bind_some (mode_of b.0) (λ mode. Some (a.0, mode)) w b.2 in
+    let path = path_takes parts.0 a.0 a.1 in
+    let mode = mode_takes b.0 d.0 d.1 in
+    let spelled : text ≡ path_text a.0 space mode_text d.0 = parted text (path_text a.0) b.0 path.0 b.1 ∙ ap (λ (l : List ℕ). path_text a.0 space l) mode.0 in
+    let same : (a.0, d.0) ≡ w = cc in
+    subst (λ (v : Path × Mode). SpellsMode (word space text) word v.0 v.1) same (ap (λ (l : List ℕ). word space l) spelled, path.1, mode.1)
 
 -- and the other way
-create_again : (path : Path) (mode : Mode) → is_path path ≡ true → is_line_mode mode ≡ true → create_of (path_text path space mode_text mode) ≡ Some (Create path mode)
-unfolding create_of
-create_again path mode h named = rw (split_path path (mode_text mode) h, path_again path h, mode_again mode named) refl
+mode_part_again : (path : Path) (mode : Mode) → is_path path ≡ true → is_line_mode mode ≡ true → path_mode_of (path_text path space mode_text mode) ≡ Some (path, mode)
+unfolding path_mode_of
+mode_part_again path mode h named = rw (split_path path (mode_text mode) h, path_again path h, mode_again mode named) refl
 
--- a `write` that is read is spelled so
-write_takes : (text : List ℕ) (c : UnixCall) → write_of text ≡ Some c → IsCallText (codes "write" space text) c
-unfolding write_of
-write_takes text c e =
-    let w = split_word text in
-    let a = bind_some (path_of w.0) (λ path. w.1 >>= λ bytes. Some (Write path bytes)) c e in
-    let b = bind_some w.1 (λ bytes. Some (Write a.0 bytes)) c a.2 in
-    let path = path_takes w.0 a.0 a.1 in
-    let same : Write a.0 b.0 ≡ c = cc in
-    subst (IsCallText (codes "write" space text)) same (ap (λ (l : List ℕ). codes "write" space l) (parted text (path_text a.0) b.0 path.0 b.1), path.1)
-
--- and the other way
-write_again : (path : Path) (bytes : List ℕ) → is_path path ≡ true → write_of (path_text path space bytes) ≡ Some (Write path bytes)
-unfolding write_of
-write_again path bytes h = rw (split_path path bytes h, path_again path h) refl
-
--- a `read` that is read is spelled so
-read_takes : (text : List ℕ) (c : UnixCall) → read_of text ≡ Some c → IsCallText (codes "read" space text) c
-unfolding read_of
-read_takes text c e =
-    let a = bind_some (path_of text) (λ path. Some (Read path)) c e in
-    let path = path_takes text a.0 a.1 in
-    let same : Read a.0 ≡ c = cc in
-    subst (IsCallText (codes "read" space text)) same (ap (λ (l : List ℕ). codes "read" space l) path.0, path.1)
+-- a path and bytes that are read are spelled so
+bytes_part : (text word : List ℕ) (w : Path × List ℕ) → path_bytes_of text ≡ Some w → SpellsBytes (word space text) word w.0 w.1
+unfolding path_bytes_of
+bytes_part text word w e =
+    let parts = split_word text in
+    let a = bind_some (path_of parts.0) (λ path. parts.1 >>= λ bytes. Some (path, bytes)) w e in
+    let b = bind_some parts.1 (λ bytes. Some (a.0, bytes)) w a.2 in
+    let path = path_takes parts.0 a.0 a.1 in
+    let same : (a.0, b.0) ≡ w = cc in
+    subst (λ (v : Path × List ℕ). SpellsBytes (word space text) word v.0 v.1) same (ap (λ (l : List ℕ). word space l) (parted text (path_text a.0) b.0 path.0 b.1), path.1)
 
 -- and the other way
-read_again : (path : Path) → is_path path ≡ true → read_of (path_text path) ≡ Some (Read path)
-unfolding read_of
-read_again path h = rw (path_again path h) refl
+bytes_part_again : (path : Path) (bytes : List ℕ) → is_path path ≡ true → path_bytes_of (path_text path space bytes) ≡ Some (path, bytes)
+unfolding path_bytes_of
+bytes_part_again path bytes h = rw (split_path path bytes h, path_again path h) refl
+
+-- a path that is read is spelled so
+path_part : (text word : List ℕ) (path : Path) → path_of text ≡ Some path → SpellsPath (word space text) word path
+path_part text word path e = let is = path_takes text path e in (ap (λ (l : List ℕ). word space l) is.0, is.1)
 
 -- a `login` that is read is spelled so
 login_takes : (text : List ℕ) (c : UnixCall) → login_of text ≡ Some c → IsCallText (codes "login" space text) c
@@ -122,34 +116,54 @@ login_again name password h k = rw (split_name name password h, h, k) refl
 
 -- ---- calls
 
+-- the call has this word, or what the other words make of it
+word_takes : (name word rest : List ℕ) (c : UnixCall) (this others : Option UnixCall) → (this ≡ Some c → IsCallText (name space rest) c) → (others ≡ Some c → IsCallText (word space rest) c) → cond (bytes_eq word name) this others ≡ Some c → IsCallText (word space rest) c
+word_takes name word rest c this others mine theirs e =
+    elim (chosen (bytes_eq word name) this others (Some c) e) [
+      | inl h ↦ subst (λ (w : List ℕ). IsCallText (w space rest) c) (sym (same_bytes word name h.0)) (mine h.1)
+      | inr h ↦ theirs h.1
+    ]
+
+-- a `create` that is read is spelled so
+create_takes : (rest : List ℕ) (c : UnixCall) → option_map (λ w. Create w.0 w.1) (path_mode_of rest) ≡ Some c → IsCallText (codes "create" space rest) c
+create_takes rest c e = let m = mapped (path_mode_of rest) (λ w. Create w.0 w.1) c e in subst (IsCallText (codes "create" space rest)) m.2 (mode_part rest (codes "create") m.0 m.1)
+
+-- a `mkdir` that is read is spelled so
+mkdir_takes : (rest : List ℕ) (c : UnixCall) → option_map (λ w. Mkdir w.0 w.1) (path_mode_of rest) ≡ Some c → IsCallText (codes "mkdir" space rest) c
+mkdir_takes rest c e = let m = mapped (path_mode_of rest) (λ w. Mkdir w.0 w.1) c e in subst (IsCallText (codes "mkdir" space rest)) m.2 (mode_part rest (codes "mkdir") m.0 m.1)
+
+-- a `write` that is read is spelled so
+write_takes : (rest : List ℕ) (c : UnixCall) → option_map (λ w. Write w.0 w.1) (path_bytes_of rest) ≡ Some c → IsCallText (codes "write" space rest) c
+write_takes rest c e = let m = mapped (path_bytes_of rest) (λ w. Write w.0 w.1) c e in subst (IsCallText (codes "write" space rest)) m.2 (bytes_part rest (codes "write") m.0 m.1)
+
+-- an `append` that is read is spelled so
+append_takes : (rest : List ℕ) (c : UnixCall) → option_map (λ w. Append w.0 w.1) (path_bytes_of rest) ≡ Some c → IsCallText (codes "append" space rest) c
+append_takes rest c e = let m = mapped (path_bytes_of rest) (λ w. Append w.0 w.1) c e in subst (IsCallText (codes "append" space rest)) m.2 (bytes_part rest (codes "append") m.0 m.1)
+
+-- a `read` that is read is spelled so
+read_takes : (rest : List ℕ) (c : UnixCall) → option_map (λ path. Read path) (path_of rest) ≡ Some c → IsCallText (codes "read" space rest) c
+read_takes rest c e = let m = mapped (path_of rest) (λ path. Read path) c e in subst (IsCallText (codes "read" space rest)) m.2 (path_part rest (codes "read") m.0 m.1)
+
+-- a `list` that is read is spelled so
+list_takes : (rest : List ℕ) (c : UnixCall) → option_map (λ path. ListCall path) (path_of rest) ≡ Some c → IsCallText (codes "list" space rest) c
+list_takes rest c e = let m = mapped (path_of rest) (λ path. ListCall path) c e in subst (IsCallText (codes "list" space rest)) m.2 (path_part rest (codes "list") m.0 m.1)
+
 -- a call that has its word and what follows it
 named_takes : (word rest : List ℕ) (c : UnixCall) → call_named word rest ≡ Some c → IsCallText (word space rest) c
-named_takes word rest c e =
-    elim (chosen (bytes_eq word (codes "create")) (create_of rest) (not_create word rest) (Some c) e) [
-      | inl h ↦ with_word (codes "create") h.0 (create_takes rest c h.1)
-      | inr h ↦ elim (chosen (bytes_eq word (codes "write")) (write_of rest) (not_write word rest) (Some c) h.1) [
-        | inl k ↦ with_word (codes "write") k.0 (write_takes rest c k.1)
-        | inr k ↦ elim (chosen (bytes_eq word (codes "read")) (read_of rest) (not_read word rest) (Some c) k.1) [
-          | inl l ↦ with_word (codes "read") l.0 (read_takes rest c l.1)
-          | inr l ↦ elim (chosen (bytes_eq word (codes "login")) (login_of rest) None (Some c) l.1) [
-            | inl m ↦ with_word (codes "login") m.0 (login_takes rest c m.1)
-            | inr m ↦ absurd cc
-          ]
-        ]
-      ]
-    ]
-  where
-    with_word : (name : List ℕ) → bytes_eq word name ≡ true → IsCallText (name space rest) c → IsCallText (word space rest) c
-    with_word name h is = subst (λ (w : List ℕ). IsCallText (w space rest) c) (sym (same_bytes word name h)) is
-
-    not_read : List ℕ → List ℕ → Option UnixCall
-    not_read w r = cond (bytes_eq w (codes "login")) (login_of r) None
-
-    not_write : List ℕ → List ℕ → Option UnixCall
-    not_write w r = cond (bytes_eq w (codes "read")) (read_of r) (not_read w r)
-
-    not_create : List ℕ → List ℕ → Option UnixCall
-    not_create w r = cond (bytes_eq w (codes "write")) (write_of r) (not_write w r)
+named_takes word rest c =
+    word_takes (codes "create") word rest c _ _ (create_takes rest c) (
+    word_takes (codes "mkdir") word rest c _ _ (mkdir_takes rest c) (
+    word_takes (codes "write") word rest c _ _ (write_takes rest c) (
+    word_takes (codes "append") word rest c _ _ (append_takes rest c) (
+    word_takes (codes "read") word rest c _ _ (read_takes rest c) (
+    word_takes (codes "list") word rest c _ _ (list_takes rest c) (
+    word_takes (codes "login") word rest c _ _ (login_takes rest c) (λ e. absurd cc)
+    )
+    )
+    )
+    )
+    )
+    )
 
 -- a call that is read is spelled so
 pub call_takes : (text : List ℕ) (c : UnixCall) → call_of text ≡ Some c → IsCallText text c
@@ -161,9 +175,12 @@ call_takes text c e =
 
 -- and a call that is spelled is read
 pub call_again : (text : List ℕ) (c : UnixCall) → IsCallText text c → call_of text ≡ Some c
-unfolding call_of split_word
-call_again text (Create path mode) h = ap call_of h.0 ∙ create_again path mode h.1 h.2
-call_again text (Write path bytes) h = ap call_of h.0 ∙ write_again path bytes h.1
-call_again text (Read path) h = ap call_of h.0 ∙ read_again path h.1
+unfolding call_of split_at_first
+call_again text (Create path mode) h = ap call_of h.0 ∙ ap (option_map (λ w. Create w.0 w.1)) (mode_part_again path mode h.1 h.2)
+call_again text (Mkdir path mode) h = ap call_of h.0 ∙ ap (option_map (λ w. Mkdir w.0 w.1)) (mode_part_again path mode h.1 h.2)
+call_again text (Write path bytes) h = ap call_of h.0 ∙ ap (option_map (λ w. Write w.0 w.1)) (bytes_part_again path bytes h.1)
+call_again text (Append path bytes) h = ap call_of h.0 ∙ ap (option_map (λ w. Append w.0 w.1)) (bytes_part_again path bytes h.1)
+call_again text (Read path) h = ap call_of h.0 ∙ ap (option_map (λ p. Read p)) (path_again path h.1)
+call_again text (ListCall path) h = ap call_of h.0 ∙ ap (option_map (λ p. ListCall p)) (path_again path h.1)
 call_again text (Login name password) h = ap call_of h.0 ∙ login_again name password h.1 h.2
 call_again text _ h = absurd h

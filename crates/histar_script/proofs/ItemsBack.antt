@@ -2,14 +2,15 @@
 use Rattle.std.proofs.Common.{◌≡◌, ℕ, true, cond, eqb, List, [], ◌∷◌, Some, None, codes, refl, sym, ap, subst, ◌∙◌, inl, inr}
 use Rattle.std.specs.Str.{bytes_eq}
 use Rattle.std.proofs.lemmas.Bool.{eqb-true}
-use Rattle.histar_flat.specs.Words.{process_of}
+use Rattle.histar_flat.specs.Words.{split_at_first, process_of}
 use Rattle.histar_script.specs.declared.items.Item.{Item}
 use Rattle.histar_script.specs.declared.items.Item.TheVariants as items
 use Rattle.histar_script.specs.Lines.{is_plain, split_word, ◌space◌}
 use Rattle.histar_script.specs.Reading.{◌>>=◌, user_of, call_of, user_item, call_item, words_item, item_of}
 use Rattle.histar_script.specs.Grammar.{IsUserText, SaysInWords, Says}
 use Rattle.histar_script.proofs.Chains.{bind_some, chosen}
-use Rattle.histar_script.proofs.WordsBack.{parted, same_bytes, process_takes}
+use Rattle.histar_script.proofs.Parting.{parted}
+use Rattle.histar_script.proofs.WordsBack.{same_bytes, process_takes}
 use Rattle.histar_script.proofs.CallsBack.{user_takes, user_again, call_takes, call_again}
 
 -- a user line that is read is spelled so
@@ -59,7 +60,7 @@ item_takes (b ∷ bs) i e =
 
 -- and the other way
 words_again : (line : List ℕ) (i : Item) → is_plain line ≡ true → SaysInWords line i → item_of line ≡ Some i
-unfolding item_of words_item split_word
+unfolding item_of words_item split_at_first
 words_again line items.Comment plain h = ap item_of h.1 ∙ rw (ap is_plain (sym h.1) ∙ plain) refl
 words_again line (items.User u) plain h = ap item_of h.spelled ∙ rw (ap is_plain (sym h.spelled) ∙ plain, user_again u.name u.password h.name h.password) refl
 words_again line (items.Call [] c) plain h = ap item_of h.1 ∙ rw (ap is_plain (sym h.1) ∙ plain, call_again h.0 c h.3) refl

@@ -1,7 +1,9 @@
 pub mod Chains
 pub mod LineLemmas
 pub mod ReadingLemmas
+pub mod Parting
 pub mod WordsBack
+pub mod PathsBack
 pub mod CallsBack
 pub mod ItemsBack
 pub mod ScriptsBack

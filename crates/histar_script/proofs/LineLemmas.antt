@@ -1,6 +1,5 @@
 -- Where a line ends, and what the rest of the text says.
-use Rattle.std.proofs.Common.{◌≡◌, ℕ, zero, suc, ◌<◌, false, eqb, List, [], ◌∷◌, length, take, drop, Some, None, refl, arith}
-use Rattle.std.proofs.lemmas.Bool.{false_from_ne_true}
+use Rattle.std.proofs.Common.{◌≡◌, ℕ, zero, suc, ◌<◌, List, [], ◌∷◌, length, take, drop, refl, arith}
 use Rattle.memchr.specs.Find.{Nowhere, Passes, is_byte}
 use Rattle.histar_script.specs.Lines.{lines_of}
 use Rattle.histar_flat.proofs.SplitLemmas.{head_fails, tail_nowhere}

@@ -6,7 +6,8 @@ use crate::items::Item;
 use crate::lines::{is_plain, split_word};
 use histar_base::Bytes;
 use histar_flat::{
-    Mode, Path, UnixCall, User, read_mode, read_name, read_password, read_path, read_process, read_user_name,
+    Mode, Path, UnixCall, User, read_mode, read_name, read_password, read_path, read_process,
+    read_user_name,
 };
 use std::alloc::{AllocError, Global};
 

@@ -4,44 +4,74 @@ use histar_flat::{CallLine, Mode, Path, UnixCall};
 use std::alloc::{AllocError, Global};
 use std::test::Fail;
 
-/// The name of an entry of `/`.
-fn entry(path: &Path) -> &[u8] {
-    match path.last() {
-        None => b"".as_slice(),
-        Some(name) => name.as_bytes(),
+/// Puts a path behind a text, its names from `/` on.
+fn push_path(text: &mut Vec<u8>, path: &Path) -> Result<(), AllocError> {
+    text.push(b'|')?;
+    for name in path.names().iter().rev() {
+        text.push(b'/')?;
+        text.extend_from_slice(name.as_bytes())?;
+    }
+    Ok(())
+}
+
+/// The word of a mode.
+fn mode_word(mode: &Mode) -> &[u8] {
+    match mode {
+        Mode::Private => b"private".as_slice(),
+        Mode::Readable => b"readable".as_slice(),
+        Mode::Open => b"open".as_slice(),
+        Mode::Group(group) => group.as_bytes(),
+    }
+}
+
+/// The words of a call: its name, its path and what follows, or a name and a password.
+fn words(call: &UnixCall) -> (&str, Option<&Path>, &[u8]) {
+    match call {
+        UnixCall::Create(path, mode) => ("create", Some(path), mode_word(mode)),
+        UnixCall::Mkdir(path, mode) => ("mkdir", Some(path), mode_word(mode)),
+        UnixCall::Write(path, bytes) => ("write", Some(path), bytes.as_slice()),
+        UnixCall::Append(path, bytes) => ("append", Some(path), bytes.as_slice()),
+        UnixCall::Read(path) => ("read", Some(path), b"".as_slice()),
+        UnixCall::List(path) => ("list", Some(path), b"".as_slice()),
+        UnixCall::Login(_, password) => ("login", None, password.as_bytes()),
+        _ => ("another call", None, b"".as_slice()),
     }
 }
 
 /// The words of a call, each behind a bar.
 fn told(alloc: Global, line: &CallLine) -> Result<Vec<u8>, AllocError> {
-    let (word, first, second) = match &line.call {
-        UnixCall::Create(path, Mode::Private) => ("create", entry(path), b"private".as_slice()),
-        UnixCall::Create(path, Mode::Readable) => ("create", entry(path), b"readable".as_slice()),
-        UnixCall::Write(path, bytes) => ("write", entry(path), bytes.as_slice()),
-        UnixCall::Read(path) => ("read", entry(path), b"".as_slice()),
-        UnixCall::Login(name, password) => ("login", name.as_bytes(), password.as_bytes()),
-        _ => ("another call", b"".as_slice(), b"".as_slice()),
-    };
-    let mut told = Vec::new(alloc);
-    for part in [word.as_bytes(), first, second] {
-        told.push(b'|')?;
-        told.extend_from_slice(part)?;
+    let (word, path, last) = words(&line.call);
+    let mut told = Vec::from_slice(alloc, word.as_bytes())?;
+    if let Some(path) = path {
+        push_path(&mut told, path)?;
     }
+    if let UnixCall::Login(name, _) = &line.call {
+        told.push(b'|')?;
+        told.extend_from_slice(name.as_bytes())?;
+    }
+    told.push(b'|')?;
+    told.extend_from_slice(last)?;
     Ok(told)
 }
 
 #[test]
 fn says_what_the_lines_say(rt: HostRuntime) -> Result<(), Fail> {
     let text =
-        b"# two users\nuser root rr\nuser bob-1 b!\n\n0 login 9 ~\n0 create /a.b private\n0 create /nobody readable\n0 write /a.b  x y \n0 write /a.b \n0 read /_".as_slice();
+        b"# two users\nuser root rr\nuser bob-1 b!\n\n0 login 9 ~\n0 create /a.b private\n0 create /nobody readable\n0 write /a.b  x y \n0 write /a.b \n0 read /_\n0 mkdir /d open\n0 create /d/e/f open\n0 append /d/e  x \n0 append /a \n0 list /\n0 list /d/e".as_slice();
     let (users, calls) = read_script(rt.alloc(), text)?.into_parts();
     let wanted = [
-        (5, b"|login|9|~".as_slice()),
-        (6, b"|create|a.b|private".as_slice()),
-        (7, b"|create|nobody|readable".as_slice()),
-        (8, b"|write|a.b| x y ".as_slice()),
-        (9, b"|write|a.b|".as_slice()),
-        (10, b"|read|_|".as_slice()),
+        (5, b"login|9|~".as_slice()),
+        (6, b"create|/a.b|private".as_slice()),
+        (7, b"create|/nobody|readable".as_slice()),
+        (8, b"write|/a.b| x y ".as_slice()),
+        (9, b"write|/a.b|".as_slice()),
+        (10, b"read|/_|".as_slice()),
+        (11, b"mkdir|/d|open".as_slice()),
+        (12, b"create|/d/e/f|open".as_slice()),
+        (13, b"append|/d/e| x ".as_slice()),
+        (14, b"append|/a|".as_slice()),
+        (15, b"list||".as_slice()),
+        (16, b"list|/d/e|".as_slice()),
     ];
     assert_eq!(rt; users.len(), 2);
     assert_eq!(rt; users[1].name.as_bytes(), b"bob-1".as_slice());
@@ -108,6 +138,79 @@ fn finds_the_first_bad_line(rt: HostRuntime) {
         let fault = read_script(rt.alloc(), text).err();
         assert_eq!(rt; fault, line.map(Fault::BadScript), "at {text:?}");
     }
+}
+
+/// The fault of a script with a user and this call line.
+fn call_fault(alloc: Global, line: &[u8]) -> Result<Option<Fault>, AllocError> {
+    let mut text = Vec::from_slice(alloc, b"user root rr\n0 ".as_slice())?;
+    text.extend_from_slice(line)?;
+    Ok(read_script(alloc, text.as_slice()).err())
+}
+
+#[test]
+fn reads_paths_of_any_depth(rt: HostRuntime) -> Result<(), Fail> {
+    let lines = [
+        (b"read /".as_slice(), true),
+        (b"read /a/b".as_slice(), true),
+        (b"read /1/2/3/4/5/6/7/8".as_slice(), true),
+        (b"read /1/2/3/4/5/6/7/8/9".as_slice(), false),
+        (b"read /1/2/3/4/5/6/7/8/".as_slice(), false),
+        (b"write /1/2/3/4/5/6/7/8 x".as_slice(), true),
+        (b"write /1/2/3/4/5/6/7/8/9 x".as_slice(), false),
+        (b"read //".as_slice(), false),
+        (b"read //a".as_slice(), false),
+        (b"read /a//b".as_slice(), false),
+        (b"read /a/".as_slice(), false),
+        (b"read /.".as_slice(), false),
+        (b"read /..".as_slice(), false),
+        (b"read /a/..".as_slice(), false),
+        (b"read /./a".as_slice(), false),
+        (b"read /a/B".as_slice(), false),
+        (b"read a/b".as_slice(), false),
+        (b"read /a /b".as_slice(), false),
+        (b"read ".as_slice(), false),
+    ];
+    for (line, is_right) in lines {
+        let fault = call_fault(rt.alloc(), line)?;
+        assert_eq!(rt; fault.is_none(), is_right, "at {line:?}");
+    }
+    Ok(())
+}
+
+#[test]
+fn reads_each_call_in_its_form(rt: HostRuntime) -> Result<(), Fail> {
+    let lines = [
+        (b"create /a open".as_slice(), true),
+        (b"create /a opened".as_slice(), false),
+        (b"create /a group:x".as_slice(), false),
+        (b"create /a".as_slice(), false),
+        (b"create / open".as_slice(), true),
+        (b"mkdir /d private".as_slice(), true),
+        (b"mkdir /d/e readable".as_slice(), true),
+        (b"mkdir /d open".as_slice(), true),
+        (b"mkdir /d".as_slice(), false),
+        (b"mkdir /d ".as_slice(), false),
+        (b"mkdir /d open ".as_slice(), false),
+        (b"mkdir /d group:x".as_slice(), false),
+        (b"mkdir d open".as_slice(), false),
+        (b"append /a".as_slice(), false),
+        (b"append /a ".as_slice(), true),
+        (b"append /a/b  x y ".as_slice(), true),
+        (b"append a x".as_slice(), false),
+        (b"list".as_slice(), false),
+        (b"list ".as_slice(), false),
+        (b"list /".as_slice(), true),
+        (b"list /a/b".as_slice(), true),
+        (b"list / ".as_slice(), false),
+        (b"list /a x".as_slice(), false),
+        (b"stat /a".as_slice(), false),
+        (b"unlink /a".as_slice(), false),
+    ];
+    for (line, is_right) in lines {
+        let fault = call_fault(rt.alloc(), line)?;
+        assert_eq!(rt; fault.is_none(), is_right, "at {line:?}");
+    }
+    Ok(())
 }
 
 /// A user line, then `count` comment lines of `length` bytes, and one of `last` bytes where there is to be one.
