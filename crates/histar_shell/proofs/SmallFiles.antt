@@ -2,6 +2,7 @@
 use Rattle.std.proofs.Common.{◌≡◌, ℕ, ◌≤◌, Bool, true, false, List, [], ◌∷◌, ◌++◌, None, Some, Option, arith, inl, inr, refl, sym, ap, ◌∙◌, subst, length}
 use Rattle.std.specs.Prelude.{nat_le}
 use Rattle.std.proofs.lemmas.Bool.Decides.{nat_tests}
+use Rattle.std.proofs.lemmas.Option.{same_Some}
 use Rattle.histar_base.specs.Refusals.{◌orelse◌, unless}
 use Rattle.histar_flat.specs.declared.calls.UnixCall.{UnixCall}
 use Rattle.histar_flat.specs.declared.calls.UnixCall.TheVariants.{Create, Mkdir, Write, Append, Read, List as ListCall, Login}
@@ -26,18 +27,19 @@ abbrev IsSmall : Content → Type 0
 IsSmall Dir = Unit {0}
 IsSmall (File bytes) = length bytes ≤ most_bytes
 
+-- a file that is the content of what is there is small enough
+same_content : (class other : Class) (content : Content) (bytes : List ℕ) (a b : Node) → a ≡ record { class = class; content = content } → b ≡ record { class = other; content = File bytes } → Some a ≡ Some b → IsSmall content → length bytes ≤ most_bytes
+same_content class other content bytes a b is_a is_b same fits = subst IsSmall (ap (λ (n : Node). n.content) (sym is_a ∙ same_Some a b same ∙ is_b)) fits
+
 module _ (f : Flat) (small : AreFilesSmall f) where
   small_put : (q : Path) (class : Class) (content : Content) → IsSmall content → AreFilesSmall (with_node f q class content)
-  small_put q class content fits r other bytes at = elim (same_path_found q r) [
-    | inl same ↦
-        let here : get (insert f.files q (record { class = class; content = content })) r ≡ Some (record { class = class; content = content }) = ap (get (insert f.files q (record { class = class; content = content }))) (sym same.1) ∙ get_new f.files q (record { class = class; content = content }) in
-        by content fits (sym here ∙ at)
-    | inr differs ↦ small r other bytes (sym (get_other f.files q (record { class = class; content = content }) r (λ e. differs.1 (sym e))) ∙ at)
-  ]
-    where
-      by : (c : Content) → IsSmall c → Some (record { class = class; content = c }) ≡ Some (record { class = other; content = File bytes }) → length bytes ≤ most_bytes
-      by Dir fits e = let k : Dir ≡ File bytes = cc in absurd cc
-      by (File held) fits e = let same : held ≡ bytes = cc in subst (λ (xs : List ℕ). length xs ≤ most_bytes) same fits
+  small_put q class content fits r other bytes at =
+      let node : Node = record { class = class; content = content } in
+      let file : Node = record { class = other; content = File bytes } in
+      elim (same_path_found q r) [
+        | inl same ↦ same_content class other content bytes node file refl refl (sym (ap (get (insert f.files q node)) (sym same.1) ∙ get_new f.files q node) ∙ at) fits
+        | inr differs ↦ small r other bytes (sym (get_other f.files q node r (λ e. differs.1 (sym e))) ∙ at)
+      ]
 
   module _ (session : Session) (h : IsFirstAlone f) where
     fits_test : (n : ℕ) → nat_le n most_bytes ≡ true → n ≤ most_bytes
@@ -66,7 +68,11 @@ module _ (f : Flat) (small : AreFilesSmall f) where
         subst (λ (p : Option Process). AreFilesSmall (flat_by session f [] p call)) (sym (first_runs session f h))
         (by_refusal call can (refused session f [] h.process call) refl)
 
+-- nothing is no file
+nothing_here : {Told : Type 0} (node : Node) → None ≡ Some node → Told
+nothing_here node e = absurd cc
+
 -- at the start there is no file
 pub small_at_start : (session : Session) → AreFilesSmall (boot session)
 small_at_start session =
-    small_put (record { files = empty; processes = (boot session).processes }) (λ q class bytes at. let k : None ≡ Some (record { class = class; content = File bytes }) = at in absurd cc) [] (Readable (first_user session.users)) Dir tt
+    small_put (record { files = empty; processes = (boot session).processes }) (λ q class bytes at. nothing_here (record { class = class; content = File bytes }) at) [] (Readable (first_user session.users)) Dir tt

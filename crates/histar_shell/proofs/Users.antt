@@ -9,7 +9,7 @@ use Rattle.std.proofs.lemmas.Option.{none-some}
 use mathlib.Core.Bool.{true≢false}
 use Rattle.histar_flat.specs.declared.calls.User.{User}
 use Rattle.histar_flat.specs.declared.calls.UnixCall.{UnixCall}
-use Rattle.histar_flat.specs.declared.calls.UnixCall.TheVariants.{Create, Write, Read, Login}
+use Rattle.histar_flat.specs.declared.calls.UnixCall.TheVariants.{Create, Mkdir, Write, Append, Read, List as ListCall, Login}
 use Rattle.histar_flat.specs.Words.{is_name, is_user_name, begins_with_letter}
 use Rattle.histar_flat.specs.Sessions.{session_of, user_number}
 use Rattle.histar_flat.specs.Classes.{nobody}
@@ -79,7 +79,10 @@ more_scriptable (d ∷ calls) c h k = (h.0, more_scriptable calls c h.1 k)
 spelled_scriptable : (text : List ℕ) (c : UnixCall) → IsCallText text c → IsScriptable c
 spelled_scriptable text (Create path mode) h = (h.1, h.2)
 spelled_scriptable text (Write path bytes) h = h.1
+spelled_scriptable text (Mkdir path mode) h = (h.1, h.2)
+spelled_scriptable text (Append path bytes) h = h.1
 spelled_scriptable text (Read path) h = h.1
+spelled_scriptable text (ListCall path) h = h.1
 spelled_scriptable text (Login name password) h = tt
 spelled_scriptable text _ h = absurd h
 
