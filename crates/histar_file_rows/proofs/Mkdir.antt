@@ -297,8 +297,8 @@ module _ (session : Session) (ok : IsSession session) (old new : KernelModel) (f
               let inner_new : inner ≡ (state old).next_object = inner_is ∙ ap (λ (s : State). s.next_object) stays in
               let linked_state : state linked ≡ after = called.state ∙ (λ k. added (stays k) container (record { label = made.label_is k; kind = Container set.empty })) in
               let rest_now : Runs (ask (raw.MakeSegment (state old).next_object due []) (ending (state old).next_object)) linked new t result =
-                  subst (λ (q : ℕ). Runs (ask (raw.MakeSegment q due []) (ending q)) linked new t result) inner_new
-                  (subst (λ (y : Levels). Runs (ask (raw.MakeSegment inner y []) (ending inner)) linked new t result) made.label_is rest) in
+              subst (λ (q : ℕ). Runs (ask (raw.MakeSegment q due []) (ending q)) linked new t result) inner_new
+              (subst (λ (y : Levels). Runs (ask (raw.MakeSegment inner y []) (ending inner)) linked new t result) made.label_is rest) in
               by_more linked linked_state longer (has_number after) refl rest_now)
 
         by_right : (may has : Bool) → may_write session p root ≡ may → has_number (state old) ≡ has → Runs (ask (make x) (within x)) mid new t result → Row

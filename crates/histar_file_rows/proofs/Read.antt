@@ -102,7 +102,7 @@ module _ (session : Session) (ok : IsSession session) (old new : KernelModel) (f
         let answer_is : answer ≡ bytes_at f (m ∷ d) = right ∙ held in
         let entries_are : entries_of old.line t (all_granted (walk ++ next ∷ [])) ≡ entries_of old.line t (all_granted walk ++ (next, None) ∷ []) = ap (entries_of old.line t) (map-append (λ (c : RawCall). (c, None)) walk (next ∷ [])) in
         let backed = subst (λ (es : List TraceEntry). EndsWithRead (state old) es (bytes_at f (m ∷ d))) (sym entries_are)
-            (subst (EndsWithRead (state old) (entries_of old.line t (all_granted walk ++ (next, None) ∷ []))) held (read_last old mid t walk chain container segment)) in
+        (subst (EndsWithRead (state old) (entries_of old.line t (all_granted walk ++ (next, None) ∷ []))) held (read_last old mid t walk chain container segment)) in
         let same : state later ≡ state old = called.state ∙ stays in
         answered_step session f ready.alone call old new t ready.thread result (walk ++ next ∷ []) later longer (Data answer) (ap Data answer_is) (refused_by true is) backed (walked_then session ok (state old) f t ready m d old.line (next ∷ []))
         (subst (λ (s : State). LaysOut session s f) (sym same) ready.lays_out) (subst (λ (s : State). IsThreadOf session s [] t) (sym same) ready.thread) end)

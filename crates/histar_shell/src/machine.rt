@@ -145,7 +145,9 @@ fn make<S: LabelStore + Drop>(
         UnixCall::Mkdir(path, mode) => mkdir::mkdir(kernel, alloc, places, thread, &path, mode),
         UnixCall::Read(path) => read::read(kernel, alloc, places, thread, &path),
         UnixCall::Write(path, bytes) => write::write(kernel, alloc, places, thread, &path, bytes),
-        UnixCall::Append(path, bytes) => append::append(kernel, alloc, places, thread, &path, bytes),
+        UnixCall::Append(path, bytes) => append::append(
+            kernel, alloc, places, thread, &path, bytes,
+        ),
         UnixCall::List(path) => list::list(kernel, alloc, places, thread, &path),
         UnixCall::Login(name, password) => login::login(
             kernel, alloc, users, thread, name, password,

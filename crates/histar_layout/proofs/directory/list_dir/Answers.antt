@@ -14,8 +14,7 @@ loop-name-init c =
     let h = c.into_iter-name-iterator.ensures.into_iter_gives in
     let as_many = len_made c.dir.inside.entries.entries h.5 in
     let few = c.dir.invariant.few in
-    let room = c.requires in
-    (
+    let room = c.requires in (
       (λ i. c.args.entries.now.items ++ map shown_entry (h.0 i)) ∙ ap (λ es. c.args.entries.now.items ++ map shown_entry es) (sym (entries_made c.dir.inside.entries.entries h.5)) ∙ ap (λ d. c.args.entries.now.items ++ map shown_entry (finite.entries d)) c.dir.view_is,
       omega (arith, ap length h.0, as_many, few, room),
     )
@@ -27,8 +26,7 @@ push_reserved-requires c =
 
 pub loop-name-preserved : goal.loop-name-preserved
 loop-name-preserved c =
-    let turn = rest_more deref_pair c.loop-name.name-iterator c.next.new.self c.next.result (c.in-Some.name, c.in-Some.target) c.in-Some.is c.next.ensures.steps in
-    (
+    let turn = rest_more deref_pair c.loop-name.name-iterator c.next.new.self c.next.result (c.in-Some.name, c.in-Some.target) c.in-Some.is c.next.ensures.steps in (
       entry_listed (c.args.entries.now.items ++ names_in c.args.dir.now) _ _ _ c.next.new.self (c.in-Some.name.now, c.in-Some.target.now) _ c.loop-name.invariant.0 turn c.push_reserved.ensures.items c.is_directory.ensures,
       omega (arith, c.loop-name.invariant.1, ap length turn, c.push_reserved.ensures.len, c.push_reserved.ensures.capacity),
     )
