@@ -12,7 +12,7 @@ use Rattle.histar_rules.specs.declared.raw.RawCall.TheVariants.{MakeCategory}
 use Rattle.histar_syscall.specs.KernelModel.{KernelModel, state}
 use Rattle.histar_syscall.specs.Runs.{Granted}
 use Rattle.histar_calls.specs.Labelling.{written_by}
-use Rattle.histar_login.specs.Start.{numbered, boot_category, owners_of, container, state_with, of_user, of_users, of_directory, of_process}
+use Rattle.histar_login.specs.Start.{numbered, boot_category, own_read_category, owners_of, container, state_with, thread_number, of_user, of_users, of_directory, of_process}
 use Rattle.histar_login.specs.Boot.{boot_thread_number, category_calls, user_calls, directory_calls, process_calls}
 
 -- A part of boot: its raw calls, the numbers that the root container links by them, the objects that they make, and how many
@@ -99,6 +99,18 @@ users_part session users = record {
 abbrev pub directory_part : ℕ → Session → Part
 directory_part n session = record { calls = directory_calls n session; linked = (3 + 2 * n) ∷ (4 + 2 * n) ∷ []; objects = of_directory n session; categories = 0 }
 
+-- the user table and `/` were made behind the passwords and the gates of all users
+abbrev pub MakesDirectory : KernelModel → KernelModel → Session → Type 0
+MakesDirectory old new session = BootsOn old new (IsBefore (3 + 2 * length session.users)) (directory_part (length session.users) session)
+
 -- process 0
 abbrev pub process_part : ℕ → ℕ → Part
 process_part n owners = record { calls = process_calls n owners; linked = (6 + 2 * n) ∷ []; objects = of_process n owners; categories = 2 }
+
+-- process 0 was made behind `/`, where there are n users, and so many users and groups together
+abbrev pub MakesProcess : KernelModel → KernelModel → Type 0
+MakesProcess old new = (n owners : ℕ) → BootsOn old new (IsBeforeBoth (6 + 2 * n) (own_read_category owners)) (process_part n owners)
+
+-- the thread that is made behind `/` is the one of process 0
+abbrev pub IsFirstThread : KernelModel → ℕ → Type 0
+IsFirstThread old thread = (n owners : ℕ) → Tells old (IsBeforeBoth (6 + 2 * n) (own_read_category owners)) (thread ≡ thread_number n)

@@ -4,7 +4,7 @@ ghost use Rattle.histar_rules.specs.Sound.{root_number};
 ghost use Rattle.histar_syscall.specs.KernelModel.{state};
 ghost use Rattle.histar_calls.specs.Labelling.{labelled};
 ghost use Rattle.histar_login.specs.Boot.{IsBooted, boot_thread_number};
-ghost use Rattle.histar_login.specs.Booting.{BootsOn, Tells, IsAnywhere, IsBefore, IsBeforeBoth, MakesUser, two_categories, categories_part, users_part, directory_part, process_part};
+ghost use Rattle.histar_login.specs.Booting.{BootsOn, Tells, IsAnywhere, IsBefore, MakesUser, MakesDirectory, MakesProcess, IsFirstThread, two_categories, categories_part, users_part};
 ghost use Rattle.histar_login.specs.Start.{session_with, IsSmall, own_read_category, own_write_category, owners_of, at_both, process_bytes, start_state, places_of, thread_number};
 
 use crate::table::{group_owner, user_table};
@@ -175,7 +175,7 @@ fn make_directory<S: LabelStore + Drop>(
     requires users { length users.now ≤ 16 }
     requires groups { length groups.now ≤ 8 }
     requires members { All IsSmall groups.now }
-    ensures boots { OnOk result (BootsOn kernel.old kernel.new (IsBefore (3 + 2 * length users.now)) (directory_part (length users.now) (session_with users.now groups.now))) }
+    ensures boots { OnOk result (MakesDirectory kernel.old kernel.new (session_with users.now groups.now)) }
     ensures places { IfOk result (λ places. Tells kernel.old (IsBefore (3 + 2 * length users.now)) (places ≡ places_of (length users.now))) }
 {
     let guarded = label_of(alloc, Level::L1, &[(Category::new(BOOT), Level::L0)])?;
@@ -211,8 +211,8 @@ fn make_process<S: LabelStore + Drop>(
     alloc: Global,
     kernel: &mut Kernel<S>,
 ) -> Result<ObjId, Stopped>
-    ensures boots { OnOk result ((n owners : ℕ) → BootsOn kernel.old kernel.new (IsBeforeBoth (6 + 2 * n) (own_read_category owners)) (process_part n owners)) }
-    ensures thread { IfOk result (λ thread. (n owners : ℕ) → Tells kernel.old (IsBeforeBoth (6 + 2 * n) (own_read_category owners)) (thread ≡ thread_number n)) }
+    ensures boots { OnOk result (MakesProcess kernel.old kernel.new) }
+    ensures thread { IfOk result (IsFirstThread kernel.old) }
 {
     let read = granted(kernel.make_category(boot_thread()))?;
     let write = granted(kernel.make_category(boot_thread()))?;
