@@ -77,6 +77,11 @@ file_at None = Err ENOENT
 file_at (Some (File file)) = Ok file
 file_at (Some (DirectoryAt container listing)) = Err EISDIR
 
+-- or to either
+abbrev pub entry_at : Option Target → Result Target Errno
+entry_at None = Err ENOENT
+entry_at (Some target) = Ok target
+
 -- or nothing, and there must be room for an entry
 abbrev pub room_at : Option Target → Bool → Result (Unit {0}) Errno
 room_at (Some target) full = Err EEXIST

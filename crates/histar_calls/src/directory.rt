@@ -3,7 +3,7 @@ ghost use Rattle.std.specs.Prelude.{◌≡◌, ◌==◌};
 ghost use Rattle.std.specs.FinMap as map;
 ghost use Rattle.histar_layout.specs.Directory.{most_entries};
 ghost use Rattle.histar_calls.specs.Programs.{RunsPart};
-ghost use Rattle.histar_calls.specs.Parts.{read_directory, walk, directory_at, file_at, room_at, target_of, write_entries};
+ghost use Rattle.histar_calls.specs.Parts.{read_directory, walk, directory_at, file_at, entry_at, room_at, target_of, write_entries};
 
 use crate::ending::{Ending, written};
 use crate::places::{Place, Places};
@@ -50,6 +50,16 @@ impl Directory {
         }
     }
 
+    /// Where the entry of a name leads. ENOENT where nothing stands there.
+    pub fn entry_at(&self, name: &Name) -> Result<Target, Errno>
+        ensures { result ≡ entry_at (target_of self.now name.now) }
+    {
+        match self.entries.get(name) {
+            None => Err(Errno::ENOENT),
+            Some(target) => Ok(target),
+        }
+    }
+
     /// Whether an entry of this name can be made. EEXIST where something stands there, ENOSPC at 64
     /// entries.
     pub fn room_at(&self, name: &Name) -> Result<(), Errno>
@@ -65,7 +75,7 @@ impl Directory {
     }
 
     /// Reads a directory: EACCES where the kernel doesn't let the thread observe its segment.
-    fn read<S: LabelStore + Drop>(
+    pub fn read<S: LabelStore + Drop>(
         kernel: &mut Kernel<S>,
         alloc: Global,
         thread: ObjId,

@@ -18,6 +18,7 @@ pub mod program_laws;
 pub mod read;
 pub mod write;
 
+pub use directory::{Directory, walk, write_entries};
 pub use ending::{Ending, Stopped, settle, written};
 pub use labels::label_of;
 pub use places::{Place, Places, read_category, write_category};

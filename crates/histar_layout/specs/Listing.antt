@@ -11,6 +11,11 @@ abbrev pub is_directory : Target → Bool
 is_directory (File file) = false
 is_directory (Directory container listing) = true
 
+-- the object that stands there: a file's segment, or a directory's container
+abbrev pub object_of : Target → ℕ
+object_of (File file) = file
+object_of (Directory container listing) = container
+
 -- the name of an entry, and whether it is a directory
 abbrev pub shown_entry : Name × Target → Name × Bool
 shown_entry e = (e.0, is_directory e.1)

@@ -13,7 +13,7 @@ pub enum Target {
 
 impl Target {
     ghost use Rattle.histar_layout.specs.Directory.{LeadsSomewhere, IsTarget};
-    ghost use Rattle.histar_layout.specs.Listing.{is_directory};
+    ghost use Rattle.histar_layout.specs.Listing.{is_directory, object_of};
     ghost use Rattle.histar_layout.specs.Writing.{letter_of, numbers_of};
 
     /// Whether it is a directory.
@@ -21,6 +21,16 @@ impl Target {
         ensures { result ≡ is_directory self.now }
     {
         matches!(self, Target::Directory(_, _))
+    }
+
+    /// The object that stands there: a file's segment, or a directory's container.
+    pub fn object(&self) -> ObjId
+        ensures { result ≡ object_of self.now }
+    {
+        match self {
+            Target::File(file) => *file,
+            Target::Directory(container, _) => *container,
+        }
     }
 
     /// The byte that tells a file from a directory.

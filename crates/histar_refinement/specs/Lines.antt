@@ -6,7 +6,10 @@ use Rattle.histar_flat.specs.Words.{Path, ProcName}
 use Rattle.histar_object.specs.Objects.{bytes_in}
 use Rattle.histar_object.specs.State.{State}
 use Rattle.histar_layout.specs.Directory.{Entries, IsDirectory}
+use Rattle.histar_layout.specs.Listing.{object_of}
+use Rattle.histar_layout.specs.declared.entry.Target.{Target}
 use Rattle.histar_layout.specs.declared.entry.Target.TheVariants as targets
+use Rattle.histar_rules.specs.Sound.{root_number}
 use Rattle.histar_flat.specs.Sessions.{Session}
 use Rattle.histar_refinement.specs.Addresses.{slash_number, slash_listing_number, home_number, status_number}
 use Rattle.histar_refinement.specs.Processes.{Listed, ProcessStatus, status_bytes}
@@ -50,3 +53,12 @@ IsDirectoryAt session s (name ∷ d) container segment =
     (above : ℕ) × (listing : ℕ) × (dir : Entries)
     × IsDirectoryAt session s d above listing × IsDirectory (bytes_in (s.objects listing)) dir
     × (map.get dir name ≡ Some (targets.Directory container segment))
+
+-- The object of what stands at a path, and the container that links it: `/` is linked by the root container, and another by the
+-- container of the directory above it, whose segment lists it.
+abbrev pub IsObjectAt : Session → State → Path → ℕ → ℕ → Type 0
+IsObjectAt session s [] container object = (container ≡ root_number) × (object ≡ slash_number (length session.users))
+IsObjectAt session s (name ∷ d) container object =
+    (listing : ℕ) × (dir : Entries) × (target : Target)
+    × IsDirectoryAt session s d container listing × IsDirectory (bytes_in (s.objects listing)) dir
+    × (map.get dir name ≡ Some target) × (object ≡ object_of target)

@@ -3,11 +3,11 @@ use Rattle.std.specs.Prelude.{◌≡◌, ◌≢◌, ℕ, ◌+◌, ◌≤◌, Boo
 use Rattle.std.specs.List.{AllByRecursion}
 use Rattle.histar_flat.specs.declared.calls.CallLine.{CallLine}
 use Rattle.histar_flat.specs.declared.calls.UnixCall.{UnixCall}
-use Rattle.histar_flat.specs.declared.calls.UnixCall.TheVariants.{Create, Mkdir, Write, Append, Read, List as ListCall, Login}
+use Rattle.histar_flat.specs.declared.calls.UnixCall.TheVariants.{Create, Mkdir, Write, Append, Read, List as ListCall, Stat, Unlink, Rmdir, Rmtree, Rename, Login}
 use Rattle.histar_flat.specs.declared.replies.Errno.TheVariants.{EAUTH}
 use Rattle.histar_flat.specs.declared.replies.Reply.{Reply}
-use Rattle.histar_flat.specs.declared.replies.Reply.TheVariants.{Done, Data, Refused, Gone}
-use Rattle.histar_flat.specs.Words.{Path, ProcName, is_path}
+use Rattle.histar_flat.specs.declared.replies.Reply.TheVariants.{Done, Data, Stats, Refused, Gone}
+use Rattle.histar_flat.specs.Words.{Path, ProcName, is_name, is_path}
 use Rattle.histar_flat.specs.Modes.{is_line_mode}
 use Rattle.histar_flat.specs.Sessions.{Session}
 use Rattle.histar_flat.specs.Files.{get}
@@ -32,9 +32,9 @@ use Rattle.histar_calls.specs.Refusals.{write_errno_of}
 use Rattle.histar_calls.specs.Replies.{is_no_access, is_no_permission, IsRefusedOnce}
 use Rattle.histar_login.specs.Login.{place_of, password_of}
 use Rattle.histar_refinement.specs.LaysOut.{LaysOut}
-use Rattle.histar_refinement.specs.Lines.{IsThreadOf, IsDirectoryAt}
+use Rattle.histar_refinement.specs.Lines.{IsThreadOf, IsDirectoryAt, IsObjectAt}
 
--- a call that a line of a script can make: one of these, with a path and a mode that a line can name
+-- a call that a line of a script can make: one of these, with a path, a mode and a name that a line can name
 abbrev pub IsScriptable : UnixCall → Type 0
 IsScriptable (Create path mode) = IsTrue (is_path path) × IsTrue (is_line_mode mode)
 IsScriptable (Mkdir path mode) = IsTrue (is_path path) × IsTrue (is_line_mode mode)
@@ -42,6 +42,11 @@ IsScriptable (Write path bytes) = IsTrue (is_path path)
 IsScriptable (Append path bytes) = IsTrue (is_path path)
 IsScriptable (Read path) = IsTrue (is_path path)
 IsScriptable (ListCall path) = IsTrue (is_path path)
+IsScriptable (Stat path) = IsTrue (is_path path)
+IsScriptable (Unlink path) = IsTrue (is_path path)
+IsScriptable (Rmdir path) = IsTrue (is_path path)
+IsScriptable (Rmtree path) = IsTrue (is_path path)
+IsScriptable (Rename path name) = IsTrue (is_path path) × IsTrue (is_name name)
 IsScriptable (Login name password) = Unit {0}
 IsScriptable _ = ⊥
 
@@ -93,6 +98,26 @@ module _ (session : Session) where
     HasWalk f p [] entries = Unit {0}
     HasWalk f p (n ∷ d) entries = HasWay f p d entries
 
+    -- the directories that the walk to a path looks whether it may read
+    abbrev pub walked : Flat → Process → Path → List Path
+    walked f p [] = []
+    walked f p (n ∷ d) = tested f p d
+
+    -- a raw call that asks for the label of what stands at a path, where the reply tells of it
+    abbrev pub AreLabelCalls : Path → Reply → List RawCall → Type 0
+    AreLabelCalls q (Stats stat) calls = (container : ℕ) × (object : ℕ) × IsObjectAt session s q container object × (calls ≡ raw.LabelOf container object ∷ [])
+    AreLabelCalls q _ calls = calls ≡ []
+
+    -- among the entries are the reads of the walk to a path, and after them the raw call for the label, if there is one
+    abbrev pub HasLabel : Flat → Process → Path → Reply → List TraceEntry → Type 0
+    HasLabel f p q reply entries =
+        (reads : List RawCall) × (labels : List RawCall) × AreReadsOf (walked f p q) reads × AreLabelCalls q reply labels × AreAmong (reads ++ labels) entries
+
+    -- a directory that is to be taken away is read itself, as the ones on the way are
+    abbrev pub HasWayUnlessSlash : Flat → Process → Path → List TraceEntry → Type 0
+    HasWayUnlessSlash f p [] entries = Unit {0}
+    HasWayUnlessSlash f p (n ∷ d) entries = HasWay f p (n ∷ d) entries
+
   -- the password was looked at
   abbrev pub is_compared : Reply → Bool
   is_compared Done = true
@@ -113,6 +138,11 @@ module _ (session : Session) where
   HasReads s f p (Append path bytes) reply entries = HasWalk s f p path entries
   HasReads s f p (Read path) reply entries = HasWalk s f p path entries
   HasReads s f p (ListCall path) reply entries = HasWay s f p path entries
+  HasReads s f p (Stat path) reply entries = HasLabel s f p path reply entries
+  HasReads s f p (Unlink path) reply entries = HasWalk s f p path entries
+  HasReads s f p (Rmdir path) reply entries = HasWayUnlessSlash s f p path entries
+  HasReads s f p (Rmtree path) reply entries = HasWalk s f p path entries
+  HasReads s f p (Rename path name) reply entries = HasWalk s f p path entries
   HasReads s f p (Login name password) reply entries = AreAmong (reads_of_login (place_of session.users name) (is_compared reply)) entries
   HasReads s f p _ reply entries = Unit {0}
 

@@ -1,0 +1,6 @@
+pub mod Parts
+pub mod Unlink
+pub mod Rmdir
+pub mod Rmtree
+pub mod Rename
+pub mod Laws
