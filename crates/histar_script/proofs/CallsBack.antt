@@ -1,17 +1,17 @@
 -- Calls are read from the texts that spell them, and from no others.
 use Rattle.std.proofs.Common.{◌≡◌, ℕ, true, cond, List, Option, Some, codes, refl, sym, ap, subst, ◌∙◌, inl, inr, IsTrue}
-use Rattle.std.proofs.lemmas.Option.{cond_some}
+use Rattle.std.proofs.lemmas.Option.{cond_some, same_Some}
 use Rattle.std.specs.Option.{option_map}
 use Rattle.std.specs.Str.{bytes_eq}
 use Rattle.histar_flat.specs.declared.calls.Mode.{Mode}
 use Rattle.histar_flat.specs.declared.calls.User.{User}
 use Rattle.histar_flat.specs.declared.calls.UnixCall.{UnixCall}
-use Rattle.histar_flat.specs.declared.calls.UnixCall.TheVariants.{Create, Mkdir, Write, Append, Read, List as ListCall, Login}
+use Rattle.histar_flat.specs.declared.calls.UnixCall.TheVariants.{Create, Mkdir, Write, Append, Read, List as ListCall, Stat, Unlink, Rmdir, Rmtree, Rename, Login}
 use Rattle.histar_flat.specs.Words.{Path, split_at_first, is_name, is_user_name, is_password, is_path, name_of, user_name_of, password_of, path_of}
 use Rattle.histar_flat.specs.Modes.{mode_of, is_line_mode}
 use Rattle.histar_flat.specs.Texts.{path_text, mode_text}
 use Rattle.histar_script.specs.Lines.{split_word, ◌space◌}
-use Rattle.histar_script.specs.Reading.{◌>>=◌, user_of, path_mode_of, path_bytes_of, login_of, call_named, call_of}
+use Rattle.histar_script.specs.Reading.{◌>>=◌, user_of, path_mode_of, path_bytes_of, rename_of, login_of, call_on, call_named, call_of}
 use Rattle.histar_script.specs.Grammar.{SpellsMode, SpellsBytes, SpellsPath, IsCallText}
 use Rattle.histar_script.proofs.Chains.{bind_some, mapped, chosen}
 use Rattle.histar_script.proofs.Parting.{parted}
@@ -87,6 +87,25 @@ bytes_part_again : (path : Path) (bytes : List ℕ) → is_path path ≡ true �
 unfolding path_bytes_of
 bytes_part_again path bytes h = rw (split_path path bytes h, path_again path h) refl
 
+-- a `rename` that is read is spelled so
+rename_takes : (text : List ℕ) (c : UnixCall) → rename_of text ≡ Some c → IsCallText (codes "rename" space text) c
+unfolding rename_of
+rename_takes text c e =
+    let w = split_word text in
+    let a = bind_some (path_of w.0) (λ path. w.1 >>= λ rest. name_of rest >>= λ name. Some (Rename path name)) c e in
+    let b = bind_some w.1 (λ rest. name_of rest >>= λ name. Some (Rename a.0 name)) c a.2 in
+    let d = bind_some (name_of b.0) (λ name. Some (Rename a.0 name)) c b.2 in
+    let path = path_takes w.0 a.0 a.1 in
+    let name = cond_some (is_name b.0) b.0 d.0 d.1 in
+    let spelled : text ≡ path_text a.0 space d.0 = parted text (path_text a.0) b.0 path.0 b.1 ∙ ap (λ (l : List ℕ). path_text a.0 space l) name.1 in
+    let same : Rename a.0 d.0 ≡ c = cc in
+    subst (IsCallText (codes "rename" space text)) same (ap (λ (l : List ℕ). codes "rename" space l) spelled, path.1, ap is_name (sym name.1) ∙ name.0)
+
+-- and the other way
+rename_again : (path : Path) (name : List ℕ) → is_path path ≡ true → is_name name ≡ true → rename_of (path_text path space name) ≡ Some (Rename path name)
+unfolding rename_of
+rename_again path name h named = rw (split_path path name h, path_again path h, named) refl
+
 -- a path that is read is spelled so
 path_part : (text word : List ℕ) (path : Path) → path_of text ≡ Some path → SpellsPath (word space text) word path
 path_part text word path e = let is = path_takes text path e in (ap (λ (l : List ℕ). word space l) is.0, is.1)
@@ -140,13 +159,24 @@ write_takes rest c e = let m = mapped (path_bytes_of rest) (λ w. Write w.0 w.1)
 append_takes : (rest : List ℕ) (c : UnixCall) → option_map (λ w. Append w.0 w.1) (path_bytes_of rest) ≡ Some c → IsCallText (codes "append" space rest) c
 append_takes rest c e = let m = mapped (path_bytes_of rest) (λ w. Append w.0 w.1) c e in subst (IsCallText (codes "append" space rest)) m.2 (bytes_part rest (codes "append") m.0 m.1)
 
--- a `read` that is read is spelled so
-read_takes : (rest : List ℕ) (c : UnixCall) → option_map (λ path. Read path) (path_of rest) ≡ Some c → IsCallText (codes "read" space rest) c
-read_takes rest c e = let m = mapped (path_of rest) (λ path. Read path) c e in subst (IsCallText (codes "read" space rest)) m.2 (path_part rest (codes "read") m.0 m.1)
-
--- a `list` that is read is spelled so
-list_takes : (rest : List ℕ) (c : UnixCall) → option_map (λ path. ListCall path) (path_of rest) ≡ Some c → IsCallText (codes "list" space rest) c
-list_takes rest c e = let m = mapped (path_of rest) (λ path. ListCall path) c e in subst (IsCallText (codes "list" space rest)) m.2 (path_part rest (codes "list") m.0 m.1)
+-- a call on a path and nothing else is spelled by its word and the path
+on_takes : (word rest : List ℕ) (path : Path) (c : UnixCall) → path_of rest ≡ Some path → call_on word path ≡ Some c → IsCallText (word space rest) c
+on_takes word rest path c is =
+    let part = λ (name : List ℕ). path_part rest name path is in
+    word_takes (codes "read") word rest c _ _ (spells (codes "read") (Read path) (part (codes "read"))) (
+    word_takes (codes "list") word rest c _ _ (spells (codes "list") (ListCall path) (part (codes "list"))) (
+    word_takes (codes "stat") word rest c _ _ (spells (codes "stat") (Stat path) (part (codes "stat"))) (
+    word_takes (codes "unlink") word rest c _ _ (spells (codes "unlink") (Unlink path) (part (codes "unlink"))) (
+    word_takes (codes "rmdir") word rest c _ _ (spells (codes "rmdir") (Rmdir path) (part (codes "rmdir"))) (
+    word_takes (codes "rmtree") word rest c _ _ (spells (codes "rmtree") (Rmtree path) (part (codes "rmtree"))) (λ e. absurd cc)
+    )
+    )
+    )
+    )
+    )
+  where
+    spells : (name : List ℕ) (made : UnixCall) → IsCallText (name space rest) made → Some made ≡ Some c → IsCallText (name space rest) c
+    spells name made said e = subst (IsCallText (name space rest)) (same_Some made c e) said
 
 -- a call that has its word and what follows it
 named_takes : (word rest : List ℕ) (c : UnixCall) → call_named word rest ≡ Some c → IsCallText (word space rest) c
@@ -155,10 +185,9 @@ named_takes word rest c =
     word_takes (codes "mkdir") word rest c _ _ (mkdir_takes rest c) (
     word_takes (codes "write") word rest c _ _ (write_takes rest c) (
     word_takes (codes "append") word rest c _ _ (append_takes rest c) (
-    word_takes (codes "read") word rest c _ _ (read_takes rest c) (
-    word_takes (codes "list") word rest c _ _ (list_takes rest c) (
-    word_takes (codes "login") word rest c _ _ (login_takes rest c) (λ e. absurd cc)
-    )
+    word_takes (codes "rename") word rest c _ _ (rename_takes rest c) (
+    word_takes (codes "login") word rest c _ _ (login_takes rest c) (
+    λ e. let on = bind_some (path_of rest) (call_on word) c e in on_takes word rest on.0 c on.1 on.2)
     )
     )
     )
@@ -180,7 +209,12 @@ call_again text (Create path mode) h = ap call_of h.0 ∙ ap (option_map (λ w. 
 call_again text (Mkdir path mode) h = ap call_of h.0 ∙ ap (option_map (λ w. Mkdir w.0 w.1)) (mode_part_again path mode h.1 h.2)
 call_again text (Write path bytes) h = ap call_of h.0 ∙ ap (option_map (λ w. Write w.0 w.1)) (bytes_part_again path bytes h.1)
 call_again text (Append path bytes) h = ap call_of h.0 ∙ ap (option_map (λ w. Append w.0 w.1)) (bytes_part_again path bytes h.1)
-call_again text (Read path) h = ap call_of h.0 ∙ ap (option_map (λ p. Read p)) (path_again path h.1)
-call_again text (ListCall path) h = ap call_of h.0 ∙ ap (option_map (λ p. ListCall p)) (path_again path h.1)
+call_again text (Read path) h = ap call_of h.0 ∙ ap (λ o. o >>= call_on (codes "read")) (path_again path h.1)
+call_again text (ListCall path) h = ap call_of h.0 ∙ ap (λ o. o >>= call_on (codes "list")) (path_again path h.1)
+call_again text (Stat path) h = ap call_of h.0 ∙ ap (λ o. o >>= call_on (codes "stat")) (path_again path h.1)
+call_again text (Unlink path) h = ap call_of h.0 ∙ ap (λ o. o >>= call_on (codes "unlink")) (path_again path h.1)
+call_again text (Rmdir path) h = ap call_of h.0 ∙ ap (λ o. o >>= call_on (codes "rmdir")) (path_again path h.1)
+call_again text (Rmtree path) h = ap call_of h.0 ∙ ap (λ o. o >>= call_on (codes "rmtree")) (path_again path h.1)
+call_again text (Rename path name) h = ap call_of h.0 ∙ rename_again path name h.1 h.2
 call_again text (Login name password) h = ap call_of h.0 ∙ login_again name password h.1 h.2
 call_again text _ h = absurd h

@@ -3,7 +3,7 @@ use Rattle.std.specs.Prelude.{◌≡◌, ◌≢◌, ℕ, ◌+◌, ◌-◌, ◌<�
 use Rattle.histar_flat.specs.declared.calls.Mode.{Mode}
 use Rattle.histar_flat.specs.declared.calls.User.{User}
 use Rattle.histar_flat.specs.declared.calls.UnixCall.{UnixCall}
-use Rattle.histar_flat.specs.declared.calls.UnixCall.TheVariants.{Create, Mkdir, Write, Append, Read, List as ListCall, Login}
+use Rattle.histar_flat.specs.declared.calls.UnixCall.TheVariants.{Create, Mkdir, Write, Append, Read, List as ListCall, Stat, Unlink, Rmdir, Rmtree, Rename, Login}
 use Rattle.histar_flat.specs.Words.{Path, is_name, is_user_name, is_password, is_path, is_process}
 use Rattle.histar_flat.specs.Modes.{is_line_mode}
 use Rattle.histar_flat.specs.Texts.{path_text, process_text, mode_text}
@@ -30,7 +30,8 @@ SpellsBytes text word path bytes = (text ≡ word space path_text path space byt
 abbrev pub SpellsPath : List ℕ → List ℕ → Path → Type 0
 SpellsPath text word path = (text ≡ word space path_text path) × IsTrue (is_path path)
 
--- `create PATH MODE`, `mkdir PATH MODE`, `write PATH BYTES`, `append PATH BYTES`, `read PATH`, `list PATH`, or `login NAME PASSWORD` with any name; no other call has a line
+-- `create` and `mkdir PATH MODE`, `write` and `append PATH BYTES`, `read`, `list`, `stat`, `unlink`, `rmdir` and `rmtree PATH`,
+-- `rename PATH NAME`, or `login NAME PASSWORD` with any name; no other call has a line
 abbrev pub IsCallText : List ℕ → UnixCall → Type 0
 IsCallText text (Create path mode) = SpellsMode text (codes "create") path mode
 IsCallText text (Mkdir path mode) = SpellsMode text (codes "mkdir") path mode
@@ -38,6 +39,11 @@ IsCallText text (Write path bytes) = SpellsBytes text (codes "write") path bytes
 IsCallText text (Append path bytes) = SpellsBytes text (codes "append") path bytes
 IsCallText text (Read path) = SpellsPath text (codes "read") path
 IsCallText text (ListCall path) = SpellsPath text (codes "list") path
+IsCallText text (Stat path) = SpellsPath text (codes "stat") path
+IsCallText text (Unlink path) = SpellsPath text (codes "unlink") path
+IsCallText text (Rmdir path) = SpellsPath text (codes "rmdir") path
+IsCallText text (Rmtree path) = SpellsPath text (codes "rmtree") path
+IsCallText text (Rename path name) = (text ≡ codes "rename" space path_text path space name) × IsTrue (is_path path) × IsTrue (is_name name)
 IsCallText text (Login name password) = (text ≡ codes "login" space name space password) × IsTrue (is_name name) × IsTrue (is_password password)
 IsCallText text _ = ⊥
 

@@ -5,7 +5,7 @@ use Rattle.std.specs.Str.{bytes_eq}
 use Rattle.histar_flat.specs.declared.calls.Mode.{Mode}
 use Rattle.histar_flat.specs.declared.calls.User.{User}
 use Rattle.histar_flat.specs.declared.calls.UnixCall.{UnixCall}
-use Rattle.histar_flat.specs.declared.calls.UnixCall.TheVariants.{Create, Mkdir, Write, Append, Read, List as ListCall, Login}
+use Rattle.histar_flat.specs.declared.calls.UnixCall.TheVariants.{Create, Mkdir, Write, Append, Read, List as ListCall, Stat, Unlink, Rmdir, Rmtree, Rename, Login}
 use Rattle.histar_flat.specs.Words.{Name, Path, name_of, user_name_of, password_of, path_of, process_of}
 use Rattle.histar_flat.specs.Modes.{mode_of}
 use Rattle.histar_script.specs.declared.fault.Fault.{Fault}
@@ -51,6 +51,25 @@ login_of text = do
   password ← password_of rest
   Some (Login name password)
 
+-- PATH NAME of a rename
+unfoldable pub rename_of : List ℕ → Option UnixCall
+rename_of text = do
+  path ← path_of (split_word text).0
+  rest ← (split_word text).1
+  name ← name_of rest
+  Some (Rename path name)
+
+-- the call of this word, which has a path and nothing else
+abbrev pub call_on : List ℕ → Path → Option UnixCall
+call_on word path =
+    if bytes_eq word (codes "read") then Some (Read path)
+    else (if bytes_eq word (codes "list") then Some (ListCall path)
+    else (if bytes_eq word (codes "stat") then Some (Stat path)
+    else (if bytes_eq word (codes "unlink") then Some (Unlink path)
+    else (if bytes_eq word (codes "rmdir") then Some (Rmdir path)
+    else (if bytes_eq word (codes "rmtree") then Some (Rmtree path)
+    else None)))))
+
 -- the call of this word, with what follows the word
 abbrev pub call_named : List ℕ → List ℕ → Option UnixCall
 call_named word rest =
@@ -58,10 +77,9 @@ call_named word rest =
     else (if bytes_eq word (codes "mkdir") then option_map (λ w. Mkdir w.0 w.1) (path_mode_of rest)
     else (if bytes_eq word (codes "write") then option_map (λ w. Write w.0 w.1) (path_bytes_of rest)
     else (if bytes_eq word (codes "append") then option_map (λ w. Append w.0 w.1) (path_bytes_of rest)
-    else (if bytes_eq word (codes "read") then option_map (λ path. Read path) (path_of rest)
-    else (if bytes_eq word (codes "list") then option_map (λ path. ListCall path) (path_of rest)
+    else (if bytes_eq word (codes "rename") then rename_of rest
     else (if bytes_eq word (codes "login") then login_of rest
-    else None))))))
+    else path_of rest >>= call_on word)))))
 
 -- a call: its word, and what follows it
 unfoldable pub call_of : List ℕ → Option UnixCall

@@ -1,6 +1,6 @@
 //! Reading what a line says. `Ok(None)` is a bad line; the bytes of a `write` or an `append` are copied, so memory may run out.
 ghost use Rattle.std.specs.Prelude.{◌≡◌, IfOk};
-ghost use Rattle.histar_script.specs.Reading.{user_of, path_mode_of, path_bytes_of, login_of, call_of, words_item, item_of};
+ghost use Rattle.histar_script.specs.Reading.{user_of, path_mode_of, path_bytes_of, rename_of, login_of, call_on, call_of, words_item, item_of};
 
 use crate::items::Item;
 use crate::lines::{is_plain, split_word};
@@ -60,6 +60,38 @@ fn read_login(text: &[u8]) -> Option<UnixCall>
     Some(UnixCall::Login(name, password))
 }
 
+/// `PATH NAME`
+#[tactic(auto, unfolding(crate::specs::Reading::rename_of))]
+fn read_rename(text: &[u8]) -> Option<UnixCall>
+    ensures { result ≡ rename_of text.now }
+{
+    let (word, rest) = split_word(text);
+    let path = read_path(word)?;
+    let name = read_name(rest?)?;
+    Some(UnixCall::Rename(path, name))
+}
+
+/// The call of this word on a path and nothing else.
+fn call_on(word: &[u8], path: Path) -> Option<UnixCall>
+    ensures { result ≡ call_on word.now path }
+{
+    if word == b"read".as_slice() {
+        Some(UnixCall::Read(path))
+    } else if word == b"list".as_slice() {
+        Some(UnixCall::List(path))
+    } else if word == b"stat".as_slice() {
+        Some(UnixCall::Stat(path))
+    } else if word == b"unlink".as_slice() {
+        Some(UnixCall::Unlink(path))
+    } else if word == b"rmdir".as_slice() {
+        Some(UnixCall::Rmdir(path))
+    } else if word == b"rmtree".as_slice() {
+        Some(UnixCall::Rmtree(path))
+    } else {
+        None
+    }
+}
+
 /// A call: its word, and what follows it.
 #[tactic(auto, unfolding(crate::specs::Reading::call_of))]
 fn read_call(alloc: Global, text: &[u8]) -> Result<Option<UnixCall>, AllocError>
@@ -79,14 +111,12 @@ fn read_call(alloc: Global, text: &[u8]) -> Result<Option<UnixCall>, AllocError>
     } else if word == b"append".as_slice() {
         let parts = read_path_and_bytes(alloc, rest)?;
         Ok(parts.map(|(path, bytes)| UnixCall::Append(path, bytes)))
-    } else if word == b"read".as_slice() {
-        Ok(read_path(rest).map(UnixCall::Read))
-    } else if word == b"list".as_slice() {
-        Ok(read_path(rest).map(UnixCall::List))
+    } else if word == b"rename".as_slice() {
+        Ok(read_rename(rest))
     } else if word == b"login".as_slice() {
         Ok(read_login(rest))
     } else {
-        Ok(None)
+        Ok(read_path(rest).and_then(|path| call_on(word, path)))
     }
 }
 

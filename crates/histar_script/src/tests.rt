@@ -33,6 +33,11 @@ fn words(call: &UnixCall) -> (&str, Option<&Path>, &[u8]) {
         UnixCall::Append(path, bytes) => ("append", Some(path), bytes.as_slice()),
         UnixCall::Read(path) => ("read", Some(path), b"".as_slice()),
         UnixCall::List(path) => ("list", Some(path), b"".as_slice()),
+        UnixCall::Stat(path) => ("stat", Some(path), b"".as_slice()),
+        UnixCall::Unlink(path) => ("unlink", Some(path), b"".as_slice()),
+        UnixCall::Rmdir(path) => ("rmdir", Some(path), b"".as_slice()),
+        UnixCall::Rmtree(path) => ("rmtree", Some(path), b"".as_slice()),
+        UnixCall::Rename(path, name) => ("rename", Some(path), name.as_bytes()),
         UnixCall::Login(_, password) => ("login", None, password.as_bytes()),
         _ => ("another call", None, b"".as_slice()),
     }
@@ -57,7 +62,7 @@ fn told(alloc: Global, line: &CallLine) -> Result<Vec<u8>, AllocError> {
 #[test]
 fn says_what_the_lines_say(rt: HostRuntime) -> Result<(), Fail> {
     let text =
-        b"# two users\nuser root rr\nuser bob-1 b!\n\n0 login 9 ~\n0 create /a.b private\n0 create /nobody readable\n0 write /a.b  x y \n0 write /a.b \n0 read /_\n0 mkdir /d open\n0 create /d/e/f open\n0 append /d/e  x \n0 append /a \n0 list /\n0 list /d/e".as_slice();
+        b"# two users\nuser root rr\nuser bob-1 b!\n\n0 login 9 ~\n0 create /a.b private\n0 create /nobody readable\n0 write /a.b  x y \n0 write /a.b \n0 read /_\n0 mkdir /d open\n0 create /d/e/f open\n0 append /d/e  x \n0 append /a \n0 list /\n0 list /d/e\n0 stat /d\n0 unlink /d/e\n0 rmdir /d\n0 rmtree /\n0 rename /d/e f".as_slice();
     let (users, calls) = read_script(rt.alloc(), text)?.into_parts();
     let wanted = [
         (5, b"login|9|~".as_slice()),
@@ -72,6 +77,11 @@ fn says_what_the_lines_say(rt: HostRuntime) -> Result<(), Fail> {
         (14, b"append|/a|".as_slice()),
         (15, b"list||".as_slice()),
         (16, b"list|/d/e|".as_slice()),
+        (17, b"stat|/d|".as_slice()),
+        (18, b"unlink|/d/e|".as_slice()),
+        (19, b"rmdir|/d|".as_slice()),
+        (20, b"rmtree||".as_slice()),
+        (21, b"rename|/d/e|f".as_slice()),
     ];
     assert_eq!(rt; users.len(), 2);
     assert_eq!(rt; users[1].name.as_bytes(), b"bob-1".as_slice());
@@ -203,8 +213,21 @@ fn reads_each_call_in_its_form(rt: HostRuntime) -> Result<(), Fail> {
         (b"list /a/b".as_slice(), true),
         (b"list / ".as_slice(), false),
         (b"list /a x".as_slice(), false),
-        (b"stat /a".as_slice(), false),
-        (b"unlink /a".as_slice(), false),
+        (b"stat /".as_slice(), true),
+        (b"stat a".as_slice(), false),
+        (b"unlink /a".as_slice(), true),
+        (b"unlink /a ".as_slice(), false),
+        (b"rmdir /a/b".as_slice(), true),
+        (b"rmdir /a b".as_slice(), false),
+        (b"rmtree /".as_slice(), true),
+        (b"rmtree".as_slice(), false),
+        (b"rename /a/b c".as_slice(), true),
+        (b"rename / c".as_slice(), true),
+        (b"rename /a".as_slice(), false),
+        (b"rename /a /b".as_slice(), false),
+        (b"rename /a b c".as_slice(), false),
+        (b"rename /a .".as_slice(), false),
+        (b"spawn".as_slice(), false),
     ];
     for (line, is_right) in lines {
         let fault = call_fault(rt.alloc(), line)?;
