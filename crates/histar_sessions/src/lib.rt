@@ -5,6 +5,8 @@
 #[cfg(test)]
 mod boot;
 #[cfg(test)]
+mod files;
+#[cfg(test)]
 mod raw_confined;
 #[cfg(test)]
 mod raw_gates;

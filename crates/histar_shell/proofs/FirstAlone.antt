@@ -1,7 +1,7 @@
 -- While scripts have the calls that they have, process 0 runs alone, in no job, and holds none.
 use Rattle.std.proofs.Common.{◌≡◌, ℕ, None, Some, Option, [], refl, sym, ap, ◌∙◌, subst}
 use Rattle.histar_flat.specs.declared.calls.UnixCall.{UnixCall}
-use Rattle.histar_flat.specs.declared.calls.UnixCall.TheVariants.{Create, Mkdir, Write, Append, Read, List as ListCall, Login}
+use Rattle.histar_flat.specs.declared.calls.UnixCall.TheVariants.{Create, Mkdir, Write, Append, Read, List as ListCall, Stat, Unlink, Rmdir, Rmtree, Rename, Login}
 use Rattle.histar_flat.specs.declared.replies.Errno.{Errno}
 use Rattle.histar_flat.specs.Sessions.{Session}
 use Rattle.histar_flat.specs.Classes.{Process}
@@ -32,6 +32,11 @@ module _ (session : Session) (f : Flat) (h : IsFirstAlone f) where
   after_change (ListCall q) can = h
   after_change (Write q bytes) can = record { process = h.process; stands = h.stands; runs = h.runs; free = h.free; holds_none = h.holds_none; others = h.others }
   after_change (Read q) can = h
+  after_change (Stat q) can = h
+  after_change (Unlink q) can = record { process = h.process; stands = h.stands; runs = h.runs; free = h.free; holds_none = h.holds_none; others = h.others }
+  after_change (Rmdir q) can = record { process = h.process; stands = h.stands; runs = h.runs; free = h.free; holds_none = h.holds_none; others = h.others }
+  after_change (Rmtree q) can = record { process = h.process; stands = h.stands; runs = h.runs; free = h.free; holds_none = h.holds_none; others = h.others }
+  after_change (Rename q name) can = record { process = h.process; stands = h.stands; runs = h.runs; free = h.free; holds_none = h.holds_none; others = h.others }
   after_change (Login name password) can = record { process = record h.process { user = name; held = [] }; stands = refl; runs = h.runs; free = h.free; holds_none = refl; others = h.others }
   after_change _ can = absurd can
 

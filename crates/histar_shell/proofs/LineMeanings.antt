@@ -2,7 +2,7 @@
 use Rattle.std.proofs.Common.{◌≡◌, ℕ, Bool, true, false, List, [], ◌∷◌, length, Option, None, Result, Ok, Err, refl, sym, ap, ◌∙◌, subst, append-nil}
 use Rattle.histar_flat.specs.declared.calls.User.{User}
 use Rattle.histar_flat.specs.declared.calls.UnixCall.{UnixCall}
-use Rattle.histar_flat.specs.declared.calls.UnixCall.TheVariants.{Create, Mkdir, Write, Append, Read, List as ListCall, Login}
+use Rattle.histar_flat.specs.declared.calls.UnixCall.TheVariants.{Create, Mkdir, Write, Append, Read, List as ListCall, Stat, Unlink, Rmdir, Rmtree, Rename, Login}
 use Rattle.histar_flat.specs.declared.replies.Reply.{Reply}
 use Rattle.histar_flat.specs.declared.replies.Reply.TheVariants.{Gone}
 use Rattle.histar_flat.specs.Words.{ProcName}
@@ -17,7 +17,8 @@ use Rattle.histar_calls.specs.declared.places.Places.{Places}
 use Rattle.histar_calls.specs.declared.ending.Stopped.{Stopped}
 use Rattle.histar_login.specs.Start.{places_of}
 use Rattle.histar_refinement.specs.LaysOut.{LaysOut}
-use Rattle.histar_rows.specs.Laws.{CallsAreRows}
+use Rattle.histar_shell.proofs.CallRows.{LinesAreRows}
+use Rattle.histar_refinement.proofs.Renaming.{nothing_under}
 use Rattle.histar_rows.specs.Rows.{IsScriptable, IsLine, IsReady, HasReadsOf, DoesItsRow}
 use Rattle.histar_shell.specs.Machine.{MachineModel, on_line, Makes, HasMade, AnswersRunning, AnswersIf, AnswersLine}
 use Rattle.histar_shell.specs.Meaning.{Shows, EndsAsMeant, FollowsMeaning}
@@ -25,17 +26,22 @@ use Rattle.histar_shell.proofs.SmallFiles.{small_after}
 use Rattle.histar_shell.proofs.FirstAlone.{first_after}
 use Rattle.histar_shell.proofs.Users.{is_session}
 
-module _ (rows : CallsAreRows) (old new : MachineModel) (f : Flat) (shows : Shows old f) where
+module _ (rows : LinesAreRows) (old new : MachineModel) (f : Flat) (shows : Shows old f) where
   -- a call of process 0 is its row
   made_row : (k : KernelModel) → IsReady (session_of old.users) (state k) f old.thread → (call : UnixCall) (result : Result Reply Stopped) → IsScriptable call
       → Makes old.users (places_of (length old.users)) k new.kernel old.thread call result → DoesItsRow (session_of old.users) f call k new.kernel old.thread result
-  made_row k ready (Create path mode) result can made = rows.create (session_of old.users) (is_session old.users shows.users) path mode can.0 can.1 k new.kernel f old.thread result ready made
-  made_row k ready (Write path bytes) result can made = rows.write (session_of old.users) (is_session old.users shows.users) path bytes k new.kernel f old.thread result ready made
-  made_row k ready (Mkdir path mode) result can made = rows.mkdir (session_of old.users) (is_session old.users shows.users) path mode can.0 can.1 k new.kernel f old.thread result ready made
-  made_row k ready (Append path bytes) result can made = rows.append (session_of old.users) (is_session old.users shows.users) path bytes k new.kernel f old.thread result ready made
-  made_row k ready (ListCall path) result can made = rows.list (session_of old.users) (is_session old.users shows.users) path k new.kernel f old.thread result ready made
-  made_row k ready (Read path) result can made = rows.read (session_of old.users) (is_session old.users shows.users) path k new.kernel f old.thread result ready made
-  made_row k ready (Login name password) result can made = rows.login old.users (is_session old.users shows.users) name password k new.kernel f old.thread result ready made
+  made_row k ready (Create path mode) result can made = rows.calls.create (session_of old.users) (is_session old.users shows.users) path mode can.0 can.1 k new.kernel f old.thread result ready made
+  made_row k ready (Write path bytes) result can made = rows.calls.write (session_of old.users) (is_session old.users shows.users) path bytes k new.kernel f old.thread result ready made
+  made_row k ready (Mkdir path mode) result can made = rows.calls.mkdir (session_of old.users) (is_session old.users shows.users) path mode can.0 can.1 k new.kernel f old.thread result ready made
+  made_row k ready (Append path bytes) result can made = rows.calls.append (session_of old.users) (is_session old.users shows.users) path bytes k new.kernel f old.thread result ready made
+  made_row k ready (ListCall path) result can made = rows.calls.list (session_of old.users) (is_session old.users shows.users) path k new.kernel f old.thread result ready made
+  made_row k ready (Read path) result can made = rows.calls.read (session_of old.users) (is_session old.users shows.users) path k new.kernel f old.thread result ready made
+  made_row k ready (Stat path) result can made = rows.calls.stat old.users (is_session old.users shows.users) path k new.kernel f old.thread result ready made
+  made_row k ready (Unlink path) result can made = rows.moves.unlink (session_of old.users) (is_session old.users shows.users) path k new.kernel f old.thread result ready made
+  made_row k ready (Rmdir path) result can made = rows.moves.rmdir (session_of old.users) (is_session old.users shows.users) path k new.kernel f old.thread result ready made
+  made_row k ready (Rmtree path) result can made = rows.moves.rmtree (session_of old.users) (is_session old.users shows.users) path k new.kernel f old.thread result ready made
+  made_row k ready (Rename path name) result can made = rows.moves.rename (session_of old.users) (is_session old.users shows.users) path name can.1 k new.kernel f old.thread result ready made
+  made_row k ready (Login name password) result can made = rows.calls.login old.users (is_session old.users shows.users) name password k new.kernel f old.thread result ready made
   made_row k ready _ result can made = absurd can
 
   -- at the places that boot told the machine
@@ -65,7 +71,7 @@ module _ (rows : CallsAreRows) (old new : MachineModel) (f : Flat) (shows : Show
         trace = row.1.trace;
         row = row.1.row;
         shows = still_shows line call (Ok reply) (flat_after (session_of old.users) f [] call) h
-            (record { lays_out = row.1.row.lays_out; alone = first_after (session_of old.users) f shows.ready.alone call can; small = small_after f shows.ready.small (session_of old.users) shows.ready.alone call can; thread = row.1.thread });
+            (record { lays_out = row.1.row.lays_out; alone = first_after (session_of old.users) f shows.ready.alone call can; small = small_after f shows.ready.small (session_of old.users) shows.ready.alone (nothing_under (session_of old.users) (state old.kernel) f shows.ready.lays_out.laid) call can; thread = row.1.thread });
       }
   made_ends line call (Err stopped) can h =
       let out = row_of_made line call (Err stopped) can h in
@@ -123,7 +129,7 @@ module _ (rows : CallsAreRows) (old new : MachineModel) (f : Flat) (shows : Show
       by false k = runs_end line process call result can k
 
 -- a line follows the meaning
-pub line_follows : (rows : CallsAreRows) (old new : MachineModel) (line : ℕ) (process : ProcName) (call : UnixCall) (result : Result Reply Stopped) → AnswersLine old new line process call result → FollowsMeaning old new line process call result
+pub line_follows : (rows : LinesAreRows) (old new : MachineModel) (line : ℕ) (process : ProcName) (call : UnixCall) (result : Result Reply Stopped) → AnswersLine old new line process call result → FollowsMeaning old new line process call result
 line_follows rows old new line process call result h f shows can = line_ends rows old new f shows line process call result can h
 
 -- the users of a machine stay

@@ -1,10 +1,8 @@
 -- What a call line does to a machine that runs.
 use Rattle.std.proofs.Common.{◌≡◌, ℕ, Bool, false, List, [], ◌∷◌, Result, Ok, Err, refl, sym, subst}
-use Rattle.histar_flat.specs.declared.calls.Mode.{Mode}
 use Rattle.histar_flat.specs.declared.calls.User.{User}
 use Rattle.histar_flat.specs.declared.replies.Reply.TheVariants.{Gone}
 use Rattle.histar_flat.specs.declared.calls.UnixCall.{UnixCall}
-use Rattle.histar_flat.specs.declared.calls.UnixCall.TheVariants.{Create, Mkdir, Write, Append, Read, List as ListCall, Login}
 use Rattle.histar_flat.specs.declared.replies.Reply.{Reply}
 use Rattle.histar_flat.specs.Words.{Name, Password, Path, ProcName}
 use Rattle.histar_syscall.specs.KernelModel.{KernelModel}
@@ -26,19 +24,3 @@ gone_line m line process call runs born = subst (λ (b : Bool). AnswersIf b m m 
     by : (p : ProcName) → (p ≡ [] → ⊥) → AnswersRunning m m line p call (Ok Gone)
     by [] not_first = absurd (not_first refl)
     by (n ∷ p) not_first = (refl, refl)
-
--- a call that no line can hold makes no raw call, and has no answer
-pub makes_none : (users : List User) (places : Places) (k : KernelModel) (t : ℕ) (stopped : Stopped) (call : UnixCall)
-    → ((path : Path) (mode : Mode) → call ≡ Create path mode → ⊥) → ((path : Path) (mode : Mode) → call ≡ Mkdir path mode → ⊥)
-    → ((path : Path) → call ≡ Read path → ⊥) → ((path : Path) (bytes : List ℕ) → call ≡ Write path bytes → ⊥)
-    → ((path : Path) (bytes : List ℕ) → call ≡ Append path bytes → ⊥) → ((path : Path) → call ≡ ListCall path → ⊥)
-    → ((name : Name) (password : Password) → call ≡ Login name password → ⊥) → Makes users places k k t call (Err stopped)
-unfolding Runs
-makes_none users places k t stopped (Create path mode) create mkdir read write append list login = absurd (create path mode refl)
-makes_none users places k t stopped (Mkdir path mode) create mkdir read write append list login = absurd (mkdir path mode refl)
-makes_none users places k t stopped (Read path) create mkdir read write append list login = absurd (read path refl)
-makes_none users places k t stopped (Write path bytes) create mkdir read write append list login = absurd (write path bytes refl)
-makes_none users places k t stopped (Append path bytes) create mkdir read write append list login = absurd (append path bytes refl)
-makes_none users places k t stopped (ListCall path) create mkdir read write append list login = absurd (list path refl)
-makes_none users places k t stopped (Login name password) create mkdir read write append list login = absurd (login name password refl)
-makes_none users places k t stopped _ create mkdir read write append list login = record { state = refl; trace = refl; line = refl }

@@ -22,7 +22,7 @@ use Rattle.histar_shell.specs.Session.{AnswersCalls, BeginsAnswers}
 use Rattle.histar_syscall.specs.declared.trace.TraceEntry.{TraceEntry}
 use Rattle.histar_flat.specs.declared.calls.User.{User}
 use Rattle.histar_flat.specs.declared.calls.CallLine.{CallLine}
-use Rattle.histar_rows.specs.Laws.{CallsAreRows}
+use Rattle.histar_shell.proofs.CallRows.{LinesAreRows}
 use Rattle.histar_shell.proofs.SessionMeanings.{meant_run}
 
 -- what a run answers
@@ -32,7 +32,7 @@ Answer = Result (List TraceEntry) Fault
 -- ---- a text that is run
 
 -- its answers are those of its meaning
-pub runs_text : (rows : CallsAreRows) (text : List ℕ) (old new : Option (List ℕ)) (result : Answer) → AgreesWith (script_of text) result → WritesAnswers old new (script_of text) result → RunsText text old new result
+pub runs_text : (rows : LinesAreRows) (text : List ℕ) (old new : Option (List ℕ)) (result : Answer) → AgreesWith (script_of text) result → WritesAnswers old new (script_of text) result → RunsText text old new result
 runs_text rows text old new result agrees answers = record { faults = agrees; answers = answers; means = meant_run rows old new text result answers }
 
 -- what reading the script answers is the fault in it, or want of memory
@@ -52,11 +52,11 @@ script_fault_writes ReadFailed w read given = absurd given
 script_fault_writes WriteFailed w read given = absurd given
 
 -- a text in which reading finds a fault
-pub faulty_text : (rows : CallsAreRows) (text : List ℕ) (w : Option (List ℕ)) (f : Fault) → Gives (Err f) (script_of text) → RunsText text w w (Err f)
+pub faulty_text : (rows : LinesAreRows) (text : List ℕ) (w : Option (List ℕ)) (f : Fault) → Gives (Err f) (script_of text) → RunsText text w w (Err f)
 faulty_text rows text w f given = runs_text rows text w w (Err f) (script_fault_agrees f (script_of text) given) (script_fault_writes f w (script_of text) given)
 
 -- a text for which no machine was booted
-pub unbooted_text : (rows : CallsAreRows) (text : List ℕ) (w : Option (List ℕ)) → RunsText text w w (Err OutOfMemory)
+pub unbooted_text : (rows : LinesAreRows) (text : List ℕ) (w : Option (List ℕ)) → RunsText text w w (Err OutOfMemory)
 unbooted_text rows text w = runs_text rows text w w (Err OutOfMemory) tt (inl (Keeps-refl w))
 
 -- answering the calls fails by no fault of a script
@@ -88,12 +88,12 @@ pub answers_script : (old new : Option (List ℕ)) (script : Reading) (start end
 answers_script old new script start end calls trace starts listed answered recorded read is_read = record { script = script; is_read = is_read; start = start; starts = starts; end = end; answered = subst (λ (l : List CallLine). AnswersCalls start end old new l) listed answered; recorded = recorded }
 
 -- a text of which a beginning of the calls was answered
-pub begun_text : (rows : CallsAreRows) (text : List ℕ) (old new : Option (List ℕ)) (f : Fault) (script : Reading) → script_of text ≡ Ok script → IsOutputFault f → BeginsScript old new (script_of text) → RunsText text old new (Err f)
+pub begun_text : (rows : LinesAreRows) (text : List ℕ) (old new : Option (List ℕ)) (f : Fault) (script : Reading) → script_of text ≡ Ok script → IsOutputFault f → BeginsScript old new (script_of text) → RunsText text old new (Err f)
 begun_text rows text old new f script given h begun =
     runs_text rows text old new (Err f) (answer_fault_agrees f (script_of text) h (ap is_ok given)) (answer_fault_writes f old new (script_of text) h begun)
 
 -- a text of which all calls were answered
-pub answered_text : (rows : CallsAreRows) (text : List ℕ) (old new : Option (List ℕ)) (trace : List TraceEntry) (script : Reading) → script_of text ≡ Ok script → AnswersScript old new (script_of text) trace → RunsText text old new (Ok trace)
+pub answered_text : (rows : LinesAreRows) (text : List ℕ) (old new : Option (List ℕ)) (trace : List TraceEntry) (script : Reading) → script_of text ≡ Ok script → AnswersScript old new (script_of text) trace → RunsText text old new (Ok trace)
 answered_text rows text old new trace script given answers = runs_text rows text old new (Ok trace) (ap is_ok given) answers
 
 -- ---- an input that is taken

@@ -21,7 +21,7 @@ use Rattle.histar_syscall.specs.KernelModel.{state}
 use Rattle.histar_syscall.specs.Runs.{IsBy, IsRun}
 use Rattle.histar_login.specs.Boot.{boot_thread_number, boot_calls, IsBooted}
 use Rattle.histar_refinement.specs.LaysOut.{LaysOut}
-use Rattle.histar_rows.specs.Laws.{CallsAreRows}
+use Rattle.histar_shell.proofs.CallRows.{LinesAreRows}
 use Rattle.histar_rows.specs.Rows.{AreRows}
 use Rattle.histar_rows.proofs.Chains.{entries_of, chain_run, chain_own, granted_run}
 use Rattle.histar_devices.specs.Writing.{AppendsFront}
@@ -68,7 +68,7 @@ session_first m mid f a answers end same line later =
     reply_of l = reply_to (session_of m.users) f a.call.process a.call.call
 
 -- a session of lines that a script can have
-pub session_means : (rows : CallsAreRows) (m : MachineModel) (f : Flat) (answers : List Answered) (end : MachineModel) → Session m answers end → Shows m f → AreScriptable (calls_of answers) → IsMeantSession m f answers end
+pub session_means : (rows : LinesAreRows) (m : MachineModel) (f : Flat) (answers : List Answered) (end : MachineModel) → Session m answers end → Shows m f → AreScriptable (calls_of answers) → IsMeantSession m f answers end
 session_means rows m f [] end session shows can = session_none m f end session
 session_means rows m f (a ∷ answers) end session shows can =
     let line = line_follows rows m session.0 a.call.line a.call.process a.call.call (Ok a.reply) session.1 f shows can.0 in
@@ -94,7 +94,7 @@ boot_trace users m booted =
       own = subst (λ (line : ℕ). AllByRecursion (IsBy line boot_thread_number) entries) booted.line (chain_own boot_thread_number booted.first.line granted.0);
     }
 
-module _ (rows : CallsAreRows) (script : Reading) (is_list : IsUserList script.users) (can : AreScriptable script.calls) (start : MachineModel) (starts : IsStart script.users start) where
+module _ (rows : LinesAreRows) (script : Reading) (is_list : IsUserList script.users) (can : AreScriptable script.calls) (start : MachineModel) (starts : IsStart script.users start) where
   -- the session from the start on
   from_start : (answers : List Answered) (end : MachineModel) → AreScriptable (calls_of answers) → Session start answers end → IsMeantSession start (boot (session_of script.users)) answers end
   from_start answers end these session = session_means rows start (boot (session_of script.users)) answers end session (start_shows script.users is_list start starts) these
@@ -158,11 +158,11 @@ module _ (rows : CallsAreRows) (script : Reading) (is_list : IsUserList script.u
       record { script = script; is_read = is_read; written = subst (AppendsFront old new) (sym whole) (longer_front old new (answers_text begun.answers) rest_text begun.written) }
 
 -- the beginning of a script's answers is one of its meaning
-begun_script : (rows : CallsAreRows) (old new : Option (List ℕ)) (text : List ℕ) → BeginsScript old new (script_of text) → BeginsMeaning old new (script_of text)
+begun_script : (rows : LinesAreRows) (old new : Option (List ℕ)) (text : List ℕ) → BeginsScript old new (script_of text) → BeginsMeaning old new (script_of text)
 begun_script rows old new text h = let says = script_says text h.script h.is_read in begins_meaning rows h.script says.0 says.1 h.start h.starts old new (script_of text) h.is_read h.begun
 
 -- at a fault
-meant_at_fault : (rows : CallsAreRows) (old new : Option (List ℕ)) (text : List ℕ) (fault : Fault) → WritesAtFault old new (script_of text) fault → WritesMeaningAtFault old new (script_of text) fault
+meant_at_fault : (rows : LinesAreRows) (old new : Option (List ℕ)) (text : List ℕ) (fault : Fault) → WritesAtFault old new (script_of text) fault → WritesMeaningAtFault old new (script_of text) fault
 meant_at_fault rows old new text (BadScript n) h = h
 meant_at_fault rows old new text TooLong h = h
 meant_at_fault rows old new text OutOfMemory (inl h) = inl h
@@ -171,6 +171,6 @@ meant_at_fault rows old new text ReadFailed h = h
 meant_at_fault rows old new text WriteFailed h = begun_script rows old new text h
 
 -- what a run answers is as its script means
-pub meant_run : (rows : CallsAreRows) (old new : Option (List ℕ)) (text : List ℕ) (result : Result (List TraceEntry) Fault) → WritesAnswers old new (script_of text) result → RunsAsMeant old new (script_of text) result
+pub meant_run : (rows : LinesAreRows) (old new : Option (List ℕ)) (text : List ℕ) (result : Result (List TraceEntry) Fault) → WritesAnswers old new (script_of text) result → RunsAsMeant old new (script_of text) result
 meant_run rows old new text (Ok trace) h = let says = script_says text h.script h.is_read in writes_meaning rows h.script says.0 says.1 h.start h.starts old new (script_of text) h.is_read trace h.end h.answered h.recorded
 meant_run rows old new text (Err fault) h = meant_at_fault rows old new text fault h

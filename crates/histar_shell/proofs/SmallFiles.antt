@@ -1,24 +1,28 @@
 -- Each file holds as many bytes as a segment can hold, after each line that a script can have.
-use Rattle.std.proofs.Common.{◌≡◌, ℕ, ◌≤◌, Bool, true, false, List, [], ◌∷◌, ◌++◌, None, Some, Option, arith, inl, inr, refl, sym, ap, ◌∙◌, subst, length}
-use Rattle.std.specs.Prelude.{nat_le}
+use Rattle.std.proofs.Common.{◌≡◌, ℕ, ◌≤◌, Bool, true, false, List, [], ◌∷◌, ◌++◌, cond, None, Some, Option, arith, inl, inr, ◌≢◌, refl, sym, ap, ◌∙◌, subst, length}
+use Rattle.std.specs.Prelude.{not, nat_le}
 use Rattle.std.proofs.lemmas.Bool.Decides.{nat_tests}
 use Rattle.std.proofs.lemmas.Option.{same_Some}
+use mathlib.Core.Bool.{true≢false}
 use Rattle.histar_base.specs.Refusals.{◌orelse◌, unless}
 use Rattle.histar_flat.specs.declared.calls.UnixCall.{UnixCall}
-use Rattle.histar_flat.specs.declared.calls.UnixCall.TheVariants.{Create, Mkdir, Write, Append, Read, List as ListCall, Login}
+use Rattle.histar_flat.specs.declared.calls.UnixCall.TheVariants.{Create, Mkdir, Write, Append, Read, List as ListCall, Stat, Unlink, Rmdir, Rmtree, Rename, Login}
 use Rattle.histar_flat.specs.declared.replies.Errno.{Errno}
-use Rattle.histar_flat.specs.declared.replies.Errno.TheVariants.{EACCES, EFBIG}
-use Rattle.histar_flat.specs.Words.{Path}
+use Rattle.histar_flat.specs.declared.replies.Errno.TheVariants.{ENOENT, EEXIST, EACCES, EFBIG}
+use Rattle.histar_flat.specs.Words.{Name, Path}
+use Rattle.histar_flat.specs.PathOrder.{under_path}
 use Rattle.histar_flat.specs.Sessions.{Session}
 use Rattle.histar_flat.specs.Files.{get, insert, empty}
 use Rattle.histar_flat.specs.Classes.{Class, Process}
 use Rattle.histar_flat.specs.Classes.Class.{Readable}
-use Rattle.histar_flat.specs.FlatState.{Flat, Node, Content, bytes_at, writes, with_node}
+use Rattle.histar_flat.specs.FlatState.{Flat, Node, Content, bytes_at, is_there, into, writes, moved, with_node, with_renamed, without_below}
 use Rattle.histar_flat.specs.FlatState.Content.{Dir, File}
-use Rattle.histar_flat.specs.FlatCalls.{most_bytes, if_running, running, no_file, refused, changed, flat_or, flat_by, flat_after}
+use Rattle.histar_flat.specs.FlatCalls.{most_bytes, if_running, running, no_file, no_entry, refused, changed, flat_or, flat_by, flat_after}
 use Rattle.histar_flat.specs.Meaning.{boot, first_user}
-use Rattle.histar_flat.proofs.FileLemmas.{same_path_found, get_new, get_other}
-use Rattle.histar_flat.proofs.Refusals.{two_pass}
+use Rattle.histar_flat.proofs.FileLemmas.{same_path_found, get_new, get_other, get-keep}
+use Rattle.histar_flat.proofs.Renaming.{get_renamed}
+use Rattle.histar_flat.proofs.Changes.{nothing_there}
+use Rattle.histar_flat.proofs.Refusals.{one_passes, two_pass}
 use Rattle.histar_rows.specs.Rows.{IsScriptable, IsFirstAlone, AreFilesSmall}
 use Rattle.histar_shell.proofs.FirstAlone.{first_runs}
 
@@ -41,7 +45,23 @@ module _ (f : Flat) (small : AreFilesSmall f) where
         | inr differs ↦ small r other bytes (sym (get_other f.files q node r (λ e. differs.1 (sym e))) ∙ at)
       ]
 
-  module _ (session : Session) (h : IsFirstAlone f) where
+  -- what is left is as it was
+  small_cut : (q : Path) → AreFilesSmall (without_below f q)
+  small_cut q r class bytes at = by (not (under_path q r)) (sym (get-keep f.files (λ t. not (under_path q t)) r) ∙ at)
+    where
+      by : (b : Bool) → cond b (get f.files r) None ≡ Some (record { class = class; content = File bytes }) → length bytes ≤ most_bytes
+      by true e = small r class bytes e
+      by false e = absurd cc
+
+  -- and so is what has another path
+  small_renamed : (n k : Name) (d : Path) → n ≢ k → ((r : Path) → under_path (k ∷ d) r ≡ true → get f.files r ≡ None) → AreFilesSmall (with_renamed f (n ∷ d) (k ∷ d))
+  small_renamed n k d apart free r class bytes at = by (under_path (n ∷ d) r) (sym (get_renamed n k d apart f.files free r) ∙ at)
+    where
+      by : (b : Bool) → cond b None (get f.files (moved (k ∷ d) (n ∷ d) r)) ≡ Some (record { class = class; content = File bytes }) → length bytes ≤ most_bytes
+      by true e = absurd cc
+      by false e = small (moved (k ∷ d) (n ∷ d) r) class bytes e
+
+  module _ (session : Session) (h : IsFirstAlone f) (below : (top : Path) → get f.files top ≡ None → (r : Path) → under_path top r ≡ true → get f.files r ≡ None) where
     fits_test : (n : ℕ) → nat_le n most_bytes ≡ true → n ≤ most_bytes
     fits_test n e = grind (arith, nat_tests, e)
 
@@ -55,6 +75,15 @@ module _ (f : Flat) (small : AreFilesSmall f) where
         small_put q _ (File (bytes_at f q ++ bytes)) (fits_test (length (bytes_at f q ++ bytes)) (two_pass (no_file session f h.process q) (writes session f h.process q) (nat_le (length (bytes_at f q ++ bytes)) most_bytes) EACCES EFBIG passes).2)
     after_change (Read q) can passes = small
     after_change (ListCall q) can passes = small
+    after_change (Stat q) can passes = small
+    after_change (Unlink q) can passes = small_cut q
+    after_change (Rmdir q) can passes = small_cut q
+    after_change (Rmtree q) can passes = small_cut q
+    after_change (Rename [] k) can passes = absurd cc
+    after_change (Rename (n ∷ d) k) can passes =
+        let tests = two_pass (no_entry session f h.process (n ∷ d)) (not (is_there f (k ∷ d))) (writes session f h.process d) EEXIST EACCES passes in
+        let there = (one_passes (into session f h.process d) (is_there f (n ∷ d)) ENOENT tests.0).1 in
+        small_renamed n k d (λ e. true≢false (sym tests.1 ∙ ap (λ (x : Name). not (is_there f (x ∷ d))) (sym e) ∙ ap not there)) (below (k ∷ d) (nothing_there (get f.files (k ∷ d)) tests.1))
     after_change (Login name password) can passes = small
     after_change _ can passes = absurd can
 

@@ -9,7 +9,7 @@ use Rattle.std.proofs.lemmas.Option.{none-some}
 use mathlib.Core.Bool.{true≢false}
 use Rattle.histar_flat.specs.declared.calls.User.{User}
 use Rattle.histar_flat.specs.declared.calls.UnixCall.{UnixCall}
-use Rattle.histar_flat.specs.declared.calls.UnixCall.TheVariants.{Create, Mkdir, Write, Append, Read, List as ListCall, Login}
+use Rattle.histar_flat.specs.declared.calls.UnixCall.TheVariants.{Create, Mkdir, Write, Append, Read, List as ListCall, Stat, Unlink, Rmdir, Rmtree, Rename, Login}
 use Rattle.histar_flat.specs.Words.{is_name, is_user_name, begins_with_letter}
 use Rattle.histar_flat.specs.Sessions.{session_of, user_number}
 use Rattle.histar_flat.specs.Classes.{nobody}
@@ -83,6 +83,11 @@ spelled_scriptable text (Mkdir path mode) h = (h.1, h.2)
 spelled_scriptable text (Append path bytes) h = h.1
 spelled_scriptable text (Read path) h = h.1
 spelled_scriptable text (ListCall path) h = h.1
+spelled_scriptable text (Stat path) h = h.1
+spelled_scriptable text (Unlink path) h = h.1
+spelled_scriptable text (Rmdir path) h = h.1
+spelled_scriptable text (Rmtree path) h = h.1
+spelled_scriptable text (Rename path name) h = (h.1, h.2)
 spelled_scriptable text (Login name password) h = tt
 spelled_scriptable text _ h = absurd h
 

@@ -4,7 +4,7 @@ use Rattle.std.specs.Coded.{Coded, code_by, coded×, coded_ℕ, coded_bool, code
 use Rattle.histar_flat.specs.declared.calls.User.{User}
 use Rattle.histar_flat.specs.contracts.calls.User as user
 use Rattle.histar_flat.specs.declared.calls.UnixCall.{UnixCall}
-use Rattle.histar_flat.specs.declared.calls.UnixCall.TheVariants.{Create, Mkdir, Write, Append, Read, List as ListCall, Login}
+use Rattle.histar_flat.specs.declared.calls.UnixCall.TheVariants.{Create, Mkdir, Write, Append, Read, List as ListCall, Stat, Unlink, Rmdir, Rmtree, Rename, Login}
 use Rattle.histar_flat.specs.declared.replies.Reply.{Reply}
 use Rattle.histar_flat.specs.declared.replies.Reply.TheVariants.{Gone}
 use Rattle.histar_flat.specs.Sessions.{session_of}
@@ -20,6 +20,11 @@ use Rattle.histar_calls.specs.Append.{append_program}
 use Rattle.histar_calls.specs.ListCall.{list_program}
 use Rattle.histar_calls.specs.Write.{write_program}
 use Rattle.histar_calls.specs.Read.{read_program}
+use Rattle.histar_calls.specs.StatCall.{stat_program}
+use Rattle.histar_moves.specs.Unlink.{unlink_program}
+use Rattle.histar_moves.specs.Rmdir.{rmdir_program}
+use Rattle.histar_moves.specs.Rmtree.{rmtree_program}
+use Rattle.histar_moves.specs.Rename.{rename_program}
 use Rattle.histar_login.specs.Boot.{IsBooted}
 use Rattle.histar_login.specs.Login.{login_program}
 use Rattle.histar_login.specs.Start.{places_of, thread_number, start_state}
@@ -59,6 +64,11 @@ program_of users places (Write path bytes) = write_program places path bytes
 program_of users places (Append path bytes) = append_program places path bytes
 program_of users places (Read path) = read_program places path
 program_of users places (ListCall path) = list_program places path
+program_of users places (Stat path) = stat_program users places path
+program_of users places (Unlink path) = unlink_program places path
+program_of users places (Rmdir path) = rmdir_program places path
+program_of users places (Rmtree path) = rmtree_program places path
+program_of users places (Rename path name) = rename_program places path name
 program_of users places (Login name password) = login_program users name password
 program_of users places _ = Stops
 

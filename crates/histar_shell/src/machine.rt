@@ -4,10 +4,11 @@ ghost use Rattle.histar_script.specs.Script.{IsUserList, most_users};
 ghost use Rattle.histar_shell.specs.Machine.{AnswersLine, IsStart, Makes};
 ghost use Rattle.histar_shell.specs.Meaning.{FollowsMeaning, ShowsStart};
 
-use histar_calls::{Places, Stopped, append, create, list, mkdir, read, write};
+use histar_calls::{Places, Stopped, append, create, list, mkdir, read, stat, write};
 use histar_flat::{ProcName, Reply, UnixCall, User};
 use histar_label::LabelStore;
 use histar_login::{boot, login};
+use histar_moves::{rename, rmdir, rmtree, unlink};
 use histar_object::ObjId;
 use histar_syscall::{Kernel, TraceEntry};
 use std::alloc::Global;
@@ -149,9 +150,19 @@ fn make<S: LabelStore + Drop>(
             kernel, alloc, places, thread, &path, bytes,
         ),
         UnixCall::List(path) => list::list(kernel, alloc, places, thread, &path),
+        UnixCall::Stat(path) => stat::stat(kernel, alloc, places, users, thread, &path),
+        UnixCall::Unlink(path) => unlink::unlink(kernel, alloc, places, thread, &path),
+        UnixCall::Rmdir(path) => rmdir::rmdir(kernel, alloc, places, thread, &path),
+        UnixCall::Rmtree(path) => rmtree::rmtree(kernel, alloc, places, thread, &path),
+        UnixCall::Rename(path, name) => rename::rename(kernel, alloc, places, thread, &path, name),
         UnixCall::Login(name, password) => login::login(
             kernel, alloc, users, thread, name, password,
         ),
-        _ => Err(Stopped),
+        UnixCall::Spawn
+        | UnixCall::Exit(_)
+        | UnixCall::Status(_)
+        | UnixCall::Kill(_)
+        | UnixCall::Whoami
+        | UnixCall::Wrap(_) => Err(Stopped),
     }
 }

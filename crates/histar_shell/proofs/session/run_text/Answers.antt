@@ -1,5 +1,5 @@
 use Rattle.std.proofs.lemmas.Result.{err_from_is_err_and}
-use Rattle.histar_shell.proofs.CallRows.{calls_are_rows}
+use Rattle.histar_shell.proofs.CallRows.{lines_are_rows}
 use Rattle.histar_shell.proofs.RunLemmas.{answered_text, answers_script, begins_script, begun_text, faulty_text, sink_called, sink_left, starts_with, unbooted_text}
 use Rattle.histar_shell.proofs.session.run_text.Goals as goal
 
@@ -11,10 +11,10 @@ returns-in_err-script-clause-nothing g c =
 pub returns-in_err-script-clause-runs : goal.returns-in_err-script-clause-runs
 returns-in_err-script-clause-runs g c =
     let p = err_from_is_err_and c.from_residual.result c.from_residual.ensures.1 in
-    rw (p.1, p.2) (faulty_text calls_are_rows c.args.text.now _ c.in_err-script.field-0.0 c.in_err-script.ensures.exact)
+    rw (p.1, p.2) (faulty_text lines_are_rows c.args.text.now _ c.in_err-script.field-0.0 c.in_err-script.ensures.exact)
 
 pub returns-in_default-clause-runs : goal.returns-in_default-clause-runs
-returns-in_default-clause-runs g c = unbooted_text calls_are_rows c.args.text.now _
+returns-in_default-clause-runs g c = unbooted_text lines_are_rows c.args.text.now _
 
 pub returns-in_err-answer_calls-clause-nothing : goal.returns-in_err-answer_calls-clause-nothing
 returns-in_err-answer_calls-clause-nothing g c =
@@ -27,11 +27,11 @@ returns-in_err-answer_calls-clause-runs g c =
     let given = c.in_ok-script.ensures.exact in
     let starts = starts_with c.in-Ok.machine c.in_ok-script.script _ _ c.as_slice.ensures.value c.into_parts-users.ensures.users c.in-Ok.ensures.starts in
     let begun = begins_script _ _ c.in_ok-script.script c.in-Ok.machine _ starts c.into_parts-users.ensures.calls c.in_err-answer_calls.ensures.err _ given in
-    rw (p.1, p.2) (begun_text calls_are_rows c.args.text.now _ _ c.in_err-answer_calls.field-0.0 c.in_ok-script.script given c.in_err-answer_calls.ensures.faults begun)
+    rw (p.1, p.2) (begun_text lines_are_rows c.args.text.now _ _ c.in_err-answer_calls.field-0.0 c.in_ok-script.script given c.in_err-answer_calls.ensures.faults begun)
 
 pub returns-clause-runs : goal.returns-clause-runs
 returns-clause-runs g c =
     let given = c.in_ok-script.ensures.exact in
     let starts = starts_with c.in-Ok.machine c.in_ok-script.script _ _ c.as_slice.ensures.value c.into_parts-users.ensures.users c.in-Ok.ensures.starts in
     let answers = answers_script _ _ c.in_ok-script.script c.in-Ok.machine c.answer_calls.new.machine _ _ starts c.into_parts-users.ensures.calls c.in_ok-answer_calls.ensures.ok c.into_trace.ensures _ given in
-    answered_text calls_are_rows c.args.text.now _ _ _ c.in_ok-script.script given answers
+    answered_text lines_are_rows c.args.text.now _ _ _ c.in_ok-script.script given answers

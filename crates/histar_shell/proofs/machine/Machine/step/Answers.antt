@@ -6,7 +6,7 @@ use Rattle.histar_flat.specs.declared.calls.User.{User}
 use Rattle.histar_shell.specs.Machine.{MachineModel, Makes, AnswersLine}
 use Rattle.histar_syscall.specs.KernelModel.{KernelModel}
 use Rattle.histar_shell.proofs.Lines.{had_made, gone_line}
-use Rattle.histar_shell.proofs.CallRows.{calls_are_rows}
+use Rattle.histar_shell.proofs.CallRows.{lines_are_rows}
 use Rattle.histar_shell.proofs.LineMeanings.{line_follows}
 use Rattle.histar_shell.proofs.machine.Machine.step.Goals as goal
 
@@ -22,11 +22,11 @@ returns-clause-answers g c =
     (record { made = makes; places = refl; thread = refl; users = refl; stops = c.is_err-self-inside.ensures.value }))
 
 pub returns-clause-means : goal.returns-clause-means
-returns-clause-means g c = line_follows calls_are_rows _ _ c.args.line c.args.process.now c.args.call _ (returns-clause-answers g c)
+returns-clause-means g c = line_follows lines_are_rows _ _ c.args.line c.args.process.now c.args.call _ (returns-clause-answers g c)
 
 pub returns-then-not-is_zero-clause-means : goal.returns-then-not-is_zero-clause-means
 returns-then-not-is_zero-clause-means g c =
     let before : MachineModel = record { kernel = c.self.inside.kernel; places = c.self.inside.places; thread = c.self.inside.thread; users = c.self.inside.users.items; is_stopped = c.self.inside.is_stopped } in
     let not_zero : c.is_zero.result ≡ false = search rules in
     subst (λ (m : MachineModel). FollowsMeaning m m c.args.line c.args.process.now c.args.call (Ok Gone)) c.self.view_is
-    (line_follows calls_are_rows before before c.args.line c.args.process.now c.args.call (Ok Gone) (gone_line before c.args.line c.args.process.now c.args.call c.if-self.false (λ e. true≢false (sym (c.is_zero.ensures.1 e) ∙ not_zero))))
+    (line_follows lines_are_rows before before c.args.line c.args.process.now c.args.call (Ok Gone) (gone_line before c.args.line c.args.process.now c.args.call c.if-self.false (λ e. true≢false (sym (c.is_zero.ensures.1 e) ∙ not_zero))))
