@@ -38,7 +38,7 @@ stat_alike (Some m) (Some n) h =
     ap (λ (s : Class × Bool). Stats (record { is_directory = s.1; owner = class_owner s.0; mode = class_mode s.0 })) e
 
 -- what comes later counts only where a test passes
-guarded : (b : Bool) (e : Errno) (x y : Option Errno) → (b ≡ true → x ≡ y) → (unless b e orelse x) ≡ (unless b e orelse y)
+pub guarded : (b : Bool) (e : Errno) (x y : Option Errno) → (b ≡ true → x ≡ y) → (unless b e orelse x) ≡ (unless b e orelse y)
 guarded true e x y h = h refl
 guarded false e x y h = refl
 

@@ -56,7 +56,7 @@ room_tests session f p n d h =
     (tests.0, nothing_there (get f.files (n ∷ d)) tests.1, tests.3)
 
 -- what a rename has tested
-rename_tests : (session : Session) (f : Flat) (me : ProcName) (p : Process) (n k : Name) (d : Path) → refused session f me p (Rename (n ∷ d) k) ≡ None → (n ≢ k) × (get f.files (k ∷ d) ≡ None) × (writes session f p d ≡ true)
+pub rename_tests : (session : Session) (f : Flat) (me : ProcName) (p : Process) (n k : Name) (d : Path) → refused session f me p (Rename (n ∷ d) k) ≡ None → (n ≢ k) × (get f.files (k ∷ d) ≡ None) × (writes session f p d ≡ true)
 rename_tests session f me p n k d h =
     let tests = two_pass (no_entry session f p (n ∷ d)) (not (is_there f (k ∷ d))) (writes session f p d) EEXIST EACCES h in
     let there = (one_passes (into session f p d) (is_there f (n ∷ d)) ENOENT tests.0).1 in

@@ -16,6 +16,10 @@ pub mod PrivateFiles
 pub mod Alike
 pub mod Writing
 pub mod Secrecy
+pub mod Answered
+pub mod FileChanges
+pub mod ListingLaws
+pub mod Unread
 pub mod GivenNames
 pub mod Jobs
 pub mod FirstProcess

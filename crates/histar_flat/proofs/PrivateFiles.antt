@@ -35,7 +35,7 @@ written_is_writable session f me p r bytes h =
 
 module _ (f : Flat) (q : Path) (owner : Name) (bytes : List ℕ) (h : get f.files q ≡ Some (private_file owner bytes)) where
   -- where nothing stands is elsewhere
-  elsewhere : (r : Path) → get f.files r ≡ None → q ≢ r
+  pub elsewhere : (r : Path) → get f.files r ≡ None → q ≢ r
   elsewhere r free e = let gone : Some (private_file owner bytes) ≡ None = sym h ∙ ap (get f.files) e ∙ free in absurd (cc)
 
   module _ (session : Session) where
@@ -48,7 +48,7 @@ module _ (f : Flat) (q : Path) (owner : Name) (bytes : List ℕ) (h : get f.file
     private_is_unwritten p other = ap (λ o. is_some_and o (λ n. may_write session p n.class)) h ∙ ap (λ b. b && is_free p) other
 
     -- so what it writes is elsewhere
-    written_elsewhere : (p : Process) (r : Path) → same p.user owner ≡ false → writes session f p r ≡ true → q ≢ r
+    pub written_elsewhere : (p : Process) (r : Path) → same p.user owner ≡ false → writes session f p r ≡ true → q ≢ r
     written_elsewhere p r other w e = true≢false (sym w ∙ ap (writes session f p) (sym e) ∙ private_is_unwritten p other)
 
     private_changes : IsTree f → (me : ProcName) (p : Process) (call : UnixCall) → same p.user owner ≡ false → takes_away call q ≡ false

@@ -68,13 +68,13 @@ module _ (n k : Name) (d : Path) (ne : n ≢ k) where
   ]
 
   -- nothing ends below `old`
-  leaves : (r : Path) → under_path (n ∷ d) (there r) ≡ false
+  pub leaves : (r : Path) → under_path (n ∷ d) (there r) ≡ false
   leaves r = elim (true_or_false (under_path (n ∷ d) r)) [
     | inl u ↦ disjoint k n d (there r) (λ e. ne (sym e)) (goes r u)
     | inr u ↦ ap (under_path (n ∷ d)) (stays (n ∷ d) (k ∷ d) r u) ∙ u
   ]
 
-  returns_from : (r : Path) → under_path (k ∷ d) r ≡ false → moved (k ∷ d) (n ∷ d) (there r) ≡ r
+  pub returns_from : (r : Path) → under_path (k ∷ d) r ≡ false → moved (k ∷ d) (n ∷ d) (there r) ≡ r
   returns_from r v = elim (true_or_false (under_path (n ∷ d) r)) [
     | inl u ↦ back r u
     | inr u ↦ ap (moved (k ∷ d) (n ∷ d)) (stays (n ∷ d) (k ∷ d) r u) ∙ stays (k ∷ d) (n ∷ d) r v

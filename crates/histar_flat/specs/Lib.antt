@@ -12,3 +12,4 @@ pub mod FlatCalls
 pub mod Meaning
 pub mod Texts
 pub mod Laws
+pub mod FileLaws

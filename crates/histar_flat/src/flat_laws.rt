@@ -3,6 +3,8 @@ ghost use Rattle.histar_flat.specs.Laws.{RefusalsChangeNothing, WritesAreReadBac
 ghost use Rattle.histar_flat.specs.Laws.{PrivateFilesStay, PrivateFilesAreUntold};
 ghost use Rattle.histar_flat.specs.Laws.{PrivateBytesAreUntold};
 ghost use Rattle.histar_flat.specs.Laws.{PathsAreATree, NamesAreGivenOnce, NobodyHasAJob};
+ghost use Rattle.histar_flat.specs.FileLaws.{ListingsTellWhatStands, RemovalsTakeWhatIsBelow, RenamesKeepWhatStands};
+ghost use Rattle.histar_flat.specs.FileLaws.{WritersTakePrivateFiles, UnreadDirectoriesAreUntold};
 
 /// A call that is refused changes nothing.
 pub fn a_refused_call_changes_nothing()
@@ -29,6 +31,35 @@ pub fn private_bytes_are_untold()
 /// A process that has written bytes to a file, and reads the file next, is answered these bytes.
 pub fn what_is_written_is_read_back()
     ensures { WritesAreReadBack }
+{}
+
+/// In a listing the names rise; a name is in it exactly where something stands there, and is told as a
+/// directory's exactly where that is one.
+pub fn a_listing_tells_what_stands()
+    ensures { ListingsTellWhatStands }
+{}
+
+/// An `unlink`, a `rmdir` or a `rmtree` takes exactly what stands at its path and below it.
+pub fn a_removal_takes_what_is_below()
+    ensures { RemovalsTakeWhatIsBelow }
+{}
+
+/// A `rename` keeps everything, with its class and its bytes: what stood at a path stands where that
+/// leads with the new name, and nothing else does.
+pub fn a_rename_keeps_what_stands()
+    ensures { RenamesKeepWhatStands }
+{}
+
+/// No call of another user's process takes a private file away, or changes it, unless the process may
+/// write a directory that leads to it.
+pub fn writers_of_directories_take_private_files()
+    ensures { WritersTakePrivateFiles }
+{}
+
+/// Whatever stands below a directory that a process may not read, each call of the process has the same
+/// reply.
+pub fn unread_directories_are_untold()
+    ensures { UnreadDirectoriesAreUntold }
 {}
 
 /// The replies of a script are one a call line, in the order of the lines.

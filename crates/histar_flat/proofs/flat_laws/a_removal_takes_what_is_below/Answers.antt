@@ -1,0 +1,5 @@
+use Rattle.histar_flat.proofs.FileChanges.{removals_take_what_is_below}
+use Rattle.histar_flat.proofs.flat_laws.a_removal_takes_what_is_below.Goals as goal
+
+pub returns : goal.returns
+returns c = removals_take_what_is_below

@@ -1,0 +1,5 @@
+use Rattle.histar_flat.proofs.FileChanges.{writers_take_private_files}
+use Rattle.histar_flat.proofs.flat_laws.writers_of_directories_take_private_files.Goals as goal
+
+pub returns : goal.returns
+returns c = writers_take_private_files
