@@ -1,1 +1,4 @@
 pub mod Entries
+pub mod TakingAway
+pub mod UnlinkCall
+pub mod RmtreeCall
