@@ -53,6 +53,7 @@ module _ (session : Session) (ok : IsSession session) (s : State) (f : Flat) (t 
   abbrev pub entry_of : Content → FoundEntry
   entry_of content = record { place = place_at session ok s f t ready d; entries = directory_of f.files (numbers session ok s f t ready) d; name = m; target = target_at content }
 
+  -- it leads to that object
   pub object_led_to : (content : Content) → object_of (target_at content) ≡ object_at
   object_led_to Dir = refl
   object_led_to (File bytes) = refl
@@ -64,7 +65,7 @@ module _ (session : Session) (ok : IsSession session) (s : State) (f : Flat) (t 
         let found = some_of (numbers session ok s f t ready (address_of (m ∷ d))) (numbered_path session s f ready.lays_out.laid (m ∷ d) (record { class = class; content = content }) at) in
         found.1 ∙ sym (ap (λ (o : Option ℕ). Some (or_zero o)) found.1)
 
-    -- and its entry leads to it
+    -- and the directory has its entry
     pub entry_leads : (content : Content) → get f.files (m ∷ d) ≡ Some (record { class = class; content = content }) → map.get (directory_of f.files (numbers session ok s f t ready) d) m ≡ Some (target_at content)
     entry_leads Dir at = directory_there session ok s f t ready m d class at
     entry_leads (File bytes) at = file_there session ok s f t ready m d class bytes at

@@ -39,8 +39,8 @@ module _ (session : Session) (ok : IsSession session) (old new : KernelModel) (f
   rmtree_is_row run =
       entry_step session ok old new f t ready m d call result refusal refl (λ none steps r among. has_walk session ok (state old) f t ready m d _ among) (λ entry. take_away entry (λ _. Answers Done)) run
       (λ open_so_far class content at mid stays chain on.
-      let asks = reached session ok old new f t ready m d call result refusal refl (λ none steps r among. has_walk session ok (state old) f t ready m d _ among) open_so_far (record { class = class; content = content }) at in
-      take_away_step session ok old new f t ready m d call result (record { asks = asks; removes = refl; answers = refl }) open_so_far class content at
+      let refuses = reached session ok old new f t ready m d call result refusal refl (λ none steps r among. has_walk session ok (state old) f t ready m d _ among) open_so_far (record { class = class; content = content }) at in
+      take_away_step session ok old new f t ready m d call result (record { refuses = refuses; removes = refl; answers = refl }) open_so_far class content at
       (walk_reads session ok (state old) f t ready d) (λ steps r among. has_walk session ok (state old) f t ready m d _ among) mid stays chain on)
 
 -- an rmtree of `/`

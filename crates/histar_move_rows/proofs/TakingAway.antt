@@ -69,6 +69,10 @@ use Rattle.histar_move_rows.proofs.Entries.{object_at, entry_of, object_led_to, 
 fits : (old new : ℕ) → new ≤ 4096 → fits_segment (min 0 old + new) ≡ true
 fits old new h = grind (arith, nat_tests, h)
 
+-- two numbers are told apart
+told_apart : (q r : ℕ) → q ≢ r → nat_eq q r ≡ false
+told_apart q r other = elim (eqb_tells q r) [ inl e ↦ absurd (other e.1) | inr e ↦ e.0 ]
+
 -- ---- the state between the two raw calls
 
 module _ (session : Session) (s : State) (f : Flat) (l : Laid session s f) (ok : IsSession session) (p : Process) (t : ℕ) (runs : RunsAs session s f l [] p t)
@@ -101,7 +105,7 @@ module _ (session : Session) (s : State) (f : Flat) (l : Laid session s f) (ok :
   segment : s.objects N ≡ object due (Segment (spelling (directory_of f.files l.naming.number d)))
   segment = listing_found session s f l d class at guard.0 guard.1 N at_listing
 
-  -- what lies elsewhere, and is not the directory's container, is as it was
+  -- what lies elsewhere is as it was, but for the directory's container
   stays : (b : Address Step) (q : ℕ) → l.naming.number b ≡ Some q → under same_step top b ≡ false → q ≢ D → mid.objects q ≡ s.objects q
   stays b q at_q outside other =
       cuts.is_cut.stays q (not_reached same_step step_tells s.objects s.next_object (objects_at s.objects l.naming) l.naming l.stands.tree O top (l.stands.tree.addressed top O at_entry) q
@@ -113,6 +117,7 @@ module _ (session : Session) (s : State) (f : Flat) (l : Laid session s f) (ok :
   other_listing : N ≢ D
   other_listing e = true≢false (sym (ap is_container (ap s.objects e ∙ holder)) ∙ ap is_container segment)
 
+  -- the thread, the directory segment and the directory's container then
   thread_then : mid.objects t ≡ object label (Thread clearance)
   thread_then = stays (Runner ∷ Inside ∷ home_of []) t runs.2 refl other_thread ∙ thread
 
@@ -126,13 +131,11 @@ module _ (session : Session) (s : State) (f : Flat) (l : Laid session s f) (ok :
   other_object : N ≢ O
   other_object e = let same = one_address same_step step_tells s l.naming (expected session l.category f l.naming.number) l.stands (Listing ∷ address_of d) top N at_listing (at_entry ∙ ap Some (sym e)) in absurd cc
 
-  kept_apart : (q r : ℕ) → q ≢ r → nat_eq q r ≡ false
-  kept_apart q r other = elim (eqb_tells q r) [ inl e ↦ absurd (other e.1) | inr e ↦ e.0 ]
-
+  -- and is still linked
   linked_then : set.contains (set.remove links O) N ≡ true
   linked_then =
       unlinked_links (Some (record { label = due; kind = Container links })) O N
-      ∙ (λ i. not (kept_apart N O other_object i) && sym (ap (λ (o : Found). set.contains (links_in o) N) holder) i)
+      ∙ (λ i. not (told_apart N O other_object i) && sym (ap (λ (o : Found). set.contains (links_in o) N) holder) i)
       ∙ step_linked session s f l Listing (address_of d) D N at_directory at_listing
 
   -- where the directory may be read and written, its segment is written with any directory that can be listed
@@ -157,6 +160,7 @@ module _ (session : Session) (ok : IsSession session) (old new : KernelModel) (f
   abbrev p : Process
   p = ready.alone.process
 
+  -- the container of its directory, its directory segment, and what the entry leads to
   abbrev container : ℕ
   container = (place_at session ok (state old) f t ready d).container
 
@@ -171,7 +175,7 @@ module _ (session : Session) (ok : IsSession session) (old new : KernelModel) (f
 
   -- The flat rule takes the entry away where the directory that it lies in may be written.
   pub record TakesAway : Type 0 where
-    pub asks : refused session f [] p call ≡ unless (writes session f p d) EACCES
+    pub refuses : refused session f [] p call ≡ unless (writes session f p d) EACCES
     pub removes : changed session f [] p call ≡ without_below f (m ∷ d)
     pub answers : flat.answer f [] p call ≡ Done
 
@@ -203,7 +207,7 @@ module _ (session : Session) (ok : IsSession session) (old new : KernelModel) (f
     sees = seen session ok (state old) f t ready d open_so_far
 
     refused_so : (may : Bool) → may_write session p root ≡ may → refused session f [] p call ≡ unless may EACCES
-    refused_so may is = rule.asks ∙ ap (λ (b : Bool). unless b EACCES) (ap (λ (x : Option Node). is_some_and x (λ n. may_write session p n.class)) root_at ∙ is)
+    refused_so may is = rule.refuses ∙ ap (λ (b : Bool). unless b EACCES) (ap (λ (x : Option Node). is_some_and x (λ n. may_write session p n.class)) root_at ∙ is)
 
     abbrev unlinks : RawCall
     unlinks = raw.Unlink container o
@@ -214,6 +218,7 @@ module _ (session : Session) (ok : IsSession session) (old new : KernelModel) (f
     abbrev ending : Program
     ending = ask writing (λ _. Answers Done)
 
+    -- the kernel's check is the flat rule
     said : (may : Bool) → may_write session p root ≡ may → check (state mid) t unlinks ≡ unless may Modify
     said may is =
         ap (λ (s : State). check s t unlinks) same
@@ -235,6 +240,7 @@ module _ (session : Session) (ok : IsSession session) (old new : KernelModel) (f
       stays_thread : IsThreadOf session (with_bytes (state cut) listing (spelling (map.remove entries m))) [] t
       stays_thread = thread_after session (state old) f ready.lays_out.laid ok p t (runs session ok (state old) f t ready) d root root_at container listing at_D at_N m o at_O (state cut) cuts is_dir_here
 
+      -- the directory is written, and the call is answered
       written : Runs ending cut new t result → Row
       written on =
           granted_step session f ready.alone call old new t ready.thread result (calls ++ unlinks ∷ []) cut so_far writing (λ _. Answers Done) write_said on

@@ -65,7 +65,7 @@ module _ (session : Session) (ok : IsSession session) (old new : KernelModel) (f
         refused_at_once session f ready.alone call old new t ready.thread result walk mid chain stays ready.lays_out EISDIR (refused_by class Dir at) refl refl
         (has_walk session ok (state old) f t ready m d _ (among_granted_all old.line t walk)) on
     by_content class (File bytes) at on =
-        take_away_step session ok old new f t ready m d call result (record { asks = refused_by class (File bytes) at; removes = refl; answers = refl }) open_so_far class (File bytes) at
+        take_away_step session ok old new f t ready m d call result (record { refuses = refused_by class (File bytes) at; removes = refl; answers = refl }) open_so_far class (File bytes) at
         walk (λ steps r among. has_walk session ok (state old) f t ready m d _ among) mid stays chain on
 
   unlink_is_row : Runs (unlink_program (places_of (length session.users)) (m ∷ d)) old new t result → Row
