@@ -8,3 +8,4 @@ pub mod Making
 pub mod Telling
 pub mod TellingPrograms
 pub mod MakingDirectories
+pub mod ClassSteps

@@ -1,22 +1,21 @@
 -- How the code of a call runs its program, one raw call after another.
-use Rattle.std.proofs.Common.{◌≡◌, ℕ, List, ◌⊎◌, Option, None, Some, Result, Ok, Err, inl, inr, refl, sym, ap, ◌∙◌, subst}
+use Rattle.std.proofs.Common.{◌≡◌, ℕ, List, Option, None, Some, Result, Ok, Err, inl, inr, refl, sym, ap, ◌∙◌, subst}
 use Rattle.std.specs.Result.{IsErrAnd}
 use Rattle.std.proofs.lemmas.Result.{err_from_is_err_and}
 use Rattle.histar_flat.specs.declared.replies.Errno.{Errno}
 use Rattle.histar_flat.specs.declared.replies.Reply.{Reply}
 use Rattle.histar_flat.specs.declared.replies.Reply.TheVariants as replies
-use Rattle.histar_rules.specs.declared.raw.Denied.{Denied}
 use Rattle.histar_rules.specs.declared.raw.RawCall.{RawCall}
 use Rattle.histar_rules.specs.declared.raw.Refusal.{Refusal}
 use Rattle.histar_rules.specs.declared.raw.Refusal.TheVariants as refusals
-use Rattle.histar_syscall.specs.KernelModel.{KernelModel, state, Called, Answered, IsUnchanged}
+use Rattle.histar_syscall.specs.KernelModel.{KernelModel, state, Called, Answered}
 use Rattle.histar_syscall.proofs.Runs.{same_kernel}
 use Rattle.histar_layout.specs.Directory.{Entries, IsDirectory}
 use Rattle.histar_calls.specs.declared.ending.Stopped.{Stopped}
 use Rattle.histar_calls.specs.declared.ending.Ending.{Ending}
 use Rattle.histar_calls.specs.declared.ending.Ending.TheVariants.{Refused, Stopped as HasStopped}
 use Rattle.histar_calls.specs.Refusals.{errno_for, ending_with, ending_of, or_ending, settled}
-use Rattle.histar_calls.specs.Programs.{AnswerOf, IsAnswer, Outcome, Program, Asked, IsListed, Completes, Begins, Runs, Part, LeadsTo, RunsPart}
+use Rattle.histar_calls.specs.Programs.{AnswerOf, IsAnswer, Outcome, Program, Asked, IsListed, Runs, Part, LeadsTo, RunsPart}
 use Rattle.histar_calls.specs.Programs.Program.{Answers, Asks, Lists, Stops}
 use Rattle.histar_calls.specs.Parts.{refused_with, or_refused, ask, if_there, list, given}
 
@@ -160,3 +159,8 @@ module _ (t : ℕ) where
   pub replies_so : (k : KernelModel) (due reply : Reply) → reply ≡ due → Runs (Answers due) k k t (Ok reply)
   unfolding Runs
   replies_so k due reply is = (same_kernel k, is)
+
+  -- a call that stops
+  pub stops : (k : KernelModel) → Runs Stops k k t (settled (Err HasStopped))
+  unfolding Runs
+  stops k = same_kernel k

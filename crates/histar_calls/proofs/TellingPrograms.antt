@@ -1,17 +1,17 @@
 -- The programs of the calls tell their refusals.
-use Rattle.std.proofs.Common.{◌≡◌, ℕ, Bool, true, false, List, [], ◌∷◌, Option, None, Some, Result, Ok, Err, refl, sym, ap, ◌∙◌}
+use Rattle.std.proofs.Common.{ℕ, Bool, true, false, List, [], ◌∷◌, Option, None, Some, refl}
 use Rattle.std.specs.Prelude.{◌==◌}
 use Rattle.std.specs.FinMap as map
 use Rattle.histar_flat.specs.Words.{Path}
 use Rattle.histar_flat.specs.declared.calls.Mode.{Mode}
-use Rattle.histar_flat.specs.declared.replies.Errno.{Errno}
-use Rattle.histar_flat.specs.declared.replies.Errno.TheVariants.{EACCES, EPERM, EFBIG}
-use Rattle.histar_flat.specs.declared.replies.Reply.TheVariants.{Done, Data, Refused}
+use Rattle.histar_flat.specs.declared.calls.User.{User}
 use Rattle.histar_rules.specs.declared.raw.Denied.{Denied}
 use Rattle.histar_rules.specs.declared.raw.Denied.TheVariants.{Observe, Modify, Range, Gate, NoEntry, NoThread, BadKind, TooBig}
 use Rattle.histar_rules.specs.declared.raw.RawCall.{RawCall}
 use Rattle.histar_rules.specs.declared.raw.RawCall.TheVariants.{MakeCategory, OwnLabel, SetLabel, SetClearance, MakeSegment, MakeContainer, MakeThread, MakeGate, Enter, Read, Write, Unlink, LabelOf}
+use Rattle.histar_rules.specs.Sound.{root_number}
 use Rattle.histar_layout.specs.Directory.{Entries, most_entries}
+use Rattle.histar_layout.specs.Listing.{is_directory, object_of}
 use Rattle.histar_layout.specs.declared.entry.Target.{Target}
 use Rattle.histar_layout.specs.declared.entry.Target.TheVariants as targets
 use Rattle.histar_calls.specs.declared.places.Place.{Place}
@@ -19,16 +19,19 @@ use Rattle.histar_calls.specs.declared.places.Places.{Places}
 use Rattle.histar_calls.specs.declared.directory.Directory.{Directory}
 use Rattle.histar_calls.specs.declared.find.FoundFile.{FoundFile}
 use Rattle.histar_calls.specs.declared.find.Room.{Room}
+use Rattle.histar_calls.specs.declared.stat.FoundObject.{FoundObject}
+use Rattle.histar_calls.specs.declared.class.Class.{Class}
 use Rattle.histar_calls.specs.Refusals.{errno_of, write_errno_of, errno_for}
 use Rattle.histar_calls.specs.Programs.{AnswerOf, Program}
-use Rattle.histar_calls.specs.Programs.Program.{Answers}
-use Rattle.histar_calls.specs.Parts.{refused_with, ask, if_there, read_directory, directory_at, file_at, room_at, target_of, given, walk, find_file, find_room, write_entries}
+use Rattle.histar_calls.specs.Parts.{refused_with, ask, if_there, read_directory, directory_at, file_at, entry_at, room_at, target_of, given, walk, find_file, find_room}
 use Rattle.histar_calls.specs.Read.{read_program}
 use Rattle.histar_calls.specs.Write.{write_program}
 use Rattle.histar_calls.specs.Create.{create_program}
 use Rattle.histar_calls.specs.Append.{append_program}
 use Rattle.histar_calls.specs.Mkdir.{mkdir_program}
 use Rattle.histar_calls.specs.ListCall.{list_program}
+use Rattle.histar_calls.specs.ClassOf.{class_of}
+use Rattle.histar_calls.specs.StatCall.{find_object, told as tell_class, stat_program}
 use Rattle.histar_calls.specs.Laws.{TellsDenial, TellsRefusals, CallsTellRefusals}
 
 -- each denial is told by its errno
@@ -112,6 +115,21 @@ room_tells places (name ∷ parent) rest tells = walk_tells places parent _ (λ 
     by directory None true = (refl, refl)
     by directory None false = tells (record { place = directory.place; entries = directory.entries; name = name })
 
+-- and for an object
+object_tells : (places : Places) (path : Path) (rest : FoundObject → Program) → ((object : FoundObject) → TellsRefusals (rest object)) → TellsRefusals (find_object places path rest)
+unfolding find_object
+object_tells places [] rest tells = tells (record { container = root_number; object = places.slash.container; is_directory = true })
+object_tells places (name ∷ parent) rest tells = walk_tells places parent _ (λ directory. by directory (target_of directory name))
+  where
+    by : (directory : Directory) (target : Option Target) → TellsRefusals (given (entry_at target) (λ found. rest (record { container = directory.place.container; object = object_of found; is_directory = is_directory found })))
+    by directory None = (refl, refl)
+    by directory (Some target) = tells (record { container = directory.place.container; object = object_of target; is_directory = is_directory target })
+
+-- what is told of a class is no refusal
+class_tells : (is_directory : Bool) (class : Option Class) → TellsRefusals (tell_class is_directory class)
+class_tells is_directory None = tt
+class_tells is_directory (Some class) = (refl, refl)
+
 read_program_tells : (places : Places) (path : Path) → TellsRefusals (read_program places path)
 unfolding read_program
 read_program_tells places path = file_tells places path _ (λ file. ((λ bytes. (refl, refl)), told))
@@ -136,6 +154,10 @@ list_program_tells : (places : Places) (path : Path) → TellsRefusals (list_pro
 unfolding list_program
 list_program_tells places path = walk_tells places path _ (λ directory. (refl, refl))
 
+stat_program_tells : (users : List User) (places : Places) (path : Path) → TellsRefusals (stat_program users places path)
+unfolding stat_program
+stat_program_tells users places path = object_tells places path _ (λ object. ((λ label. class_tells object.is_directory (class_of users label)), told))
+
 -- the programs of the calls tell their refusals
 pub calls_tell_refusals : CallsTellRefusals
 calls_tell_refusals = record {
@@ -145,4 +167,5 @@ calls_tell_refusals = record {
   append = append_program_tells;
   mkdir = mkdir_program_tells;
   list = list_program_tells;
+  stat = stat_program_tells;
 }

@@ -1,12 +1,10 @@
 -- What the kernel's refusals come to in a program.
-use Rattle.std.specs.Prelude.{◌≡◌, ◌≢◌, ℕ, Bool, true, false, Option, None, Some, Result, Ok, Err, List, [], ◌∷◌}
-use Rattle.std.specs.List.{AllByRecursion}
+use Rattle.std.specs.Prelude.{◌≡◌, ℕ, true, false, Option, Some, Ok, Err, List}
 use Rattle.histar_flat.specs.Words.{Path}
 use Rattle.histar_flat.specs.declared.calls.Mode.{Mode}
+use Rattle.histar_flat.specs.declared.calls.User.{User}
 use Rattle.histar_flat.specs.declared.replies.Reply.{Reply}
 use Rattle.histar_rules.specs.declared.raw.Denied.{Denied}
-use Rattle.histar_rules.specs.declared.raw.RawCall.{RawCall}
-use Rattle.histar_rules.specs.declared.raw.RawCall.TheVariants as raw
 use Rattle.histar_layout.specs.Directory.{Entries}
 use Rattle.histar_syscall.specs.KernelModel.{KernelModel}
 use Rattle.histar_syscall.specs.Runs.{is_label_refusal, is_range_refusal}
@@ -20,6 +18,7 @@ use Rattle.histar_calls.specs.Create.{create_program}
 use Rattle.histar_calls.specs.Append.{append_program}
 use Rattle.histar_calls.specs.Mkdir.{mkdir_program}
 use Rattle.histar_calls.specs.ListCall.{list_program}
+use Rattle.histar_calls.specs.StatCall.{stat_program}
 
 -- After this denial a program replies EACCES exactly where it was by label and EPERM exactly where it was by range; before its reply it
 -- only gives the thread labels, and stops where it may not.
@@ -50,3 +49,4 @@ pub record CallsTellRefusals : Type 0 where
   pub append : (places : Places) (path : Path) (bytes : List ℕ) → TellsRefusals (append_program places path bytes)
   pub mkdir : (places : Places) (path : Path) (mode : Mode) → TellsRefusals (mkdir_program places path mode)
   pub list : (places : Places) (path : Path) → TellsRefusals (list_program places path)
+  pub stat : (users : List User) (places : Places) (path : Path) → TellsRefusals (stat_program users places path)

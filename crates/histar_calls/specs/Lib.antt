@@ -7,6 +7,8 @@ pub mod Parts
 pub mod Read
 pub mod Write
 pub mod Create
+pub mod ClassOf
+pub mod StatCall
 pub mod Laws
 pub mod Append
 pub mod Mkdir

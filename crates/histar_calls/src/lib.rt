@@ -6,6 +6,7 @@
 #![tactic(auto)]
 
 pub mod append;
+mod class;
 pub mod create;
 mod directory;
 mod ending;
@@ -16,8 +17,10 @@ pub mod mkdir;
 mod places;
 pub mod program_laws;
 pub mod read;
+pub mod stat;
 pub mod write;
 
+pub use class::{Class, class_of};
 pub use directory::{Directory, walk, write_entries};
 pub use ending::{Ending, Stopped, settle, written};
 pub use labels::label_of;

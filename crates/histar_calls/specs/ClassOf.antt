@@ -1,0 +1,63 @@
+-- The class that a label tells.
+use Rattle.std.specs.Prelude.{ℕ, ◌+◌, Bool, true, false, ◌&&◌, List, [], ◌∷◌, Option, None, Some, if◌then◌else◌}
+use Rattle.histar_flat.specs.Words.{Name}
+use Rattle.histar_flat.specs.declared.calls.User.{User}
+use Rattle.histar_flat.specs.declared.replies.FileMode.{FileMode}
+use Rattle.histar_flat.specs.declared.replies.FileMode.TheVariants as modes
+use Rattle.histar_flat.specs.declared.replies.Stat.{Stat}
+use Rattle.histar_label.specs.declared.levels.Level.{Level}
+use Rattle.histar_label.specs.declared.levels.Level.TheVariants.{L0, L1, L3}
+use Rattle.histar_label.specs.Levels.{Levels, level_of, default_of, exceptions_of}
+use Rattle.histar_calls.specs.Categories.{read_category, write_category}
+use Rattle.histar_calls.specs.declared.class.Class.{Class}
+use Rattle.histar_calls.specs.declared.class.Class.TheVariants.{Private, Readable, Open, Scratch}
+
+-- what the levels at a user's two categories tell
+abbrev pub class_at : Name → Level → Level → Option Class
+class_at owner L3 L0 = Some (Private owner)
+class_at owner L1 L0 = Some (Readable owner)
+class_at owner L3 L1 = Some (Scratch owner)
+class_at owner read write = None
+
+-- the level that labels of files have at the categories that they don't name
+abbrev pub is_plain : Level → Bool
+is_plain L1 = true
+is_plain level = false
+
+-- the label names neither category of the user of this number
+abbrev pub is_unnamed : Levels → ℕ → Bool
+is_unnamed label user = is_plain (level_of label (read_category user)) && is_plain (level_of label (write_category user))
+
+-- the label is `{1}`
+abbrev pub is_all_plain : Levels → Bool
+is_all_plain label = elim (exceptions_of label) [ [] ↦ is_plain (default_of label) | e ∷ es ↦ false ]
+
+-- The class that a label tells, of the users from number k on: of the first whose categories it names. Where it names none of them
+-- it is open if it is `{1}`, and else no class's.
+abbrev pub class_from : Levels → ℕ → List User → Option Class
+class_from label k [] = if is_all_plain label then Some Open else None
+class_from label k (user ∷ users) =
+    if is_unnamed label k then class_from label (k + 1) users
+    else class_at user.name (level_of label (read_category k)) (level_of label (write_category k))
+
+-- the class that a label tells
+unfoldable pub class_of : List User → Levels → Option Class
+class_of users label = class_from label 1 users
+
+-- the owner of what is of a class, if it has one
+abbrev pub owner_of : Class → Option Name
+owner_of (Private owner) = Some owner
+owner_of (Readable owner) = Some owner
+owner_of Open = None
+owner_of (Scratch owner) = Some owner
+
+-- the mode of what is of a class
+abbrev pub mode_of : Class → FileMode
+mode_of (Private owner) = modes.Private
+mode_of (Readable owner) = modes.Readable
+mode_of Open = modes.Open
+mode_of (Scratch owner) = modes.Scratch
+
+-- what is told of what is of a class
+abbrev pub stat_of : Class → Bool → Stat
+stat_of class is_directory = record { is_directory = is_directory; owner = owner_of class; mode = mode_of class }

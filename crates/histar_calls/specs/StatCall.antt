@@ -1,0 +1,36 @@
+-- The program of `stat PATH`.
+use Rattle.std.specs.Prelude.{Bool, true, List, [], ◌∷◌, Option, None, Some}
+use Rattle.histar_flat.specs.Words.{Path}
+use Rattle.histar_flat.specs.declared.calls.User.{User}
+use Rattle.histar_flat.specs.declared.replies.Reply.TheVariants.{Stats}
+use Rattle.histar_rules.specs.Sound.{root_number}
+use Rattle.histar_rules.specs.declared.raw.RawCall.TheVariants.{LabelOf}
+use Rattle.histar_layout.specs.Listing.{is_directory, object_of}
+use Rattle.histar_calls.specs.declared.places.Places.{Places}
+use Rattle.histar_calls.specs.declared.class.Class.{Class}
+use Rattle.histar_calls.specs.declared.stat.FoundObject.{FoundObject}
+use Rattle.histar_calls.specs.ClassOf.{class_of, stat_of}
+use Rattle.histar_calls.specs.Programs.{Program, Part}
+use Rattle.histar_calls.specs.Programs.Program.{Answers, Stops}
+use Rattle.histar_calls.specs.Parts.{◌>>=◌, ask, given, entry_at, target_of, walk}
+
+-- The object of what stands at a path, and the container that links it. `/` is linked by the root container; else the walk is made,
+-- and the last name must lead somewhere.
+unfoldable pub find_object : Places → Path → Part FoundObject
+find_object places [] rest = rest (record { container = root_number; object = places.slash.container; is_directory = true })
+find_object places (name ∷ parent) rest = do
+  directory ← walk places parent
+  target ← given (entry_at (target_of directory name))
+  rest (record { container = directory.place.container; object = object_of target; is_directory = is_directory target })
+
+-- the reply tells of what is of a class; of a label that is of no class nothing can be told
+abbrev pub told : Bool → Option Class → Program
+told is_directory None = Stops
+told is_directory (Some class) = Answers (Stats (stat_of class is_directory))
+
+-- the object is found, and its label is asked for, which tells the class
+unfoldable pub stat_program : List User → Places → Path → Program
+stat_program users places path = do
+  object ← find_object places path
+  label ← ask (LabelOf object.container object.object)
+  told object.is_directory (class_of users label)

@@ -1,0 +1,89 @@
+//! Asking what stands at a path, whose it is and for whom.
+ghost use Rattle.std.specs.Prelude.{◌≤◌, length};
+ghost use Rattle.histar_calls.specs.Programs.{Runs, RunsPart};
+ghost use Rattle.histar_calls.specs.Refusals.{settled};
+ghost use Rattle.histar_calls.specs.StatCall.{find_object, stat_program};
+
+use crate::class::class_of;
+use crate::directory::walk;
+use crate::ending::{Ending, Stopped, settle};
+use crate::places::Places;
+use histar_flat::{Path, Reply, User};
+use histar_label::LabelStore;
+use histar_object::ObjId;
+use histar_syscall::Kernel;
+use std::alloc::Global;
+
+/// The root container, which the empty kernel has.
+const ROOT: u64 = 1;
+
+/// An object that was found at a path.
+#[derive(Clone, Copy)]
+pub struct FoundObject {
+    /// The container that links it.
+    pub container: ObjId,
+    /// A file's segment, or a directory's container.
+    pub object: ObjId,
+    pub is_directory: bool,
+}
+
+/// Kind, owner and mode of what stands at a path. What refuses the walk refuses it, and then ENOENT
+/// where nothing stands there.
+pub fn stat<S: LabelStore + Drop>(
+    kernel: &mut Kernel<S>,
+    alloc: Global,
+    places: &Places,
+    users: &[User],
+    thread: ObjId,
+    path: &Path,
+) -> Result<Reply, Stopped>
+    requires { length users.now ≤ 16 }
+    ensures { Runs (stat_program users.now places.now path.now) kernel.old kernel.new thread result }
+{
+    settle(stat_object(kernel, alloc, places, users, thread, path))
+}
+
+fn stat_object<S: LabelStore + Drop>(
+    kernel: &mut Kernel<S>,
+    alloc: Global,
+    places: &Places,
+    users: &[User],
+    thread: ObjId,
+    path: &Path,
+) -> Result<Reply, Ending>
+    requires { length users.now ≤ 16 }
+    ensures { Runs (stat_program users.now places.now path.now) kernel.old kernel.new thread (settled result) }
+{
+    let found = find_object(kernel, alloc, places, thread, path)?;
+    let label = kernel.label_of(thread, found.container, found.object)?;
+    let Some(class) = class_of(&label, users) else {
+        return Err(Ending::Stopped);
+    };
+    Ok(Reply::Stats(class.stat(found.is_directory)))
+}
+
+/// What stands at a path: ENOENT where nothing does, and what refuses the walk.
+fn find_object<S: LabelStore + Drop>(
+    kernel: &mut Kernel<S>,
+    alloc: Global,
+    places: &Places,
+    thread: ObjId,
+    path: &Path,
+) -> Result<FoundObject, Ending>
+    ensures { RunsPart (find_object places.now path.now) kernel.old kernel.new thread result }
+{
+    let [name, parent @ ..] = path.names() else {
+        return Ok(FoundObject {
+            container: ObjId::new(ROOT),
+            object: places.slash.container,
+            is_directory: true,
+        });
+    };
+    let directory = walk(kernel, alloc, places, thread, parent)?;
+    let target = directory.entry_at(name)?;
+    Ok(FoundObject {
+        container: directory.place.container,
+        object: target.object(),
+        is_directory: target.is_directory(),
+    })
+}
