@@ -96,7 +96,7 @@ lesser Equal e = absurd cc
 lesser Greater e = absurd cc
 
 -- an entry behind the last one comes at the end
-entry_added : (last : Option Name) (dir : Entries) (name : Name) (target : Target) → IsLast last (map.entries dir) → comes_after last name ≡ true → map.entries (map.insert dir name target) ≡ map.entries dir ++ (name, target) ∷ []
+pub entry_added : (last : Option Name) (dir : Entries) (name : Name) (target : Target) → IsLast last (map.entries dir) → comes_after last name ≡ true → map.entries (map.insert dir name target) ≡ map.entries dir ++ (name, target) ∷ []
 entry_added None dir name target h after =
     map.entries-insert nat_list_cmp_total dir name target ∙ ap (put by_bytes name target) h ∙ ap (λ (es : List Entry). es ++ (name, target) ∷ []) (sym h)
 entry_added (Some last) dir name target h after =

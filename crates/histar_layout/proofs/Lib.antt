@@ -2,3 +2,4 @@ pub mod EntryLemmas
 pub mod MapLemmas
 pub mod DirectoryLemmas
 pub mod WritingLemmas
+pub mod LookingUp

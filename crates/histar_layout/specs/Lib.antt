@@ -3,3 +3,4 @@ pub mod Directory
 pub mod Reading
 pub mod Writing
 pub mod Listing
+pub mod Found

@@ -103,3 +103,27 @@ fn there_are_64_entries_at_most(rt: HostRuntime) -> Result<(), Fail> {
     assert!(rt; read_dir(rt.alloc(), more.as_slice())?.is_none());
     Ok(())
 }
+
+#[test]
+fn a_name_is_looked_up(rt: HostRuntime) -> Result<(), Fail> {
+    let mut dir = Dir::new(rt.alloc());
+    let (a, ab, b) = (
+        read_name(b"a".as_slice()).ok_or("`a` is a name")?,
+        read_name(b"ab".as_slice()).ok_or("`ab` is a name")?,
+        read_name(b"b".as_slice()).ok_or("`b` is a name")?,
+    );
+    dir.insert(ab, Target::File(ObjId::new(12)))?;
+    dir.insert(b, Target::Directory(ObjId::new(258), ObjId::new(13)))?;
+    let bytes = write_dir(rt.alloc(), &dir)?;
+    let bytes = bytes.as_slice();
+    assert_eq!(rt; look_up(bytes, &a), Ok(None));
+    assert_eq!(rt; look_up(bytes, &ab), Ok(Some(Target::File(ObjId::new(12)))));
+    assert_eq!(rt;
+        look_up(bytes, &b),
+        Ok(Some(Target::Directory(ObjId::new(258), ObjId::new(13))))
+    );
+    assert_eq!(rt; look_up(b"".as_slice(), &a), Ok(None));
+    assert_eq!(rt; look_up(&bytes[1..], &ab), Err(NotADirectory));
+    assert_eq!(rt; look_up(&bytes[..bytes.len() - 1], &ab), Err(NotADirectory));
+    Ok(())
+}

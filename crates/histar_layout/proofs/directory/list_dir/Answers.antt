@@ -1,9 +1,8 @@
-use Rattle.std.proofs.Common.{◌≡◌, ◌+◌, ◌≤◌, ◌++◌, ap, ◌∙◌, sym, append-nil, arith, length}
+use Rattle.std.proofs.Common.{◌++◌, ap, ◌∙◌, sym, append-nil, arith, length}
 use Rattle.std.specs.Prelude.{map}
 use Rattle.std.specs.Map.Iter.{deref_pair}
 use Rattle.std.proofs.lemmas.Map.Iter.{rest_more, rest_all}
 use Rattle.std.specs.FinMap as finite
-use Rattle.std.specs.Vec.{vec_len, vec_capacity}
 use Rattle.histar_layout.specs.Listing.{shown_entry, names_in}
 use Rattle.histar_layout.proofs.MapLemmas.{entries_made, len_made}
 use Rattle.histar_layout.proofs.WritingLemmas.{entry_listed}
