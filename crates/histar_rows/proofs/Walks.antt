@@ -102,7 +102,7 @@ module _ (line t : ℕ) where
       subst (AreAmong wanted) (sym (map-append (λ (s : Step). entry_of line t s.0 s.1) (all_granted calls) steps)) (among_more wanted (entries_of line t (all_granted calls)) (entries_of line t steps) among)
 
   -- a last one that was refused is among them too
-  among_refused : (calls : List RawCall) (last : RawCall) (denied : Denied) → AreAmong (calls ++ last ∷ []) (entries_of line t (all_granted calls ++ (last, Some denied) ∷ []))
+  pub among_refused : (calls : List RawCall) (last : RawCall) (denied : Denied) → AreAmong (calls ++ last ∷ []) (entries_of line t (all_granted calls ++ (last, Some denied) ∷ []))
   among_refused [] last denied = inl (refl, tt)
   among_refused (call ∷ calls) last denied = inl (refl, among_refused calls last denied)
 
@@ -269,7 +269,7 @@ module _ (session : Session) (ok : IsSession session) (old new : KernelModel) (f
   GoesOn d rest = into session f p d ≡ None → (mid : KernelModel) → state mid ≡ state old → Chain old t (all_granted (calls_to d)) mid → Runs (rest (last_of d)) mid new t result → Row
 
   -- a directory is read after these raw calls
-  read_step : (d : Path) → is_dir_at f d ≡ true → (before : List RawCall) (mid : KernelModel) → state mid ≡ state old → Chain old t (all_granted before) mid
+  pub read_step : (d : Path) → is_dir_at f d ≡ true → (before : List RawCall) (mid : KernelModel) → state mid ≡ state old → Chain old t (all_granted before) mid
       → (rest : Directory → Program) → Runs (read_directory (place_at session ok (state old) f t ready d) rest) mid new t result
       → (reads session f p d ≡ false → IsRefusedBy EACCES (all_granted before ++ (read d, Some Observe) ∷ []))
       → (reads session f p d ≡ true → (later : KernelModel) → state later ≡ state old → Chain old t (all_granted (before ++ read d ∷ [])) later → Runs (rest (last_of d)) later new t result → Row) → Row

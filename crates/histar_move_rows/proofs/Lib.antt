@@ -1,0 +1,5 @@
+pub mod Entries
+pub mod TakingAway
+pub mod UnlinkCall
+pub mod RmdirCall
+pub mod RmtreeCall
