@@ -74,7 +74,7 @@ told_for (LabelOf container object) d = told d
 pub ask_tells : (call : RawCall) (rest : AnswerOf call → Program) → ((answer : AnswerOf call) → TellsRefusals (rest answer)) → TellsRefusals (ask call rest)
 ask_tells call rest tells = (tells, told_for call)
 
-read_tells : (place : Place) (rest : Directory → Program) → ((directory : Directory) → TellsRefusals (rest directory)) → TellsRefusals (read_directory place rest)
+pub read_tells : (place : Place) (rest : Directory → Program) → ((directory : Directory) → TellsRefusals (rest directory)) → TellsRefusals (read_directory place rest)
 unfolding read_directory
 read_tells place rest tells = ((λ bytes listed. by listed), told_for (Read place.container place.listing))
   where

@@ -1,6 +1,6 @@
 -- Directories as finite maps: what a `BTreeMap` shows, and what one entry more changes.
 use Rattle.std.proofs.Common.{◌≡◌, ℕ, ◌+◌, ◌-◌, ◌<◌, ◌≤◌, Bool, true, false, cond, List, [], ◌∷◌, ◌++◌, length, Some, refl, sym, ap, subst, ◌∙◌, arith, Option, None}
-use Rattle.std.specs.Prelude.{T}
+use Rattle.std.specs.Prelude.{T, is_some}
 use Rattle.std.specs.List.{AllByRecursion}
 use Rattle.std.specs.List.Sorted.{IsStrictlySortedBy}
 use Rattle.std.specs.Ordering.{nat_cmp, is_lt, ordering_reverse, eq_by_cmp}
@@ -124,6 +124,16 @@ found_entry (x ∷ es) q v h e =
       | false ↦ λ t f. found_entry es q v h.1 f
     ] refl e
 
+-- what a directory that can be listed has at a name is an entry
+pub entry_found : (dir : Entries) (q : Name) (v : Target) → IsListable dir → get dir q ≡ Some v → IsEntry (q, v)
+entry_found dir q v h at = found_entry (entries dir) q v h.each (sym (get-entries dir q) ∙ at)
+
+-- without an entry that it has, it has room for one
+pub room_without : (dir : Entries) (q : Name) (v : Target) → IsListable dir → get dir q ≡ Some v → len (remove dir q) < 64
+room_without dir q v h at =
+    let fewer = len-remove nat_list_cmp_total dir q ∙ ap (λ b. cond b (len dir - 1) (len dir)) (ap is_some at) in
+    omega (arith, fewer, h.few)
+
 -- where what is found is an entry, each is
 each_from_find : (es : List (Name × Target)) → T (is_sorted by_bytes es) → ((q : Name) (v : Target) → find by_bytes q es ≡ Some v → IsEntry (q, v)) → AllByRecursion IsEntry es
 each_from_find [] h p = tt
@@ -146,7 +156,7 @@ one_less_at_most false n h = h
 pub listable_remove : (dir : Entries) (k : Name) → IsListable dir → IsListable (remove dir k)
 listable_remove dir k h = record {
   each = each_from_find (entries (remove dir k)) (entries_sorted (remove dir k)) (λ q v f.
-      found_entry (entries dir) q v h.each (sym (get-entries dir q) ∙ kept (eq_by_cmp by_bytes q k) (get dir q) v (sym (get-remove nat_list_cmp_total dir k q) ∙ get-entries (remove dir k) q ∙ f)));
+      entry_found dir q v h (kept (eq_by_cmp by_bytes q k) (get dir q) v (sym (get-remove nat_list_cmp_total dir k q) ∙ get-entries (remove dir k) q ∙ f)));
   few = subst (λ (n : ℕ). n ≤ 64) (sym (len-remove nat_list_cmp_total dir k)) (one_less_at_most (contains_key dir k) (len dir) h.few);
 }
 

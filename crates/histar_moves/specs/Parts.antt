@@ -12,7 +12,7 @@ use Rattle.histar_layout.specs.declared.entry.Target.{Target}
 use Rattle.histar_layout.specs.declared.entry.Target.TheVariants.{File, Directory}
 use Rattle.histar_calls.specs.declared.places.Place.{Place}
 use Rattle.histar_calls.specs.declared.places.Places.{Places}
-use Rattle.histar_calls.specs.Programs.{Program, Part}
+use Rattle.histar_calls.specs.Programs.{Part}
 use Rattle.histar_calls.specs.Programs.Program.{Answers}
 use Rattle.histar_calls.specs.Parts.{◌>>=◌, ◌>>◌, ask, given, entry_at, target_of, walk, write_entries}
 use Rattle.histar_moves.specs.declared.entry.FoundEntry.{FoundEntry}

@@ -1,7 +1,16 @@
 //! Entries of directories that were found.
-use histar_calls::Place;
-use histar_flat::Name;
+ghost use Rattle.std.specs.Prelude.{◌≡◌, Some, IfOk};
+ghost use Rattle.std.specs.FinMap as map;
+ghost use Rattle.histar_calls.specs.Programs.{RunsPart};
+ghost use Rattle.histar_moves.specs.Parts.{find_entry, must_be_file, must_be_directory, must_be_empty, must_be_free, take_away};
+
+use histar_calls::{Directory, Ending, Place, Places, walk, write_entries};
+use histar_flat::{Errno, Name, Path};
+use histar_label::LabelStore;
 use histar_layout::{Dir, Target};
+use histar_object::ObjId;
+use histar_syscall::Kernel;
+use std::alloc::{AllocError, Global};
 
 /// An entry of a directory that was read.
 #[derive(Drop)]
@@ -14,4 +23,112 @@ pub struct FoundEntry {
     pub name: Name,
     /// Where it leads.
     pub target: Target,
+}
+
+impl FoundEntry {
+    /// Whether the entry is a file's. EISDIR for a directory's.
+    pub fn must_be_file(&self) -> Result<(), Errno>
+        ensures { result ≡ must_be_file self.now.target }
+    {
+        match self.target {
+            Target::File(_) => Ok(()),
+            Target::Directory(_, _) => Err(Errno::EISDIR),
+        }
+    }
+
+    /// The place of the directory that the entry leads to. ENOTDIR for a file's.
+    pub fn must_be_directory(&self) -> Result<Place, Errno>
+        ensures { result ≡ must_be_directory self.now.target }
+    {
+        match self.target {
+            Target::File(_) => Err(Errno::ENOTDIR),
+            Target::Directory(container, listing) => Ok(Place { container, listing }),
+        }
+    }
+
+    /// Whether the directory of the entry can have one of this name. EEXIST where it has one.
+    pub fn must_be_free(&self, name: &Name) -> Result<(), Errno>
+        ensures { result ≡ must_be_free (map.get self.now.entries name.now) }
+    {
+        match self.entries.get(name) {
+            None => Ok(()),
+            Some(_) => Err(Errno::EEXIST),
+        }
+    }
+
+    /// The entries with this one under another name.
+    pub fn renamed(self, name: &Name) -> Result<Dir, AllocError>
+        requires { map.get self.entries self.name ≡ Some self.target }
+        ensures { IfOk result (λ entries. entries ≡ map.insert (map.remove self.entries self.name) name.now self.target) }
+    {
+        let FoundEntry {
+            mut entries,
+            name: old,
+            target,
+            ..
+        } = self;
+        // This read tells the proof that there are at most 64 entries, and that each leads somewhere.
+        let _count = entries.len();
+        entries.remove(&old);
+        entries.insert(*name, target)?;
+        Ok(entries)
+    }
+}
+
+/// Whether a directory has no entry. ENOTEMPTY where it has one.
+pub fn must_be_empty(entries: &Dir) -> Result<(), Errno>
+    ensures { result ≡ must_be_empty entries.now }
+{
+    if entries.len() == 0 {
+        Ok(())
+    } else {
+        Err(Errno::ENOTEMPTY)
+    }
+}
+
+/// The entry of a path: EBUSY where the path is `/`, ENOENT where nothing stands there, and what refuses
+/// the walk.
+pub fn find_entry<S: LabelStore + Drop>(
+    kernel: &mut Kernel<S>,
+    alloc: Global,
+    places: &Places,
+    thread: ObjId,
+    path: &Path,
+) -> Result<FoundEntry, Ending>
+    ensures runs { RunsPart (find_entry places.now path.now) kernel.old kernel.new thread result }
+    ensures there { IfOk result (λ entry. map.get entry.entries entry.name ≡ Some entry.target) }
+{
+    let [name, parent @ ..] = path.names() else {
+        return Err(Ending::Refused(Errno::EBUSY));
+    };
+    let directory = walk(kernel, alloc, places, thread, parent)?;
+    let target = directory.entry_at(name)?;
+    let Directory { place, entries } = directory;
+    Ok(FoundEntry {
+        place,
+        entries,
+        name: *name,
+        target,
+    })
+}
+
+/// Takes the object of an entry out of its directory's container, with all below it, and writes the
+/// directory without the entry: EACCES where the kernel doesn't let the thread modify these.
+pub fn take_away<S: LabelStore + Drop>(
+    kernel: &mut Kernel<S>,
+    alloc: Global,
+    thread: ObjId,
+    entry: FoundEntry,
+) -> Result<(), Ending>
+    ensures { RunsPart (take_away entry) kernel.old kernel.new thread result }
+{
+    let FoundEntry {
+        place,
+        mut entries,
+        name,
+        target,
+    } = entry;
+    kernel.unlink(alloc, thread, place.container, target.object())?;
+    entries.remove(&name);
+    write_entries(kernel, alloc, thread, place, &entries)
 }

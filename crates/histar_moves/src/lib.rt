@@ -6,3 +6,8 @@
 #![tactic(auto)]
 
 mod entry;
+pub mod program_laws;
+pub mod rename;
+pub mod rmdir;
+pub mod rmtree;
+pub mod unlink;

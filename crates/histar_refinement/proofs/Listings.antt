@@ -1,15 +1,14 @@
 -- The entries that a directory segment lists are those of the flat state.
-use Rattle.std.specs.Prelude.{◌≡◌, ◌≢◌, Bool, true, false, cond, T, List, [], ◌∷◌, length, Option, Some, None, map, option_map, refl}
+use Rattle.std.specs.Prelude.{◌≡◌, ◌≢◌, Bool, true, false, cond, T, List, [], ◌∷◌, Option, Some, None, map, option_map, refl}
 use Rattle.std.specs.List.{filter_map, cons_option}
 use Rattle.std.proofs.Common.{ap, sym, ◌∙◌, subst, inl, inr}
-use Rattle.std.specs.FinMap as finite
 use Rattle.std.specs.FinMap.{find, is_sorted}
 use Rattle.std.specs.FinMap.Entries.{below_all}
 use Rattle.histar_flat.specs.Words.{Name, Path}
 use Rattle.histar_flat.specs.PathOrder.{path_cmp}
 use Rattle.histar_flat.specs.PathOrderLaws.{path_cmp_total, path_cmp_exact}
-use Rattle.histar_flat.specs.Files.{Files, get}
-use Rattle.histar_flat.specs.FlatState.{Node, Content, Flat, Entry, is_dir, entry_in, entries_in}
+use Rattle.histar_flat.specs.Files.{get}
+use Rattle.histar_flat.specs.FlatState.{Node, Content, Flat, is_dir, entry_in, entries_in}
 use Rattle.histar_flat.specs.FlatState.Content.{Dir, File}
 use Rattle.histar_flat.proofs.FileLemmas.{same_path_found}
 use Rattle.histar_flat.proofs.Finding.{first, second, find_first, find_later}

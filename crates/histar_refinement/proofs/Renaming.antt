@@ -1,21 +1,18 @@
 -- After an entry of a directory is renamed the kernel lays out the flat state with all paths below its new name.
-use Rattle.std.proofs.Common.{◌≡◌, ◌≢◌, ℕ, ◌+◌, ◌-◌, ◌*◌, ◌⊎◌, inl, inr, Bool, true, false, ◌||◌, cond, List, [], ◌∷◌, length, Option, None, Some, arith, refl, sym, ap, ◌∙◌, subst}
-use Rattle.std.specs.Prelude.{IsTrue, is_some, option_map, option_and_then}
+use Rattle.std.proofs.Common.{◌≡◌, ◌≢◌, ℕ, ◌+◌, ◌*◌, ◌⊎◌, inl, inr, Bool, true, false, ◌||◌, cond, [], ◌∷◌, length, Option, None, Some, refl, sym, ap, ◌∙◌, subst}
+use Rattle.std.specs.Prelude.{IsTrue, option_map, option_and_then}
 use Rattle.std.specs.FinMap as map
-use Rattle.std.specs.FinMap.{find}
 use Rattle.std.specs.Ordering.{eq_by_cmp}
-use Rattle.std.specs.List.{AllByRecursion}
 use Rattle.std.specs.Cmp.Lexicographic.{nat_list_cmp_total, texts_ties}
-use Rattle.std.proofs.lemmas.Option.{none-some, same_Some}
+use Rattle.std.proofs.lemmas.Option.{none-some}
 use mathlib.Core.Bool.{true≢false}
 use Rattle.histar_flat.specs.Words.{Name, Path, ProcName, is_name}
 use Rattle.histar_flat.specs.PathOrder.{same as same_name, same_path}
 use Rattle.histar_flat.specs.Files.{get}
 use Rattle.histar_flat.proofs.FileLemmas.{same_name_found, same_path_found}
-use Rattle.histar_flat.proofs.Finding.{equal}
-use Rattle.histar_layout.specs.Directory.{Entries, IsEntry, IsListable, spelling}
+use Rattle.histar_layout.specs.Directory.{Entries, IsListable, spelling}
 use Rattle.histar_layout.specs.declared.entry.Target.{Target}
-use Rattle.histar_layout.proofs.MapLemmas.{by_bytes, antisymmetric, listable_insert, listable_remove}
+use Rattle.histar_layout.proofs.MapLemmas.{by_bytes, antisymmetric, entry_found, room_without, listable_insert, listable_remove}
 use Rattle.histar_object.specs.State.{State, Found, with_bytes}
 use Rattle.histar_container.specs.Tree.{Address, Naming}
 use Rattle.histar_flat.specs.Sessions.{Session}
@@ -34,22 +31,6 @@ use Rattle.histar_refinement.proofs.DirectoryLaws.{get_directory}
 use Rattle.histar_refinement.proofs.Renamings.{renamed_naming, stands_renamed}
 use Rattle.histar_refinement.proofs.FileRows.{SameNumbers, same_status, leads_at, directories_alike, same_leads, nothing_in, old_known, old_fits, ClassFits, laid_listed, jobs_kept}
 use Rattle.histar_refinement.proofs.Turning.{turned_name, turned_step, turned_n, turned_k, turned_else, turned, turned_address, address_back, directory_stays, address_stays, same_tests, turned_path_address, turned_home, process_turned, inside_turned, path_turned, get_renamed}
-
--- an entry that is found is one
-pub found_entry : (es : List (Name × Target)) (q : Name) (v : Target) → AllByRecursion IsEntry es → find by_bytes q es ≡ Some v → IsEntry (q, v)
-found_entry [] q v h e = absurd (none-some v e)
-found_entry (x ∷ es) q v h e =
-    elim (eq_by_cmp by_bytes q x.0) as (λ b. eq_by_cmp by_bytes q x.0 ≡ b → cond b (Some x.1) (find by_bytes q es) ≡ Some v → IsEntry (q, v)) [
-      | true ↦ λ t f.
-          let name : x.0 ≡ q = sym (antisymmetric q x.0 (equal (by_bytes q x.0) t)) in
-          let target : x.1 ≡ v = same_Some x.1 v f in
-          subst IsEntry (λ i. (name i, target i)) h.0
-      | false ↦ λ t f. found_entry es q v h.1 f
-    ] refl e
-
--- what a directory that can be listed has at a name is an entry
-pub entry_found : (dir : Entries) (q : Name) (v : Target) → IsListable dir → map.get dir q ≡ Some v → IsEntry (q, v)
-entry_found dir q v h at = found_entry (map.entries dir) q v h.each (sym (map.get-entries dir q) ∙ at)
 
 module _ (session : Session) (s : State) (f : Flat) (l : Laid session s f) where
   -- where nothing stands, nothing stands below
@@ -232,11 +213,9 @@ module _ (session : Session) (s : State) (f : Flat) (l : Laid session s f) where
       -- a directory segment can hold it
       pub listable_renamed : IsTrue (is_name k) → IsListable (directory_of f.files l.naming.number d) → IsListable renamed_directory
       listable_renamed name h =
-          let dir : Entries = directory_of f.files l.naming.number d in
           let is_there : map.get (directory_of f.files l.naming.number d) n ≡ Some target = get_directory f.files l.naming.number d n ∙ leads in
-          let fewer = map.len-remove nat_list_cmp_total (directory_of f.files l.naming.number d) n ∙ ap (λ b. cond b (map.len (directory_of f.files l.naming.number d) - 1) (map.len (directory_of f.files l.naming.number d))) (ap is_some is_there) in
-          listable_insert (map.remove (directory_of f.files l.naming.number d) n) k target (listable_remove (directory_of f.files l.naming.number d) n h) (omega (arith, fewer, h.few))
-          (name, (entry_found (directory_of f.files l.naming.number d) n target h is_there).1)
+          listable_insert (map.remove (directory_of f.files l.naming.number d) n) k target (listable_remove (directory_of f.files l.naming.number d) n h)
+          (room_without (directory_of f.files l.naming.number d) n target h is_there) (name, (entry_found (directory_of f.files l.naming.number d) n target h is_there).1)
 
       -- The kernel has the objects of the flat state in which all below the old name is below the new one.
       pub laid_renamed : IsTrue (is_name k) → is_dir_at f d ≡ true

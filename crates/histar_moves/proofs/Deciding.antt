@@ -1,0 +1,21 @@
+-- How the code of a call goes on, or is refused, by what it has decided with no raw call.
+use Rattle.std.proofs.Common.{◌≡◌, ℕ, Result, Ok, Err, subst}
+use Rattle.histar_flat.specs.declared.replies.Errno.{Errno}
+use Rattle.histar_flat.specs.declared.replies.Reply.{Reply}
+use Rattle.histar_flat.specs.declared.replies.Reply.TheVariants as replies
+use Rattle.histar_syscall.specs.KernelModel.{KernelModel}
+use Rattle.histar_calls.specs.declared.ending.Ending.TheVariants.{Refused}
+use Rattle.histar_calls.specs.declared.ending.Stopped.{Stopped}
+use Rattle.histar_calls.specs.Parts.{given}
+use Rattle.histar_calls.specs.Programs.{Program, Runs}
+use Rattle.histar_calls.specs.Refusals.{settled}
+use Rattle.histar_calls.proofs.Running.{says}
+
+module _ {A : Type 0} (t : ℕ) (decided : Result A Errno) (rest : A → Program) where
+  -- the call goes on with what was decided
+  pub goes_on : (old new : KernelModel) (x : A) → Ok x ≡ decided → (result : Result Reply Stopped) → Runs (rest x) old new t result → Runs (given decided rest) old new t result
+  goes_on old new x is result runs = subst (λ (d : Result A Errno). Runs (given d rest) old new t result) is runs
+
+  -- or is refused
+  pub is_refused : (k : KernelModel) (errno : Errno) → Err errno ≡ decided → Runs (given decided rest) k k t (settled (Err (Refused errno)))
+  is_refused k errno is = subst (λ (d : Result A Errno). Runs (given d rest) k k t (settled (Err (Refused errno)))) is (says t k (replies.Refused errno))

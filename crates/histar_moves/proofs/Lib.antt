@@ -1,0 +1,3 @@
+pub mod MovesTelling
+pub mod TakingAway
+pub mod Deciding

@@ -1,0 +1,47 @@
+//! Giving an entry another name.
+ghost use Rattle.histar_calls.specs.Programs.{Runs};
+ghost use Rattle.histar_calls.specs.Refusals.{settled};
+ghost use Rattle.histar_moves.specs.Rename.{rename_program};
+
+use crate::entry::find_entry;
+use histar_calls::{Ending, Places, Stopped, settle, write_entries};
+use histar_flat::{Name, Path, Reply};
+use histar_label::LabelStore;
+use histar_object::ObjId;
+use histar_syscall::Kernel;
+use std::alloc::Global;
+
+/// Gives what stands at a path another name in its directory. EBUSY for `/`, ENOENT or ENOTDIR where the
+/// way to it breaks off, ENOENT where nothing stands there, EEXIST where its directory has an entry of the
+/// new name, be it this one, EACCES where the kernel doesn't let the thread observe a directory on the way
+/// or modify the last one.
+pub fn rename<S: LabelStore + Drop>(
+    kernel: &mut Kernel<S>,
+    alloc: Global,
+    places: &Places,
+    thread: ObjId,
+    path: &Path,
+    name: &Name,
+) -> Result<Reply, Stopped>
+    ensures { Runs (rename_program places.now path.now name.now) kernel.old kernel.new thread result }
+{
+    settle(rename_entry(kernel, alloc, places, thread, path, name))
+}
+
+fn rename_entry<S: LabelStore + Drop>(
+    kernel: &mut Kernel<S>,
+    alloc: Global,
+    places: &Places,
+    thread: ObjId,
+    path: &Path,
+    name: &Name,
+) -> Result<Reply, Ending>
+    ensures { Runs (rename_program places.now path.now name.now) kernel.old kernel.new thread (settled result) }
+{
+    let entry = find_entry(kernel, alloc, places, thread, path)?;
+    entry.must_be_free(name)?;
+    let place = entry.place;
+    let entries = entry.renamed(name)?;
+    write_entries(kernel, alloc, thread, place, &entries)?;
+    Ok(Reply::Done)
+}

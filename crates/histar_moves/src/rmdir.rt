@@ -1,0 +1,45 @@
+//! Taking an empty directory away.
+ghost use Rattle.histar_calls.specs.Programs.{Runs};
+ghost use Rattle.histar_calls.specs.Refusals.{settled};
+ghost use Rattle.histar_moves.specs.Rmdir.{rmdir_program};
+
+use crate::entry::{find_entry, must_be_empty, take_away};
+use histar_calls::{Directory, Ending, Places, Stopped, settle};
+use histar_flat::{Path, Reply};
+use histar_label::LabelStore;
+use histar_object::ObjId;
+use histar_syscall::Kernel;
+use std::alloc::Global;
+
+/// Takes an empty directory away. EBUSY for `/`, ENOENT or ENOTDIR where the way to it breaks off, ENOENT
+/// where nothing stands there, ENOTDIR for a file, EACCES where the kernel doesn't let the thread observe
+/// the directory or one on the way, ENOTEMPTY where it has an entry, EACCES where the kernel doesn't let
+/// the thread modify the directory above it.
+pub fn rmdir<S: LabelStore + Drop>(
+    kernel: &mut Kernel<S>,
+    alloc: Global,
+    places: &Places,
+    thread: ObjId,
+    path: &Path,
+) -> Result<Reply, Stopped>
+    ensures { Runs (rmdir_program places.now path.now) kernel.old kernel.new thread result }
+{
+    settle(remove_directory(kernel, alloc, places, thread, path))
+}
+
+fn remove_directory<S: LabelStore + Drop>(
+    kernel: &mut Kernel<S>,
+    alloc: Global,
+    places: &Places,
+    thread: ObjId,
+    path: &Path,
+) -> Result<Reply, Ending>
+    ensures { Runs (rmdir_program places.now path.now) kernel.old kernel.new thread (settled result) }
+{
+    let entry = find_entry(kernel, alloc, places, thread, path)?;
+    let place = entry.must_be_directory()?;
+    let directory = Directory::read(kernel, alloc, thread, place)?;
+    must_be_empty(&directory.entries)?;
+    take_away(kernel, alloc, thread, entry)?;
+    Ok(Reply::Done)
+}

@@ -1,0 +1,41 @@
+//! Taking away whatever stands at a path.
+ghost use Rattle.histar_calls.specs.Programs.{Runs};
+ghost use Rattle.histar_calls.specs.Refusals.{settled};
+ghost use Rattle.histar_moves.specs.Rmtree.{rmtree_program};
+
+use crate::entry::{find_entry, take_away};
+use histar_calls::{Ending, Places, Stopped, settle};
+use histar_flat::{Path, Reply};
+use histar_label::LabelStore;
+use histar_object::ObjId;
+use histar_syscall::Kernel;
+use std::alloc::Global;
+
+/// Takes a file away, or a directory with all below it, whoever's that is. EBUSY for `/`, ENOENT or
+/// ENOTDIR where the way to it breaks off, ENOENT where nothing stands there, EACCES where the kernel
+/// doesn't let the thread observe a directory on the way or modify the last one.
+pub fn rmtree<S: LabelStore + Drop>(
+    kernel: &mut Kernel<S>,
+    alloc: Global,
+    places: &Places,
+    thread: ObjId,
+    path: &Path,
+) -> Result<Reply, Stopped>
+    ensures { Runs (rmtree_program places.now path.now) kernel.old kernel.new thread result }
+{
+    settle(remove_tree(kernel, alloc, places, thread, path))
+}
+
+fn remove_tree<S: LabelStore + Drop>(
+    kernel: &mut Kernel<S>,
+    alloc: Global,
+    places: &Places,
+    thread: ObjId,
+    path: &Path,
+) -> Result<Reply, Ending>
+    ensures { Runs (rmtree_program places.now path.now) kernel.old kernel.new thread (settled result) }
+{
+    let entry = find_entry(kernel, alloc, places, thread, path)?;
+    take_away(kernel, alloc, thread, entry)?;
+    Ok(Reply::Done)
+}
