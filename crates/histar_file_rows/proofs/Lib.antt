@@ -8,3 +8,4 @@ pub mod Create
 pub mod ListCall
 pub mod Mkdir
 pub mod Append
+pub mod StatCall

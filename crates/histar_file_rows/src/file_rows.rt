@@ -1,6 +1,6 @@
 //! The file calls of process 0 are the rows of the flat rules. Each law is the contract of a function
 //! that does nothing.
-ghost use Rattle.histar_rows.specs.Laws.{AppendsAreRows, CreatesAreRows, ListsAreRows, MkdirsAreRows, ReadsAreRows, WritesAreRows};
+ghost use Rattle.histar_rows.specs.Laws.{AppendsAreRows, CreatesAreRows, ListsAreRows, MkdirsAreRows, ReadsAreRows, StatsAreRows, WritesAreRows};
 
 /// A read does what the flat rule of `read` says.
 pub fn reads_are_rows()
@@ -30,4 +30,9 @@ pub fn mkdirs_are_rows()
 /// A list does what the flat rule of `list` says.
 pub fn lists_are_rows()
     ensures { ListsAreRows }
+{}
+
+/// A stat does what the flat rule of `stat` says.
+pub fn stats_are_rows()
+    ensures { StatsAreRows }
 {}

@@ -1,6 +1,6 @@
 -- What the kernel says to the raw calls on a directory that is laid out, and on a file in it, by the thread of a process: a read is
 -- refused Observe exactly where the process may not read, and a write, an unlink and a making Modify exactly where it may not write.
-use Rattle.std.proofs.Common.{◌≡◌, ℕ, ◌+◌, ◌≤◌, ◌&&◌, Bool, true, false, List, [], ◌∷◌, length, Some, arith, refl, sym, ap, ◌∙◌}
+use Rattle.std.proofs.Common.{◌≡◌, ℕ, ◌+◌, ◌≤◌, ◌&&◌, Bool, true, false, List, [], ◌∷◌, length, None, Some, arith, refl, sym, ap, ◌∙◌}
 use Rattle.std.specs.Prelude.{min, not}
 use Rattle.std.specs.FinSet as set
 use Rattle.std.proofs.lemmas.Bool.Decides.{nat_tests}
@@ -14,10 +14,10 @@ use Rattle.histar_flat.specs.FlatState.Content.{Dir, File}
 use Rattle.histar_label.specs.Levels.{Levels, is_below, is_below_raised, has_star}
 use Rattle.histar_layout.specs.Directory.{Entries, IsListable, spelling}
 use Rattle.histar_object.specs.declared.objects.Kind.TheVariants.{Segment, Container, Thread}
-use Rattle.histar_object.specs.Objects.{Numbers as Links, links_in}
+use Rattle.histar_object.specs.Objects.{Numbers as Links, links_in, is_thread}
 use Rattle.histar_object.specs.State.{State, Found, in_range}
 use Rattle.histar_rules.specs.declared.raw.Denied.TheVariants.{Observe, Modify, Range, TooBig}
-use Rattle.histar_rules.specs.declared.raw.RawCall.TheVariants.{Read, Write, Unlink, MakeSegment, MakeContainer}
+use Rattle.histar_rules.specs.declared.raw.RawCall.TheVariants.{Read, Write, Unlink, LabelOf, MakeSegment, MakeContainer}
 use Rattle.histar_rules.specs.Rules.{no_making, fits_segment, has_number, known, check}
 use Rattle.histar_refinement.specs.Sessions.{IsSession}
 use Rattle.histar_refinement.specs.Categories.{IsUsed}
@@ -30,7 +30,7 @@ use Rattle.histar_refinement.specs.LaysOut.{Laid}
 use Rattle.histar_refinement.specs.Laws.{RunsAs}
 use Rattle.histar_refinement.proofs.ClassTests.{observes_class, modifies_class}
 use Rattle.histar_refinement.proofs.DirectoryLaws.{spelling_fits}
-use Rattle.histar_refinement.proofs.RawChecks.{object, read_blocked, read_check, write_check, unlink_check, making_check, or_none}
+use Rattle.histar_refinement.proofs.RawChecks.{object, read_blocked, read_check, write_check, unlink_check, label_check, making_check, or_none}
 use Rattle.histar_refinement.proofs.MakingRanges.{is_made_within}
 use Rattle.histar_refinement.proofs.Growing.{GuardHas}
 use Rattle.histar_refinement.proofs.Tested.{guard_made, guard_owns_nothing}
@@ -157,6 +157,10 @@ module _ (session : Session) (s : State) (f : Flat) (l : Laid session s f) (ok :
       -- it is unlinked, file or directory, unless the directory may not be written
       pub unlink_said : check s t (Unlink D O) ≡ unless (may_write session p class) Modify
       unlink_said = unlink_check s t label clearance thread D above links holder observed O inside ∙ ap (λ b. unless b Modify) may_change
+
+      -- its label is told, if it is no thread
+      pub label_said : is_thread (s.objects O) ≡ false → check s t (LabelOf D O) ≡ None
+      label_said = label_check s t label clearance thread D above links holder observed O inside
 
       module _ (kind : Class) (old : List ℕ) (at_file : get f.files (n ∷ d) ≡ Some (record { class = kind; content = File old })) where
         file_guard : (g : Guard) × (class_guard session kind ≡ Some g)

@@ -45,6 +45,8 @@ pub mod StatusFound
 pub mod OneFlatState
 pub mod RawChecks
 pub mod FileChecks
+pub mod LabelsTold
+pub mod ClassTold
 pub mod LeftObjects
 pub mod LoginChecks
 pub mod CallLabels

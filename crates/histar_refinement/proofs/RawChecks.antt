@@ -1,6 +1,6 @@
 -- What the kernel checks of a raw call on a container and what it links, where the caller and the objects are known.
 use Rattle.std.proofs.Common.{◌≡◌, ℕ, ◌+◌, ◌&&◌, Bool, true, false, List, length, Option, None, Some, refl, ap, ◌∙◌}
-use Rattle.std.specs.Prelude.{min}
+use Rattle.std.specs.Prelude.{min, not}
 use Rattle.std.specs.FinSet as set
 use Rattle.histar_base.specs.Refusals.{◌orelse◌, unless}
 use Rattle.histar_label.specs.Levels.{Levels, is_below, is_below_raised}
@@ -10,7 +10,7 @@ use Rattle.histar_object.specs.declared.objects.Kind.{Kind}
 use Rattle.histar_object.specs.State.{State, Found, observes, modifies}
 use Rattle.histar_rules.specs.declared.raw.Denied.{Denied}
 use Rattle.histar_rules.specs.declared.raw.Denied.TheVariants.{Observe, Modify, NoEntry, NoThread, BadKind, TooBig}
-use Rattle.histar_rules.specs.declared.raw.RawCall.TheVariants.{Read, Write, Unlink}
+use Rattle.histar_rules.specs.declared.raw.RawCall.TheVariants.{Read, Write, Unlink, LabelOf}
 use Rattle.histar_rules.specs.Rules.{no_thread, no_container, no_link, no_segment, no_making, fits_segment, check}
 
 -- an object with a label and a kind
@@ -64,6 +64,10 @@ module _ (s : State) (t : ℕ) (label clearance : Levels) (thread : s.objects t 
           write_check keep bytes =
               ap (λ (c : Option Denied). c orelse unless (modifies (s.objects t) (s.objects o)) Modify orelse unless (fits_segment (min keep (length (bytes_in (s.objects o))) + length bytes)) TooBig) segment_passes
               ∙ (λ i. unless (modifies (thread i) (segment i)) Modify orelse unless (fits_segment (min keep (length (bytes_in (segment i))) + length bytes)) TooBig)
+
+        -- the label of what is linked is told, if it is no thread
+        pub label_check : is_thread (s.objects o) ≡ false → check s t (LabelOf d o) ≡ None
+        label_check other = ap (λ (c : Option Denied). c orelse unless (not (is_thread (s.objects o))) BadKind) link_passes ∙ ap (λ (b : Bool). unless (not b) BadKind) other
 
         -- what is linked is taken away unless the container may not be modified
         pub unlink_check : check s t (Unlink d o) ≡ unless (is_below label above && is_below_raised above label) Modify

@@ -1,12 +1,12 @@
 -- How a call ends: it has replied what its flat rule says, or it was refused nowhere.
-use Rattle.std.proofs.Common.{◌≡◌, ◌≢◌, ℕ, Bool, true, false, List, [], ◌∷◌, ◌++◌, Option, None, Some, Ok, refl, sym, ap, ◌∙◌, subst}
+use Rattle.std.proofs.Common.{◌≡◌, ◌≢◌, ℕ, false, List, [], ◌∷◌, ◌++◌, Option, None, Some, Ok, refl, sym, ap, ◌∙◌, subst}
 use Rattle.std.proofs.lemmas.List.{map-append}
 use Rattle.std.specs.Prelude.{option_map}
 use Rattle.std.specs.List.{AllByRecursion}
 use Rattle.histar_flat.specs.declared.calls.UnixCall.{UnixCall}
 use Rattle.histar_flat.specs.declared.replies.Errno.{Errno}
 use Rattle.histar_flat.specs.declared.replies.Reply.{Reply}
-use Rattle.histar_flat.specs.declared.replies.Reply.TheVariants.{Done, Data, Entries, Refused, Gone}
+use Rattle.histar_flat.specs.declared.replies.Reply.TheVariants.{Done, Data, Entries, Stats, Refused, Gone}
 use Rattle.histar_flat.specs.Sessions.{Session}
 use Rattle.histar_flat.specs.Classes.{Process}
 use Rattle.histar_flat.specs.FlatState.{Flat, is_some_and}
@@ -27,7 +27,7 @@ use Rattle.histar_calls.specs.Refusals.{errno_for, errno_of, write_errno_of}
 use Rattle.histar_calls.specs.Replies.{is_access, is_permission, is_no_access, is_no_permission, IsRefusedOnce}
 use Rattle.histar_refinement.specs.LaysOut.{LaysOut}
 use Rattle.histar_refinement.specs.Lines.{IsThreadOf}
-use Rattle.histar_rows.specs.Rows.{IsFirstAlone, IsDenialTold, EndsWithRead, HasReads, HasReadsOf, IsLine, IsAnswered, IsUnanswered, IsRunUnlessExhausted, DoesItsRow}
+use Rattle.histar_rows.specs.Rows.{IsFirstAlone, IsDenialTold, EndsWithRead, HasReads, HasReadsOf, IsLine, IsUnanswered, IsRunUnlessExhausted, DoesItsRow}
 use Rattle.histar_rows.proofs.Chains.{Step, all_granted, entries_of, Chain, chain_run, chain_own}
 
 -- a chain that was refused nowhere else ends without a reply
@@ -47,6 +47,7 @@ abbrev pub IsBacked : State → List TraceEntry → Reply → Type 0
 IsBacked s entries Done = Unit {0}
 IsBacked s entries (Data bytes) = EndsWithRead s entries bytes
 IsBacked s entries (Entries listing) = Unit {0}
+IsBacked s entries (Stats stat) = Unit {0}
 IsBacked s entries (Refused errno) = (is_access errno ≡ false) × (is_permission errno ≡ false)
 IsBacked s entries _ = ⊥
 

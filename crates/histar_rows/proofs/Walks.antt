@@ -1,6 +1,6 @@
 -- The walk into a directory, at a state that lays out a flat state: it is refused as the flat rules refuse it, or each directory on
 -- the way is read, and the last one is handed on.
-use Rattle.std.proofs.Common.{◌≡◌, ℕ, ◌&&◌, Bool, true, false, List, [], ◌∷◌, ◌++◌, Option, None, Some, Result, Ok, Err, inl, inr, refl, sym, ap, ◌∙◌, subst, length, if◌then◌else◌}
+use Rattle.std.proofs.Common.{◌≡◌, ℕ, ◌&&◌, Bool, true, false, List, [], ◌∷◌, ◌++◌, Option, None, Some, Result, inl, inr, refl, sym, ap, ◌∙◌, subst, length, if◌then◌else◌}
 use Rattle.std.proofs.lemmas.List.{map-append, append-nil}
 use Rattle.std.specs.Prelude.{not, map, is_some, option_map, option_and_then}
 use Rattle.std.specs.List.{AllByRecursion}
@@ -29,14 +29,14 @@ use Rattle.histar_rules.specs.Rules.{check}
 use Rattle.histar_syscall.specs.KernelModel.{KernelModel, state}
 use Rattle.histar_syscall.specs.declared.trace.TraceEntry.{TraceEntry}
 use Rattle.histar_syscall.proofs.Runs.{same_kernel, entry_of}
-use Rattle.histar_layout.specs.Directory.{Entries, IsDirectory}
+use Rattle.histar_layout.specs.Directory.{IsDirectory}
 use Rattle.histar_layout.specs.declared.entry.Target.{Target}
 use Rattle.histar_layout.specs.declared.entry.Target.TheVariants as targets
 use Rattle.histar_calls.specs.declared.ending.Stopped.{Stopped}
 use Rattle.histar_calls.specs.declared.directory.Directory.{Directory}
 use Rattle.histar_calls.specs.declared.places.Place.{Place}
 use Rattle.histar_calls.specs.Programs.{Program, Runs}
-use Rattle.histar_calls.specs.Parts.{given, list, read_directory, walk, directory_at}
+use Rattle.histar_calls.specs.Parts.{given, read_directory, walk, directory_at}
 use Rattle.histar_login.specs.Start.{places_of}
 use Rattle.histar_refinement.specs.Sessions.{IsSession}
 use Rattle.histar_refinement.specs.Addresses.{Numbers, address_of, slash_number, slash_listing_number}
@@ -184,9 +184,13 @@ module _ (session : Session) (ok : IsSession session) (s : State) (f : Flat) (t 
   are_reads [] all = refl
   are_reads (d ∷ more) all = ((place_at d).container, (place_at d).listing, map read_of more, found d all.0, refl, are_reads more all.1)
 
+  -- the raw calls of the walk into a directory read the directories that it looks at
+  pub reads_way : (d : Path) → AreReadsOf session s (tested session f me d) (walk_reads d)
+  reads_way d = are_reads (tested session f me d) (tested_dirs d)
+
   -- the reads of the way into a directory are the reads that a call that looks into it cannot do without
   pub has_way : (d : Path) (entries : List TraceEntry) → AreAmong (walk_reads d) entries → HasWay session s f me d entries
-  has_way d entries among = (walk_reads d, are_reads (tested session f me d) (tested_dirs d), among)
+  has_way d entries among = (walk_reads d, reads_way d, among)
 
   -- and so for a call on what lies in the directory
   pub has_walk : (m : Name) (d : Path) (entries : List TraceEntry) → AreAmong (walk_reads d) entries → HasWalk session s f me (m ∷ d) entries

@@ -2,7 +2,7 @@
 use Rattle.std.specs.Prelude.{ℕ, List, length, IsTrue, Result}
 use Rattle.histar_flat.specs.declared.calls.User.{User}
 use Rattle.histar_flat.specs.declared.calls.Mode.{Mode}
-use Rattle.histar_flat.specs.declared.calls.UnixCall.TheVariants.{Create, Mkdir, Write, Append, Read, List as ListCall, Login}
+use Rattle.histar_flat.specs.declared.calls.UnixCall.TheVariants.{Create, Mkdir, Write, Append, Read, List as ListCall, Stat, Login}
 use Rattle.histar_flat.specs.declared.replies.Reply.{Reply}
 use Rattle.histar_flat.specs.Words.{Name, Password, Path, is_path}
 use Rattle.histar_flat.specs.Modes.{is_line_mode}
@@ -17,6 +17,7 @@ use Rattle.histar_calls.specs.Create.{create_program}
 use Rattle.histar_calls.specs.Mkdir.{mkdir_program}
 use Rattle.histar_calls.specs.Append.{append_program}
 use Rattle.histar_calls.specs.ListCall.{list_program}
+use Rattle.histar_calls.specs.StatCall.{stat_program}
 use Rattle.histar_login.specs.Login.{login_program}
 use Rattle.histar_login.specs.Start.{places_of}
 use Rattle.histar_refinement.specs.Sessions.{IsSession}
@@ -48,6 +49,10 @@ AppendsAreRows = (session : Session) → IsSession session → (path : Path) (by
 abbrev pub ListsAreRows : Type 0
 ListsAreRows = (session : Session) → IsSession session → (path : Path) → IsRowOf session (ListCall path) (list_program (places_of (length session.users)) path)
 
+-- a stat, where no group is declared
+abbrev pub StatsAreRows : Type 0
+StatsAreRows = (users : List User) → IsSession (session_of users) → (path : Path) → IsRowOf (session_of users) (Stat path) (stat_program users (places_of (length users)) path)
+
 -- a login, where no group is declared
 abbrev pub LoginsAreRows : Type 0
 LoginsAreRows = (users : List User) → IsSession (session_of users) → (name : Name) (password : Password) → IsRowOf (session_of users) (Login name password) (login_program users name password)
@@ -60,4 +65,5 @@ pub record CallsAreRows : Type 0 where
   pub mkdir : MkdirsAreRows
   pub append : AppendsAreRows
   pub list : ListsAreRows
+  pub stat : StatsAreRows
   pub login : LoginsAreRows
