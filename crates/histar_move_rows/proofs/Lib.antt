@@ -3,3 +3,4 @@ pub mod TakingAway
 pub mod UnlinkCall
 pub mod RmdirCall
 pub mod RmtreeCall
+pub mod RenameCall

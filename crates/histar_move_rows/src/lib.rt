@@ -2,3 +2,4 @@
 #![tactic(auto)]
 
 pub mod move_rows;
+pub mod rename_rows;
