@@ -154,7 +154,7 @@ fn make<S: LabelStore + Drop>(
         UnixCall::Unlink(path) => unlink::unlink(kernel, alloc, places, thread, &path),
         UnixCall::Rmdir(path) => rmdir::rmdir(kernel, alloc, places, thread, &path),
         UnixCall::Rmtree(path) => rmtree::rmtree(kernel, alloc, places, thread, &path),
-        UnixCall::Rename(path, name) => rename::rename(kernel, alloc, places, thread, &path, name),
+        UnixCall::Rename(path, name) => rename::rename(kernel, alloc, places, thread, &path, &name),
         UnixCall::Login(name, password) => login::login(
             kernel, alloc, users, thread, name, password,
         ),
