@@ -92,6 +92,21 @@ room_at None false = Ok tt
 abbrev pub target_of : Directory → Name → Option Target
 target_of directory name = map.get directory.entries name
 
+-- looks a name up in a directory, whose segment is read
+unfoldable pub look_in : Place → Name → Part (Option Target)
+look_in place name rest = do
+  directory ← read_directory place
+  rest (target_of directory name)
+
+-- the place of a directory: from `/` on each one on the way to it is read, and the next name is looked up in it
+unfoldable pub find_place : Places → Path → Part Place
+find_place places [] rest = rest places.slash
+find_place places (name ∷ parent) rest = do
+  above ← find_place places parent
+  target ← look_in above name
+  place ← given (directory_at target)
+  rest place
+
 -- a walk reads the directory segment of each directory from `/` to the last one of the path
 unfoldable pub walk : Places → Path → Part Directory
 walk places [] rest = read_directory places.slash rest
