@@ -17,7 +17,7 @@ use Rattle.histar_calls.specs.declared.find.FoundFile.{FoundFile}
 use Rattle.histar_calls.specs.declared.find.Room.{Room}
 use Rattle.histar_calls.specs.declared.places.Place.{Place}
 use Rattle.histar_calls.specs.Refusals.{errno_for}
-use Rattle.histar_calls.specs.Programs.{AnswerOf, Outcome, Program, Part}
+use Rattle.histar_calls.specs.Programs.{AnswerOf, Program, Part}
 use Rattle.histar_calls.specs.Programs.Program.{Answers, Asks, Lists, Stops}
 
 -- a part, and then what follows it

@@ -26,10 +26,7 @@ impl Directory {
     pub fn entry_at(&self, name: &Name) -> Result<Target, Errno>
         ensures { result ≡ entry_at (target_of self.now name.now) }
     {
-        match self.entries.get(name) {
-            None => Err(Errno::ENOENT),
-            Some(target) => Ok(target),
-        }
+        entry_at(self.entries.get(name))
     }
 
     /// Whether an entry of this name can be made. EEXIST where something stands there, ENOSPC at 64
@@ -60,6 +57,16 @@ impl Directory {
             return Err(Ending::Stopped);
         };
         Ok(Directory { place, entries })
+    }
+}
+
+/// What a name leads to, a file or a directory. ENOENT where it leads nowhere.
+pub fn entry_at(target: Option<Target>) -> Result<Target, Errno>
+    ensures { result ≡ entry_at target }
+{
+    match target {
+        None => Err(Errno::ENOENT),
+        Some(target) => Ok(target),
     }
 }
 

@@ -1,4 +1,4 @@
-use Rattle.std.proofs.Common.{◌≡◌, ◌-◌, length, take, drop, Result, Ok, Err, arith}
+use Rattle.std.proofs.Common.{◌-◌, length, take, drop, Ok, Err, arith}
 use Rattle.histar_calls.specs.declared.ending.Ending.TheVariants.{Refused}
 use Rattle.histar_calls.specs.Parts.{find_place}
 use Rattle.histar_calls.proofs.Running.{fails_so}

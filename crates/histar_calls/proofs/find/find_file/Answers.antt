@@ -1,4 +1,4 @@
-use Rattle.std.proofs.Common.{◌≡◌, ◌∙◌, ℕ, ◌-◌, [], length, take, drop, refl, sym, ap, arith, Ok, Err}
+use Rattle.std.proofs.Common.{◌∙◌, ℕ, ◌-◌, [], length, take, drop, refl, sym, ap, arith, Ok, Err}
 use Rattle.histar_flat.specs.declared.replies.Errno.TheVariants.{EISDIR}
 use Rattle.histar_calls.specs.declared.places.Place.{Place}
 use Rattle.histar_calls.specs.declared.find.FoundFile.{FoundFile}
