@@ -1,21 +1,23 @@
 -- How the code that reads and writes directories, and walks to them, runs its parts.
-use Rattle.std.proofs.Common.{◌≡◌, ℕ, ◌≤◌, List, [], ◌∷◌, length, get_or, take, drop, ◌-◌, Result, Ok, Err, inl, refl, sym, ap, ◌∙◌, subst, arith}
+use Rattle.std.proofs.Common.{◌≡◌, ℕ, ◌≤◌, List, [], ◌∷◌, length, get_or, take, drop, ◌-◌, Option, Result, Ok, Err, inl, refl, sym, ap, ◌∙◌, subst, arith}
+use Rattle.std.specs.FinMap as map
 use Rattle.histar_flat.specs.Words.{Name, Path}
 use Rattle.histar_flat.specs.declared.replies.Errno.{Errno}
 use Rattle.histar_rules.specs.declared.raw.RawCall.TheVariants.{Read, Write}
 use Rattle.histar_rules.specs.declared.raw.Refusal.{Refusal}
 use Rattle.histar_syscall.specs.KernelModel.{KernelModel, Answered}
 use Rattle.histar_layout.specs.Directory.{Entries, IsDirectory}
+use Rattle.histar_layout.specs.declared.entry.Target.{Target}
 use Rattle.histar_calls.specs.declared.places.Place.{Place}
 use Rattle.histar_calls.specs.declared.places.Places.{Places}
 use Rattle.histar_calls.specs.declared.directory.Directory.{Directory}
 use Rattle.histar_calls.specs.declared.ending.Ending.{Ending}
 use Rattle.histar_calls.specs.declared.ending.Ending.TheVariants.{Refused, Stopped}
 use Rattle.histar_calls.specs.Refusals.{write_errno_of, or_ending}
-use Rattle.histar_calls.specs.Programs.{Part, RunsPart}
-use Rattle.histar_calls.specs.Parts.{ask, list, given, read_directory, directory_at, target_of, walk, write_entries}
+use Rattle.histar_calls.specs.Programs.{Program, Part, RunsPart}
+use Rattle.histar_calls.specs.Parts.{ask, list, given, read_directory, directory_at, target_of, look_in, find_place, walk, write_entries}
 use Rattle.histar_syscall.proofs.Runs.{same_kernel}
-use Rattle.histar_calls.proofs.Running.{asks, gives_not, hands, part_as, then_part, part_fails}
+use Rattle.histar_calls.proofs.Running.{asks, gives, gives_not, hands, lists, lists_none, part_as, then_part, part_fails}
 
 -- what comes after the bytes of a directory segment
 abbrev after_bytes : Place → List ℕ → Part Directory
@@ -58,41 +60,111 @@ pub no_names : (names : List Name) → length names ≤ 0 → names ≡ []
 no_names [] none = refl
 no_names (x ∷ xs) none = absurd (omega arith)
 
--- what comes after the walk to the parent
-abbrev pub into : Name → Directory → Part Directory
-into name above rest = given (directory_at (target_of above name)) (λ place. read_directory place rest)
+-- ---- a name is looked up in a directory
+
+module _ (t : ℕ) (old new : KernelModel) (place : Place) (name : Name) where
+  -- the directory was not read
+  look_fails : (ending : Ending) → RunsPart (read_directory place) old new t (Err ending) → RunsPart (look_in place name) old new t (Err ending)
+  unfolding look_in
+  look_fails ending first = part_fails t (read_directory place) old new (λ directory (rest : Option Target → _). rest (target_of directory name)) ending first
+
+  -- it was read, and the name leads there
+  looks : (directory : Directory) → RunsPart (read_directory place) old new t (Ok directory) → RunsPart (look_in place name) old new t (Ok (target_of directory name))
+  unfolding look_in
+  looks directory first = then_part t (read_directory place) old new (λ directory (rest : Option Target → _). rest (target_of directory name)) new directory first (Ok _) (hands t new (target_of directory name))
+
+  -- its segment was not read
+  pub look_refused : (ending : Ending) → RunsPart (ask (Read place.container place.listing)) old new t (Err ending) → RunsPart (look_in place name) old new t (Err ending)
+  look_refused ending first = look_fails ending (read_fails t old new place ending first)
+
+  module _ (bytes : List ℕ) (first : RunsPart (ask (Read place.container place.listing)) old new t (Ok bytes)) where
+    -- its bytes are no directory
+    pub looks_in_none : ((dir : Entries) → IsDirectory bytes dir → ⊥) → RunsPart (look_in place name) old new t (Err Stopped)
+    looks_in_none none = look_fails Stopped (list_fails t old new place bytes first Stopped (lists_none t bytes new none))
+
+    -- its bytes are a directory, in which the name leads there
+    pub looks_up : (dir : Entries) → IsDirectory bytes dir → (found : Option Target) → found ≡ map.get dir name → RunsPart (look_in place name) old new t (Ok found)
+    looks_up dir is found at =
+        subst (λ (o : Option Target). RunsPart (look_in place name) old new t (Ok o)) (sym at)
+        (looks (record { place = place; entries = dir }) (reads t old new place bytes first dir (lists t bytes new dir is)))
+
+-- ---- the place of a directory is found
+
+-- what comes after the place of the parent
+abbrev pub into : Name → Place → Part Place
+into name above rest = look_in above name (λ target. given (directory_at target) rest)
+
+module _ (t : ℕ) (old new : KernelModel) (name : Name) (above : Place) where
+  -- the name was not looked up
+  pub into_fails : (ending : Ending) → RunsPart (look_in above name) old new t (Err ending) → RunsPart (into name above) old new t (Err ending)
+  into_fails ending first = part_fails t (look_in above name) old new (λ target. given (directory_at target)) ending first
+
+  module _ (target : Option Target) (first : RunsPart (look_in above name) old new t (Ok target)) where
+    then_given : (found : Result Place Errno) → found ≡ directory_at target → (result : Result Place Ending) → RunsPart (given found) new new t result → RunsPart (into name above) old new t result
+    then_given found is result runs =
+        then_part t (look_in above name) old new (λ target. given (directory_at target)) new target first result
+        (subst (λ (f : Result Place Errno). RunsPart (given f) new new t result) is runs)
+
+    -- it leads to a directory
+    pub into_place : (place : Place) → Ok place ≡ directory_at target → RunsPart (into name above) old new t (Ok place)
+    into_place place is = then_given (Ok place) is (Ok place) (gives t new place)
+
+    -- it leads to none
+    pub into_none : (errno : Errno) → Err errno ≡ directory_at target → RunsPart (into name above) old new t (Err (Refused errno))
+    into_none errno is = then_given (Err errno) is (Err (Refused errno)) (gives_not t Place new errno)
 
 module _ (t : ℕ) (places : Places) (old new : KernelModel) (names : List Name) where
-  -- a walk to `/`
-  pub walk_root : (result : Result Directory Ending) → names ≡ [] → RunsPart (read_directory places.slash) old new t result → RunsPart (walk places names) old new t result
-  unfolding walk
-  walk_root result none runs = subst (λ (n : List Name). RunsPart (walk places n) old new t result) (sym none) runs
+  -- the place of `/`
+  pub finds_slash : names ≡ [] → RunsPart (find_place places names) old old t (Ok places.slash)
+  unfolding find_place
+  finds_slash none = subst (λ (n : List Name). RunsPart (find_place places n) old old t (Ok places.slash)) (sym none) (hands t old places.slash)
 
   module _ (name : Name) (parent : Path) (split : names ≡ name ∷ parent) where
-    here : (result : Result Directory Ending) → RunsPart (λ rest. walk places parent (λ above. into name above rest)) old new t result → RunsPart (walk places names) old new t result
-    unfolding walk
-    here result runs = subst (λ (n : List Name). RunsPart (walk places n) old new t result) (sym split) runs
+    here : (result : Result Place Ending) → RunsPart (λ rest. find_place places parent (λ above. into name above rest)) old new t result → RunsPart (find_place places names) old new t result
+    unfolding find_place
+    here result runs = subst (λ (n : List Name). RunsPart (find_place places n) old new t result) (sym split) runs
 
-    -- the walk to the parent has failed
-    pub walk_fails : (ending : Ending) → RunsPart (walk places parent) old new t (Err ending) → RunsPart (walk places names) old new t (Err ending)
-    walk_fails ending first = here (Err ending) (part_fails t (walk places parent) old new (into name) ending first)
+    -- the place of the parent was not found
+    pub find_fails : (ending : Ending) → RunsPart (find_place places parent) old new t (Err ending) → RunsPart (find_place places names) old new t (Err ending)
+    find_fails ending first = here (Err ending) (part_fails t (find_place places parent) old new (into name) ending first)
 
-    module _ (mid : KernelModel) (above : Directory) (first : RunsPart (walk places parent) old mid t (Ok above)) (found : Result Place Errno) (is : found ≡ directory_at (target_of above name)) where
-      after : (result : Result Directory Ending) → RunsPart (λ rest. given found (λ place. read_directory place rest)) mid new t result → RunsPart (walk places names) old new t result
-      after result runs = here result (then_part t (walk places parent) old new (into name) mid above first result
-          (part_as t (into name above) mid new (λ rest. given found (λ place. read_directory place rest)) (λ i rest. given (sym is i) (λ place. read_directory place rest)) result runs))
+    -- it was found, and the name is looked up there
+    pub finds_on : (mid : KernelModel) (above : Place) → RunsPart (find_place places parent) old mid t (Ok above) → (result : Result Place Ending) → RunsPart (into name above) mid new t result → RunsPart (find_place places names) old new t result
+    finds_on mid above first result second = here result (then_part t (find_place places parent) old new (into name) mid above first result second)
 
-      -- the name leads to a directory, which is read
-      pub walk_on : (place : Place) → found ≡ Ok place → (result : Result Directory Ending) → RunsPart (read_directory place) mid new t result → RunsPart (walk places names) old new t result
-      walk_on place leads result runs = after result
-          (part_as t (λ rest. given found (λ place. read_directory place rest)) mid new (read_directory place) (λ i rest. given (leads i) (λ place. read_directory place rest)) result runs)
+-- ---- a walk
 
-    -- the name leads to none
-    pub walk_ends : (above : Directory) → RunsPart (walk places parent) old new t (Ok above) → (found : Result Place Errno) → found ≡ directory_at (target_of above name) → (errno : Errno) → found ≡ Err errno → RunsPart (walk places names) old new t (Err (Refused errno))
-    walk_ends above first found is errno leads = here (Err (Refused errno))
-        (then_part t (walk places parent) old new (into name) new above first (Err (Refused errno))
-        (part_as t (into name above) new new (λ rest. given (Err errno) (λ place. read_directory place rest)) (λ i rest. given ((sym is ∙ leads) i) (λ place. read_directory place rest)) (Err (Refused errno))
-        (part_fails t (given (Err errno)) new new (λ (place : Place). read_directory place) (Refused errno) (gives_not t Place new errno))))
+-- a walk finds the place, and reads the directory
+walk_on_place : (places : Places) (names : Path) (rest : Directory → Program) → walk places names rest ≡ find_place places names (λ place. read_directory place rest)
+unfolding walk find_place look_in
+walk_on_place places [] rest = refl
+walk_on_place places (name ∷ parent) rest = walk_on_place places parent (λ above. given (directory_at (target_of above name)) (λ place. read_directory place rest))
+
+module _ {A : Type 0} (places : Places) (names : Path) (within : Directory → Part A) where
+  abbrev pub by_walk : Part A
+  by_walk rest = walk places names (λ directory. within directory rest)
+
+  abbrev pub by_place : Part A
+  by_place rest = find_place places names (λ place. read_directory place (λ directory. within directory rest))
+
+  -- so does what begins with a walk
+  pub walk_is : by_walk ≡ by_place
+  walk_is = λ i rest. walk_on_place places names (λ directory. within directory rest) i
+
+module _ (t : ℕ) (places : Places) (old new : KernelModel) (names : Path) where
+  abbrev placed : Part Directory
+  placed rest = find_place places names (λ place. read_directory place rest)
+
+  same : walk places names ≡ placed
+  same = λ i rest. walk_on_place places names rest i
+
+  -- the place was not found
+  pub walk_fails : (ending : Ending) → RunsPart (find_place places names) old new t (Err ending) → RunsPart (walk places names) old new t (Err ending)
+  walk_fails ending first = part_as t (walk places names) old new placed same (Err ending) (part_fails t (find_place places names) old new (λ (place : Place). read_directory place) ending first)
+
+  -- it was found, and the directory is read
+  pub walk_ends : (mid : KernelModel) (place : Place) → RunsPart (find_place places names) old mid t (Ok place) → (result : Result Directory Ending) → RunsPart (read_directory place) mid new t result → RunsPart (walk places names) old new t result
+  walk_ends mid place first result second = part_as t (walk places names) old new placed same result (then_part t (find_place places names) old new (λ (place : Place). read_directory place) mid place first result second)
 
 -- bytes that spell a directory's entries are written
 pub writes : (t : ℕ) (old new : KernelModel) (place : Place) (entries : Entries) (bytes : List ℕ) → IsDirectory bytes entries → (answer : Result (Unit {0}) Refusal) → Answered old new t (Write place.container place.listing 0 bytes) answer (λ _. Unit {0})

@@ -1,9 +1,8 @@
 -- A program that tells its refusals, run to its reply: what its raw calls came to.
-use Rattle.std.proofs.Common.{◌≡◌, ℕ, Bool, true, false, List, [], ◌∷◌, ◌++◌, Option, None, Some, Result, Ok, Err, refl, sym, ap, ◌∙◌, subst, append_assoc}
+use Rattle.std.proofs.Common.{◌≡◌, ℕ, Bool, true, false, List, [], ◌∷◌, ◌++◌, Option, None, Some, Ok, Err, refl, sym, ap, ◌∙◌, subst, append_assoc}
 use Rattle.std.specs.Prelude.{◌||◌}
 use Rattle.std.proofs.lemmas.List.{append-nil}
-use Rattle.std.specs.List.{AllByRecursion, list_any}
-use Rattle.histar_flat.specs.declared.replies.Errno.{Errno}
+use Rattle.std.specs.List.{AllByRecursion}
 use Rattle.histar_flat.specs.declared.replies.Reply.{Reply}
 use Rattle.histar_rules.specs.declared.raw.Denied.{Denied}
 use Rattle.histar_rules.specs.declared.raw.RawCall.{RawCall}
@@ -11,9 +10,8 @@ use Rattle.histar_syscall.specs.declared.trace.TraceEntry.{TraceEntry}
 use Rattle.histar_syscall.specs.KernelModel.{KernelModel, state, Called}
 use Rattle.histar_syscall.specs.Runs.{IsBy, Ran, is_label_refusal, is_range_refusal, some_label_refusal, some_range_refusal}
 use Rattle.histar_syscall.proofs.Runs.{entry_of}
-use Rattle.histar_layout.specs.Directory.{Entries}
-use Rattle.histar_calls.specs.Replies.{is_no_access, is_no_permission, sets_labels, IsRestoring, IsRefusedOnce, Replies}
-use Rattle.histar_calls.specs.Programs.{AnswerOf, Outcome, Program, Asked, Completes}
+use Rattle.histar_calls.specs.Replies.{is_no_access, is_no_permission, IsRestoring, Replies}
+use Rattle.histar_calls.specs.Programs.{Outcome, Program, Asked, Completes}
 use Rattle.histar_calls.specs.Programs.Program.{Answers, Asks, Lists, Stops}
 use Rattle.histar_calls.specs.Laws.{TellsDenial, TellsRefusals}
 

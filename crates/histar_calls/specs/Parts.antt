@@ -17,7 +17,7 @@ use Rattle.histar_calls.specs.declared.find.FoundFile.{FoundFile}
 use Rattle.histar_calls.specs.declared.find.Room.{Room}
 use Rattle.histar_calls.specs.declared.places.Place.{Place}
 use Rattle.histar_calls.specs.Refusals.{errno_for}
-use Rattle.histar_calls.specs.Programs.{AnswerOf, Outcome, Program, Part}
+use Rattle.histar_calls.specs.Programs.{AnswerOf, Program, Part}
 use Rattle.histar_calls.specs.Programs.Program.{Answers, Asks, Lists, Stops}
 
 -- a part, and then what follows it
@@ -91,6 +91,21 @@ room_at None false = Ok tt
 -- what the name leads to in a directory that was read
 abbrev pub target_of : Directory → Name → Option Target
 target_of directory name = map.get directory.entries name
+
+-- looks a name up in a directory, whose segment is read
+unfoldable pub look_in : Place → Name → Part (Option Target)
+look_in place name rest = do
+  directory ← read_directory place
+  rest (target_of directory name)
+
+-- the place of a directory: from `/` on each one on the way to it is read, and the next name is looked up in it
+unfoldable pub find_place : Places → Path → Part Place
+find_place places [] rest = rest places.slash
+find_place places (name ∷ parent) rest = do
+  above ← find_place places parent
+  target ← look_in above name
+  place ← given (directory_at target)
+  rest place
 
 -- a walk reads the directory segment of each directory from `/` to the last one of the path
 unfoldable pub walk : Places → Path → Part Directory

@@ -42,7 +42,7 @@ fn append_file<S: LabelStore + Drop>(
 ) -> Result<Reply, Ending>
     ensures { Runs (append_program places.now path.now bytes) kernel.old kernel.new thread (settled result) }
 {
-    let file = find_file(kernel, alloc, places, thread, path)?;
+    let file = find_file(kernel, places, thread, path)?;
     written(kernel.write(
         alloc,
         thread,

@@ -3,13 +3,13 @@ ghost use Rattle.std.specs.Prelude.{◌≡◌, ◌==◌};
 ghost use Rattle.std.specs.FinMap as map;
 ghost use Rattle.histar_layout.specs.Directory.{most_entries};
 ghost use Rattle.histar_calls.specs.Programs.{RunsPart};
-ghost use Rattle.histar_calls.specs.Parts.{read_directory, walk, directory_at, file_at, entry_at, room_at, target_of, write_entries};
+ghost use Rattle.histar_calls.specs.Parts.{read_directory, walk, directory_at, file_at, entry_at, look_in, find_place, room_at, target_of, write_entries};
 
 use crate::ending::{Ending, written};
 use crate::places::{Place, Places};
 use histar_flat::{Errno, Name};
 use histar_label::LabelStore;
-use histar_layout::{Dir, Target, read_dir, write_dir};
+use histar_layout::{Dir, Target, look_up, read_dir, write_dir};
 use histar_object::ObjId;
 use histar_syscall::Kernel;
 use std::alloc::Global;
@@ -22,42 +22,11 @@ pub struct Directory {
 }
 
 impl Directory {
-    /// The place of the directory at a name. ENOENT where nothing stands there, ENOTDIR where a file
-    /// does.
-    fn directory_at(&self, name: &Name) -> Result<Place, Errno>
-        ensures { result ≡ directory_at (target_of self.now name.now) }
-    {
-        let Some(target) = self.entries.get(name) else {
-            return Err(Errno::ENOENT);
-        };
-        match target {
-            Target::File(_) => Err(Errno::ENOTDIR),
-            Target::Directory(container, listing) => Ok(Place { container, listing }),
-        }
-    }
-
-    /// The segment of the file at a name. ENOENT where nothing stands there, EISDIR where a directory
-    /// does.
-    pub fn file_at(&self, name: &Name) -> Result<ObjId, Errno>
-        ensures { result ≡ file_at (target_of self.now name.now) }
-    {
-        let Some(target) = self.entries.get(name) else {
-            return Err(Errno::ENOENT);
-        };
-        match target {
-            Target::File(file) => Ok(file),
-            Target::Directory(_, _) => Err(Errno::EISDIR),
-        }
-    }
-
     /// Where the entry of a name leads. ENOENT where nothing stands there.
     pub fn entry_at(&self, name: &Name) -> Result<Target, Errno>
         ensures { result ≡ entry_at (target_of self.now name.now) }
     {
-        match self.entries.get(name) {
-            None => Err(Errno::ENOENT),
-            Some(target) => Ok(target),
-        }
+        entry_at(self.entries.get(name))
     }
 
     /// Whether an entry of this name can be made. EEXIST where something stands there, ENOSPC at 64
@@ -91,6 +60,59 @@ impl Directory {
     }
 }
 
+/// What a name leads to, a file or a directory. ENOENT where it leads nowhere.
+pub fn entry_at(target: Option<Target>) -> Result<Target, Errno>
+    ensures { result ≡ entry_at target }
+{
+    match target {
+        None => Err(Errno::ENOENT),
+        Some(target) => Ok(target),
+    }
+}
+
+/// The place of the directory that a name leads to. ENOENT where it leads nowhere, ENOTDIR where it leads
+/// to a file.
+fn directory_at(target: Option<Target>) -> Result<Place, Errno>
+    ensures { result ≡ directory_at target }
+{
+    let Some(target) = target else {
+        return Err(Errno::ENOENT);
+    };
+    match target {
+        Target::File(_) => Err(Errno::ENOTDIR),
+        Target::Directory(container, listing) => Ok(Place { container, listing }),
+    }
+}
+
+/// The segment of the file that a name leads to. ENOENT where it leads nowhere, EISDIR where it leads to a
+/// directory.
+pub fn file_at(target: Option<Target>) -> Result<ObjId, Errno>
+    ensures { result ≡ file_at target }
+{
+    let Some(target) = target else {
+        return Err(Errno::ENOENT);
+    };
+    match target {
+        Target::File(file) => Ok(file),
+        Target::Directory(_, _) => Err(Errno::EISDIR),
+    }
+}
+
+/// Where a name leads in a directory, which is read in place: EACCES where the kernel doesn't let the
+/// thread observe its segment.
+pub fn look_in<S: LabelStore + Drop>(
+    kernel: &mut Kernel<S>,
+    thread: ObjId,
+    place: Place,
+    name: &Name,
+) -> Result<Option<Target>, Ending>
+    ensures { RunsPart (look_in place name.now) kernel.old kernel.new thread result }
+{
+    let bytes = kernel.read(thread, place.container, place.listing)?;
+    let target = look_up(bytes, name)?;
+    Ok(target)
+}
+
 /// Writes the directory segment of a directory, with these entries: EACCES where the kernel doesn't let
 /// the thread modify it.
 pub fn write_entries<S: LabelStore + Drop>(
@@ -106,9 +128,28 @@ pub fn write_entries<S: LabelStore + Drop>(
     written(kernel.write(alloc, thread, place.container, place.listing, 0, bytes))
 }
 
-/// Reads the directories from `/` to the last one of these names, of which the last stands first.
-/// EACCES where one may not be observed, ENOENT where a name is not there, ENOTDIR where it leads to a
-/// file.
+/// The place of the directory of these names, of which the last stands first. Each directory on the way
+/// to it is read in place. EACCES where one may not be observed, ENOENT where a name is not there, ENOTDIR
+/// where it leads to a file.
+pub fn find_place<S: LabelStore + Drop>(
+    kernel: &mut Kernel<S>,
+    places: &Places,
+    thread: ObjId,
+    names: &[Name],
+) -> Result<Place, Ending>
+    ensures { RunsPart (find_place places.now names.now) kernel.old kernel.new thread result }
+{
+    let [name, parent @ ..] = names else {
+        return Ok(places.slash);
+    };
+    let above = find_place(kernel, places, thread, parent)?;
+    let target = look_in(kernel, thread, above, name)?;
+    let place = directory_at(target)?;
+    Ok(place)
+}
+
+/// Reads the directory of these names, of which the last stands first. It is refused where its place can't
+/// be found, and with EACCES where it may not be observed itself.
 pub fn walk<S: LabelStore + Drop>(
     kernel: &mut Kernel<S>,
     alloc: Global,
@@ -118,10 +159,6 @@ pub fn walk<S: LabelStore + Drop>(
 ) -> Result<Directory, Ending>
     ensures { RunsPart (walk places.now names.now) kernel.old kernel.new thread result }
 {
-    let [name, parent @ ..] = names else {
-        return Directory::read(kernel, alloc, thread, places.slash);
-    };
-    let above = walk(kernel, alloc, places, thread, parent)?;
-    let place = above.directory_at(name)?;
+    let place = find_place(kernel, places, thread, names)?;
     Directory::read(kernel, alloc, thread, place)
 }

@@ -5,7 +5,7 @@ ghost use Rattle.histar_layout.specs.Directory.{most_entries};
 ghost use Rattle.histar_calls.specs.Programs.{RunsPart};
 ghost use Rattle.histar_calls.specs.Parts.{find_file, find_room};
 
-use crate::directory::{Directory, walk};
+use crate::directory::{Directory, file_at, find_place, look_in, walk};
 use crate::ending::Ending;
 use crate::places::{Place, Places};
 use histar_flat::{Errno, Name, Path};
@@ -36,7 +36,6 @@ pub struct Room {
 /// stands there, and what refuses the walk.
 pub fn find_file<S: LabelStore + Drop>(
     kernel: &mut Kernel<S>,
-    alloc: Global,
     places: &Places,
     thread: ObjId,
     path: &Path,
@@ -46,12 +45,11 @@ pub fn find_file<S: LabelStore + Drop>(
     let [name, parent @ ..] = path.names() else {
         return Err(Ending::Refused(Errno::EISDIR));
     };
-    let directory = walk(kernel, alloc, places, thread, parent)?;
-    let segment = directory.file_at(name)?;
-    Ok(FoundFile {
-        container: directory.place.container,
-        segment,
-    })
+    let place = find_place(kernel, places, thread, parent)?;
+    let container = place.container;
+    let target = look_in(kernel, thread, place, name)?;
+    let segment = file_at(target)?;
+    Ok(FoundFile { container, segment })
 }
 
 /// The place of a new entry: EEXIST where the path is `/` or something stands there, ENOSPC at 64

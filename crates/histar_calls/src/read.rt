@@ -36,7 +36,7 @@ fn read_file<S: LabelStore + Drop>(
 ) -> Result<Reply, Ending>
     ensures { Runs (read_program places.now path.now) kernel.old kernel.new thread (settled result) }
 {
-    let file = find_file(kernel, alloc, places, thread, path)?;
+    let file = find_file(kernel, places, thread, path)?;
     let bytes = kernel.read_copy(alloc, thread, file.container, file.segment)?;
     Ok(Reply::Data(bytes))
 }

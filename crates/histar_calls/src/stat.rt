@@ -5,7 +5,7 @@ ghost use Rattle.histar_calls.specs.Refusals.{settled};
 ghost use Rattle.histar_calls.specs.StatCall.{find_object, stat_program};
 
 use crate::class::class_of;
-use crate::directory::walk;
+use crate::directory::{entry_at, find_place, look_in};
 use crate::ending::{Ending, Stopped, settle};
 use crate::places::Places;
 use histar_flat::{Path, Reply, User};
@@ -54,7 +54,7 @@ fn stat_object<S: LabelStore + Drop>(
     requires { length users.now ≤ 16 }
     ensures { Runs (stat_program users.now places.now path.now) kernel.old kernel.new thread (settled result) }
 {
-    let found = find_object(kernel, alloc, places, thread, path)?;
+    let found = find_object(kernel, places, thread, path)?;
     let label = kernel.label_of(thread, found.container, found.object)?;
     let Some(class) = class_of(&label, users) else {
         return Err(Ending::Stopped);
@@ -65,7 +65,6 @@ fn stat_object<S: LabelStore + Drop>(
 /// What stands at a path: ENOENT where nothing does, and what refuses the walk.
 fn find_object<S: LabelStore + Drop>(
     kernel: &mut Kernel<S>,
-    alloc: Global,
     places: &Places,
     thread: ObjId,
     path: &Path,
@@ -79,10 +78,12 @@ fn find_object<S: LabelStore + Drop>(
             is_directory: true,
         });
     };
-    let directory = walk(kernel, alloc, places, thread, parent)?;
-    let target = directory.entry_at(name)?;
+    let place = find_place(kernel, places, thread, parent)?;
+    let container = place.container;
+    let found = look_in(kernel, thread, place, name)?;
+    let target = entry_at(found)?;
     Ok(FoundObject {
-        container: directory.place.container,
+        container,
         object: target.object(),
         is_directory: target.is_directory(),
     })

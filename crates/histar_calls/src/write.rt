@@ -39,7 +39,7 @@ fn write_file<S: LabelStore + Drop>(
 ) -> Result<Reply, Ending>
     ensures { Runs (write_program places.now path.now bytes) kernel.old kernel.new thread (settled result) }
 {
-    let file = find_file(kernel, alloc, places, thread, path)?;
+    let file = find_file(kernel, places, thread, path)?;
     written(kernel.write(alloc, thread, file.container, file.segment, 0, bytes))?;
     Ok(Reply::Done)
 }

@@ -1,8 +1,8 @@
-use Rattle.std.proofs.Common.{◌≡◌, refl, sym, ap, ◌∙◌, []}
+use Rattle.std.proofs.Common.{sym, ap, []}
 use Rattle.std.specs.FinMap as map
 use Rattle.histar_flat.specs.declared.replies.Reply.TheVariants.{Done}
 use Rattle.histar_rules.specs.declared.raw.RawCall.TheVariants.{OwnLabel, MakeSegment, Write}
-use Rattle.histar_layout.specs.Directory.{Entries, spelling}
+use Rattle.histar_layout.specs.Directory.{spelling}
 use Rattle.histar_layout.specs.declared.entry.Target.TheVariants.{File}
 use Rattle.histar_calls.specs.declared.ending.Ending.TheVariants.{Stopped}
 use Rattle.histar_calls.specs.Categories.{label_made}

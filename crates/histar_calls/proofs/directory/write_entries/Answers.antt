@@ -1,4 +1,3 @@
-use Rattle.std.proofs.Common.{refl}
 use Rattle.histar_rules.specs.declared.raw.RawCall.TheVariants.{Write}
 use Rattle.histar_layout.specs.Directory.{spelling}
 use Rattle.histar_calls.specs.declared.ending.Ending.TheVariants.{Stopped}

@@ -1,15 +1,12 @@
-use Rattle.std.proofs.Common.{◌≡◌, ◌∙◌, ◌-◌, [], ◌∷◌, length, take, drop, refl, sym, ap, arith, Ok, Err}
+use Rattle.std.proofs.Common.{◌∙◌, ◌-◌, [], length, take, drop, refl, sym, ap, arith, Err}
 use Rattle.std.specs.Prelude.{◌==◌}
 use Rattle.std.specs.FinMap as map
-use Rattle.histar_flat.specs.Words.{Path}
-use Rattle.histar_flat.specs.declared.replies.Errno.TheVariants.{EISDIR, EEXIST}
+use Rattle.histar_flat.specs.declared.replies.Errno.TheVariants.{EEXIST}
 use Rattle.histar_layout.specs.Directory.{most_entries}
 use Rattle.histar_calls.specs.declared.directory.Directory.{Directory}
-use Rattle.histar_calls.specs.declared.find.FoundFile.{FoundFile}
 use Rattle.histar_calls.specs.declared.find.Room.{Room}
 use Rattle.histar_calls.specs.declared.ending.Ending.TheVariants.{Refused}
-use Rattle.histar_calls.specs.Programs.{Part}
-use Rattle.histar_calls.specs.Parts.{given, file_at, room_at, target_of, find_file, find_room}
+use Rattle.histar_calls.specs.Parts.{given, room_at, target_of, find_room}
 use Rattle.histar_calls.proofs.Running.{fails_so, part_as, refuses_at_once}
 use Rattle.histar_calls.proofs.Directories.{no_names, first_of_names}
 use Rattle.histar_calls.proofs.Finding.{walk_failed, walked, decides, decides_not}

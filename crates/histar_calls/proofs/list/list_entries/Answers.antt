@@ -1,8 +1,7 @@
-use Rattle.std.proofs.Common.{◌≡◌, ap, ◌∙◌, sym, [], ◌++◌}
+use Rattle.std.proofs.Common.{ap, ◌∙◌, sym, ◌++◌}
 use Rattle.histar_flat.specs.declared.replies.Reply.TheVariants.{Entries}
 use Rattle.histar_layout.specs.Listing.{names_in}
 use Rattle.histar_calls.specs.declared.ending.Ending.TheVariants.{Stopped}
-use Rattle.histar_calls.specs.Programs.Program.{Answers}
 use Rattle.histar_calls.specs.Parts.{walk}
 use Rattle.histar_calls.specs.ListCall.{list_program}
 use Rattle.histar_calls.proofs.Directories.{before_walk}

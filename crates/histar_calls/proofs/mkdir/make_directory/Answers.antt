@@ -1,8 +1,8 @@
-use Rattle.std.proofs.Common.{◌≡◌, refl, sym, ap, ◌∙◌, []}
+use Rattle.std.proofs.Common.{sym, ap, ◌∙◌, []}
 use Rattle.std.specs.FinMap as map
 use Rattle.histar_flat.specs.declared.replies.Reply.TheVariants.{Done}
 use Rattle.histar_rules.specs.declared.raw.RawCall.TheVariants.{OwnLabel, MakeContainer, MakeSegment, Write}
-use Rattle.histar_layout.specs.Directory.{Entries, spelling}
+use Rattle.histar_layout.specs.Directory.{spelling}
 use Rattle.histar_layout.specs.declared.entry.Target.TheVariants.{Directory}
 use Rattle.histar_calls.specs.declared.ending.Ending.TheVariants.{Stopped}
 use Rattle.histar_calls.specs.Categories.{label_made}
@@ -11,7 +11,7 @@ use Rattle.histar_calls.specs.Parts.{ask, find_room, write_entries}
 use Rattle.histar_calls.specs.Mkdir.{mkdir_program}
 use Rattle.histar_calls.proofs.Running.{grants, refuses, before_ask, part_as, then_call, call_fails, call_fails_so, says}
 use Rattle.histar_calls.proofs.Making.{makes}
-use Rattle.histar_calls.proofs.MakingDirectories.{makes_container, after_label, after_container, after_listing, roomed, labelled, held, listed}
+use Rattle.histar_calls.proofs.MakingDirectories.{makes_container, roomed, labelled, held, listed}
 use Rattle.histar_calls.proofs.mkdir.make_directory.Goals as goal
 
 pub returns-in_err-place : goal.returns-in_err-place

@@ -1,11 +1,9 @@
-use Rattle.std.proofs.Common.{◌≡◌, refl}
-use Rattle.histar_flat.specs.declared.replies.Reply.TheVariants.{Done, Data}
-use Rattle.histar_rules.specs.declared.raw.RawCall.TheVariants.{Read, Write}
-use Rattle.histar_calls.specs.declared.ending.Ending.TheVariants.{Stopped}
+use Rattle.histar_flat.specs.declared.replies.Reply.TheVariants.{Data}
+use Rattle.histar_rules.specs.declared.raw.RawCall.TheVariants.{Read}
 use Rattle.histar_calls.specs.Programs.Program.{Answers}
 use Rattle.histar_calls.specs.Parts.{ask, find_file}
 use Rattle.histar_calls.specs.Read.{read_program}
-use Rattle.histar_calls.proofs.Running.{grants, refuses, asks, then_call, call_fails, call_fails_so, says}
+use Rattle.histar_calls.proofs.Running.{grants, refuses, then_call, call_fails, call_fails_so, says}
 use Rattle.histar_calls.proofs.read.read_file.Goals as goal
 
 pub returns-in_err-file : goal.returns-in_err-file

@@ -1,11 +1,9 @@
-use Rattle.std.proofs.Common.{◌≡◌, refl}
-use Rattle.histar_flat.specs.declared.replies.Reply.TheVariants.{Done, Data}
-use Rattle.histar_rules.specs.declared.raw.RawCall.TheVariants.{Read, Write}
-use Rattle.histar_calls.specs.declared.ending.Ending.TheVariants.{Stopped}
+use Rattle.histar_flat.specs.declared.replies.Reply.TheVariants.{Done}
+use Rattle.histar_rules.specs.declared.raw.RawCall.TheVariants.{Write}
 use Rattle.histar_calls.specs.Programs.Program.{Answers}
 use Rattle.histar_calls.specs.Parts.{ask, find_file}
 use Rattle.histar_calls.specs.Write.{write_program}
-use Rattle.histar_calls.proofs.Running.{grants, refuses, asks, then_call, call_fails, call_fails_so, says}
+use Rattle.histar_calls.proofs.Running.{asks, then_call, call_fails, call_fails_so, says}
 use Rattle.histar_calls.proofs.write.write_file.Goals as goal
 
 pub returns-in_err-file : goal.returns-in_err-file
