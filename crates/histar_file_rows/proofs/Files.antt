@@ -11,11 +11,14 @@ use Rattle.histar_flat.specs.declared.replies.Reply.TheVariants.{Refused}
 use Rattle.histar_flat.specs.Words.{Name, Path}
 use Rattle.histar_flat.specs.Sessions.{Session}
 use Rattle.histar_flat.specs.Files.{get}
-use Rattle.histar_flat.specs.Classes.{Class}
+use Rattle.histar_flat.specs.Classes.{Class, Process}
 use Rattle.histar_flat.specs.FlatState.{Flat, Node, Content, is_some_and, is_dir, into}
 use Rattle.histar_flat.specs.FlatState.Content.{Dir, File}
 use Rattle.histar_flat.specs.FlatCalls.{refused, no_file}
+use Rattle.histar_object.specs.State.{State}
 use Rattle.histar_rules.specs.declared.raw.RawCall.{RawCall}
+use Rattle.histar_syscall.specs.declared.trace.TraceEntry.{TraceEntry}
+use Rattle.histar_syscall.proofs.Runs.{same_kernel}
 use Rattle.histar_syscall.specs.KernelModel.{KernelModel, state}
 use Rattle.histar_layout.specs.declared.entry.Target.{Target}
 use Rattle.histar_calls.specs.declared.ending.Stopped.{Stopped}
@@ -27,27 +30,42 @@ use Rattle.histar_refinement.specs.Sessions.{IsSession}
 use Rattle.histar_refinement.specs.Addresses.{address_of}
 use Rattle.histar_refinement.specs.Directories.{directory_of}
 use Rattle.histar_refinement.specs.Processes.{or_zero}
-use Rattle.histar_rows.specs.Rows.{IsReady, AreAmong}
+use Rattle.histar_rows.specs.Rows.{IsReady, AreAmong, HasWalk, HasReads}
 use Rattle.histar_rows.proofs.Chains.{Step, all_granted, entries_of, Chain}
 use Rattle.histar_rows.proofs.Endings.{ReadsAmong}
 use Rattle.histar_rows.proofs.Steps.{Goal, refused_at_once}
-use Rattle.histar_rows.proofs.Walks.{numbers, place_at, walk_reads, nothing_there, file_there, directory_there, among_granted_all, walk_step}
+use Rattle.histar_rows.proofs.Walks.{numbers, place_at, walk_reads, nothing_there, file_there, directory_there, among_granted_all, has_walk, walk_step}
+
+-- What the flat rules say of a call on a file: what they refuse once it is reached, and that the call cannot do without the reads of the walk.
+pub record ReachesFile (session : Session) (f : Flat) (p : Process) (q : Path) (call : UnixCall) (later : Option Errno) : Type 0 where
+  pub refuses : refused session f [] p call ≡ (no_file session f p q orelse later)
+  pub reads : (s : State) (reply : Reply) (entries : List TraceEntry) → HasWalk session s f p q entries → HasReads session s f p call reply entries
+
+-- a call on `/`, which is no file
+pub slash_is_no_file : (session : Session) (old new : KernelModel) (f : Flat) (t : ℕ) (ready : IsReady session (state old) f t) (call : UnixCall) (result : Result Reply Stopped) (later : Option Errno)
+    → ReachesFile session f ready.alone.process [] call later → (rest : FoundFile → Program) → Runs (find_file (places_of (length session.users)) [] rest) old new t result → Goal session f ready.alone call old new t ready.thread result
+unfolding find_file
+slash_is_no_file session old new f t ready call result later file rest run =
+    refused_at_once session f ready.alone call old new t ready.thread result [] old (same_kernel old) refl ready.lays_out EISDIR file.refuses refl refl (file.reads (state old) (Refused EISDIR) [] tt) run
 
 module _ (session : Session) (ok : IsSession session) (old new : KernelModel) (f : Flat) (t : ℕ) (ready : IsReady session (state old) f t) (m : Name) (d : Path) (call : UnixCall) (result : Result Reply Stopped) (later : Option Errno)
-    (split : refused session f [] ready.alone.process call ≡ (no_file session f ready.alone.process (m ∷ d) orelse later))
-    (has_reads : (steps : List Step) (r : Reply) → AreAmong (walk_reads session ok (state old) f t ready d) (entries_of old.line t steps) → ReadsAmong session f ready.alone call old new t ready.thread steps r) where
+    (file : ReachesFile session f ready.alone.process (m ∷ d) call later) where
   abbrev Row : Type 0
   Row = Goal session f ready.alone call old new t ready.thread result
 
   abbrev walk : List RawCall
   walk = walk_reads session ok (state old) f t ready d
 
+  -- the reads of the walk are reads that the call cannot do without
+  pub has_reads : (steps : List Step) (reply : Reply) → AreAmong (walk_reads session ok (state old) f t ready d) (entries_of old.line t steps) → ReadsAmong session f ready.alone call old new t ready.thread steps reply
+  has_reads steps reply among = file.reads (state old) reply (entries_of old.line t steps) (has_walk session ok (state old) f t ready m d (entries_of old.line t steps) among)
+
   -- the tests of reaching the file in its directory, in their order
   abbrev tests : Option Node → Option Errno
   tests o = unless (is_some_and o (λ n. true)) ENOENT orelse unless (is_some_and o (λ n. not (is_dir n))) EISDIR
 
   refused_is : (way : Option Errno) (o : Option Node) → into session f ready.alone.process d ≡ way → get f.files (m ∷ d) ≡ o → refused session f [] ready.alone.process call ≡ ((way orelse tests o) orelse later)
-  refused_is way o is_way is_o = split ∙ (λ i. (is_way i orelse tests (is_o i)) orelse later)
+  refused_is way o is_way is_o = file.refuses ∙ (λ i. (is_way i orelse tests (is_o i)) orelse later)
 
   -- once the way is open and a file stands there, the flat rules refuse what they refuse of the file
   pub reached : into session f ready.alone.process d ≡ None → (class : Class) (bytes : List ℕ) → get f.files (m ∷ d) ≡ Some (record { class = class; content = File bytes }) → refused session f [] ready.alone.process call ≡ later

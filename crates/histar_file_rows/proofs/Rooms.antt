@@ -1,23 +1,28 @@
 -- A call that makes an entry: there is room for it, or the call is refused as the flat rules refuse it.
 use Rattle.std.proofs.Common.{◌≡◌, ℕ, ◌≤◌, ◌==◌, Bool, true, false, List, [], ◌∷◌, Option, None, Some, Result, arith, refl, ◌∙◌, subst, length}
-use Rattle.std.specs.Prelude.{not, nat_lt}
+use Rattle.std.specs.Prelude.{not, nat_lt, is_some}
 use Rattle.std.specs.FinMap as map
 use Rattle.std.proofs.lemmas.Bool.Decides.{nat_tests}
 use Rattle.histar_base.specs.Refusals.{◌orelse◌, unless}
+use Rattle.histar_flat.specs.declared.calls.Mode.{Mode}
 use Rattle.histar_flat.specs.declared.calls.UnixCall.{UnixCall}
 use Rattle.histar_flat.specs.declared.replies.Errno.{Errno}
-use Rattle.histar_flat.specs.declared.replies.Errno.TheVariants.{EEXIST, ENOSPC, EACCES}
+use Rattle.histar_flat.specs.declared.replies.Errno.TheVariants.{EEXIST, ENOSPC, EACCES, EPERM}
 use Rattle.histar_flat.specs.declared.replies.Reply.{Reply}
-use Rattle.histar_flat.specs.declared.replies.Reply.TheVariants.{Refused}
+use Rattle.histar_flat.specs.declared.replies.Reply.TheVariants.{Done, Refused}
 use Rattle.histar_flat.specs.Words.{Name, Path}
 use Rattle.histar_flat.specs.Sessions.{Session}
 use Rattle.histar_flat.specs.Files.{get}
-use Rattle.histar_flat.specs.Classes.{Class, Process}
-use Rattle.histar_flat.specs.FlatState.{Flat, Node, Content, is_some_and, entries_in, writes, into}
+use Rattle.histar_flat.specs.Classes.{Class, Process, class_made}
+use Rattle.histar_flat.specs.FlatState.{Flat, Node, Content, is_some_and, entries_in, writes, with_node, into}
 use Rattle.histar_flat.specs.FlatState.Content.{Dir, File}
-use Rattle.histar_flat.specs.FlatCalls.{refused, no_room, most_entries}
+use Rattle.histar_flat.specs.FlatCalls as flat
+use Rattle.histar_flat.specs.FlatCalls.{refused, changed, no_room, most_entries, class_or_open}
+use Rattle.histar_object.specs.State.{State}
 use Rattle.histar_rules.specs.declared.raw.RawCall.{RawCall}
 use Rattle.histar_syscall.specs.KernelModel.{KernelModel, state}
+use Rattle.histar_syscall.specs.declared.trace.TraceEntry.{TraceEntry}
+use Rattle.histar_syscall.proofs.Runs.{same_kernel}
 use Rattle.histar_layout.specs.Directory.{Entries}
 use Rattle.histar_layout.specs.Directory as layout
 use Rattle.histar_layout.specs.declared.entry.Target.{Target}
@@ -29,15 +34,28 @@ use Rattle.histar_login.specs.Start.{places_of}
 use Rattle.histar_refinement.specs.Sessions.{IsSession}
 use Rattle.histar_refinement.specs.Directories.{directory_of}
 use Rattle.histar_refinement.proofs.Making.{count_entries}
-use Rattle.histar_rows.specs.Rows.{IsReady, AreAmong}
+use Rattle.histar_rows.specs.Rows.{IsReady, AreAmong, HasWalk, HasReads}
 use Rattle.histar_rows.proofs.Chains.{Step, all_granted, entries_of, Chain}
 use Rattle.histar_rows.proofs.Endings.{ReadsAmong}
 use Rattle.histar_rows.proofs.Steps.{Goal, refused_at_once}
-use Rattle.histar_rows.proofs.Walks.{place_at, walk_reads, dir, holds, nothing_there, file_there, directory_there, among_granted_all, walk_step}
+use Rattle.histar_rows.proofs.Walks.{place_at, walk_reads, dir, holds, nothing_there, file_there, directory_there, among_granted_all, has_walk, walk_step}
 
-module _ (session : Session) (ok : IsSession session) (old new : KernelModel) (f : Flat) (t : ℕ) (ready : IsReady session (state old) f t) (m : Name) (d : Path) (call : UnixCall) (result : Result Reply Stopped) (later : Option Errno)
-    (split : refused session f [] ready.alone.process call ≡ (no_room session f ready.alone.process (m ∷ d) orelse later))
-    (has_reads : (steps : List Step) (r : Reply) → AreAmong (walk_reads session ok (state old) f t ready d) (entries_of old.line t steps) → ReadsAmong session f ready.alone call old new t ready.thread steps r) where
+-- What the flat rules say of a call that makes an entry with this content: what they refuse and change, their answer, and that it cannot do without the reads of the walk.
+pub record MakesEntry (session : Session) (f : Flat) (p : Process) (q : Path) (mode : Mode) (content : Content) (call : UnixCall) : Type 0 where
+  pub refuses : refused session f [] p call ≡ (no_room session f p q orelse unless (is_some (class_made session p mode)) EPERM)
+  pub changes : changed session f [] p call ≡ with_node f q (class_or_open (class_made session p mode)) content
+  pub answers : flat.answer f [] p call ≡ Done
+  pub reads : (s : State) (reply : Reply) (entries : List TraceEntry) → HasWalk session s f p q entries → HasReads session s f p call reply entries
+
+-- a call that would make `/`, which stands already
+pub slash_stands : (session : Session) (old new : KernelModel) (f : Flat) (t : ℕ) (ready : IsReady session (state old) f t) (mode : Mode) (content : Content) (call : UnixCall) (result : Result Reply Stopped)
+    → MakesEntry session f ready.alone.process [] mode content call → (rest : Room → Program) → Runs (find_room (places_of (length session.users)) [] rest) old new t result → Goal session f ready.alone call old new t ready.thread result
+unfolding find_room
+slash_stands session old new f t ready mode content call result entry rest run =
+    refused_at_once session f ready.alone call old new t ready.thread result [] old (same_kernel old) refl ready.lays_out EEXIST entry.refuses refl refl (entry.reads (state old) (Refused EEXIST) [] tt) run
+
+module _ (session : Session) (ok : IsSession session) (old new : KernelModel) (f : Flat) (t : ℕ) (ready : IsReady session (state old) f t) (m : Name) (d : Path) (mode : Mode) (content : Content) (call : UnixCall) (result : Result Reply Stopped)
+    (entry : MakesEntry session f ready.alone.process (m ∷ d) mode content call) where
   abbrev Row : Type 0
   Row = Goal session f ready.alone call old new t ready.thread result
 
@@ -50,6 +68,10 @@ module _ (session : Session) (ok : IsSession session) (old new : KernelModel) (f
   abbrev pub listed : Entries
   listed = directory_of f.files ready.lays_out.laid.naming.number d
 
+  -- the reads of the walk are reads that the call cannot do without
+  pub has_reads : (steps : List Step) (reply : Reply) → AreAmong walk (entries_of old.line t steps) → ReadsAmong session f ready.alone call old new t ready.thread steps reply
+  has_reads steps reply among = entry.reads (state old) reply (entries_of old.line t steps) (has_walk session ok (state old) f t ready m d (entries_of old.line t steps) among)
+
   -- the directory has room
   abbrev pub roomy : Bool
   roomy = nat_lt (length (entries_in f d)) most_entries
@@ -58,9 +80,13 @@ module _ (session : Session) (ok : IsSession session) (old new : KernelModel) (f
   abbrev tests : Option Node → Bool → Bool → Option Errno
   tests o room may = unless (not (is_some_and o (λ n. true))) EEXIST orelse unless room ENOSPC orelse unless may EACCES
 
+  -- what is refused once there is room
+  abbrev later : Option Errno
+  later = unless (is_some (class_made session p mode)) EPERM
+
   refused_is : (way : Option Errno) (o : Option Node) (room may : Bool) → into session f p d ≡ way → get f.files (m ∷ d) ≡ o → roomy ≡ room → writes session f p d ≡ may
       → refused session f [] p call ≡ ((way orelse tests o room may) orelse later)
-  refused_is way o room may is_way is_o is_room is_may = split ∙ (λ i. (is_way i orelse tests (is_o i) (is_room i) (is_may i)) orelse later)
+  refused_is way o room may is_way is_o is_room is_may = entry.refuses ∙ (λ i. (is_way i orelse tests (is_o i) (is_room i) (is_may i)) orelse later)
 
   module _ (open_so_far : into session f p d ≡ None) where
     -- the directory is full exactly where it has no room

@@ -1,0 +1,143 @@
+-- A call that writes a file, as `write` and `append` do: the file is found, and its segment is written, or the call is refused as the flat rules refuse it.
+use Rattle.std.proofs.Common.{◌+◌, ◌≡◌, ℕ, ◌≤◌, Bool, true, false, List, [], ◌∷◌, ◌++◌, Option, None, Some, Result, refl, sym, ap, ◌∙◌, subst, length}
+use Rattle.std.specs.Prelude.{min, nat_le, take}
+use Rattle.std.proofs.lemmas.List.{length-append, length-take}
+use Rattle.histar_base.specs.Refusals.{◌orelse◌, unless}
+use Rattle.histar_flat.specs.declared.calls.UnixCall.{UnixCall}
+use Rattle.histar_flat.specs.declared.replies.Errno.{Errno}
+use Rattle.histar_flat.specs.declared.replies.Errno.TheVariants.{EACCES, EFBIG}
+use Rattle.histar_flat.specs.declared.replies.Reply.{Reply}
+use Rattle.histar_flat.specs.declared.replies.Reply.TheVariants.{Done}
+use Rattle.histar_flat.specs.Words.{Name, Path}
+use Rattle.histar_flat.specs.Sessions.{Session}
+use Rattle.histar_flat.specs.Files.{get}
+use Rattle.histar_flat.specs.Classes.{Class, Process}
+use Rattle.histar_flat.specs.FlatState.{Flat, bytes_at, writes, into, with_bytes as with_file_bytes}
+use Rattle.histar_flat.specs.FlatState.Content.{File}
+use Rattle.histar_flat.specs.FlatCalls as flat
+use Rattle.histar_flat.specs.FlatCalls.{refused, changed, most_bytes}
+use Rattle.histar_object.specs.Objects.{bytes_in}
+use Rattle.histar_object.specs.State.{State, with_bytes}
+use Rattle.histar_rules.specs.declared.raw.Denied.{Denied}
+use Rattle.histar_rules.specs.declared.raw.Denied.TheVariants.{Modify, TooBig}
+use Rattle.histar_rules.specs.declared.raw.RawCall.{RawCall}
+use Rattle.histar_rules.specs.declared.raw.RawCall.TheVariants as raw
+use Rattle.histar_rules.specs.Rules.{check, fits_segment}
+use Rattle.histar_syscall.specs.KernelModel.{KernelModel, state}
+use Rattle.histar_calls.specs.declared.ending.Stopped.{Stopped}
+use Rattle.histar_calls.specs.Refusals.{write_errno_of}
+use Rattle.histar_calls.specs.Programs.{Runs}
+use Rattle.histar_calls.specs.Programs.Program.{Answers}
+use Rattle.histar_calls.specs.Parts.{ask, find_file}
+use Rattle.histar_login.specs.Start.{places_of}
+use Rattle.histar_container.specs.Tree.{Naming}
+use Rattle.histar_refinement.specs.Sessions.{IsSession}
+use Rattle.histar_refinement.specs.Addresses.Step.{Inside, Runner}
+use Rattle.histar_refinement.specs.Addresses.{Step, home_of}
+use Rattle.histar_refinement.specs.LaysOut.{LaysOut}
+use Rattle.histar_refinement.specs.Lines.{IsThreadOf}
+use Rattle.histar_refinement.proofs.Writing.{laid_overwritten, lays_out_overwritten}
+use Rattle.histar_rows.specs.Rows.{IsReady}
+use Rattle.histar_rows.proofs.Chains.{all_granted, entries_of, Chain}
+use Rattle.histar_rows.proofs.Endings.{IsBacked}
+use Rattle.histar_rows.proofs.Steps.{Goal, granted_step, refused_step, answered_step}
+use Rattle.histar_rows.proofs.Walks.{walk_reads, among_granted_all, among_then, among_also}
+use Rattle.histar_file_rows.proofs.Files.{ReachesFile, reached, has_reads, file_step}
+use Rattle.histar_file_rows.proofs.FoundObjects.{container, segment, numbered, held_is, held_there, write_said, thread_kept}
+
+-- what the flat rules refuse of the file
+abbrev pub refusal : Bool → Bool → Option Errno
+refusal may fits = unless may EACCES orelse unless fits EFBIG
+
+-- What the flat rules say of a call that leaves these bytes in a file.
+pub record WritesFile (session : Session) (f : Flat) (p : Process) (q : Path) (call : UnixCall) (whole : List ℕ) : Type 0 where
+  pub reaches : ReachesFile session f p q call (refusal (writes session f p q) (nat_le (length whole) most_bytes))
+  pub changes : changed session f [] p call ≡ with_file_bytes f q whole
+  pub answers : flat.answer f [] p call ≡ Done
+
+-- what is kept of the old bytes counts, and what is written behind it
+kept_length : (keep : ℕ) (held bytes whole : List ℕ) → take keep held ++ bytes ≡ whole → fits_segment (min keep (length held) + length bytes) ≡ nat_le (length whole) most_bytes
+kept_length keep held bytes whole is =
+    let total : min keep (length held) + length bytes ≡ length whole = ap (λ (k : ℕ). k + length bytes) (sym (length-take keep held)) ∙ sym (length-append (take keep held) bytes) ∙ ap length is in
+    ap (λ (k : ℕ). nat_le k most_bytes) total
+
+module _ (session : Session) (ok : IsSession session) (old new : KernelModel) (f : Flat) (t : ℕ) (ready : IsReady session (state old) f t) (m : Name) (d : Path) (keep : ℕ) (bytes whole : List ℕ)
+    (call : UnixCall) (result : Result Reply Stopped) (writing : WritesFile session f ready.alone.process (m ∷ d) call whole) where
+  abbrev p : Process
+  p = ready.alone.process
+
+  abbrev walk : List RawCall
+  walk = walk_reads session ok (state old) f t ready d
+
+  abbrev Row : Type 0
+  Row = Goal session f ready.alone call old new t ready.thread result
+
+  -- the segment of the file, and the write of it
+  abbrev file : ℕ
+  file = segment session ok (state old) f t ready d m
+
+  abbrev next : RawCall
+  next = raw.Write (container session ok (state old) f t ready d) file keep bytes
+
+  -- the file may be written
+  abbrev may : Bool
+  may = writes session f p (m ∷ d)
+
+  -- the bytes are not too many
+  abbrev fits : Bool
+  fits = nat_le (length whole) most_bytes
+
+  -- what is kept of the file's bytes, and the new ones behind it, are the bytes that it has then
+  module _ (kept : take keep (bytes_at f (m ∷ d)) ++ bytes ≡ whole) (open_so_far : into session f p d ≡ None) (class : Class) (held : List ℕ) (at : get f.files (m ∷ d) ≡ Some (record { class = class; content = File held }))
+      (mid : KernelModel) (stays : state mid ≡ state old) (chain : Chain old t (all_granted walk) mid) where
+    refused_by : (is_may is_fits : Bool) → may ≡ is_may → fits ≡ is_fits → refused session f [] p call ≡ refusal is_may is_fits
+    refused_by is_may is_fits e more = reached session ok old new f t ready m d call result (refusal may fits) writing.reaches open_so_far class held at ∙ (λ i. refusal (e i) (more i))
+
+    -- the kernel's check is the flat rule
+    said_by : (is_may is_fits : Bool) → may ≡ is_may → fits ≡ is_fits → check (state mid) t next ≡ (unless is_may Modify orelse unless is_fits TooBig)
+    said_by is_may is_fits e more =
+        ap (λ (s : State). check s t next) stays
+        ∙ write_said session ok (state old) f t ready d open_so_far m class held at keep bytes
+        ∙ (λ i. unless (e i) Modify orelse unless ((kept_length keep (bytes_at f (m ∷ d)) bytes whole kept ∙ more) i) TooBig)
+
+    -- a denial is told
+    denied : (d : Denied) (errno : Errno) → check (state mid) t next ≡ Some d → write_errno_of d ≡ Some errno → refused session f [] p call ≡ Some errno → Runs (ask next (λ _. Answers Done)) mid new t result → Row
+    denied d errno fails told is on =
+        refused_step session f ready.alone call old new t ready.thread result walk mid chain stays ready.lays_out errno is next (λ _. Answers Done) d fails told
+        (has_reads session ok old new f t ready m _ call result (refusal may fits) writing.reaches _ _ (among_also old.line t walk walk ((next, Some d) ∷ []) (among_granted_all old.line t walk))) on
+
+    -- the kernel has the objects of the flat state with the new bytes, and the thread is the one that it was
+    laid_after : LaysOut session (with_bytes (state old) file whole) (changed session f [] p call)
+    laid_after = subst (LaysOut session (with_bytes (state old) file whole)) (sym writing.changes)
+        (lays_out_overwritten session (state old) f ready.lays_out.laid (m ∷ d) class held whole at file (numbered session ok (state old) f t ready d open_so_far m class held at) ready.lays_out.jobs_given)
+
+    thread_after : IsThreadOf session (with_bytes (state old) file whole) [] t
+    thread_after =
+        let later = laid_overwritten session (state old) f ready.lays_out.laid (m ∷ d) class held whole at file (numbered session ok (state old) f t ready d open_so_far m class held at) in
+        thread_kept session ok (state old) f t ready (with_bytes (state old) file whole) (with_file_bytes f (m ∷ d) whole) later.0 ready.alone.stands (ap (λ (n : Naming Step). n.number (Runner ∷ Inside ∷ home_of [])) later.1)
+
+    left : (s : State) → s ≡ state old → with_bytes s file (take keep (bytes_in (s.objects file)) ++ bytes) ≡ with_bytes (state old) file whole
+    left s same = let there = held_there session ok (state old) f t ready d open_so_far m class held at in
+        (λ i. with_bytes (same i) file (take keep (bytes_in ((same i).objects file)) ++ bytes))
+        ∙ (λ i. with_bytes (state old) file (take keep (there i) ++ bytes)) ∙ ap (with_bytes (state old) file) kept
+
+    by_right : (is_may is_fits : Bool) → may ≡ is_may → fits ≡ is_fits → Runs (ask next (λ _. Answers Done)) mid new t result → Row
+    by_right false is_fits e more on = denied Modify EACCES (said_by false is_fits e more) refl (refused_by false is_fits e more) on
+    by_right true false e more on = denied TooBig EFBIG (said_by true false e more) refl (refused_by true false e more) on
+    by_right true true e more on =
+        granted_step session f ready.alone call old new t ready.thread result walk mid chain next (λ _. Answers Done) (said_by true true e more) on
+        (λ later answer called right longer end.
+        let new_state : state later ≡ with_bytes (state old) file whole = called.state ∙ left (state mid) stays in
+        answered_step session f ready.alone call old new t ready.thread result (walk ++ next ∷ []) later longer Done (sym writing.answers) (refused_by true true e more)
+        (subst (λ (r : Reply). IsBacked (state old) (entries_of old.line t (all_granted (walk ++ next ∷ []))) r) (sym writing.answers) tt)
+        (has_reads session ok old new f t ready m d call result (refusal may fits) writing.reaches _ _ (among_then old.line t walk walk (next ∷ []) (among_granted_all old.line t walk)))
+        (subst (λ (s : State). LaysOut session s (changed session f [] p call)) (sym new_state) laid_after) (subst (λ (s : State). IsThreadOf session s [] t) (sym new_state) thread_after) end)
+
+  -- The file is found and written, or the call is refused.
+  pub writing_step : (length (bytes_at f (m ∷ d)) ≤ most_bytes → take keep (bytes_at f (m ∷ d)) ++ bytes ≡ whole)
+      → Runs (find_file (places_of (length session.users)) (m ∷ d) (λ found. ask (raw.Write found.container found.segment keep bytes) (λ _. Answers Done))) old new t result → Row
+  writing_step kept run =
+      file_step session ok old new f t ready m d call result (refusal may fits) writing.reaches _ run
+      (λ open_so_far class held at mid stays chain on.
+      by_right (kept (subst (λ (xs : List ℕ). length xs ≤ most_bytes) (sym (held_is session ok (state old) f t ready d open_so_far m class held at)) (ready.small (m ∷ d) class held at)))
+      open_so_far class held at mid stays chain may fits refl refl on)
