@@ -9,8 +9,7 @@ use Rattle.histar_flat.specs.FlatState.{Flat, bytes_at}
 use Rattle.histar_flat.specs.FlatCalls.{most_bytes}
 use Rattle.histar_calls.specs.Append.{append_program}
 use Rattle.histar_rows.specs.Laws.{AppendsAreRows}
-use Rattle.histar_file_rows.proofs.Files.{slash_is_no_file}
-use Rattle.histar_file_rows.proofs.WrittenFiles.{WritesFile, writing_step}
+use Rattle.histar_file_rows.proofs.Files.{WritesFile, slash_is_no_file, writing_step}
 
 -- the file has the new bytes behind its old ones then
 append_writes : (session : Session) (f : Flat) (p : Process) (q : Path) (bytes : List ℕ) → WritesFile session f p q (calls.Append q bytes) (bytes_at f q ++ bytes)
@@ -22,5 +21,5 @@ unfolding append_program
 appends_are_rows session ok [] bytes old new f t result ready run =
     slash_is_no_file session old new f t ready (calls.Append [] bytes) result _ (append_writes session f ready.alone.process [] bytes).reaches _ run
 appends_are_rows session ok (m ∷ d) bytes old new f t result ready run =
-    writing_step session ok old new f t ready m d most_bytes bytes (bytes_at f (m ∷ d) ++ bytes) (calls.Append (m ∷ d) bytes) result (append_writes session f ready.alone.process (m ∷ d) bytes)
+    writing_step session ok old new f t ready m d (calls.Append (m ∷ d) bytes) result most_bytes bytes (bytes_at f (m ∷ d) ++ bytes) (append_writes session f ready.alone.process (m ∷ d) bytes)
     (λ few. ap (λ (xs : List ℕ). xs ++ bytes) (take_all most_bytes (bytes_at f (m ∷ d)) few)) run

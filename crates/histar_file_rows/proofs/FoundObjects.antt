@@ -14,6 +14,7 @@ use Rattle.histar_object.specs.declared.objects.Kind.TheVariants.{Container, Thr
 use Rattle.histar_object.specs.declared.objects.Object.{Object}
 use Rattle.histar_object.specs.Objects.{links_in, bytes_in}
 use Rattle.histar_object.specs.State.{State, Found, added}
+use Rattle.histar_container.specs.Tree.{Address}
 use Rattle.histar_rules.specs.declared.raw.Denied.{Denied}
 use Rattle.histar_rules.specs.declared.raw.Denied.TheVariants.{Observe, Modify, Range, TooBig}
 use Rattle.histar_rules.specs.declared.raw.RawCall.{RawCall}
@@ -21,7 +22,6 @@ use Rattle.histar_rules.specs.declared.raw.RawCall.TheVariants as raw
 use Rattle.histar_rules.specs.Rules.{check, no_making, has_number, fits_segment}
 use Rattle.histar_layout.specs.Directory.{Entries, spelling}
 use Rattle.histar_calls.specs.Refusals.{errno_of, errno_for}
-use Rattle.histar_container.specs.Tree.{Address}
 use Rattle.histar_refinement.specs.Sessions.{IsSession}
 use Rattle.histar_refinement.specs.Guards.{Guard, guard_label, rights_label, rights_clearance}
 use Rattle.histar_refinement.specs.Labels.{class_guard, thread_rights}

@@ -3,8 +3,6 @@ pub mod FoundObjects
 pub mod MadeEntries
 pub mod Makers
 pub mod NewEntries
-pub mod Rooms
-pub mod WrittenFiles
 pub mod Read
 pub mod Write
 pub mod Create

@@ -3,22 +3,22 @@ use Rattle.std.proofs.Common.{◌≡◌, ◌≢◌, ℕ, ◌+◌, ◌<◌, ◌�
 use Rattle.std.specs.Prelude.{IsTrue, ◌∷◌, nat_le, option_map}
 use Rattle.std.specs.List.{list_all}
 use Rattle.std.proofs.lemmas.Bool.{and_parts}
-use Rattle.histar_flat.specs.Words.{Name, Path, is_name, is_path, most_names}
 use Rattle.std.specs.FinSet as set
 use Rattle.std.specs.Ordering.{eq_by_cmp}
 use Rattle.std.specs.Ordering.{nat_cmp}
 use Rattle.std.specs.Cmp.{nat_cmp_total}
 use mathlib.Core.Bool.{true≢false}
 use Rattle.histar_base.specs.Refusals.{◌orelse◌, unless}
+use Rattle.histar_flat.specs.Words.{Name, Path, is_name, is_path, most_names}
 use Rattle.histar_label.specs.Levels.{Levels, is_below, is_below_raised}
 use Rattle.histar_object.specs.declared.objects.Kind.TheVariants.{Segment, Container, Thread}
 use Rattle.histar_object.specs.declared.objects.Object.{Object}
 use Rattle.histar_object.specs.Objects.{Numbers as Links, is_container, put, linking}
 use Rattle.histar_object.specs.State.{State, added}
+use Rattle.histar_container.proofs.TableMoves.{put_here, put_other, changed_here, changed_other}
 use Rattle.histar_rules.specs.declared.raw.Denied.TheVariants.{Modify, TooBig}
 use Rattle.histar_rules.specs.declared.raw.RawCall.TheVariants.{Write}
 use Rattle.histar_rules.specs.Rules.{check, no_making}
-use Rattle.histar_container.proofs.TableMoves.{put_here, put_other, changed_here, changed_other}
 use Rattle.histar_refinement.proofs.RawChecks.{object, write_check, making_check}
 use Rattle.histar_refinement.proofs.FileChecks.{fits}
 

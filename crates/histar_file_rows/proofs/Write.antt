@@ -7,8 +7,7 @@ use Rattle.histar_flat.specs.Classes.{Process}
 use Rattle.histar_flat.specs.FlatState.{Flat}
 use Rattle.histar_calls.specs.Write.{write_program}
 use Rattle.histar_rows.specs.Laws.{WritesAreRows}
-use Rattle.histar_file_rows.proofs.Files.{slash_is_no_file}
-use Rattle.histar_file_rows.proofs.WrittenFiles.{WritesFile, writing_step}
+use Rattle.histar_file_rows.proofs.Files.{WritesFile, slash_is_no_file, writing_step}
 
 -- the file has the new bytes then
 write_writes : (session : Session) (f : Flat) (p : Process) (q : Path) (bytes : List ℕ) → WritesFile session f p q (calls.Write q bytes) bytes
@@ -20,4 +19,4 @@ unfolding write_program
 writes_are_rows session ok [] bytes old new f t result ready run =
     slash_is_no_file session old new f t ready (calls.Write [] bytes) result _ (write_writes session f ready.alone.process [] bytes).reaches _ run
 writes_are_rows session ok (m ∷ d) bytes old new f t result ready run =
-    writing_step session ok old new f t ready m d 0 bytes bytes (calls.Write (m ∷ d) bytes) result (write_writes session f ready.alone.process (m ∷ d) bytes) (λ few. refl) run
+    writing_step session ok old new f t ready m d (calls.Write (m ∷ d) bytes) result 0 bytes bytes (write_writes session f ready.alone.process (m ∷ d) bytes) (λ few. refl) run
