@@ -38,7 +38,7 @@ use Rattle.histar_refinement.specs.Addresses.Step.{Inside, Runner}
 use Rattle.histar_refinement.proofs.Creating.{laid_created}
 use Rattle.histar_rows.specs.Rows.{IsReady}
 use Rattle.histar_rows.specs.Laws.{CreatesAreRows}
-use Rattle.histar_file_rows.proofs.FoundObjects.{container, listing, root_at, root, at_D, at_N, below, listing_still, segment_made}
+use Rattle.histar_file_rows.proofs.FoundObjects.{container, listing, directory_stands, directory_class, container_numbered, listing_numbered, below, listing_still, segment_made}
 use Rattle.histar_file_rows.proofs.MadeEntries.{MakesEntry, slash_stands, asked, among_asked, the_room, GoesOn, entry_step, entry_written}
 use Rattle.histar_file_rows.proofs.NewEntries.{last_name}
 
@@ -62,19 +62,19 @@ module _ (session : Session) (ok : IsSession session) (old new : KernelModel) (f
 
   -- once the file is made the directory is written
   goes_on : GoesOn session ok old new f t ready m d mode (File []) call result makes nameable make within
-  goes_on open_so_far absent room made is_may has mid linked number stays called number_is chain rest =
-      let D = container session ok (state old) f t ready d in
+  goes_on open_so_far absent room made is_may has mid stays linked number called number_is chain rest =
+      let above = container session ok (state old) f t ready d in
       let file : Object Levels = record { label = guard_label ready.lays_out.laid.category made.guard; kind = Segment [] } in
-      let at_D = at_D session ok (state old) f t ready d open_so_far in
-      let low = below session ok (state old) f t ready (address_of d) D at_D in
+      let at_container = container_numbered session ok (state old) f t ready d open_so_far in
+      let low = below session ok (state old) f t ready (address_of d) above at_container in
       let next_below = ltb-true (state old).next_object greatest has in
-      let later = laid_created session (state old) f ready.lays_out.laid d (root session ok (state old) f t ready d open_so_far) (root_at session ok (state old) f t ready d open_so_far) D (listing session ok (state old) f t ready d)
-      at_D (at_N session ok (state old) f t ready d open_so_far) m absent made.class made.fits made.guard made.guarded named (ltb-true (length (entries_in f d)) most_entries room) next_below in
-      let making : RawCall = make D (guard_label ready.lays_out.laid.category made.guard) in
+      let later = laid_created session (state old) f ready.lays_out.laid d (directory_class session ok (state old) f t ready d open_so_far) (directory_stands session ok (state old) f t ready d open_so_far) above (listing session ok (state old) f t ready d)
+      at_container (listing_numbered session ok (state old) f t ready d open_so_far) m absent made.class made.fits made.guard made.guarded named (ltb-true (length (entries_in f d)) most_entries room) next_below in
+      let making : RawCall = make above (guard_label ready.lays_out.laid.category made.guard) in
       entry_written session ok old new f t ready m d mode (File []) call result makes nameable named open_so_far absent room made is_may
-      (targets.File (state old).next_object) (omega (arith, low), omega (arith, next_below)) (added (state old) D file) (listing_still session ok (state old) f t ready d open_so_far file)
+      (targets.File (state old).next_object) (omega (arith, low), omega (arith, next_below)) (added (state old) above file) (listing_still session ok (state old) f t ready d open_so_far file)
       (asked session ok (state old) f t ready d ++ making ∷ []) (among_asked session ok (state old) f t ready d old.line (making ∷ []))
-      linked (called.state ∙ ap (λ (s : State). added s D file) stays) chain later.0 (ap (λ (n : Naming Step). n.number (Runner ∷ Inside ∷ home_of [])) later.1)
+      linked (called.state ∙ ap (λ (s : State). added s above file) stays) chain later.0 (ap (λ (n : Naming Step). n.number (Runner ∷ Inside ∷ home_of [])) later.1)
       (subst (λ (q : ℕ). Runs (within (the_room session ok (state old) f t ready d m) (guard_label ready.lays_out.laid.category made.guard) q) linked new t result) (number_is ∙ ap (λ (s : State). s.next_object) stays) rest)
 
 -- a create does what its flat rule says

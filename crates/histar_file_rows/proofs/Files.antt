@@ -49,7 +49,7 @@ use Rattle.histar_rows.proofs.Chains.{Step, all_granted, entries_of, Chain}
 use Rattle.histar_rows.proofs.Endings.{ReadsAmong, IsBacked}
 use Rattle.histar_rows.proofs.Steps.{Goal, refused_at_once, granted_step, refused_step, answered_step}
 use Rattle.histar_rows.proofs.Walks.{numbers, place_at, walk_reads, nothing_there, file_there, directory_there, among_granted_all, has_walk, walk_step, among_then, among_also}
-use Rattle.histar_file_rows.proofs.FoundObjects.{container, segment, numbered, held_is, held_there, write_said, thread_kept}
+use Rattle.histar_file_rows.proofs.FoundObjects.{container, segment, file_numbered, holds_bytes, held_there, write_said, thread_kept}
 
 -- What the flat rules say of a call on a file: what they refuse once it is reached, and that the call cannot do without the reads of the walk.
 pub record ReachesFile (session : Session) (f : Flat) (p : Process) (q : Path) (call : UnixCall) (later : Option Errno) : Type 0 where
@@ -188,11 +188,11 @@ module _ (session : Session) (ok : IsSession session) (old new : KernelModel) (f
       -- the kernel has the objects of the flat state with the new bytes, and the thread is the one that it was
       laid_after : LaysOut session (with_bytes (state old) file whole) (changed session f [] p call)
       laid_after = subst (LaysOut session (with_bytes (state old) file whole)) (sym writing.changes)
-          (lays_out_overwritten session (state old) f ready.lays_out.laid (m ∷ d) class held whole at file (numbered session ok (state old) f t ready d open_so_far m class held at) ready.lays_out.jobs_given)
+          (lays_out_overwritten session (state old) f ready.lays_out.laid (m ∷ d) class held whole at file (file_numbered session ok (state old) f t ready d open_so_far m class held at) ready.lays_out.jobs_given)
 
       thread_after : IsThreadOf session (with_bytes (state old) file whole) [] t
       thread_after =
-          let later = laid_overwritten session (state old) f ready.lays_out.laid (m ∷ d) class held whole at file (numbered session ok (state old) f t ready d open_so_far m class held at) in
+          let later = laid_overwritten session (state old) f ready.lays_out.laid (m ∷ d) class held whole at file (file_numbered session ok (state old) f t ready d open_so_far m class held at) in
           thread_kept session ok (state old) f t ready (with_bytes (state old) file whole) (with_file_bytes f (m ∷ d) whole) later.0 ready.alone.stands (ap (λ (n : Naming AddressStep). n.number (Runner ∷ Inside ∷ home_of [])) later.1)
 
       left : (s : State) → s ≡ state old → with_bytes s file (take keep (bytes_in (s.objects file)) ++ bytes) ≡ with_bytes (state old) file whole
@@ -218,5 +218,5 @@ module _ (session : Session) (ok : IsSession session) (old new : KernelModel) (f
     writing_step kept run =
         file_step (refusal may fits) writing.reaches _ run
         (λ open_so_far class held at mid stays chain on.
-        by_right (kept (subst (λ (xs : List ℕ). length xs ≤ most_bytes) (sym (held_is session ok (state old) f t ready d open_so_far m class held at)) (ready.small (m ∷ d) class held at)))
+        by_right (kept (subst (λ (xs : List ℕ). length xs ≤ most_bytes) (sym (holds_bytes session ok (state old) f t ready d open_so_far m class held at)) (ready.small (m ∷ d) class held at)))
         open_so_far class held at mid stays chain may fits refl refl on)

@@ -94,84 +94,84 @@ module _ (session : Session) (ok : IsSession session) (s : State) (f : Flat) (t 
       is_dir = dir session ok s f t ready d open_so_far
 
       -- the class of the directory
-      abbrev pub root : Class
-      root = (stands session ok s f t ready d (dir session ok s f t ready d open_so_far)).0
+      abbrev pub directory_class : Class
+      directory_class = (stands session ok s f t ready d (dir session ok s f t ready d open_so_far)).0
 
-      pub root_at : get f.files d ≡ Some (record { class = root; content = Dir })
-      root_at = (stands session ok s f t ready d (dir session ok s f t ready d open_so_far)).1
+      pub directory_stands : get f.files d ≡ Some (record { class = directory_class; content = Dir })
+      directory_stands = (stands session ok s f t ready d (dir session ok s f t ready d open_so_far)).1
 
-      pub at_D : l.naming.number (address_of d) ≡ Some container
-      at_D = at_container session ok s f t ready d is_dir
+      pub container_numbered : l.naming.number (address_of d) ≡ Some container
+      container_numbered = at_container session ok s f t ready d is_dir
 
-      pub at_N : l.naming.number (Listing ∷ address_of d) ≡ Some listing
-      at_N = at_listing session ok s f t ready d is_dir
+      pub listing_numbered : l.naming.number (Listing ∷ address_of d) ≡ Some listing
+      listing_numbered = at_listing session ok s f t ready d is_dir
 
-      pub sees : may_read session p root ≡ true
-      sees = seen session ok s f t ready d open_so_far
+      pub may_look : may_read session p directory_class ≡ true
+      may_look = seen session ok s f t ready d open_so_far
 
-      pub may_is : writes session f p d ≡ may_write session p root
-      may_is = ap (λ (o : Option Node). is_some_and o (λ n. may_write session p n.class)) root_at
+      pub writes_as_class : writes session f p d ≡ may_write session p directory_class
+      writes_as_class = ap (λ (o : Option Node). is_some_and o (λ n. may_write session p n.class)) directory_stands
 
       -- how the directory is guarded
-      pub root_guard : (g : Guard) × (class_guard session root ≡ Some g)
-      root_guard = guard_at session s f l d (record { class = root; content = Dir }) root_at
+      pub directory_guard : (g : Guard) × (class_guard session directory_class ≡ Some g)
+      directory_guard = guard_at session s f l d (record { class = directory_class; content = Dir }) directory_stands
 
       -- the thread, the container of the directory and its directory segment stand in a state as they did
       abbrev pub HasListing : State → Type 0
-      HasListing later = HasSegment later t container listing label clearance (guard_label ready.lays_out.laid.category root_guard.0) (spelling entries)
+      HasListing later = HasSegment later t container listing label clearance (guard_label ready.lays_out.laid.category directory_guard.0) (spelling entries)
 
       pub has_listing : HasListing s
       has_listing =
-          let holder = container_found session s f l d root root_at root_guard.0 root_guard.1 container at_D in
+          let holder = container_found session s f l d directory_class directory_stands directory_guard.0 directory_guard.1 container container_numbered in
           record {
             links = holder.0;
             thread = thread;
             holder = holder.1;
-            segment = listing_found session s f l d root root_at root_guard.0 root_guard.1 listing at_N;
-            linked = sym (ap (λ (o : Found). set.contains (links_in o) listing) holder.1) ∙ step_linked session s f l Listing (address_of d) container listing at_D at_N;
+            segment = listing_found session s f l d directory_class directory_stands directory_guard.0 directory_guard.1 listing listing_numbered;
+            linked = sym (ap (λ (o : Found). set.contains (links_in o) listing) holder.1) ∙ step_linked session s f l Listing (address_of d) container listing container_numbered listing_numbered;
           }
 
       -- once an object is added to the directory, and once one more is made in that
       pub listing_still : (o : Object Levels) → HasListing (added s container o)
-      listing_still o = still_there s t container listing label clearance (guard_label l.category root_guard.0) (spelling entries) has_listing thread_below (below (address_of d) container at_D) (below (Listing ∷ address_of d) listing at_N) o
+      listing_still o = still_there s t container listing label clearance (guard_label l.category directory_guard.0) (spelling entries) has_listing thread_below (below (address_of d) container container_numbered) (below (Listing ∷ address_of d) listing listing_numbered) o
 
       pub listing_then : (o inner : Object Levels) → HasListing (added (added s container o) s.next_object inner)
-      listing_then o inner = there_then s t container listing label clearance (guard_label l.category root_guard.0) (spelling entries) has_listing thread_below (below (address_of d) container at_D) (below (Listing ∷ address_of d) listing at_N) o inner
+      listing_then o inner = there_then s t container listing label clearance (guard_label l.category directory_guard.0) (spelling entries) has_listing thread_below (below (address_of d) container container_numbered) (below (Listing ∷ address_of d) listing listing_numbered) o inner
 
       -- in a container that was added to it something may be made, as its label says
       pub inside_passes : (inner : Levels) → is_below_raised inner label ≡ true → (is_below label inner && is_below_raised inner label) ≡ true → no_making (added s container (record { label = inner; kind = Container set.empty })) t s.next_object ≡ None
-      inside_passes inner = making_inside s t container listing label clearance (guard_label l.category root_guard.0) (spelling entries) has_listing thread_below (below (address_of d) container at_D) (below (Listing ∷ address_of d) listing at_N) inner
+      inside_passes inner = making_inside s t container listing label clearance (guard_label l.category directory_guard.0) (spelling entries) has_listing thread_below (below (address_of d) container container_numbered) (below (Listing ∷ address_of d) listing listing_numbered) inner
 
       -- A raw call that makes an object in the directory with the label that it is handed: its denials are told, and the kernel refuses a label
       -- out of the thread's range, and else only where the directory may not be written or there is no number for the object.
       pub record MakesObject (make : Levels → RawCall) : Type 0 where
         pub tells : (x : Levels) (denied : Denied) → errno_for (make x) denied ≡ errno_of denied
-        pub outside : (g : Guard) → is_made_within session l.category l.different [] p g ≡ false → check s t (make (guard_label l.category g)) ≡ (unless (may_write session p root) Modify orelse Some Range)
+        pub outside : (g : Guard) → is_made_within session l.category l.different [] p g ≡ false → check s t (make (guard_label l.category g)) ≡ (unless (may_write session p directory_class) Modify orelse Some Range)
         pub within : (class : Class) → AreKnown session s f l class → (g : Guard) → class_guard session class ≡ Some g
-            → check s t (make (guard_label l.category g)) ≡ (unless (may_write session p root) Modify orelse unless (is_made_within session l.category l.different [] p g) Range orelse unless (has_number s) TooBig)
+            → check s t (make (guard_label l.category g)) ≡ (unless (may_write session p directory_class) Modify orelse unless (is_made_within session l.category l.different [] p g) Range orelse unless (has_number s) TooBig)
 
       -- an empty segment is made so, and a container
       pub segment_made : MakesObject (λ x. raw.MakeSegment container x [])
       segment_made = record {
         tells = λ x denied. refl;
-        outside = λ g out. segment_out_of_range session s f l ok [] p t (runs session ok s f t ready) d root root_at container listing at_D at_N sees g out [];
-        within = λ class known g is. make_segment_said session s f l ok [] p t (runs session ok s f t ready) d root root_at container listing at_D at_N sees class known g is;
+        outside = λ g out. segment_out_of_range session s f l ok [] p t (runs session ok s f t ready) d directory_class directory_stands container listing container_numbered listing_numbered may_look g out [];
+        within = λ class known g is. make_segment_said session s f l ok [] p t (runs session ok s f t ready) d directory_class directory_stands container listing container_numbered listing_numbered may_look class known g is;
       }
 
       pub container_made : MakesObject (λ x. raw.MakeContainer container x)
       container_made = record {
         tells = λ x denied. refl;
-        outside = λ g out. container_out_of_range session s f l ok [] p t (runs session ok s f t ready) d root root_at container listing at_D at_N sees g out;
-        within = λ class known g is. make_container_said session s f l ok [] p t (runs session ok s f t ready) d root root_at container listing at_D at_N sees class known g is;
+        outside = λ g out. container_out_of_range session s f l ok [] p t (runs session ok s f t ready) d directory_class directory_stands container listing container_numbered listing_numbered may_look g out;
+        within = λ class known g is. make_container_said session s f l ok [] p t (runs session ok s f t ready) d directory_class directory_stands container listing container_numbered listing_numbered may_look class known g is;
       }
 
       -- a file in it
       module _ (m : Name) (class : Class) (held : List ℕ) (at : get f.files (m ∷ d) ≡ Some (record { class = class; content = File held })) where
-        pub numbered : l.naming.number (address_of (m ∷ d)) ≡ Some (segment m)
-        numbered = file_number session ok s f t ready m d class held at
+        pub file_numbered : l.naming.number (address_of (m ∷ d)) ≡ Some (segment m)
+        file_numbered = file_number session ok s f t ready m d class held at
 
-        pub held_is : bytes_at f (m ∷ d) ≡ held
-        held_is = ap bytes_of at
+        pub holds_bytes : bytes_at f (m ∷ d) ≡ held
+        holds_bytes = ap bytes_of at
 
         pub reads_is : reads session f p (m ∷ d) ≡ may_read session p class
         reads_is = ap (λ (x : Option Node). is_some_and x (λ n. may_read session p n.class)) at
@@ -183,15 +183,15 @@ module _ (session : Session) (ok : IsSession session) (s : State) (f : Flat) (t 
         pub held_there : bytes_in (s.objects (segment m)) ≡ bytes_at f (m ∷ d)
         held_there =
             let guard = guard_at session s f l (m ∷ d) (record { class = class; content = File held }) at in
-            ap bytes_in (file_found session s f l (m ∷ d) class held at guard.0 guard.1 (segment m) numbered) ∙ sym held_is
+            ap bytes_in (file_found session s f l (m ∷ d) class held at guard.0 guard.1 (segment m) file_numbered) ∙ sym holds_bytes
 
         -- and is read and written as the flat rules say
         pub read_said : check s t (raw.Read container (segment m)) ≡ unless (reads session f p (m ∷ d)) Observe
         read_said =
-            read_file_said session s f l ok [] p t (runs session ok s f t ready) d root root_at container listing at_D at_N sees m (segment m) numbered class held at
+            read_file_said session s f l ok [] p t (runs session ok s f t ready) d directory_class directory_stands container listing container_numbered listing_numbered may_look m (segment m) file_numbered class held at
             ∙ sym (ap (λ (b : Bool). unless b Observe) reads_is)
 
         pub write_said : (keep : ℕ) (bytes : List ℕ) → check s t (raw.Write container (segment m) keep bytes) ≡ (unless (writes session f p (m ∷ d)) Modify orelse unless (fits_segment (min keep (length (bytes_at f (m ∷ d))) + length bytes)) TooBig)
         write_said keep bytes =
-            write_file_said session s f l ok [] p t (runs session ok s f t ready) d root root_at container listing at_D at_N sees m (segment m) numbered class held at keep bytes
-            ∙ sym (λ i. unless (writes_is i) Modify orelse unless (fits_segment (min keep (length (held_is i)) + length bytes)) TooBig)
+            write_file_said session s f l ok [] p t (runs session ok s f t ready) d directory_class directory_stands container listing container_numbered listing_numbered may_look m (segment m) file_numbered class held at keep bytes
+            ∙ sym (λ i. unless (writes_is i) Modify orelse unless (fits_segment (min keep (length (holds_bytes i)) + length bytes)) TooBig)

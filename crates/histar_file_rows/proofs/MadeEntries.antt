@@ -44,6 +44,7 @@ use Rattle.histar_calls.specs.Programs.{AnswerOf, IsAnswer, Program, Runs}
 use Rattle.histar_calls.specs.Programs.Program.{Answers}
 use Rattle.histar_calls.specs.Parts.{ask, write_entries, find_room, room_at, given}
 use Rattle.histar_calls.specs.declared.find.Room.{Room}
+use Rattle.histar_calls.specs.declared.places.Place.{Place}
 use Rattle.histar_calls.specs.Replies.{is_access, is_permission}
 use Rattle.histar_login.specs.Start.{places_of}
 use Rattle.histar_refinement.specs.Sessions.{IsSession}
@@ -61,8 +62,8 @@ use Rattle.histar_rows.proofs.Chains.{all_granted, entries_of, Chain, Step}
 use Rattle.histar_rows.proofs.Endings.{IsBacked, ReadsAmong}
 use Rattle.histar_rows.proofs.Steps.{Goal, granted_step, refused_step, exhausted_step, answered_step, refused_at_once}
 use Rattle.histar_rows.proofs.Walks.{place_at, walk_reads, holds, among_granted_all, among_then, among_also, nothing_there, file_there, directory_there, has_walk, walk_step}
-use Rattle.histar_file_rows.proofs.FoundObjects.{label, thread_kept, clearance, thread, container, listing, entries, is_dir, root, sees, may_is, root_guard, HasListing, MakesObject}
-use Rattle.histar_file_rows.proofs.Makers.{own, MakesNothing, MakesClass, makes}
+use Rattle.histar_file_rows.proofs.FoundObjects.{label, thread_kept, clearance, thread, entries, is_dir, directory_class, may_look, writes_as_class, directory_guard, HasListing, MakesObject}
+use Rattle.histar_file_rows.proofs.Makers.{own, MakesClass, makes}
 use Rattle.histar_file_rows.proofs.NewEntries.{segment_written}
 
 -- What the flat rules say of a call that makes an entry with this content: what they refuse and change, their answer, and that it cannot do without the reads of the walk.
@@ -103,11 +104,8 @@ module _ (session : Session) (ok : IsSession session) (old new : KernelModel) (f
   abbrev p : Process
   p = ready.alone.process
 
-  abbrev D : ℕ
-  D = container session ok (state old) f t ready d
-
-  abbrev N : ℕ
-  N = listing session ok (state old) f t ready d
+  abbrev place : Place
+  place = place_at session ok (state old) f t ready d
 
   abbrev listed : Entries
   listed = entries session ok (state old) f t ready d
@@ -186,6 +184,12 @@ module _ (session : Session) (ok : IsSession session) (old new : KernelModel) (f
         (λ errno is steps among. (refused_is (Some errno) (get f.files (m ∷ d)) roomy (writes session f p d) is refl refl refl, has_reads steps (Refused errno) among))
         (λ open_so_far mid stays chain on. by_stands go_on open_so_far mid stays chain on (get f.files (m ∷ d)) refl)
 
+  -- once there is room the directory may be written and the process makes something of this mode, or the call is refused
+  refused_in_room : (open_so_far : into session f p d ≡ None) → get f.files (m ∷ d) ≡ None → roomy ≡ true → (may makes : Bool) → may_write session p (directory_class session ok (state old) f t ready d open_so_far) ≡ may → is_some (class_made session p mode) ≡ makes
+      → refused session f [] p call ≡ (unless may EACCES orelse unless makes EPERM)
+  refused_in_room open_so_far absent room may makes is_may is_makes =
+      refused_is None None true may open_so_far absent room (writes_as_class session ok (state old) f t ready d open_so_far ∙ is_may) ∙ ap (λ (b : Bool). unless may EACCES orelse unless b EPERM) is_makes
+
   -- ---- the object is made
 
   module _ (nameable : IsTrue (is_line_mode mode)) where
@@ -201,63 +205,54 @@ module _ (session : Session) (ok : IsSession session) (old new : KernelModel) (f
     mine = own session ok (state old) f t ready mode nameable
 
     module _ (make : ℕ → Levels → RawCall) (within : (room : Room) (x : Levels) → AnswerOf (make room.place.container x) → Program) where
-      -- The call goes on once the object is made: the way is open, nothing of the name is there and there is room, the process makes this and may write the directory.
-      abbrev pub GoesOn : Type 0
-      GoesOn = (open_so_far : into session f p d ≡ None) → get f.files (m ∷ d) ≡ None → roomy ≡ true → (made : Made) → may_write session p (root session ok (state old) f t ready d open_so_far) ≡ true → has_number (state old) ≡ true
-          → (mid linked : KernelModel) (answer : AnswerOf (make D (due made))) → state mid ≡ state old → Called mid linked t (make D (due made)) None → IsAnswer (state mid) t (make D (due made)) answer
-          → Chain old t (all_granted (calls ++ make D (due made) ∷ [])) linked → Runs (within room_here (due made) answer) linked new t result → Row
-
       -- the object is made with a label
       abbrev making : Levels → Program
-      making x = ask (make D x) (within room_here x)
+      making x = ask (make place.container x) (within room_here x)
 
-      module _ (go_on : GoesOn) (open_so_far : into session f p d ≡ None) (absent : get f.files (m ∷ d) ≡ None) (room : roomy ≡ true) (object : MakesObject session ok (state old) f t ready d open_so_far (make D))
+      -- the call goes on once it is made with this label
+      abbrev GoesOnWith : KernelModel → Levels → Type 0
+      GoesOnWith mid x = (linked : KernelModel) (answer : AnswerOf (make place.container x)) → Called mid linked t (make place.container x) None → IsAnswer (state mid) t (make place.container x) answer → Chain old t (all_granted (calls ++ make place.container x ∷ [])) linked → Runs (within room_here x answer) linked new t result → Row
+
+      -- The call goes on once the object is made: the way is open, nothing of the name is there and there is room, the process makes this and may write the directory.
+      abbrev pub GoesOn : Type 0
+      GoesOn = (open_so_far : into session f p d ≡ None) → get f.files (m ∷ d) ≡ None → roomy ≡ true → (made : Made) → may_write session p (directory_class session ok (state old) f t ready d open_so_far) ≡ true → has_number (state old) ≡ true
+          → (mid : KernelModel) → state mid ≡ state old → GoesOnWith mid (due made)
+
+      module _ (open_so_far : into session f p d ≡ None) (absent : get f.files (m ∷ d) ≡ None) (room : roomy ≡ true) (object : MakesObject session ok (state old) f t ready d open_so_far (make place.container))
           (mid : KernelModel) (stays : state mid ≡ state old) (chain : Chain old t (all_granted calls) mid) where
         -- the directory may be written
         abbrev may : Bool
-        may = may_write session p (root session ok (state old) f t ready d open_so_far)
-
-        refused_so : (can makes : Bool) → may ≡ can → is_some (class_made session p mode) ≡ makes → refused session f [] p call ≡ (unless can EACCES orelse unless makes EPERM)
-        refused_so can makes is_may is_makes =
-            refused_is None None true can open_so_far absent room (may_is session ok (state old) f t ready d open_so_far ∙ is_may) ∙ ap (λ (b : Bool). unless can EACCES orelse unless b EPERM) is_makes
+        may = may_write session p (directory_class session ok (state old) f t ready d open_so_far)
 
         -- the making is denied, and so the call refused
-        denied : (x : Levels) (why : Denied) (errno : Errno) → check (state mid) t (make D x) ≡ Some why → errno_of why ≡ Some errno → refused session f [] p call ≡ Some errno → Runs (making x) mid new t result → Row
+        denied : (x : Levels) (why : Denied) (errno : Errno) → check (state mid) t (make place.container x) ≡ Some why → errno_of why ≡ Some errno → refused session f [] p call ≡ Some errno → Runs (making x) mid new t result → Row
         denied x why errno fails told is on =
-            refused_step session f ready.alone call old new t ready.thread result calls mid chain stays ready.lays_out errno is (make D x) (within room_here x) why fails (object.tells x why ∙ told)
-            (has_reads _ _ (among_also old.line t reads calls ((make D x, Some why) ∷ []) (among_then old.line t reads reads (raw.OwnLabel ∷ []) (among_granted_all old.line t reads)))) on
+            refused_step session f ready.alone call old new t ready.thread result calls mid chain stays ready.lays_out errno is (make place.container x) (within room_here x) why fails (object.tells x why ∙ told)
+            (has_reads _ _ (among_also old.line t reads calls ((make place.container x, Some why) ∷ []) (among_then old.line t reads reads (raw.OwnLabel ∷ []) (among_granted_all old.line t reads)))) on
 
-        -- of a label out of the thread's range nothing is made
-        nothing_said : (nothing : MakesNothing session ok (state old) f t ready mode nameable) (can : Bool) → may ≡ can → check (state mid) t (make D (guard_label ready.lays_out.laid.category nothing.guard)) ≡ (unless can Modify orelse Some Range)
-        nothing_said nothing can e =
-            ap (λ (s : State). check s t (make D (guard_label ready.lays_out.laid.category nothing.guard))) stays ∙ object.outside nothing.guard nothing.outside ∙ ap (λ (b : Bool). unless b Modify orelse Some Range) e
+        -- where the kernel lets the thread hand in a label as the flat rules let the process make something, the making is granted or denied as they say
+        by_right : (x : Levels) (can makes has : Bool) → may ≡ can → is_some (class_made session p mode) ≡ makes → has_number (state old) ≡ has → check (state mid) t (make place.container x) ≡ (unless can Modify orelse unless makes Range orelse unless has TooBig)
+            → (may ≡ true → makes ≡ true → has_number (state old) ≡ true → GoesOnWith mid x) → Runs (making x) mid new t result → Row
+        by_right x false makes has is_may is_makes is_has said go_on on = denied x Modify EACCES said refl (refused_in_room open_so_far absent room false makes is_may is_makes) on
+        by_right x true false has is_may is_makes is_has said go_on on = denied x Range EPERM said refl (refused_in_room open_so_far absent room true false is_may is_makes) on
+        by_right x true true false is_may is_makes is_has said go_on on =
+            exhausted_step session f ready.alone call old new t ready.thread result calls mid chain (make place.container x) (within room_here x) said (object.tells x TooBig) (ap has_number stays ∙ is_has) on
+        by_right x true true true is_may is_makes is_has said go_on on = granted_step session f ready.alone call old new t ready.thread result calls mid chain (make place.container x) (within room_here x) said on (go_on is_may refl is_has)
 
-        nothing_made : (nothing : MakesNothing session ok (state old) f t ready mode nameable) (can : Bool) → may ≡ can → Runs (making (guard_label ready.lays_out.laid.category nothing.guard)) mid new t result → Row
-        nothing_made nothing true e on = denied _ Range EPERM (nothing_said nothing true e) refl (refused_so true false e nothing.nothing) on
-        nothing_made nothing false e on = denied _ Modify EACCES (nothing_said nothing false e) refl (refused_so false false e nothing.nothing) on
-
-        -- what the process makes is made unless the directory may not be written or there is no number for it
-        said : (made : Made) (can has : Bool) → may ≡ can → has_number (state old) ≡ has → check (state mid) t (make D (due made)) ≡ (unless can Modify orelse unless has TooBig)
-        said made can has is_may is_has =
-            ap (λ (s : State). check s t (make D (due made))) stays ∙ object.within made.class made.known made.guard made.guarded
-            ∙ (λ k. unless (is_may k) Modify orelse unless (made.within k) Range orelse unless (is_has k) TooBig)
-
-        by_right : (made : Made) (can has : Bool) → may ≡ can → has_number (state old) ≡ has → Runs (making (due made)) mid new t result → Row
-        by_right made false has is_may is_has on = denied (due made) Modify EACCES (said made false has is_may is_has) refl (refused_so false true is_may (ap is_some made.class_is)) on
-        by_right made true false is_may is_has on =
-            exhausted_step session f ready.alone call old new t ready.thread result calls mid chain (make D (due made)) (within room_here (due made)) (said made true false is_may is_has) (object.tells (due made) TooBig) (ap has_number stays ∙ is_has) on
-        by_right made true true is_may is_has on =
-            granted_step session f ready.alone call old new t ready.thread result calls mid chain (make D (due made)) (within room_here (due made)) (said made true true is_may is_has) on
-            (λ linked answer called right longer rest. go_on open_so_far absent room made is_may is_has mid linked answer stays called right longer rest)
-
-        made_step : Runs (making (label_made (length session.users) mine mode)) mid new t result → Row
-        made_step on =
+        -- the thread hands in the label of what it makes
+        made_step : GoesOn → Runs (making (label_made (length session.users) mine mode)) mid new t result → Row
+        made_step go_on on =
             makes session ok (state old) f t ready mode nameable
-            (λ nothing. nothing_made nothing may refl (subst (λ (x : Levels). Runs (making x) mid new t result) nothing.label_is on))
-            (λ made. by_right made may (has_number (state old)) refl refl (subst (λ (x : Levels). Runs (making x) mid new t result) made.label_is on))
+            (λ nothing.
+            by_right _ may false (has_number (state old)) refl nothing.nothing refl (ap (λ (s : State). check s t (make place.container (guard_label ready.lays_out.laid.category nothing.guard))) stays ∙ object.outside nothing.guard nothing.outside) (λ is_may is_false is_has. absurd cc)
+            (subst (λ (x : Levels). Runs (making x) mid new t result) nothing.label_is on))
+            (λ made.
+            by_right _ may true (has_number (state old)) refl (ap is_some made.class_is) refl
+            (ap (λ (s : State). check s t (make place.container (due made))) stays ∙ object.within made.class made.known made.guard made.guarded ∙ (λ k. unless may Modify orelse unless (made.within k) Range orelse unless (has_number (state old)) TooBig))
+            (λ is_may is_true is_has. go_on open_so_far absent room made is_may is_has mid stays) (subst (λ (x : Levels). Runs (making x) mid new t result) made.label_is on))
 
       -- There is room, the thread asks for its own label and makes the object, or the call is refused.
-      pub entry_step : ((open_so_far : into session f p d ≡ None) → MakesObject session ok (state old) f t ready d open_so_far (make D))
+      pub entry_step : ((open_so_far : into session f p d ≡ None) → MakesObject session ok (state old) f t ready d open_so_far (make place.container))
           → Runs (find_room (places_of (length session.users)) (m ∷ d) (λ room. ask raw.OwnLabel (λ labels. ask (make room.place.container (label_made (length session.users) labels.0 mode)) (within room (label_made (length session.users) labels.0 mode))))) old new t result
           → GoesOn → Row
       entry_step object run go_on =
@@ -268,35 +263,32 @@ module _ (session : Session) (ok : IsSession session) (old new : KernelModel) (f
           (ap (λ (s : State). check s t raw.OwnLabel) stays ∙ caller_passes (state old) t (label session ok (state old) f t ready) (clearance session ok (state old) f t ready) there) on
           (λ later labels called right longer rest.
           let is_own : labels.0 ≡ mine = same_Some labels.0 mine (right.0 ∙ ap (λ (s : State). label_there (s.objects t)) stays ∙ ap label_there there) in
-          made_step go_on open_so_far absent room (object open_so_far) later (called.state ∙ stays) longer
+          made_step open_so_far absent room (object open_so_far) later (called.state ∙ stays) longer go_on
           (subst (λ (x : Levels). Runs (making (label_made (length session.users) x mode)) later new t result) is_own rest)))
 
     -- ---- the directory is written
 
-    module _ (named : IsTrue (is_name m)) (open_so_far : into session f p d ≡ None) (absent : get f.files (m ∷ d) ≡ None) (room : roomy ≡ true) (made : Made) (is_may : may_write session p (root session ok (state old) f t ready d open_so_far) ≡ true)
+    module _ (named : IsTrue (is_name m)) (open_so_far : into session f p d ≡ None) (absent : get f.files (m ∷ d) ≡ None) (room : roomy ≡ true) (made : Made) (is_may : may_write session p (directory_class session ok (state old) f t ready d open_so_far) ≡ true)
         (target : Target) (is_target : IsTarget target) (later : State) (there : HasListing session ok (state old) f t ready d open_so_far later) where
       -- what the directory segment holds then, and the state
       abbrev bytes : List ℕ
       bytes = spelling (map.insert listed m target)
 
       abbrev after : State
-      after = with_bytes later N bytes
+      after = with_bytes later place.listing bytes
 
-      write_said : check later t (raw.Write D N 0 bytes) ≡ None
+      write_said : check later t (raw.Write place.container place.listing 0 bytes) ≡ None
       write_said =
           let l = ready.lays_out.laid in
-          let above = root session ok (state old) f t ready d open_so_far in
-          let guard = root_guard session ok (state old) f t ready d open_so_far in
+          let above = directory_class session ok (state old) f t ready d open_so_far in
+          let guard = directory_guard session ok (state old) f t ready d open_so_far in
           let count = count_entries session (state old) f l d in
           let few : length (entries_in f d) < most_entries = ltb-true (length (entries_in f d)) most_entries room in
           let room_left : map.len listed < 64 = omega (arith, count, few) in
           let listable = (holds session ok (state old) f t ready d (is_dir session ok (state old) f t ready d open_so_far)).listable in
-          segment_written later t D N (label session ok (state old) f t ready) (clearance session ok (state old) f t ready) (guard_label l.category guard.0) (spelling listed) there
-          (observes_class session [] p l.category l.different ok above guard.0 guard.1 ∙ sees session ok (state old) f t ready d open_so_far) (modifies_class session [] p l.category l.different ok above guard.0 guard.1 ∙ is_may)
+          segment_written later t place.container place.listing (label session ok (state old) f t ready) (clearance session ok (state old) f t ready) (guard_label l.category guard.0) (spelling listed) there
+          (observes_class session [] p l.category l.different ok above guard.0 guard.1 ∙ may_look session ok (state old) f t ready d open_so_far) (modifies_class session [] p l.category l.different ok above guard.0 guard.1 ∙ is_may)
           bytes (spelling_fits (map.insert listed m target) (listable_insert listed m target listable room_left (named, is_target)))
-
-      refused_none : refused session f [] p call ≡ None
-      refused_none = refused_is None None true true open_so_far absent room (may_is session ok (state old) f t ready d open_so_far ∙ is_may) ∙ ap (λ (o : Option Class). unless (is_some o) EPERM) made.class_is
 
       changed_is : changed session f [] p call ≡ with_node f (m ∷ d) made.class content
       changed_is = entry.changes ∙ ap (λ (o : Option Class). with_node f (m ∷ d) (class_or_open o) content) made.class_is
@@ -306,14 +298,14 @@ module _ (session : Session) (ok : IsSession session) (old new : KernelModel) (f
           → (laid : Laid session after (with_node f (m ∷ d) made.class content)) → laid.naming.number (Runner ∷ Inside ∷ home_of []) ≡ ready.lays_out.laid.naming.number (Runner ∷ Inside ∷ home_of [])
           → Runs (write_entries room_here.place (map.insert room_here.entries m target) (λ _. Answers Done)) linked new t result → Row
       entry_written before among linked is_later chain laid same_thread on =
-          let write : RawCall = raw.Write D N 0 bytes in
+          let write : RawCall = raw.Write place.container place.listing 0 bytes in
           let jobs = jobs_made session (state old) f ready.lays_out.laid d m made.class content absent made.fits made.known ready.lays_out.jobs_given in
           let lays_out : LaysOut session after (with_node f (m ∷ d) made.class content) = record { laid = laid; jobs_given = jobs } in
           let thread_is = thread_kept session ok (state old) f t ready after (with_node f (m ∷ d) made.class content) laid ready.alone.stands same_thread in
           granted_step session f ready.alone call old new t ready.thread result before linked chain write (λ _. Answers Done) (ap (λ (s : State). check s t write) is_later ∙ write_said) on
           (λ end done wrote right whole last.
-          let end_state : state end ≡ after = wrote.state ∙ ap (λ (s : State). with_bytes s N bytes) is_later in
-          answered_step session f ready.alone call old new t ready.thread result (before ++ write ∷ []) end whole Done (sym entry.answers) refused_none
+          let end_state : state end ≡ after = wrote.state ∙ ap (λ (s : State). with_bytes s place.listing bytes) is_later in
+          answered_step session f ready.alone call old new t ready.thread result (before ++ write ∷ []) end whole Done (sym entry.answers) (refused_in_room open_so_far absent room true true is_may (ap is_some made.class_is))
           (subst (λ (r : Reply). IsBacked (state old) (entries_of old.line t (all_granted (before ++ write ∷ []))) r) (sym entry.answers) tt) (has_reads _ _ (among_then old.line t reads before (write ∷ []) among))
           (subst (λ (s : State). LaysOut session s (changed session f [] p call)) (sym end_state) (subst (LaysOut session after) (sym changed_is) lays_out))
           (subst (λ (s : State). IsThreadOf session s [] t) (sym end_state) thread_is) last)

@@ -49,7 +49,7 @@ use Rattle.histar_rows.specs.Laws.{MkdirsAreRows}
 use Rattle.histar_rows.proofs.Chains.{all_granted, Chain}
 use Rattle.histar_rows.proofs.Steps.{Goal, granted_step, exhausted_step}
 use Rattle.histar_rows.proofs.Walks.{runs, walk_reads, among_then}
-use Rattle.histar_file_rows.proofs.FoundObjects.{container, listing, root, root_at, at_D, at_N, sees, below, listing_still, listing_then, inside_passes, container_made}
+use Rattle.histar_file_rows.proofs.FoundObjects.{container, listing, directory_class, directory_stands, container_numbered, listing_numbered, may_look, below, listing_still, listing_then, inside_passes, container_made}
 use Rattle.histar_file_rows.proofs.Makers.{MakesClass}
 use Rattle.histar_file_rows.proofs.MadeEntries.{MakesEntry, slash_stands, asked, among_asked, the_room, GoesOn, entry_step, entry_written}
 use Rattle.histar_file_rows.proofs.NewEntries.{last_name}
@@ -81,18 +81,18 @@ module _ (session : Session) (ok : IsSession session) (old new : KernelModel) (f
   makes : MakesEntry session f ready.alone.process (m ∷ d) mode Dir call
   makes = mkdir_makes session f ready.alone.process (m ∷ d) mode
 
-  abbrev D : ℕ
-  D = container session ok (state old) f t ready d
+  abbrev above : ℕ
+  above = container session ok (state old) f t ready d
 
   abbrev room_here : Room
   room_here = the_room session ok (state old) f t ready d m
 
-  -- the number of the container, and its label
+  -- the number of the container
   abbrev new_container : ℕ
   new_container = (state old).next_object
 
   module _ (open_so_far : into session f ready.alone.process d ≡ None) (absent : get f.files (m ∷ d) ≡ None) (room : nat_lt (length (entries_in f d)) most_entries ≡ true)
-      (made : MakesClass session ok (state old) f t ready mode nameable) (is_may : may_write session ready.alone.process (root session ok (state old) f t ready d open_so_far) ≡ true) where
+      (made : MakesClass session ok (state old) f t ready mode nameable) (is_may : may_write session ready.alone.process (directory_class session ok (state old) f t ready d open_so_far) ≡ true) where
     abbrev due : Levels
     due = guard_label ready.lays_out.laid.category made.guard
 
@@ -101,7 +101,7 @@ module _ (session : Session) (ok : IsSession session) (old new : KernelModel) (f
     held = record { label = due; kind = Container set.empty }
 
     abbrev with_container : State
-    with_container = added (state old) D held
+    with_container = added (state old) above held
 
     -- the directory segment is made in the container, if there is a number for it
     abbrev next : RawCall
@@ -114,33 +114,33 @@ module _ (session : Session) (ok : IsSession session) (old new : KernelModel) (f
         let writes_inside = modifies_class session [] p l.category l.different ok made.class made.guard made.guarded ∙ made.writes in
         let opens = inside_passes session ok (state old) f t ready d open_so_far due reads_inside writes_inside in
         let ranged : in_range (with_container.objects t) due ≡ true = ap (λ (o : Found). in_range o due) (listing_still session ok (state old) f t ready d open_so_far held).thread ∙ made.within in
-        let is_known_now = is_known session (state old) f l ok [] p t (runs session ok (state old) f t ready) d (root session ok (state old) f t ready d open_so_far) (root_at session ok (state old) f t ready d open_so_far) D (listing session ok (state old) f t ready d)
-        (at_D session ok (state old) f t ready d open_so_far) (at_N session ok (state old) f t ready d open_so_far) (sees session ok (state old) f t ready d open_so_far) made.class made.known made.guard made.guarded in
+        let is_known_now = is_known session (state old) f l ok [] p t (runs session ok (state old) f t ready) d (directory_class session ok (state old) f t ready d open_so_far) (directory_stands session ok (state old) f t ready d open_so_far) above (listing session ok (state old) f t ready d)
+        (container_numbered session ok (state old) f t ready d open_so_far) (listing_numbered session ok (state old) f t ready d open_so_far) (may_look session ok (state old) f t ready d open_so_far) made.class made.known made.guard made.guarded in
         λ i. opens i orelse unless (ranged i) Range orelse unless (is_known_now i) Range orelse unless (not (guard_owns_nothing l.category made.guard i)) Range orelse unless (is i) TooBig
 
     -- once the container is made
-    module _ (linked : KernelModel) (linked_state : state linked ≡ with_container) (so_far : Chain old t (all_granted (asked session ok (state old) f t ready d ++ make D due ∷ [])) linked) where
+    module _ (linked : KernelModel) (linked_state : state linked ≡ with_container) (so_far : Chain old t (all_granted (asked session ok (state old) f t ready d ++ make above due ∷ [])) linked) where
       abbrev before : List RawCall
-      before = asked session ok (state old) f t ready d ++ make D due ∷ []
+      before = asked session ok (state old) f t ready d ++ make above due ∷ []
 
       -- once the directory segment is made too the directory is written
       written : has_number with_container ≡ true → (inside : KernelModel) (number : ℕ) → Called linked inside t next None → number ≡ (state linked).next_object
           → Chain old t (all_granted (before ++ next ∷ [])) inside → Runs (ending room_here new_container number) inside new t result → Row
       written more inside number called number_is chain rest =
           let segment : Object Levels = record { label = due; kind = Segment [] } in
-          let above = root session ok (state old) f t ready d open_so_far in
-          let above_at = root_at session ok (state old) f t ready d open_so_far in
-          let N = listing session ok (state old) f t ready d in
-          let at_D = at_D session ok (state old) f t ready d open_so_far in
-          let at_N = at_N session ok (state old) f t ready d open_so_far in
-          let low = below session ok (state old) f t ready (address_of d) D at_D in
+          let class = directory_class session ok (state old) f t ready d open_so_far in
+          let stands = directory_stands session ok (state old) f t ready d open_so_far in
+          let listing_there = listing session ok (state old) f t ready d in
+          let at_container = container_numbered session ok (state old) f t ready d open_so_far in
+          let at_listing = listing_numbered session ok (state old) f t ready d open_so_far in
+          let low = below session ok (state old) f t ready (address_of d) above at_container in
           let number_left = ltb-true (new_container + 1) greatest more in
-          let later = laid_directory_created session (state old) f l d above above_at D N at_D at_N m absent made.class made.fits made.guard made.guarded named (ltb-true (length (entries_in f d)) most_entries room) number_left in
-          let numbers = directory_numbers session (state old) f l d above above_at D N at_D at_N m absent made.class made.fits made.guard made.guarded number_left in
+          let later = laid_directory_created session (state old) f l d class stands above listing_there at_container at_listing m absent made.class made.fits made.guard made.guarded named (ltb-true (length (entries_in f d)) most_entries room) number_left in
+          let numbers = directory_numbers session (state old) f l d class stands above listing_there at_container at_listing m absent made.class made.fits made.guard made.guarded number_left in
           entry_written session ok old new f t ready m d mode Dir call result makes nameable named open_so_far absent room made is_may
           (targets.Directory new_container (new_container + 1)) ((omega (arith, low), omega (arith, number_left)), (omega (arith, low), omega (arith, number_left)))
           (added with_container new_container segment) (listing_then session ok (state old) f t ready d open_so_far held segment)
-          (before ++ next ∷ []) (among_then old.line t (walk_reads session ok (state old) f t ready d) before (next ∷ []) (among_asked session ok (state old) f t ready d old.line (make D due ∷ [])))
+          (before ++ next ∷ []) (among_then old.line t (walk_reads session ok (state old) f t ready d) before (next ∷ []) (among_asked session ok (state old) f t ready d old.line (make above due ∷ [])))
           inside (called.state ∙ ap (λ (s : State). added s new_container segment) linked_state) chain later.0 (ap (λ (n : Naming Step). n.number (Runner ∷ Inside ∷ home_of [])) later.1 ∙ sym (numbers.runner []))
           (subst (λ (q : ℕ). Runs (ending room_here new_container q) inside new t result) (number_is ∙ ap (λ (s : State). s.next_object) linked_state) rest)
 
@@ -153,10 +153,10 @@ module _ (session : Session) (ok : IsSession session) (old new : KernelModel) (f
 
   -- once the container is made its directory segment is
   goes_on : GoesOn session ok old new f t ready m d mode Dir call result makes nameable make within
-  goes_on open_so_far absent room made is_may has mid linked inner stays called inner_is chain rest =
+  goes_on open_so_far absent room made is_may has mid stays linked inner called inner_is chain rest =
       let label : Levels = guard_label ready.lays_out.laid.category made.guard in
       let held : Object Levels = record { label = label; kind = Container set.empty } in
-      by_more open_so_far absent room made is_may linked (called.state ∙ ap (λ (s : State). added s D held) stays) chain (has_number (added (state old) D held)) refl
+      by_more open_so_far absent room made is_may linked (called.state ∙ ap (λ (s : State). added s above held) stays) chain (has_number (added (state old) above held)) refl
       (subst (λ (q : ℕ). Runs (within room_here label q) linked new t result) (inner_is ∙ ap (λ (s : State). s.next_object) stays) rest)
 
 -- a mkdir does what its flat rule says
