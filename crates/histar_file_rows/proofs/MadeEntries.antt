@@ -4,8 +4,8 @@ use Rattle.std.proofs.Common.{◌≡◌, ℕ, ◌<◌, Bool, true, false, List, 
 use Rattle.std.specs.Prelude.{IsTrue, is_some, nat_lt, not}
 use Rattle.std.specs.FinMap as map
 use Rattle.std.proofs.lemmas.Bool.{ltb-true}
-use Rattle.std.proofs.lemmas.Option.{same_Some}
 use Rattle.std.proofs.lemmas.Bool.Decides.{nat_tests}
+use Rattle.std.proofs.lemmas.Option.{same_Some}
 use Rattle.histar_base.specs.Refusals.{◌orelse◌, unless}
 use Rattle.histar_flat.specs.declared.calls.Mode.{Mode}
 use Rattle.histar_flat.specs.declared.calls.UnixCall.{UnixCall}
@@ -19,9 +19,9 @@ use Rattle.histar_flat.specs.Sessions.{Session}
 use Rattle.histar_flat.specs.Files.{get}
 use Rattle.histar_flat.specs.Classes.{Class, Process, class_made, may_write}
 use Rattle.histar_flat.specs.FlatState.{Flat, Content, entries_in, with_node, into, Node, is_some_and, writes}
-use Rattle.histar_flat.specs.FlatCalls.{refused, changed, most_entries, class_or_open, no_room}
 use Rattle.histar_flat.specs.FlatState.Content.{Dir, File}
 use Rattle.histar_flat.specs.FlatCalls as flat
+use Rattle.histar_flat.specs.FlatCalls.{refused, changed, most_entries, class_or_open, no_room}
 use Rattle.histar_label.specs.Levels.{Levels}
 use Rattle.histar_object.specs.Objects.{label_there}
 use Rattle.histar_object.specs.State.{State, with_bytes}
@@ -33,9 +33,9 @@ use Rattle.histar_rules.specs.Rules.{check, has_number}
 use Rattle.histar_syscall.specs.KernelModel.{KernelModel, state, Called}
 use Rattle.histar_syscall.specs.declared.trace.TraceEntry.{TraceEntry}
 use Rattle.histar_syscall.proofs.Runs.{same_kernel}
+use Rattle.histar_layout.specs.Directory as layout
 use Rattle.histar_layout.specs.Directory.{IsTarget, spelling, Entries}
 use Rattle.histar_layout.specs.declared.entry.Target.{Target}
-use Rattle.histar_layout.specs.Directory as layout
 use Rattle.histar_layout.proofs.MapLemmas.{listable_insert}
 use Rattle.histar_calls.specs.declared.ending.Stopped.{Stopped}
 use Rattle.histar_calls.specs.Refusals.{errno_of}
@@ -119,7 +119,7 @@ module _ (session : Session) (ok : IsSession session) (old new : KernelModel) (f
   abbrev room_here : Room
   room_here = the_room session ok (state old) f t ready d m
 
-  -- the reads of the reads are reads that the call cannot do without
+  -- the reads of the walk are reads that the call cannot do without
   has_reads : (steps : List Step) (reply : Reply) → AreAmong reads (entries_of old.line t steps) → ReadsAmong session f ready.alone call old new t ready.thread steps reply
   has_reads steps reply among = entry.reads (state old) reply (entries_of old.line t steps) (has_walk session ok (state old) f t ready m d (entries_of old.line t steps) among)
 
