@@ -12,7 +12,6 @@ use histar_flat::{Path, Reply, User};
 use histar_label::LabelStore;
 use histar_object::ObjId;
 use histar_syscall::Kernel;
-use std::alloc::Global;
 
 /// The root container, which the empty kernel has.
 const ROOT: u64 = 1;
@@ -31,7 +30,6 @@ pub struct FoundObject {
 /// where nothing stands there.
 pub fn stat<S: LabelStore + Drop>(
     kernel: &mut Kernel<S>,
-    alloc: Global,
     places: &Places,
     users: &[User],
     thread: ObjId,
@@ -40,12 +38,11 @@ pub fn stat<S: LabelStore + Drop>(
     requires { length users.now ≤ 16 }
     ensures { Runs (stat_program users.now places.now path.now) kernel.old kernel.new thread result }
 {
-    settle(stat_object(kernel, alloc, places, users, thread, path))
+    settle(stat_object(kernel, places, users, thread, path))
 }
 
 fn stat_object<S: LabelStore + Drop>(
     kernel: &mut Kernel<S>,
-    alloc: Global,
     places: &Places,
     users: &[User],
     thread: ObjId,

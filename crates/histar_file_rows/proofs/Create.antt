@@ -1,280 +1,87 @@
 -- A create does what the flat rule of `create` says.
-use Rattle.std.proofs.Common.{◌≡◌, ℕ, ◌<◌, Bool, true, false, List, [], ◌∷◌, ◌++◌, Option, None, Some, Result, arith, refl, sym, ap, ◌∙◌, subst, length}
-use Rattle.std.specs.Prelude.{IsTrue, is_some}
+use Rattle.std.proofs.Common.{ℕ, [], ◌∷◌, ◌++◌, Result, arith, refl, ap, ◌∙◌, subst, length}
+use Rattle.std.specs.Prelude.{IsTrue}
 use Rattle.std.specs.FinMap as map
-use Rattle.std.specs.FinSet as set
-use Rattle.std.proofs.lemmas.Bool.Decides.{nat_tests}
-use Rattle.std.proofs.lemmas.Option.{same_Some}
-use Rattle.histar_base.specs.Refusals.{◌orelse◌, unless}
+use Rattle.std.proofs.lemmas.Bool.{ltb-true}
 use Rattle.histar_flat.specs.declared.calls.Mode.{Mode}
 use Rattle.histar_flat.specs.declared.calls.UnixCall.{UnixCall}
 use Rattle.histar_flat.specs.declared.calls.UnixCall.TheVariants as calls
-use Rattle.histar_flat.specs.declared.replies.Errno.{Errno}
-use Rattle.histar_flat.specs.declared.replies.Errno.TheVariants.{EACCES, EPERM, EEXIST}
 use Rattle.histar_flat.specs.declared.replies.Reply.{Reply}
 use Rattle.histar_flat.specs.declared.replies.Reply.TheVariants.{Done}
 use Rattle.histar_flat.specs.Words.{Name, Path, is_name}
 use Rattle.histar_flat.specs.Modes.{is_line_mode}
 use Rattle.histar_flat.specs.Sessions.{Session}
-use Rattle.histar_flat.specs.Files.{get}
-use Rattle.histar_flat.specs.Classes.{Class, Process, class_made, may_read, may_write}
-use Rattle.histar_flat.specs.FlatState.{Flat, Node, is_some_and, is_dir_at, entries_in, writes, with_node, into}
-use Rattle.histar_flat.specs.FlatState.Content.{Dir, File}
-use Rattle.histar_flat.specs.FlatCalls.{refused, most_entries, class_or_open}
+use Rattle.histar_flat.specs.Classes.{Process}
+use Rattle.histar_flat.specs.FlatState.{Flat, entries_in}
+use Rattle.histar_flat.specs.FlatState.Content.{File}
+use Rattle.histar_flat.specs.FlatCalls.{most_entries}
 use Rattle.histar_label.specs.Levels.{Levels}
-use Rattle.histar_object.specs.declared.objects.Kind.TheVariants.{Segment, Thread}
+use Rattle.histar_object.specs.declared.objects.Kind.TheVariants.{Segment}
 use Rattle.histar_object.specs.declared.objects.Object.{Object}
-use Rattle.histar_object.specs.Objects.{links_in, label_there}
-use Rattle.histar_object.specs.State.{State, Found, added, with_bytes}
-use Rattle.histar_rules.specs.declared.raw.Denied.TheVariants.{Modify, Range, TooBig}
+use Rattle.histar_object.specs.State.{State, added}
+use Rattle.histar_container.specs.Tree.{Naming}
 use Rattle.histar_rules.specs.declared.raw.RawCall.{RawCall}
 use Rattle.histar_rules.specs.declared.raw.RawCall.TheVariants as raw
-use Rattle.histar_rules.specs.Rules.{check, has_number, greatest}
+use Rattle.histar_rules.specs.Rules.{greatest}
 use Rattle.histar_syscall.specs.KernelModel.{KernelModel, state}
-use Rattle.histar_syscall.proofs.Runs.{same_kernel}
-use Rattle.histar_layout.specs.Directory.{Entries, spelling}
-use Rattle.histar_layout.specs.Directory as layout
 use Rattle.histar_layout.specs.declared.entry.Target.TheVariants as targets
-use Rattle.histar_layout.proofs.MapLemmas.{listable_insert}
 use Rattle.histar_calls.specs.declared.ending.Stopped.{Stopped}
-use Rattle.histar_calls.specs.Categories.{label_made}
+use Rattle.histar_calls.specs.declared.find.Room.{Room}
 use Rattle.histar_calls.specs.Programs.{Program, Runs}
 use Rattle.histar_calls.specs.Programs.Program.{Answers}
-use Rattle.histar_calls.specs.Parts.{ask, find_room, write_entries}
+use Rattle.histar_calls.specs.Parts.{write_entries}
 use Rattle.histar_calls.specs.Create.{create_program}
-use Rattle.histar_login.specs.Start.{places_of}
-use Rattle.histar_container.specs.Tree.{Address, Naming}
 use Rattle.histar_refinement.specs.Sessions.{IsSession}
-use Rattle.histar_refinement.specs.Guards.{guard_label, rights_clearance}
-use Rattle.histar_refinement.specs.Labels.{thread_rights}
-use Rattle.histar_refinement.specs.Addresses.{Step, same_step, address_of, home_of}
-use Rattle.histar_refinement.specs.Addresses.Step.{Listing, Inside, Runner}
-use Rattle.histar_refinement.specs.Expected.{expected}
-use Rattle.histar_refinement.specs.LaysOut.{LaysOut}
-use Rattle.histar_refinement.specs.Lines.{IsThreadOf}
-use Rattle.histar_refinement.proofs.Steps.{step_tells}
-use Rattle.histar_refinement.proofs.Moving.{number_below}
-use Rattle.histar_refinement.proofs.ClassTests.{observes_class, modifies_class}
-use Rattle.histar_refinement.proofs.DirectoryLaws.{spelling_fits}
-use Rattle.histar_refinement.proofs.RawChecks.{object, caller_passes}
-use Rattle.histar_refinement.proofs.FileChecks.{make_segment_said, segment_out_of_range}
-use Rattle.histar_refinement.proofs.Making.{count_entries}
-use Rattle.histar_refinement.proofs.Creating.{laid_created, lays_out_created}
-use Rattle.histar_refinement.proofs.Standing.{thread_found, guard_at, container_found, listing_found, step_linked}
-use Rattle.histar_refinement.proofs.StatusFound.{thread_led}
-use Rattle.histar_rows.specs.Rows.{IsReady, AreAmong}
+use Rattle.histar_refinement.specs.Guards.{guard_label}
+use Rattle.histar_refinement.specs.Addresses.{Step, address_of, home_of}
+use Rattle.histar_refinement.specs.Addresses.Step.{Inside, Runner}
+use Rattle.histar_refinement.proofs.Creating.{laid_created}
+use Rattle.histar_rows.specs.Rows.{IsReady}
 use Rattle.histar_rows.specs.Laws.{CreatesAreRows}
-use Rattle.histar_rows.proofs.Chains.{all_granted, entries_of, Chain}
-use Rattle.histar_rows.proofs.Steps.{Goal, granted_step, refused_step, exhausted_step, refused_at_once, answered_step}
-use Rattle.histar_rows.proofs.Walks.{runs, place_at, walk_reads, stands, at_container, at_listing, holds, dir, seen, has_walk, among_granted_all, among_then, among_also}
-use Rattle.histar_file_rows.proofs.Makers.{own, MakesNothing, MakesClass, makes}
-use Rattle.histar_file_rows.proofs.NewEntries.{last_name, written_after}
-use Rattle.histar_file_rows.proofs.Rooms.{roomy, refused_in_room, room_step}
-use Rattle.histar_refinement.specs.Directories.{directory_of}
+use Rattle.histar_file_rows.proofs.FoundObjects.{container, listing, directory_stands, directory_class, container_numbered, listing_numbered, below, listing_still, segment_made}
+use Rattle.histar_file_rows.proofs.MadeEntries.{MakesEntry, slash_stands, asked, among_asked, the_room, GoesOn, entry_step, entry_written}
+use Rattle.histar_file_rows.proofs.NewEntries.{last_name}
+
+-- a create makes an empty file
+create_makes : (session : Session) (f : Flat) (p : Process) (q : Path) (mode : Mode) → MakesEntry session f p q mode (File []) (calls.Create q mode)
+create_makes session f p q mode = record { refuses = refl; changes = refl; answers = refl; reads = λ s reply entries walk. walk }
+
+-- the segment of the file is made, and the directory is written
+abbrev make : ℕ → Levels → RawCall
+make container x = raw.MakeSegment container x []
+
+abbrev within : Room → Levels → ℕ → Program
+within room x file = write_entries room.place (map.insert room.entries room.name (targets.File file)) (λ _. Answers Done)
 
 module _ (session : Session) (ok : IsSession session) (old new : KernelModel) (f : Flat) (t : ℕ) (ready : IsReady session (state old) f t) (m : Name) (named : IsTrue (is_name m)) (d : Path) (mode : Mode) (nameable : IsTrue (is_line_mode mode)) (result : Result Reply Stopped) where
   abbrev call : UnixCall
   call = calls.Create (m ∷ d) mode
 
-  abbrev walk : List RawCall
-  walk = walk_reads session ok (state old) f t ready d
+  makes : MakesEntry session f ready.alone.process (m ∷ d) mode (File []) call
+  makes = create_makes session f ready.alone.process (m ∷ d) mode
 
-  abbrev Row : Type 0
-  Row = Goal session f ready.alone call old new t ready.thread result
-
-  abbrev p : Process
-  p = ready.alone.process
-
-  -- the container of the directory and its directory segment
-  abbrev container : ℕ
-  container = (place_at session ok (state old) f t ready d).container
-
-  abbrev listing : ℕ
-  listing = (place_at session ok (state old) f t ready d).listing
-
-  abbrev entries : Entries
-  entries = directory_of f.files ready.lays_out.laid.naming.number d
-
-  abbrev may_make : Option Errno
-  may_make = unless (is_some (class_made session p mode)) EPERM
-
-  abbrev label : Levels
-  label = own session ok (state old) f t ready mode nameable
-
-  thread : (state old).objects t ≡ object label (Thread (rights_clearance ready.lays_out.laid.category (thread_rights session [] p)))
-  thread = thread_found session (state old) f ready.lays_out.laid [] p ready.alone.stands ready.alone.runs t (runs session ok (state old) f t ready).2
-
-  -- what comes after the file is made
-  abbrev ending : ℕ → Program
-  ending file = write_entries (place_at session ok (state old) f t ready d) (map.insert entries m (targets.File file)) (λ _. Answers Done)
-
-  abbrev make : Levels → RawCall
-  make label = raw.MakeSegment container label []
-
-  -- the raw calls up to the making
-  abbrev asked : List RawCall
-  asked = walk ++ raw.OwnLabel ∷ []
-
-  -- the reads of the walk are among them, and among all that begins with them
-  walked : AreAmong walk (entries_of old.line t (all_granted asked))
-  walked = among_then old.line t walk walk (raw.OwnLabel ∷ []) (among_granted_all old.line t walk)
-
-  -- ---- the run, once the way is open, and the directory holds nothing of this name and has room
-
-  module _ (open_so_far : into session f p d ≡ None) (absent : get f.files (m ∷ d) ≡ None) (room : roomy session ok old new f t ready m d call result may_make refl (λ steps r among. has_walk session ok (state old) f t ready m d _ among) ≡ true) where
-    is_dir : is_dir_at f d ≡ true
-    is_dir = dir session ok (state old) f t ready d open_so_far
-
-    abbrev root : Class
-    root = (stands session ok (state old) f t ready d (dir session ok (state old) f t ready d open_so_far)).0
-
-    root_at : get f.files d ≡ Some (record { class = root; content = Dir })
-    root_at = (stands session ok (state old) f t ready d (dir session ok (state old) f t ready d open_so_far)).1
-
-    at_D : ready.lays_out.laid.naming.number (address_of d) ≡ Some container
-    at_D = at_container session ok (state old) f t ready d is_dir
-
-    at_N : ready.lays_out.laid.naming.number (Listing ∷ address_of d) ≡ Some listing
-    at_N = at_listing session ok (state old) f t ready d is_dir
-
-    sees : may_read session p root ≡ true
-    sees = seen session ok (state old) f t ready d open_so_far
-
-    may_is : writes session f p d ≡ may_write session p root
-    may_is = ap (λ (o : Option Node). is_some_and o (λ n. may_write session p n.class)) root_at
-
-    -- what the flat rules refuse
-    refused_so : (may makes : Bool) → may_write session p root ≡ may → is_some (class_made session p mode) ≡ makes → refused session f [] p call ≡ (unless may EACCES orelse unless makes EPERM)
-    refused_so may makes is_may is_makes =
-        refused_in_room session ok old new f t ready m d call result may_make refl (λ steps r among. has_walk session ok (state old) f t ready m d _ among) open_so_far absent room may (may_is ∙ is_may)
-        ∙ ap (λ (b : Bool). unless may EACCES orelse unless b EPERM) is_makes
-
-    module _ (mid : KernelModel) (stays : state mid ≡ state old) (chain : Chain old t (all_granted asked) mid) where
-      -- of a label out of the thread's range nothing is made
-      nothing_made : (x : Levels) → MakesNothing session ok (state old) f t ready mode nameable x → Runs (ask (make x) ending) mid new t result → Row
-      nothing_made x nothing on = by (may_write session p root) refl
-        where
-          said : (b : Bool) → may_write session p root ≡ b → check (state mid) t (make x) ≡ (unless b Modify orelse Some Range)
-          said b e = (λ i. check (stays i) t (make (nothing.label_is i)))
-              ∙ segment_out_of_range session (state old) f ready.lays_out.laid ok [] p t (runs session ok (state old) f t ready) d root root_at container listing at_D at_N sees nothing.guard nothing.outside []
-              ∙ ap (λ (b : Bool). unless b Modify orelse Some Range) e
-
-          by : (b : Bool) → may_write session p root ≡ b → Row
-          by true e = refused_step session f ready.alone call old new t ready.thread result asked mid chain stays ready.lays_out EPERM (refused_so true false e nothing.nothing) (make x) ending Range (said true e) refl
-              (has_walk session ok (state old) f t ready m d _ (among_also old.line t walk asked ((make x, Some Range) ∷ []) walked)) on
-          by false e = refused_step session f ready.alone call old new t ready.thread result asked mid chain stays ready.lays_out EACCES (refused_so false false e nothing.nothing) (make x) ending Modify (said false e) refl
-              (has_walk session ok (state old) f t ready m d _ (among_also old.line t walk asked ((make x, Some Modify) ∷ []) walked)) on
-
-      module _ (x : Levels) (made : MakesClass session ok (state old) f t ready mode nameable x) where
-        makes_some : is_some (class_made session p mode) ≡ true
-        makes_some = ap is_some made.class_is
-
-        said : (may has : Bool) → may_write session p root ≡ may → has_number (state old) ≡ has → check (state mid) t (make x) ≡ (unless may Modify orelse unless has TooBig)
-        said may has is_may is_has = (λ k. check (stays k) t (make (made.label_is k)))
-            ∙ make_segment_said session (state old) f ready.lays_out.laid ok [] p t (runs session ok (state old) f t ready) d root root_at container listing at_D at_N sees made.class made.known made.guard made.guarded
-            ∙ (λ k. unless (is_may k) Modify orelse unless (made.within k) Range orelse unless (is_has k) TooBig)
-
-        -- the file is made, and the directory is written
-        abbrev file : Object Levels
-        file = record { label = guard_label ready.lays_out.laid.category made.guard; kind = Segment [] }
-
-        abbrev after : State
-        after = added (state old) container file
-
-        abbrev grown : Entries
-        grown = map.insert entries m (targets.File (state old).next_object)
-
-        module _ (may : may_write session p root ≡ true) (has : has_number (state old) ≡ true) where
-          next_below : (state old).next_object < greatest
-          next_below = grind (arith, nat_tests, has)
-
-          some_room : length (entries_in f d) < most_entries
-          some_room = grind (arith, nat_tests, room)
-
-          below : (a : Address Step) (q : ℕ) → ready.lays_out.laid.naming.number a ≡ Some q → q < (state old).next_object
-          below a q at = number_below same_step step_tells (state old) ready.lays_out.laid.naming (expected session ready.lays_out.laid.category f ready.lays_out.laid.naming.number) ready.lays_out.laid.stands a q at
-
-          write_said : check after t (raw.Write container listing 0 (spelling grown)) ≡ None
-          write_said =
-              let l = ready.lays_out.laid in
-              let g = guard_at session (state old) f l d (record { class = root; content = Dir }) root_at in
-              let holder = container_found session (state old) f l d root root_at g.0 g.1 container at_D in
-              let segment = listing_found session (state old) f l d root root_at g.0 g.1 listing at_N in
-              let low = below (address_of d) container at_D in
-              let count = count_entries session (state old) f l d in
-              let room_left : map.len entries < 64 = omega (arith, count, some_room) in
-              let number_small : layout.IsTarget (targets.File (state old).next_object) = (omega (arith, low), omega (arith, next_below)) in
-              written_after (state old) t container listing label (rights_clearance l.category (thread_rights session [] p)) (guard_label l.category g.0) holder.0 (spelling entries) file
-              thread holder.1 segment
-              (sym (ap (λ (o : Found). set.contains (links_in o) listing) holder.1) ∙ step_linked session (state old) f l Listing (address_of d) container listing at_D at_N)
-              (below (Runner ∷ Inside ∷ home_of []) t (runs session ok (state old) f t ready).2) low (below (Listing ∷ address_of d) listing at_N)
-              (observes_class session [] p l.category l.different ok root g.0 g.1 ∙ sees) (modifies_class session [] p l.category l.different ok root g.0 g.1 ∙ may)
-              (spelling grown) (spelling_fits grown (listable_insert entries m (targets.File (state old).next_object) (holds session ok (state old) f t ready d is_dir).listable room_left (named, number_small)))
-
-          laid_after : LaysOut session (with_bytes after listing (spelling grown)) (with_node f (m ∷ d) made.class (File []))
-          laid_after = lays_out_created session (state old) f ready.lays_out.laid d root root_at container listing at_D at_N
-              m absent made.class made.fits made.guard made.guarded made.known ready.lays_out.jobs_given named some_room next_below
-
-          thread_after : IsThreadOf session (with_bytes after listing (spelling grown)) [] t
-          thread_after =
-              let later = laid_created session (state old) f ready.lays_out.laid d root root_at container listing at_D at_N m absent made.class made.fits made.guard made.guarded named some_room next_below in
-              thread_led session (with_bytes after listing (spelling grown)) (with_node f (m ∷ d) made.class (File [])) later.0 [] p t ready.alone.stands ready.alone.runs
-              (ap (λ (n : Naming Step). n.number (Runner ∷ Inside ∷ home_of [])) later.1 ∙ (runs session ok (state old) f t ready).2)
-
-          granted : Runs (ask (make x) ending) mid new t result → Row
-          granted on =
-              granted_step session f ready.alone call old new t ready.thread result asked mid chain (make x) ending (said true true may has) on
-              (λ linked made_number called number_is longer rest.
-              let new_file : made_number ≡ (state old).next_object = number_is ∙ ap (λ (s : State). s.next_object) stays in
-              let linked_state : state linked ≡ after = called.state ∙ (λ k. added (stays k) container (record { label = made.label_is k; kind = Segment [] })) in
-              let write : RawCall = raw.Write container listing 0 (spelling grown) in
-              let among = among_then old.line t walk asked (make x ∷ []) walked in
-              granted_step session f ready.alone call old new t ready.thread result (asked ++ make x ∷ []) linked longer write (λ _. Answers Done)
-              (ap (λ (s : State). check s t write) linked_state ∙ write_said) (subst (λ (q : ℕ). Runs (ending q) linked new t result) new_file rest)
-              (λ end done wrote right whole last.
-              let end_state : state end ≡ with_bytes after listing (spelling grown) = wrote.state ∙ ap (λ (s : State). with_bytes s listing (spelling grown)) linked_state in
-              answered_step session f ready.alone call old new t ready.thread result ((asked ++ make x ∷ []) ++ write ∷ []) end whole Done refl (refused_so true true may makes_some) tt
-              (has_walk session ok (state old) f t ready m d _ (among_then old.line t walk (asked ++ make x ∷ []) (write ∷ []) among))
-              (subst (λ (o : Option Class). LaysOut session (state end) (with_node f (m ∷ d) (class_or_open o) (File []))) (sym made.class_is) (subst (λ (s : State). LaysOut session s (with_node f (m ∷ d) made.class (File []))) (sym end_state) laid_after))
-              (subst (λ (s : State). IsThreadOf session s [] t) (sym end_state) thread_after) last))
-
-        by_right : (may has : Bool) → may_write session p root ≡ may → has_number (state old) ≡ has → Runs (ask (make x) ending) mid new t result → Row
-        by_right false has is_may is_has on =
-            refused_step session f ready.alone call old new t ready.thread result asked mid chain stays ready.lays_out EACCES (refused_so false true is_may makes_some) (make x) ending Modify (said false has is_may is_has) refl
-            (has_walk session ok (state old) f t ready m d _ (among_also old.line t walk asked ((make x, Some Modify) ∷ []) walked)) on
-        by_right true false is_may is_has on =
-            exhausted_step session f ready.alone call old new t ready.thread result asked mid chain (make x) ending (said true false is_may is_has) refl (ap has_number stays ∙ is_has) on
-        by_right true true is_may is_has on = granted is_may is_has on
-
-      made_by : (x : Levels) → x ≡ label → Runs (ask (make (label_made (length session.users) x mode)) ending) mid new t result → Row
-      made_by x is_own on =
-          makes session ok (state old) f t ready mode nameable x is_own
-          (λ nothing. nothing_made (label_made (length session.users) x mode) nothing on)
-          (λ made. by_right (label_made (length session.users) x mode) made (may_write session p root) (has_number (state old)) refl refl on)
-
-    -- the thread asks for its own label
-    in_room : (mid : KernelModel) → state mid ≡ state old → Chain old t (all_granted walk) mid → Runs (ask raw.OwnLabel (λ labels. ask (make (label_made (length session.users) labels.0 mode)) ending)) mid new t result → Row
-    in_room mid stays chain on =
-        granted_step session f ready.alone call old new t ready.thread result walk mid chain raw.OwnLabel (λ labels. ask (make (label_made (length session.users) labels.0 mode)) ending)
-        (ap (λ (s : State). check s t raw.OwnLabel) stays ∙ caller_passes (state old) t label (rights_clearance ready.lays_out.laid.category (thread_rights session [] p)) thread) on
-        (λ later labels called right longer rest.
-        let label_own : labels.0 ≡ label = same_Some labels.0 label (right.0 ∙ ap (λ (s : State). label_there (s.objects t)) stays ∙ ap label_there thread) in
-        made_by later (called.state ∙ stays) longer labels.0 label_own rest)
-
-  create_is_row : Runs (create_program (places_of (length session.users)) (m ∷ d) mode) old new t result → Row
-  unfolding create_program
-  create_is_row run =
-      room_step session ok old new f t ready m d call result may_make refl (λ steps r among. has_walk session ok (state old) f t ready m d _ among) _ run
-      (λ open_so_far absent room mid stays chain on. in_room open_so_far absent room mid stays chain on)
-
--- a create of `/`
-create_of_slash : (session : Session) (old new : KernelModel) (f : Flat) (t : ℕ) (mode : Mode) (result : Result Reply Stopped) (ready : IsReady session (state old) f t) → Runs (create_program (places_of (length session.users)) [] mode) old new t result
-    → Goal session f ready.alone (calls.Create [] mode) old new t ready.thread result
-unfolding create_program find_room
-create_of_slash session old new f t mode result ready run =
-    refused_at_once session f ready.alone (calls.Create [] mode) old new t ready.thread result [] old (same_kernel old) refl ready.lays_out EEXIST refl refl refl tt run
+  -- once the file is made the directory is written
+  goes_on : GoesOn session ok old new f t ready m d mode (File []) call result makes nameable make within
+  goes_on open_so_far absent room made is_may has mid stays linked number called number_is chain rest =
+      let above = container session ok (state old) f t ready d in
+      let file : Object Levels = record { label = guard_label ready.lays_out.laid.category made.guard; kind = Segment [] } in
+      let at_container = container_numbered session ok (state old) f t ready d open_so_far in
+      let low = below session ok (state old) f t ready (address_of d) above at_container in
+      let next_below = ltb-true (state old).next_object greatest has in
+      let later = laid_created session (state old) f ready.lays_out.laid d (directory_class session ok (state old) f t ready d open_so_far) (directory_stands session ok (state old) f t ready d open_so_far) above (listing session ok (state old) f t ready d)
+      at_container (listing_numbered session ok (state old) f t ready d open_so_far) m absent made.class made.fits made.guard made.guarded named (ltb-true (length (entries_in f d)) most_entries room) next_below in
+      let making : RawCall = make above (guard_label ready.lays_out.laid.category made.guard) in
+      entry_written session ok old new f t ready m d mode (File []) call result makes nameable named open_so_far absent room made is_may
+      (targets.File (state old).next_object) (omega (arith, low), omega (arith, next_below)) (added (state old) above file) (listing_still session ok (state old) f t ready d open_so_far file)
+      (asked session ok (state old) f t ready d ++ making ∷ []) (among_asked session ok (state old) f t ready d old.line (making ∷ []))
+      linked (called.state ∙ ap (λ (s : State). added s above file) stays) chain later.0 (ap (λ (n : Naming Step). n.number (Runner ∷ Inside ∷ home_of [])) later.1)
+      (subst (λ (q : ℕ). Runs (within (the_room session ok (state old) f t ready d m) (guard_label ready.lays_out.laid.category made.guard) q) linked new t result) (number_is ∙ ap (λ (s : State). s.next_object) stays) rest)
 
 -- a create does what its flat rule says
 pub creates_are_rows : CreatesAreRows
-creates_are_rows session ok [] mode right nameable old new f t result ready run = create_of_slash session old new f t mode result ready run
-creates_are_rows session ok (m ∷ d) mode right nameable old new f t result ready run = create_is_row session ok old new f t ready m (last_name m d right) d mode nameable result run
+unfolding create_program
+creates_are_rows session ok [] mode right nameable old new f t result ready run =
+    slash_stands session old new f t ready mode (File []) (calls.Create [] mode) result (create_makes session f ready.alone.process [] mode) _ run
+creates_are_rows session ok (m ∷ d) mode right nameable old new f t result ready run =
+    entry_step session ok old new f t ready m d mode (File []) (calls.Create (m ∷ d) mode) result (create_makes session f ready.alone.process (m ∷ d) mode) nameable make within
+    (λ open_so_far. segment_made session ok (state old) f t ready d open_so_far) run (goes_on session ok old new f t ready m (last_name m d right) d mode nameable result)

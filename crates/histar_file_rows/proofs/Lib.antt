@@ -1,7 +1,8 @@
 pub mod Files
+pub mod FoundObjects
+pub mod MadeEntries
 pub mod Makers
 pub mod NewEntries
-pub mod Rooms
 pub mod Read
 pub mod Write
 pub mod Create

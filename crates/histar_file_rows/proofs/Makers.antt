@@ -13,7 +13,7 @@ use Rattle.histar_flat.specs.Classes.Class.{Private, Readable, Open, Scratch}
 use Rattle.histar_flat.specs.FlatState.{Flat}
 use Rattle.histar_label.specs.Levels.{Levels}
 use Rattle.histar_object.specs.State.{State}
-use Rattle.histar_calls.specs.Categories.{user_of, file_label, label_made}
+use Rattle.histar_calls.specs.Categories.{file_label, label_made}
 use Rattle.histar_calls.proofs.UserOf.{user_is}
 use Rattle.histar_refinement.specs.Sessions.{IsSession}
 use Rattle.histar_refinement.specs.Guards.{Guard, guard_label, rights_label}
@@ -51,24 +51,27 @@ module _ (session : Session) (ok : IsSession session) (s : State) (f : Flat) (t 
   abbrev number : Option ℕ
   number = user_number session p.user
 
-  -- the thread's own label
+  -- the thread's own label, and the one that it hands in
   abbrev pub own : Levels
-  own = rights_label ready.lays_out.laid.category (thread_rights session [] p)
+  own = rights_label ready.lays_out.laid.category (thread_rights session [] ready.alone.process)
+
+  abbrev pub handed : Levels
+  handed = label_made (length session.users) own mode
 
   -- Of this label nothing may be made: it lies outside the thread's range, and the flat rules know of no class.
-  pub record MakesNothing (label : Levels) : Type 0 where
+  pub record MakesNothing : Type 0 where
     pub guard : Guard
-    pub label_is : label ≡ guard_label ready.lays_out.laid.category guard
+    pub label_is : handed ≡ guard_label ready.lays_out.laid.category guard
     pub outside : is_made_within session ready.lays_out.laid.category ready.lays_out.laid.different [] p guard ≡ false
     pub nothing : is_some (class_made session p mode) ≡ false
 
   -- Of this label the thread makes what the flat rules say that the process makes.
-  pub record MakesClass (label : Levels) : Type 0 where
+  pub record MakesClass : Type 0 where
     pub class : Class
     pub class_is : class_made session p mode ≡ Some class
     pub guard : Guard
     pub guarded : class_guard session class ≡ Some guard
-    pub label_is : label ≡ guard_label ready.lays_out.laid.category guard
+    pub label_is : handed ≡ guard_label ready.lays_out.laid.category guard
     pub within : is_made_within session ready.lays_out.laid.category ready.lays_out.laid.different [] p guard ≡ true
     pub fits : ClassFits session s f ready.lays_out.laid class
     pub known : AreKnown session s f ready.lays_out.laid class
@@ -78,10 +81,9 @@ module _ (session : Session) (ok : IsSession session) (s : State) (f : Flat) (t 
   free : is_free p ≡ true
   free = ap (λ (chain : List ProcName). elim chain as (λ _. Bool) [ [] ↦ true | job ∷ jobs ↦ false ]) ready.alone.free
 
-  label_so : (label : Levels) → label ≡ own → (i : ℕ) → or_zero number ≡ i → i ≤ length session.users → label_made (length session.users) label mode ≡ guard_label ready.lays_out.laid.category (guard_of mode i)
-  label_so label is_own i is low =
-      (λ k. file_label mode (user_of (is_own k) (length session.users)))
-      ∙ ap (file_label mode) (user_is own (length session.users) (or_zero number) (user_of_thread session s f ready.lays_out.laid [] p) ∙ is)
+  label_so : (i : ℕ) → or_zero number ≡ i → i ≤ length session.users → handed ≡ guard_label ready.lays_out.laid.category (guard_of mode i)
+  label_so i is low =
+      ap (file_label mode) (user_is own (length session.users) (or_zero number) (user_of_thread session s f ready.lays_out.laid [] p) ∙ is)
       ∙ by mode nameable
     where
       by : (x : Mode) → IsTrue (is_line_mode x) → file_label x i ≡ guard_label ready.lays_out.laid.category (guard_of x i)
@@ -104,9 +106,9 @@ module _ (session : Session) (ok : IsSession session) (s : State) (f : Flat) (t 
   may_use (modes.Group group) right = absurd (true≢false (sym right))
 
   -- what the process makes of this mode, as the user of number i or, where that plays no part, as nobody
-  made_so : (label : Levels) → label ≡ own → (i : ℕ) → or_zero number ≡ i → i ≤ length session.users → free_class session p mode ≡ Some (class_of_mode mode p.user) → class_guard session (class_of_mode mode p.user) ≡ Some (guard_of mode i)
-      → MakesClass (label_made (length session.users) label mode)
-  made_so label is_own i is low made guarded =
+  made_so : (i : ℕ) → or_zero number ≡ i → i ≤ length session.users → free_class session p mode ≡ Some (class_of_mode mode p.user) → class_guard session (class_of_mode mode p.user) ≡ Some (guard_of mode i)
+      → MakesClass
+  made_so i is low made guarded =
       let class_is : class_made session p mode ≡ Some (class_of_mode mode p.user) = ap (λ (b : Bool). if b then free_class session p mode else Some (Scratch p.user p.chain)) free ∙ made in
       let has_guard : class_guard session (class_of_mode mode p.user) ≢ None = λ none. let k : None ≡ Some (guard_of mode i) = sym none ∙ guarded in absurd cc in
       record {
@@ -114,7 +116,7 @@ module _ (session : Session) (ok : IsSession session) (s : State) (f : Flat) (t 
         class_is = class_is;
         guard = guard_of mode i;
         guarded = guarded;
-        label_is = label_so label is_own i is low;
+        label_is = label_so i is low;
         within = made_in_range session ready.lays_out.laid.category ready.lays_out.laid.different [] p ok mode (class_of_mode mode p.user) (guard_of mode i) class_is guarded;
         fits = made_fits session s f ready.lays_out.laid [] p ready.alone.stands (class_of_mode mode p.user) has_guard (no_jobs p.user mode);
         known = made_known session s f ready.lays_out.laid [] p ready.alone.stands (class_of_mode mode p.user) (no_jobs p.user mode);
@@ -127,8 +129,8 @@ module _ (session : Session) (ok : IsSession session) (s : State) (f : Flat) (t 
   is_someone i is false e = refl
 
   -- a user
-  by_user : (label : Levels) → label ≡ own → (i : ℕ) → number ≡ Some i → MakesClass (label_made (length session.users) label mode)
-  by_user label is_own i is = made_so label is_own i (ap or_zero is) (user_range session p.user i is).1 (made mode nameable) (guarded mode nameable)
+  by_user : (i : ℕ) → number ≡ Some i → MakesClass
+  by_user i is = made_so i (ap or_zero is) (user_range session p.user i is).1 (made mode nameable) (guarded mode nameable)
     where
       not_nobody : same p.user nobody ≡ false
       not_nobody = is_someone i is (same p.user nobody) refl
@@ -153,8 +155,8 @@ module _ (session : Session) (ok : IsSession session) (s : State) (f : Flat) (t 
     ]
 
     -- nobody makes what is open
-    open_by_nobody : (label : Levels) → label ≡ own → is_open mode ≡ true → MakesClass (label_made (length session.users) label mode)
-    open_by_nobody label is_own open_mode = made_so label is_own 0 (ap or_zero none) (omega arith) (made mode open_mode) (guarded mode open_mode)
+    open_by_nobody : is_open mode ≡ true → MakesClass
+    open_by_nobody open_mode = made_so 0 (ap or_zero none) (omega arith) (made mode open_mode) (guarded mode open_mode)
       where
         made : (x : Mode) → is_open x ≡ true → free_class session p x ≡ Some (class_of_mode x p.user)
         made modes.Open is = refl
@@ -169,10 +171,10 @@ module _ (session : Session) (ok : IsSession session) (s : State) (f : Flat) (t 
         guarded (modes.Group group) is = absurd (true≢false (sym is))
 
     -- and nothing else
-    by_nobody : (label : Levels) → label ≡ own → is_open mode ≡ false → MakesNothing (label_made (length session.users) label mode)
-    by_nobody label is_own closed = record {
+    by_nobody : is_open mode ≡ false → MakesNothing
+    by_nobody closed = record {
       guard = guard_of mode 0;
-      label_is = label_so label is_own 0 (ap or_zero none) (omega arith);
+      label_is = label_so 0 (ap or_zero none) (omega arith);
       outside = outside mode nameable closed;
       nothing = ap (λ (b : Bool). is_some (if b then free_class session p mode else Some (Scratch p.user p.chain))) free ∙ nothing mode nameable closed;
     }
@@ -193,13 +195,13 @@ module _ (session : Session) (ok : IsSession session) (s : State) (f : Flat) (t 
         nothing (modes.Group group) right is = absurd (true≢false (sym right))
 
   -- The label that the thread hands in for a mode: it makes what the process makes by the flat rules, or nothing where they make nothing.
-  pub makes : {Result : Type 0} (label : Levels) → label ≡ own → (MakesNothing (label_made (length session.users) label mode) → Result) → (MakesClass (label_made (length session.users) label mode) → Result) → Result
-  makes {Result} label is_own nothing class = by_number number refl
+  pub makes : {Result : Type 0} → (MakesNothing → Result) → (MakesClass → Result) → Result
+  makes {Result} nothing class = by_number number refl
     where
       by_mode : number ≡ None → (b : Bool) → is_open mode ≡ b → Result
-      by_mode none true is = class (open_by_nobody none label is_own is)
-      by_mode none false is = nothing (by_nobody none label is_own is)
+      by_mode none true is = class (open_by_nobody none is)
+      by_mode none false is = nothing (by_nobody none is)
 
       by_number : (o : Option ℕ) → number ≡ o → Result
       by_number None none = by_mode none (is_open mode) refl
-      by_number (Some i) is = class (by_user label is_own i is)
+      by_number (Some i) is = class (by_user i is)

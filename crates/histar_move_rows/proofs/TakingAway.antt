@@ -54,7 +54,7 @@ use Rattle.histar_refinement.proofs.Moving.{one_address}
 use Rattle.histar_refinement.proofs.ClassTests.{observes_class, modifies_class}
 use Rattle.histar_refinement.proofs.DirectoryLaws.{spelling_fits}
 use Rattle.histar_refinement.proofs.RawChecks.{object, write_check}
-use Rattle.histar_refinement.proofs.FileChecks.{unlink_said}
+use Rattle.histar_refinement.proofs.FileChecks.{fits, unlink_said}
 use Rattle.histar_refinement.proofs.Removing.{laid_removed, lays_out_removed}
 use Rattle.histar_refinement.proofs.Standing.{thread_found, guard_at, container_found, listing_found, step_linked}
 use Rattle.histar_refinement.proofs.StatusFound.{thread_led}
@@ -64,10 +64,6 @@ use Rattle.histar_rows.proofs.Endings.{IsBacked, ReadsAmong}
 use Rattle.histar_rows.proofs.Steps.{Goal, granted_step, refused_step, answered_step}
 use Rattle.histar_rows.proofs.Walks.{runs, place_at, stands, at_container, at_listing, dir, seen, among_granted_all, among_then, among_also}
 use Rattle.histar_move_rows.proofs.Entries.{object_at, entry_of, object_led_to, object_numbered}
-
--- bytes that fit, where nothing is kept
-fits : (old new : ℕ) → new ≤ 4096 → fits_segment (min 0 old + new) ≡ true
-fits old new h = grind (arith, nat_tests, h)
 
 -- two numbers are told apart
 told_apart : (q r : ℕ) → q ≢ r → nat_eq q r ≡ false
@@ -145,7 +141,7 @@ module _ (session : Session) (s : State) (f : Flat) (l : Laid session s f) (ok :
       let observed : is_below_raised due label ≡ true = observes_class session [] p l.category l.different ok class guard.0 guard.1 ∙ sees in
       let changes : (is_below label due && is_below_raised due label) ≡ true = modifies_class session [] p l.category l.different ok class guard.0 guard.1 ∙ may in
       write_check mid t label clearance thread_then D due (set.remove links O) holder_then observed N linked_then due old listing_then 0 (spelling entries)
-      ∙ (λ i. unless (changes i) Modify orelse unless (fits (length old) (length (spelling entries)) (spelling_fits entries listable) i) TooBig)
+      ∙ (λ i. unless (changes i) Modify orelse unless (fits old (spelling entries) (spelling_fits entries listable) i) TooBig)
 
   -- the thread is the one that it was, once the directory is written without the entry
   pub thread_after : is_dir_at f d ≡ true → IsThreadOf session (with_bytes mid N (spelling (map.remove (directory_of f.files l.naming.number d) m))) [] t

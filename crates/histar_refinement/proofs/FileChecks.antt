@@ -39,7 +39,7 @@ use Rattle.histar_refinement.proofs.FileRows.{AreKnown}
 use Rattle.histar_refinement.proofs.Standing.{thread_found, guard_at, file_found, container_found, listing_found, step_linked}
 
 -- bytes that fit, where nothing is kept
-fits : (held bytes : List ℕ) → length bytes ≤ 4096 → fits_segment (min 0 (length held) + length bytes) ≡ true
+pub fits : (held bytes : List ℕ) → length bytes ≤ 4096 → fits_segment (min 0 (length held) + length bytes) ≡ true
 fits held bytes h = grind (arith, nat_tests, h)
 
 module _ (session : Session) (s : State) (f : Flat) (l : Laid session s f) (ok : IsSession session) (me : ProcName) (p : Process) (t : ℕ) (runs : RunsAs session s f l me p t)

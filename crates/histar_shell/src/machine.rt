@@ -150,7 +150,7 @@ fn make<S: LabelStore + Drop>(
             kernel, alloc, places, thread, &path, bytes,
         ),
         UnixCall::List(path) => list::list(kernel, alloc, places, thread, &path),
-        UnixCall::Stat(path) => stat::stat(kernel, alloc, places, users, thread, &path),
+        UnixCall::Stat(path) => stat::stat(kernel, places, users, thread, &path),
         UnixCall::Unlink(path) => unlink::unlink(kernel, alloc, places, thread, &path),
         UnixCall::Rmdir(path) => rmdir::rmdir(kernel, alloc, places, thread, &path),
         UnixCall::Rmtree(path) => rmtree::rmtree(kernel, alloc, places, thread, &path),
