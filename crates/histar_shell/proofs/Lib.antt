@@ -5,6 +5,7 @@ pub mod Users
 pub mod FirstAlone
 pub mod SmallFiles
 pub mod RowRuns
+pub mod TraceRuns
 pub mod CallRows
 pub mod LineMeanings
 pub mod Starts

@@ -5,7 +5,7 @@ use Rattle.std.specs.Io.KnownBytes.{Appends}
 use Rattle.std.proofs.lemmas.Grind.{flat_map-append}
 use Rattle.histar_flat.specs.declared.calls.User.{User}
 use Rattle.histar_flat.specs.declared.replies.Reply.{Reply}
-use Rattle.histar_flat.specs.Sessions.{session_of}
+use Rattle.histar_flat.specs.Sessions.{Session as Declared, session_of}
 use Rattle.histar_flat.specs.FlatState.{Flat}
 use Rattle.histar_flat.specs.FlatCalls.{reply_to, flat_after}
 use Rattle.histar_flat.specs.Meaning.{boot, answered_from, flat_end, meaning, Answered}
@@ -17,7 +17,7 @@ use Rattle.histar_script.specs.declared.fault.Fault.TheVariants.{BadScript, TooL
 use Rattle.histar_flat.specs.declared.calls.CallLine.{CallLine}
 use Rattle.histar_script.specs.Reading.{script_of}
 use Rattle.histar_syscall.specs.declared.trace.TraceEntry.{TraceEntry}
-use Rattle.histar_syscall.specs.KernelModel.{state}
+use Rattle.histar_syscall.specs.KernelModel.{KernelModel, state}
 use Rattle.histar_syscall.specs.Runs.{IsBy, IsRun}
 use Rattle.histar_login.specs.Boot.{boot_thread_number, boot_calls, IsBooted}
 use Rattle.histar_refinement.specs.LaysOut.{LaysOut}
@@ -26,7 +26,7 @@ use Rattle.histar_rows.specs.Rows.{AreRows}
 use Rattle.histar_rows.proofs.Chains.{entries_of, chain_run, chain_own, granted_run}
 use Rattle.histar_devices.specs.Writing.{AppendsFront}
 use Rattle.histar_shell.specs.Answers.{answer_text, answers_text, calls_of, line_text}
-use Rattle.histar_shell.specs.Machine.{MachineModel, IsStart}
+use Rattle.histar_shell.specs.Machine.{MachineModel, IsStart, IsTraced}
 use Rattle.histar_shell.specs.Session.{Session, AnswersCalls, BeginsAnswers}
 use Rattle.histar_shell.specs.Outcome.{BeginsScript, WritesAtFault, WritesAnswers}
 use Rattle.histar_shell.specs.Meaning.{meaning_text, Shows, AnswersAsMeant, WritesMeaning, BeginsMeaning, WritesMeaningAtFault, RunsAsMeant}
@@ -81,6 +81,14 @@ record IsBootTrace (users : List User) (m : MachineModel) : Type 0 where
   pub trace : m.kernel.trace ≡ entries
   pub run : IsRun empty_state entries (state m.kernel)
   pub own : AllByRecursion (IsBy 0 boot_thread_number) entries
+
+-- a machine that was booted by its raw calls alone has a trace of them
+pub booted_traced : (session : Declared) (kernel : KernelModel) → IsBooted session kernel → IsTraced kernel
+booted_traced session kernel booted =
+    let granted = granted_run boot_thread_number booted.first kernel (boot_calls session) booted.made in
+    let part = chain_run boot_thread_number booted.first kernel granted.0 granted.1 in
+    let entries = entries_of booted.first.line boot_thread_number granted.0 in
+    subst (λ (es : List TraceEntry). IsRun empty_state es (state kernel)) (sym (part.trace ∙ ap (λ (es : List TraceEntry). es ++ entries) booted.no_trace)) (subst (λ (s : State). IsRun s entries (state kernel)) booted.empty part.run)
 
 boot_trace : (users : List User) (m : MachineModel) → IsBooted (session_of users) m.kernel → IsBootTrace users m
 boot_trace users m booted =

@@ -9,7 +9,9 @@ use Rattle.histar_flat.specs.declared.replies.Reply.{Reply}
 use Rattle.histar_flat.specs.declared.replies.Reply.TheVariants.{Gone}
 use Rattle.histar_flat.specs.Sessions.{session_of}
 use Rattle.histar_flat.specs.Words.{ProcName}
+use Rattle.histar_object.specs.State.{empty_state}
 use Rattle.histar_syscall.specs.KernelModel.{KernelModel, coded_kernel_model, state}
+use Rattle.histar_syscall.specs.Runs.{IsRun}
 use Rattle.histar_calls.specs.declared.places.Places.{Places}
 use Rattle.histar_calls.specs.contracts.places.Places as where_is
 use Rattle.histar_calls.specs.Programs.{Program, Runs}
@@ -41,6 +43,10 @@ pub record MachineModel : Type 0 where
 -- stored as the tuple of its parts
 abbrev pub coded_machine_model : Coded MachineModel
 coded_machine_model = code_by (KernelModel × (Places × (ℕ × (List User × Bool)))) (coded× coded_kernel_model (coded× where_is.the_row.coded (coded× coded_ℕ (coded× (coded_list user.the_row.coded) coded_bool)))) (λ m. (m.kernel, (m.places, (m.thread, (m.users, m.is_stopped))))) (λ p. record { kernel = p.0; places = p.1.0; thread = p.1.1.0; users = p.1.1.1.0; is_stopped = p.1.1.1.1 }) (λ _. refl)
+
+-- the trace of the kernel is a run from the empty kernel to its state
+abbrev pub IsTraced : KernelModel → Type 0
+IsTraced k = IsRun empty_state k.trace (state k)
 
 -- a machine that was booted with these users, in no group: it runs, and no raw call but those of boot was made
 pub record IsStart (declared : List User) (m : MachineModel) : Type 0 where

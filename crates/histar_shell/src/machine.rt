@@ -1,7 +1,7 @@
 //! The machine: a labelled kernel with its start state, and what each call line has it do.
 ghost use Rattle.std.specs.Prelude.{◌≡◌, ◌≤◌, length, IfOk};
 ghost use Rattle.histar_script.specs.Script.{IsUserList, most_users};
-ghost use Rattle.histar_shell.specs.Machine.{AnswersLine, IsStart, Makes};
+ghost use Rattle.histar_shell.specs.Machine.{AnswersLine, IsStart, IsTraced, Makes};
 ghost use Rattle.histar_shell.specs.Meaning.{FollowsMeaning, ShowsStart};
 
 use histar_calls::{Places, Stopped, append, create, list, mkdir, read, stat, write};
@@ -56,7 +56,7 @@ pub struct Machine<S: LabelStore + Drop> {
 impl<S: LabelStore + Drop> Model for Machine<S> {
     ghost use Rattle.std.specs.Prelude.{◌≤◌, length};
     ghost use Rattle.histar_script.specs.Script.{most_users};
-    ghost use Rattle.histar_shell.specs.Machine.{MachineModel, coded_machine_model};
+    ghost use Rattle.histar_shell.specs.Machine.{MachineModel, coded_machine_model, IsTraced};
 
     ghost Value = { MachineModel };
 
@@ -64,7 +64,7 @@ impl<S: LabelStore + Drop> Model for Machine<S> {
 
     ghost view = { λ m. record { kernel = m.kernel; places = m.places; thread = m.thread; users = m.users.items; is_stopped = m.is_stopped } };
 
-    ghost invariant = { λ m. length m.users.items ≤ most_users };
+    ghost invariant = { λ m. (length m.users.items ≤ most_users) × IsTraced m.kernel };
 }
 
 impl<S: LabelStore + Drop> Machine<S> {
@@ -118,9 +118,10 @@ impl<S: LabelStore + Drop> Machine<S> {
         result
     }
 
-    /// The raw calls so far, moved out.
+    /// The raw calls so far, moved out: a run of the kernel from its empty state to the machine's.
     pub fn into_trace(self) -> Trace
-        ensures { result ≡ self.kernel.trace }
+        ensures trace { result ≡ self.kernel.trace }
+        ensures run { IsTraced self.kernel }
     {
         Trace {
             entries: self.kernel.into_trace(),

@@ -33,5 +33,5 @@ pub returns-clause-runs : goal.returns-clause-runs
 returns-clause-runs g c =
     let given = c.in_ok-script.ensures.exact in
     let starts = starts_with c.in-Ok.machine c.in_ok-script.script _ _ c.as_slice.ensures.value c.into_parts-users.ensures.users c.in-Ok.ensures.starts in
-    let answers = answers_script _ _ c.in_ok-script.script c.in-Ok.machine c.answer_calls.new.machine _ _ starts c.into_parts-users.ensures.calls c.in_ok-answer_calls.ensures.ok c.into_trace.ensures _ given in
+    let answers = answers_script _ _ c.in_ok-script.script c.in-Ok.machine c.answer_calls.new.machine _ _ starts c.into_parts-users.ensures.calls c.in_ok-answer_calls.ensures.ok c.into_trace.ensures.trace _ given in
     answered_text lines_are_rows c.args.text.now _ _ _ c.in_ok-script.script given answers

@@ -1,0 +1,67 @@
+-- Whoever runs a program has made a run of the kernel, which is the new end of its trace.
+use Rattle.std.proofs.Common.{◌≡◌, ℕ, List, [], ◌∷◌, ◌++◌, Option, Some, None, Result, Ok, Err, inl, inr, sym, ap, ◌∙◌, subst, append_assoc}
+use Rattle.std.proofs.lemmas.List.{append-nil}
+use Rattle.histar_flat.specs.declared.calls.User.{User}
+use Rattle.histar_flat.specs.declared.calls.UnixCall.{UnixCall}
+use Rattle.histar_flat.specs.declared.replies.Reply.{Reply}
+use Rattle.histar_object.specs.State.{empty_state}
+use Rattle.histar_rules.specs.declared.raw.Denied.{Denied}
+use Rattle.histar_rules.specs.declared.raw.RawCall.{RawCall}
+use Rattle.histar_syscall.specs.declared.trace.TraceEntry.{TraceEntry}
+use Rattle.histar_syscall.specs.KernelModel.{KernelModel, state, Called, IsUnchanged}
+use Rattle.histar_syscall.specs.Runs.{IsRun}
+use Rattle.histar_syscall.proofs.Runs.{entry_of}
+use Rattle.histar_calls.specs.declared.ending.Stopped.{Stopped}
+use Rattle.histar_calls.specs.declared.places.Places.{Places}
+use Rattle.histar_calls.specs.Programs.{Outcome, Program, Asked, Completes, Begins, Runs}
+use Rattle.histar_calls.specs.Programs.Program.{Answers, Asks, Lists, Stops}
+use Rattle.histar_shell.specs.Machine.{IsTraced, Makes}
+use Rattle.histar_shell.proofs.RowRuns.{run_after}
+
+-- the kernel came from the old to the new by a run, which is the new end of its trace
+record GoesBy (old new : KernelModel) : Type 0 where
+  entries : List TraceEntry
+  trace : new.trace ≡ old.trace ++ entries
+  run : IsRun (state old) entries (state new)
+
+-- by nothing
+by_nothing : (old new : KernelModel) → IsUnchanged old new → GoesBy old new
+by_nothing old new same = record { entries = []; trace = same.trace ∙ sym (append-nil old.trace); run = same.state }
+
+-- by one raw call, and then more
+by_call : (old mid new : KernelModel) (t : ℕ) (call : RawCall) (d : Option Denied) → Called old mid t call d → GoesBy mid new → GoesBy old new
+by_call old mid new t call d called later = record {
+  entries = entry_of old.line t call d ∷ later.entries;
+  trace = later.trace ∙ ap (λ (es : List TraceEntry). es ++ later.entries) called.trace ∙ append_assoc old.trace (entry_of old.line t call d ∷ []) later.entries;
+  run = (state mid, called.outcome, called.state, later.run);
+}
+
+-- whatever its outcome is
+by_outcome : (old mid new : KernelModel) (t : ℕ) (call : RawCall) (o : Outcome call) → Asked old mid t call o → GoesBy mid new → GoesBy old new
+by_outcome old mid new t call (Ok answer) asked later = by_call old mid new t call None asked.0 later
+by_outcome old mid new t call (Err denied) asked later = by_call old mid new t call (Some denied) asked later
+
+completed : (p : Program) (old new : KernelModel) (t : ℕ) (reply : Reply) → Completes p old new t reply → GoesBy old new
+completed (Answers said) old new t reply runs = by_nothing old new runs.0
+completed (Asks call next) old new t reply runs = by_outcome old runs.0 new t call runs.1 runs.2 (completed (next runs.1) runs.0 new t reply runs.3)
+completed (Lists bytes next) old new t reply runs = completed (next runs.0) old new t reply runs.2
+completed Stops old new t reply runs = absurd runs
+
+begun : (p : Program) (old new : KernelModel) (t : ℕ) → Begins p old new t → GoesBy old new
+begun (Answers said) old new t runs = absurd runs
+begun (Asks call next) old new t (inl same) = by_nothing old new same
+begun (Asks call next) old new t (inr runs) = by_outcome old runs.0 new t call runs.1 runs.2 (begun (next runs.1) runs.0 new t runs.3)
+begun (Lists bytes next) old new t (inl same) = by_nothing old new same
+begun (Lists bytes next) old new t (inr runs) = begun (next runs.0) old new t runs.2
+begun Stops old new t runs = by_nothing old new runs
+
+by_program : (p : Program) (old new : KernelModel) (t : ℕ) (result : Result Reply Stopped) → Runs p old new t result → GoesBy old new
+unfolding Runs
+by_program p old new t (Ok reply) runs = completed p old new t reply runs
+by_program p old new t (Err stopped) runs = begun p old new t runs
+
+-- so the trace stays a run from the empty kernel
+pub traced_on : (users : List User) (places : Places) (old new : KernelModel) (t : ℕ) (call : UnixCall) (result : Result Reply Stopped) → IsTraced old → Makes users places old new t call result → IsTraced new
+traced_on users places old new t call result traced made =
+    let goes = by_program _ old new t result made in
+    subst (λ (es : List TraceEntry). IsRun empty_state es (state new)) (sym goes.trace) (run_after empty_state (state old) (state new) old.trace goes.entries traced goes.run)
