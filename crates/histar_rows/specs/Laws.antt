@@ -1,10 +1,10 @@
--- What it means that the calls of process 0 are the rows of the flat rules.
+-- What it means that the calls of processes are the rows of the flat rules.
 use Rattle.std.specs.Prelude.{ℕ, List, length, IsTrue, Result}
 use Rattle.histar_flat.specs.declared.calls.User.{User}
 use Rattle.histar_flat.specs.declared.calls.Mode.{Mode}
 use Rattle.histar_flat.specs.declared.calls.UnixCall.TheVariants.{Create, Mkdir, Write, Append, Read, List as ListCall, Stat, Login}
 use Rattle.histar_flat.specs.declared.replies.Reply.{Reply}
-use Rattle.histar_flat.specs.Words.{Name, Password, Path, is_path}
+use Rattle.histar_flat.specs.Words.{Name, Password, Path, ProcName, is_path}
 use Rattle.histar_flat.specs.Modes.{is_line_mode}
 use Rattle.histar_flat.specs.Sessions.{Session, session_of}
 use Rattle.histar_flat.specs.FlatState.{Flat}
@@ -24,10 +24,11 @@ use Rattle.histar_refinement.specs.Sessions.{IsSession}
 use Rattle.histar_flat.specs.declared.calls.UnixCall.{UnixCall}
 use Rattle.histar_rows.specs.Rows.{IsReady, DoesItsRow}
 
--- Whoever runs the program as the thread of process 0, in a state that lays out a flat state, does what the flat rule of the call says.
+-- Whoever runs the program as the thread of a process, in a state that lays out a flat state, does what the flat rule of the call says.
 abbrev pub IsRowOf : Session → UnixCall → Program → Type 0
 IsRowOf session call program =
-    (old new : KernelModel) (f : Flat) (t : ℕ) (result : Result Reply Stopped) → IsReady session (state old) f t → Runs program old new t result → DoesItsRow session f call old new t result
+    (me : ProcName) (old new : KernelModel) (f : Flat) (t : ℕ) (result : Result Reply Stopped)
+    → IsReady session (state old) f me t → Runs program old new t result → DoesItsRow session f me call old new t result
 
 abbrev pub ReadsAreRows : Type 0
 ReadsAreRows = (session : Session) → IsSession session → (path : Path) → IsRowOf session (Read path) (read_program (places_of (length session.users)) path)

@@ -50,14 +50,13 @@ IsScriptable (Rename path name) = IsTrue (is_path path) × IsTrue (is_name name)
 IsScriptable (Login name password) = Unit {0}
 IsScriptable _ = ⊥
 
--- Process 0 runs, alone, in no job, and holds none: so it is in the sessions of these calls.
-pub record IsFirstAlone (f : Flat) : Type 0 where
+-- The process that makes a call runs, is in no job, and holds none.
+pub record RunsFree (f : Flat) (me : ProcName) : Type 0 where
   pub process : Process
-  pub stands : f.processes [] ≡ Some process
+  pub stands : f.processes me ≡ Some process
   pub runs : process.exited ≡ None
   pub free : process.chain ≡ []
   pub holds_none : process.held ≡ []
-  pub others : (n : ℕ) (p : ProcName) → f.processes (n ∷ p) ≡ None
 
 -- from this state on, the last of the entries is a read that the kernel answers with these bytes
 pub record EndsWithRead (s : State) (entries : List TraceEntry) (bytes : List ℕ) : Type 0 where
@@ -196,14 +195,12 @@ IsRunUnlessExhausted s [] end = end ≡ s
 IsRunUnlessExhausted s (e ∷ entries) end =
     (mid : State) × (check s e.thread e.call ≡ e.denied) × Leaves e.denied s e.thread e.call mid × IsExhausted s e.denied × IsRunUnlessExhausted mid entries end
 
--- A call of process 0 has added these entries to the trace, on the line that was begun; they are the row of the call, and the
--- process's thread is the one that it was.
-pub record IsAnswered (session : Session) (f : Flat) (call : UnixCall) (old new : KernelModel) (t : ℕ) : Type 0 where
+-- A call of a process has added these entries to the trace, on the line that was begun; they are the row of the call.
+pub record IsAnswered (session : Session) (f : Flat) (me : ProcName) (call : UnixCall) (old new : KernelModel) : Type 0 where
   pub entries : List TraceEntry
   pub trace : new.trace ≡ old.trace ++ entries
   pub line : new.line ≡ old.line
-  pub row : IsRow session (state old) f (record { line = old.line; process = []; call = call }) entries (state new)
-  pub thread : IsThreadOf session (state new) [] t
+  pub row : IsRow session (state old) f (record { line = old.line; process = me; call = call }) entries (state new)
 
 -- The raw calls that were made are a run of the kernel by the thread, of which none was refused but where a counter has its greatest
 -- value.
@@ -214,19 +211,19 @@ pub record IsUnanswered (old new : KernelModel) (t : ℕ) : Type 0 where
   pub run : IsRunUnlessExhausted (state old) entries (state new)
   pub own : AllByRecursion (IsBy old.line t) entries
 
--- a call of process 0 does what its flat rule says, or it ends without a reply
-abbrev pub DoesItsRow : Session → Flat → UnixCall → KernelModel → KernelModel → ℕ → Result Reply Stopped → Type 0
-DoesItsRow session f call old new t (Ok reply) = (reply ≡ reply_to session f [] call) × IsAnswered session f call old new t
-DoesItsRow session f call old new t (Err stopped) = IsUnanswered old new t
+-- a call of a process, which its thread makes, does what its flat rule says, or it ends without a reply
+abbrev pub DoesItsRow : Session → Flat → ProcName → UnixCall → KernelModel → KernelModel → ℕ → Result Reply Stopped → Type 0
+DoesItsRow session f me call old new t (Ok reply) = (reply ≡ reply_to session f me call) × IsAnswered session f me call old new
+DoesItsRow session f me call old new t (Err stopped) = IsUnanswered old new t
 
 -- each file holds as many bytes as a segment can hold
 abbrev pub AreFilesSmall : Flat → Type 0
 AreFilesSmall f = (q : Path) (class : Class) (bytes : List ℕ) → get f.files q ≡ Some (record { class = class; content = File bytes }) → length bytes ≤ most_bytes
 
--- Where a call of process 0 is made: the state lays out this flat state, in which process 0 is alone and files are small enough, and
--- the thread is the process's own.
-pub record IsReady (session : Session) (s : State) (f : Flat) (t : ℕ) : Type 0 where
+-- Where a call of a process is made: the state lays out this flat state, in which the process runs, in no job, and files are small
+-- enough, and the thread is the process's own.
+pub record IsReady (session : Session) (s : State) (f : Flat) (me : ProcName) (t : ℕ) : Type 0 where
   pub lays_out : LaysOut session s f
-  pub alone : IsFirstAlone f
+  pub caller : RunsFree f me
   pub small : AreFilesSmall f
-  pub thread : IsThreadOf session s [] t
+  pub thread : IsThreadOf session s me t
