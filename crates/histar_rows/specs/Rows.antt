@@ -1,9 +1,9 @@
 -- What one line of a script does to the kernel, and what all lines do.
-use Rattle.std.specs.Prelude.{◌≡◌, ◌≢◌, ℕ, ◌+◌, ◌≤◌, Bool, true, false, ◌&&◌, not, ◌⊎◌, IsTrue, List, [], ◌∷◌, ◌++◌, length, Option, None, Some, is_some, option_map, Result, Ok, Err, if◌then◌else◌}
+use Rattle.std.specs.Prelude.{◌≡◌, ◌≢◌, ℕ, ◌+◌, ◌≤◌, Bool, true, false, ◌&&◌, not, nat_lt, ◌⊎◌, IsTrue, List, [], ◌∷◌, ◌++◌, length, Option, None, Some, is_some, option_map, Result, Ok, Err, if◌then◌else◌}
 use Rattle.std.specs.List.{AllByRecursion}
 use Rattle.histar_flat.specs.declared.calls.CallLine.{CallLine}
 use Rattle.histar_flat.specs.declared.calls.UnixCall.{UnixCall}
-use Rattle.histar_flat.specs.declared.calls.UnixCall.TheVariants.{Create, Mkdir, Write, Append, Read, List as ListCall, Stat, Unlink, Rmdir, Rmtree, Rename, Login}
+use Rattle.histar_flat.specs.declared.calls.UnixCall.TheVariants.{Create, Mkdir, Write, Append, Read, List as ListCall, Stat, Unlink, Rmdir, Rmtree, Rename, Spawn, Exit, Status, Kill, Whoami, Login, Wrap}
 use Rattle.histar_flat.specs.declared.replies.Errno.TheVariants.{EAUTH}
 use Rattle.histar_flat.specs.declared.replies.Reply.{Reply}
 use Rattle.histar_flat.specs.declared.replies.Reply.TheVariants.{Done, Data, Stats, Refused, Gone}
@@ -14,13 +14,13 @@ use Rattle.histar_flat.specs.Files.{get}
 use Rattle.histar_flat.specs.Classes.{Class, Process}
 use Rattle.histar_flat.specs.FlatState.{Flat, is_dir_at, into}
 use Rattle.histar_flat.specs.FlatState.Content.{File}
-use Rattle.histar_flat.specs.FlatCalls.{most_bytes, running, reply_to, flat_after}
+use Rattle.histar_flat.specs.FlatCalls.{most_bytes, not_found, running, reply_to, flat_after}
 use Rattle.histar_object.specs.State.{State}
 use Rattle.histar_rules.specs.declared.raw.Denied.{Denied}
 use Rattle.histar_rules.specs.declared.raw.Denied.TheVariants.{TooBig}
 use Rattle.histar_rules.specs.declared.raw.RawCall.{RawCall}
 use Rattle.histar_rules.specs.declared.raw.RawCall.TheVariants as raw
-use Rattle.histar_rules.specs.Rules.{check, Leaves, has_number}
+use Rattle.histar_rules.specs.Rules.{check, Leaves, greatest, has_number}
 use Rattle.histar_rules.specs.Sound.{root_number}
 use Rattle.histar_syscall.specs.declared.trace.TraceEntry.{TraceEntry}
 use Rattle.histar_syscall.specs.declared.answers.Answer.TheVariants as answers
@@ -31,10 +31,10 @@ use Rattle.histar_calls.specs.declared.ending.Stopped.{Stopped}
 use Rattle.histar_calls.specs.Refusals.{write_errno_of}
 use Rattle.histar_calls.specs.Replies.{is_no_access, is_no_permission, IsRefusedOnce}
 use Rattle.histar_login.specs.Login.{place_of, password_of}
-use Rattle.histar_refinement.specs.LaysOut.{LaysOut}
-use Rattle.histar_refinement.specs.Lines.{IsThreadOf, IsDirectoryAt, IsObjectAt}
+use Rattle.histar_refinement.specs.LaysOut.{LaysOut, greatest_status}
+use Rattle.histar_refinement.specs.Lines.{IsStatusSegment, IsThreadOf, IsDirectoryAt, IsObjectAt}
 
--- a call that a line of a script can make: one of these, with a path, a mode and a name that a line can name
+-- a call that a line of a script can make: one of these, with a path, a mode, a name and a status that a line can name
 abbrev pub IsScriptable : UnixCall → Type 0
 IsScriptable (Create path mode) = IsTrue (is_path path) × IsTrue (is_line_mode mode)
 IsScriptable (Mkdir path mode) = IsTrue (is_path path) × IsTrue (is_line_mode mode)
@@ -47,8 +47,13 @@ IsScriptable (Unlink path) = IsTrue (is_path path)
 IsScriptable (Rmdir path) = IsTrue (is_path path)
 IsScriptable (Rmtree path) = IsTrue (is_path path)
 IsScriptable (Rename path name) = IsTrue (is_path path) × IsTrue (is_name name)
+IsScriptable Spawn = Unit {0}
+IsScriptable (Exit n) = n ≤ greatest_status
+IsScriptable (Status name) = Unit {0}
+IsScriptable (Kill name) = Unit {0}
+IsScriptable Whoami = Unit {0}
 IsScriptable (Login name password) = Unit {0}
-IsScriptable _ = ⊥
+IsScriptable (Wrap path) = ⊥
 
 -- The process that makes a call runs, is in no job, and holds none.
 pub record RunsFree (f : Flat) (me : ProcName) : Type 0 where
@@ -79,6 +84,11 @@ module _ (session : Session) where
   abbrev pub tested : Flat → Process → Path → List Path
   tested f p [] = [] ∷ []
   tested f p (n ∷ d) = tested f p d ++ (if not (is_some (into session f p d)) && is_dir_at f (n ∷ d) then (n ∷ d) ∷ [] else [])
+
+  -- the processes on the way to a name that are looked at, from process 0 on: each that is there, up to the first that may not be seen
+  abbrev pub looked_at : Flat → Process → ProcName → List ProcName
+  looked_at f p [] = [] ∷ []
+  looked_at f p (n ∷ above) = looked_at f p above ++ (if not (is_some (not_found f p above)) && is_some (f.processes (n ∷ above)) then (n ∷ above) ∷ [] else [])
 
   module _ (s : State) where
     -- these raw calls read the directory segments of these directories, one after another
@@ -112,6 +122,17 @@ module _ (session : Session) where
     HasLabel f p q reply entries =
         (reads : List RawCall) × (labels : List RawCall) × AreReadsOf (walked f p q) reads × AreLabelCalls q reply labels × AreAmong (reads ++ labels) entries
 
+    -- these raw calls read the process segments of these processes, one after another
+    abbrev pub AreStatusReads : List ProcName → List RawCall → Type 0
+    AreStatusReads [] calls = calls ≡ []
+    AreStatusReads (name ∷ more) calls =
+        (container : ℕ) × (segment : ℕ) × (later : List RawCall)
+        × IsStatusSegment session s name container segment × (calls ≡ raw.Read container segment ∷ later) × AreStatusReads more later
+
+    -- among the entries are reads of the processes on the way to a name that are looked at
+    abbrev pub HasSearch : Flat → Process → ProcName → List TraceEntry → Type 0
+    HasSearch f p name entries = (calls : List RawCall) × AreStatusReads (looked_at f p name) calls × AreAmong calls entries
+
     -- a directory that is to be taken away is read itself, as the ones on the way are
     abbrev pub HasWayUnlessSlash : Flat → Process → Path → List TraceEntry → Type 0
     HasWayUnlessSlash f p [] entries = Unit {0}
@@ -142,8 +163,13 @@ module _ (session : Session) where
   HasReads s f p (Rmdir path) reply entries = HasWayUnlessSlash s f p path entries
   HasReads s f p (Rmtree path) reply entries = HasWalk s f p path entries
   HasReads s f p (Rename path name) reply entries = HasWalk s f p path entries
+  HasReads s f p Spawn reply entries = Unit {0}
+  HasReads s f p (Exit n) reply entries = Unit {0}
+  HasReads s f p (Status name) reply entries = HasSearch s f p name entries
+  HasReads s f p (Kill name) reply entries = HasSearch s f p name entries
+  HasReads s f p Whoami reply entries = AreAmong (raw.OwnLabel ∷ []) entries
   HasReads s f p (Login name password) reply entries = AreAmong (reads_of_login (place_of session.users name) (is_compared reply)) entries
-  HasReads s f p _ reply entries = Unit {0}
+  HasReads s f p (Wrap path) reply entries = Unit {0}
 
   -- the same of a process that runs
   abbrev pub HasReadsOf : State → Flat → Option Process → UnixCall → Reply → List TraceEntry → Type 0
@@ -184,10 +210,14 @@ AreRows session s f (asked ∷ more) entries end =
     (own : List TraceEntry) × (later : List TraceEntry) × (mid : State)
     × (entries ≡ own ++ later) × IsRow session s f asked own mid × AreRows session mid (flat_after session f asked.process asked.call) more later end
 
--- a denial that may end a line without an answer: the next object has no number any more
+-- the next category has a number
+abbrev pub has_category : State → Bool
+has_category s = nat_lt s.next_category greatest
+
+-- a denial that may end a line without an answer: the next object or the next category has no number any more
 abbrev pub IsExhausted : State → Option Denied → Type 0
 IsExhausted s None = Unit {0}
-IsExhausted s (Some denied) = (denied ≡ TooBig) × (has_number s ≡ false)
+IsExhausted s (Some denied) = (denied ≡ TooBig) × ((has_number s ≡ false) ⊎ (has_category s ≡ false))
 
 -- the entries are a run of the kernel, of which none is refused but where a counter has its greatest value
 abbrev pub IsRunUnlessExhausted : State → List TraceEntry → State → Type 0
