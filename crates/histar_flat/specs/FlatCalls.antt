@@ -7,7 +7,7 @@ use Rattle.histar_flat.specs.declared.replies.Errno.{Errno}
 use Rattle.histar_flat.specs.declared.replies.Errno.TheVariants.{ENOENT, ENOTDIR, EISDIR, EEXIST, EACCES, EPERM, ENOTEMPTY, EBUSY, ENOSPC, EFBIG, ESRCH, EAGAIN, EAUTH}
 use Rattle.histar_flat.specs.declared.replies.Reply.{Reply}
 use Rattle.histar_flat.specs.declared.replies.Reply.TheVariants.{Done, Data, Entries, Stats, Child, Running, Exited, User as UserReply, Refused, Gone}
-use Rattle.histar_flat.specs.Words.{Path, ProcName, most_numbers}
+use Rattle.histar_flat.specs.Words.{Path, ProcName, most_children, most_numbers}
 use Rattle.histar_flat.specs.PathOrder.{same, parent}
 use Rattle.histar_flat.specs.Sessions.{Session, user_named}
 use Rattle.histar_flat.specs.Files.{get}
@@ -23,10 +23,6 @@ most_entries = 64
 -- how many bytes a file may have
 abbrev pub most_bytes : ℕ
 most_bytes = 4096
-
--- how many children may be born to a process
-abbrev pub most_children : ℕ
-most_children = 64
 
 -- the path is not `/`
 abbrev pub is_below_root : Path → Bool

@@ -13,3 +13,4 @@ pub mod Meaning
 pub mod Texts
 pub mod Laws
 pub mod FileLaws
+pub mod ProcessLaws

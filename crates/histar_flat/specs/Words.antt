@@ -31,6 +31,14 @@ most_names = 8
 abbrev pub most_numbers : ℕ
 most_numbers = 7
 
+-- how many children may be born to a process
+abbrev pub most_children : ℕ
+most_children = 64
+
+-- the greatest number that a process can exit with, which is a byte of its segment
+abbrev pub greatest_status : ℕ
+greatest_status = 255
+
 -- a letter: a to z
 abbrev pub is_letter : ℕ → Bool
 is_letter b = nat_le 97 b && nat_le b 122
@@ -83,10 +91,13 @@ password_of bs = if is_password bs then Some bs else None
 abbrev pub is_path : Path → Bool
 is_path path = nat_le (length path) most_names && list_all is_name path
 
--- a process that can be named: the first one
+-- a number that a child can have
+abbrev pub is_child_number : ℕ → Bool
+is_child_number n = nat_le 1 n && nat_le n most_children
+
+-- a process that can be named: up to so many numbers after the 0, each of which a child can have
 abbrev pub is_process : ProcName → Bool
-is_process [] = true
-is_process (n ∷ p) = false
+is_process process = nat_le (length process) most_numbers && list_all is_child_number process
 
 -- what stands before each name of a path, a slash
 abbrev pub slash : ℕ

@@ -5,6 +5,7 @@ ghost use Rattle.histar_flat.specs.Laws.{PrivateBytesAreUntold};
 ghost use Rattle.histar_flat.specs.Laws.{PathsAreATree, NamesAreGivenOnce, NobodyHasAJob};
 ghost use Rattle.histar_flat.specs.FileLaws.{ListingsTellWhatStands, RemovalsTakeWhatIsBelow, RenamesKeepWhatStands};
 ghost use Rattle.histar_flat.specs.FileLaws.{WritersTakePrivateFiles, UnreadDirectoriesAreUntold};
+ghost use Rattle.histar_flat.specs.ProcessLaws.{KillsTakeTheirTree, ExitsLeaveChildren, GoneChangeNothing, GoneStayGone};
 
 /// A call that is refused changes nothing.
 pub fn a_refused_call_changes_nothing()
@@ -81,4 +82,25 @@ pub fn names_are_given_once()
 /// Who is nobody, or no declared user, is in no job and holds none.
 pub fn nobody_has_a_job()
     ensures { NobodyHasAJob }
+{}
+
+/// A `kill` that is done is of a child of the caller, and takes exactly the child and all below it.
+pub fn a_kill_takes_its_tree()
+    ensures { KillsTakeTheirTree }
+{}
+
+/// An `exit` ends its process alone: its children go on.
+pub fn an_exit_leaves_children()
+    ensures { ExitsLeaveChildren }
+{}
+
+/// A process that doesn't run, since it was never born, has exited or was killed, is answered `gone`
+/// and changes nothing.
+pub fn who_is_gone_changes_nothing()
+    ensures { GoneChangeNothing }
+{}
+
+/// Who was born and doesn't run never runs again: no name of a process is used twice.
+pub fn who_is_gone_stays_gone()
+    ensures { GoneStayGone }
 {}

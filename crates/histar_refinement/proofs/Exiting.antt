@@ -5,7 +5,7 @@ use Rattle.std.specs.Prelude.{is_some, option_map}
 use Rattle.std.specs.List.{filter, range_with_len}
 use Rattle.std.proofs.lemmas.Option.{none-some, same_Some}
 use mathlib.Core.Bool.{true≢false}
-use Rattle.histar_flat.specs.Words.{Path, ProcName}
+use Rattle.histar_flat.specs.Words.{Path, ProcName, greatest_status}
 use Rattle.histar_flat.specs.Files.{get}
 use Rattle.histar_flat.proofs.FileLemmas.{same_name_found}
 use Rattle.histar_layout.specs.Directory.{Entries, IsListable, spelling}
@@ -29,7 +29,7 @@ use Rattle.histar_refinement.specs.Addresses.Step.{Left, Slash, Listing, Named, 
 use Rattle.histar_refinement.specs.Processes.{Listed, or_zero, children, listed_by, status_bytes, process_bytes}
 use Rattle.histar_refinement.specs.Stands.{Stands}
 use Rattle.histar_refinement.specs.Expected.{segment, listing_object, home_object, status_object, inside_object, thread_object, node_at, listing_at, home_at, bytes_for, status_at, container_inside, thread_at, expected}
-use Rattle.histar_refinement.specs.LaysOut.{greatest_status, IsProcess, AreJobsGiven, Laid, LaysOut}
+use Rattle.histar_refinement.specs.LaysOut.{IsProcess, AreJobsGiven, Laid, LaysOut}
 use Rattle.histar_refinement.proofs.ProcessBytes.{alike_bytes}
 use Rattle.histar_refinement.proofs.Places.{address_path, address_process, address_inside, same_home, same_directory, AsksAlike, asked_alike, asked_status}
 use Rattle.histar_refinement.proofs.Steps.{step_tells}

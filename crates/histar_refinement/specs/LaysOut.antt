@@ -1,12 +1,11 @@
 -- When the state of a labelled kernel lays out a flat state.
 use Rattle.std.specs.Prelude.{◌≡◌, ◌≢◌, ℕ, ◌+◌, ◌≤◌, ◌⊎◌, true, false, List, [], ◌∷◌, length, map, None, Some, is_some}
-use Rattle.histar_flat.specs.Words.{Path, ProcName}
+use Rattle.histar_flat.specs.Words.{Path, ProcName, greatest_status, most_children}
 use Rattle.histar_flat.specs.Sessions.{Session, has, user_number}
 use Rattle.histar_flat.specs.Files.{get}
 use Rattle.histar_flat.specs.Classes.{Class, Process, nobody}
 use Rattle.histar_flat.specs.Classes.Class.{Private, Readable, Open, Scratch, Grouped}
 use Rattle.histar_flat.specs.FlatState.{Node, Flat, is_dir_at, is_given}
-use Rattle.histar_flat.specs.FlatCalls.{most_children}
 use Rattle.histar_object.specs.State.{State}
 use Rattle.histar_container.specs.Tree.{Address, Naming}
 use Rattle.histar_rules.specs.Rules.{greatest}
@@ -36,10 +35,6 @@ IsInOrder category (Readable owner) = Unit {0}
 IsInOrder category Open = Unit {0}
 IsInOrder category (Scratch owner jobs) = AreInOrder category jobs
 IsInOrder category (Grouped group) = Unit {0}
-
--- the greatest number that a process can exit with, which is a byte of its segment
-abbrev pub greatest_status : ℕ
-greatest_status = 255
 
 -- A process that can be laid out: its user is declared, or is nobody, who is in no job and holds none; it holds no job that it is
 -- in, its jobs stand in order, and its counts are those that its segment has room for. Of one that has exited neither the user nor

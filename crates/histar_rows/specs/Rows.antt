@@ -7,7 +7,7 @@ use Rattle.histar_flat.specs.declared.calls.UnixCall.TheVariants.{Create, Mkdir,
 use Rattle.histar_flat.specs.declared.replies.Errno.TheVariants.{EAUTH}
 use Rattle.histar_flat.specs.declared.replies.Reply.{Reply}
 use Rattle.histar_flat.specs.declared.replies.Reply.TheVariants.{Done, Data, Stats, Refused, Gone}
-use Rattle.histar_flat.specs.Words.{Path, ProcName, is_name, is_path}
+use Rattle.histar_flat.specs.Words.{Path, ProcName, greatest_status, is_name, is_path}
 use Rattle.histar_flat.specs.Modes.{is_line_mode}
 use Rattle.histar_flat.specs.Sessions.{Session}
 use Rattle.histar_flat.specs.Files.{get}
@@ -31,7 +31,7 @@ use Rattle.histar_calls.specs.declared.ending.Stopped.{Stopped}
 use Rattle.histar_calls.specs.Refusals.{write_errno_of}
 use Rattle.histar_calls.specs.Replies.{is_no_access, is_no_permission, IsRefusedOnce}
 use Rattle.histar_login.specs.Login.{place_of, password_of}
-use Rattle.histar_refinement.specs.LaysOut.{LaysOut, greatest_status}
+use Rattle.histar_refinement.specs.LaysOut.{LaysOut}
 use Rattle.histar_refinement.specs.Lines.{IsStatusSegment, IsThreadOf, IsDirectoryAt, IsObjectAt}
 
 -- a call that a line of a script can make: one of these, with a path, a mode, a name and a status that a line can name

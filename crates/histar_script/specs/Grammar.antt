@@ -1,10 +1,10 @@
 -- The grammar: what a line says, which script a text is, and which line is bad.
-use Rattle.std.specs.Prelude.{◌≡◌, ◌≢◌, ℕ, ◌+◌, ◌-◌, ◌<◌, ◌≤◌, ◌⊎◌, IsTrue, All, List, [], ◌∷◌, ◌++◌, length, take, codes}
+use Rattle.std.specs.Prelude.{◌≡◌, ◌≢◌, ℕ, ◌+◌, ◌-◌, ◌<◌, ◌≤◌, ◌⊎◌, IsTrue, All, List, [], ◌∷◌, ◌++◌, length, take, codes, decimal}
 use Rattle.histar_flat.specs.declared.calls.Mode.{Mode}
 use Rattle.histar_flat.specs.declared.calls.User.{User}
 use Rattle.histar_flat.specs.declared.calls.UnixCall.{UnixCall}
-use Rattle.histar_flat.specs.declared.calls.UnixCall.TheVariants.{Create, Mkdir, Write, Append, Read, List as ListCall, Stat, Unlink, Rmdir, Rmtree, Rename, Login}
-use Rattle.histar_flat.specs.Words.{Path, is_name, is_user_name, is_password, is_path, is_process}
+use Rattle.histar_flat.specs.declared.calls.UnixCall.TheVariants.{Create, Mkdir, Write, Append, Read, List as ListCall, Stat, Unlink, Rmdir, Rmtree, Rename, Spawn, Exit, Status, Kill, Whoami, Login, Wrap}
+use Rattle.histar_flat.specs.Words.{Path, ProcName, greatest_status, is_name, is_user_name, is_password, is_path, is_process}
 use Rattle.histar_flat.specs.Modes.{is_line_mode}
 use Rattle.histar_flat.specs.Texts.{path_text, process_text, mode_text}
 use Rattle.histar_script.specs.declared.items.Item.{Item}
@@ -30,8 +30,13 @@ SpellsBytes text word path bytes = (text ≡ word space path_text path space byt
 abbrev pub SpellsPath : List ℕ → List ℕ → Path → Type 0
 SpellsPath text word path = (text ≡ word space path_text path) × IsTrue (is_path path)
 
+-- a word and a process that can be named
+abbrev pub SpellsProcess : List ℕ → List ℕ → ProcName → Type 0
+SpellsProcess text word name = (text ≡ word space process_text name) × IsTrue (is_process name)
+
 -- `create` and `mkdir PATH MODE`, `write` and `append PATH BYTES`, `read`, `list`, `stat`, `unlink`, `rmdir` and `rmtree PATH`,
--- `rename PATH NAME`, or `login NAME PASSWORD` with any name; no other call has a line
+-- `rename PATH NAME`, `spawn`, `exit` and a status, `status` and `kill PROC`, `whoami`, or `login NAME PASSWORD` with any name; no
+-- other call has a line
 abbrev pub IsCallText : List ℕ → UnixCall → Type 0
 IsCallText text (Create path mode) = SpellsMode text (codes "create") path mode
 IsCallText text (Mkdir path mode) = SpellsMode text (codes "mkdir") path mode
@@ -45,7 +50,12 @@ IsCallText text (Rmdir path) = SpellsPath text (codes "rmdir") path
 IsCallText text (Rmtree path) = SpellsPath text (codes "rmtree") path
 IsCallText text (Rename path name) = (text ≡ codes "rename" space path_text path space name) × IsTrue (is_path path) × IsTrue (is_name name)
 IsCallText text (Login name password) = (text ≡ codes "login" space name space password) × IsTrue (is_name name) × IsTrue (is_password password)
-IsCallText text _ = ⊥
+IsCallText text Spawn = text ≡ codes "spawn"
+IsCallText text (Exit status) = (text ≡ codes "exit" space decimal status) × (status ≤ greatest_status)
+IsCallText text (Status name) = SpellsProcess text (codes "status") name
+IsCallText text (Kill name) = SpellsProcess text (codes "kill") name
+IsCallText text Whoami = text ≡ codes "whoami"
+IsCallText text (Wrap path) = ⊥
 
 -- what a line that is not empty says: `#..`, `user NAME PASSWORD` or `PROC CALL`
 abbrev pub SaysInWords : List ℕ → Item → Type 0
