@@ -1,5 +1,5 @@
 -- Labels by their exceptions: of what its owner alone may write or read, and of what owns.
-use Rattle.std.specs.Prelude.{ℕ, List, [], ◌∷◌}
+use Rattle.std.specs.Prelude.{ℕ, List, [], ◌∷◌, ◌++◌}
 use Rattle.histar_label.specs.declared.levels.Level.{Level}
 use Rattle.histar_label.specs.declared.levels.Level.TheVariants.{Star, L0, L1, L2, L3}
 use Rattle.histar_label.specs.Levels.{Levels, constant, with_level}
@@ -28,3 +28,20 @@ owner_of r w = labelled ((r, Star) ∷ (w, Star) ∷ []) L1
 -- `{r:3, w:3, 2}`: the clearance of what owns r and w
 abbrev pub cleared_of : ℕ → ℕ → Levels
 cleared_of r w = labelled ((r, L3) ∷ (w, L3) ∷ []) L2
+
+-- each of these categories at one level
+abbrev pub each_at : Level → List ℕ → List (ℕ × Level)
+each_at level [] = []
+each_at level (c ∷ cs) = (c, level) ∷ each_at level cs
+
+-- `{s:3 .., w:0 .., 1}`: level 3 at the first categories, 0 at the others, and else 1
+abbrev pub guarded_by : List ℕ → List ℕ → Levels
+guarded_by secret written = labelled (each_at L3 secret ++ each_at L0 written) L1
+
+-- `{o:* .., t:3 .., 1}`: the first categories are owned, level 3 at the others, and else 1
+abbrev pub owning : List ℕ → List ℕ → Levels
+owning owned tainted = labelled (each_at Star owned ++ each_at L3 tainted) L1
+
+-- `{c:3 .., 2}`: the clearance with level 3 at these categories
+abbrev pub cleared_at : List ℕ → Levels
+cleared_at categories = labelled (each_at L3 categories) L2

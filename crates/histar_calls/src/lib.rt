@@ -23,5 +23,5 @@ pub mod write;
 pub use class::{Class, class_of};
 pub use directory::{Directory, walk, write_entries};
 pub use ending::{Ending, Stopped, settle, written};
-pub use labels::label_of;
-pub use places::{Place, Places, read_category, write_category};
+pub use labels::{cleared_at, guarded_by, label_of, owning, user_of};
+pub use places::{Home, Place, Places, read_category, write_category};

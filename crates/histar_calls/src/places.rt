@@ -14,11 +14,23 @@ pub struct Place {
     pub listing: ObjId,
 }
 
-/// Where the calls of the Unix library find `/`, and how many users there are.
+/// Where a process is found.
+#[derive(Clone, Copy, Debug)]
+pub struct Home {
+    /// Its container, which links its process segment, its internal container and the containers of its
+    /// children.
+    pub container: ObjId,
+    /// Its process segment, which tells how it is and lists its children.
+    pub segment: ObjId,
+}
+
+/// Where the calls of the Unix library find `/` and process 0, and how many users there are.
 #[derive(Clone, Copy, Debug)]
 pub struct Places {
     /// The place of `/`.
     pub slash: Place,
+    /// Where process 0 is found.
+    pub home: Home,
     /// How many users the machine has; they are numbered from 1 on, and nobody is number 0.
     pub users: u8,
 }

@@ -4,3 +4,4 @@ pub mod Reading
 pub mod Writing
 pub mod Listing
 pub mod Found
+pub mod Status

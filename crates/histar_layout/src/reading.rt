@@ -60,7 +60,7 @@ fn target(letter: u8, object: u64, listing: u64) -> Option<Target>
 }
 
 #[tactic(auto, unfolding(crate::specs::Reading::number_at, crate::specs::Reading::front_at))]
-fn read_number(bytes: &[u8]) -> Option<(u64, &[u8])>
+pub fn read_number(bytes: &[u8]) -> Option<(u64, &[u8])>
     ensures { Gives (λ found. (found.0, found.1.now)) result (number_at bytes.now) }
 {
     let (front, rest) = bytes.split_first_chunk::<8>()?;

@@ -166,9 +166,13 @@ state_with objects next_category = record { objects = object_at objects; next_ob
 abbrev pub start_state : Session → State
 start_state session = state_with (start_objects session) (6 + 2 * declared session)
 
--- where `/` is found: its container, its directory segment, and how many users there are
+-- where `/` and process 0 are found, and how many users there are
 abbrev pub places_of : ℕ → Places
-places_of users = record { slash = record { container = 4 + 2 * users; listing = 5 + 2 * users }; users = users }
+places_of users = record {
+  slash = record { container = 4 + 2 * users; listing = 5 + 2 * users };
+  home = record { container = 6 + 2 * users; segment = 9 + 2 * users };
+  users = users;
+}
 
 -- the thread of process 0
 abbrev pub thread_number : ℕ → ℕ

@@ -31,13 +31,13 @@ use Rattle.histar_syscall.specs.KernelModel.{KernelModel, state}
 use Rattle.histar_syscall.proofs.Runs.{same_kernel}
 use Rattle.histar_calls.specs.declared.ending.Stopped.{Stopped}
 use Rattle.histar_calls.specs.Categories.{read_category, write_category}
-use Rattle.histar_calls.specs.Labelling.{owner_of, cleared_of}
+use Rattle.histar_calls.specs.Labelling.{owner_of, cleared_of, owning, cleared_at}
 use Rattle.histar_calls.specs.Programs.{Program, Runs}
 use Rattle.histar_calls.specs.Programs.Program.{Answers}
 use Rattle.histar_calls.specs.Parts.{◌>>=◌, ◌>>◌, ask}
 use Rattle.histar_login.specs.Login.{place_of, password_of, gate_of, user_label, user_clearance, entering, label_if, clearance_if, reply_if, login_at, login_as_program}
 use Rattle.histar_refinement.specs.Categories.{CategoryName, among}
-use Rattle.histar_refinement.specs.Guards.{Rights, owning, cleared_at, rights_label, rights_clearance}
+use Rattle.histar_refinement.specs.Guards.{Rights, rights_label, rights_clearance}
 use Rattle.histar_refinement.specs.Labels.{thread_rights, gate_rights}
 use Rattle.histar_refinement.specs.LaysOut.{Laid, LaysOut}
 use Rattle.histar_refinement.specs.Laws.{RunsAs}

@@ -10,7 +10,8 @@ use Rattle.histar_object.specs.Rights.{relabelled, clearing, with_changed}
 use Rattle.histar_object.specs.State.{State, Found, with_own}
 use Rattle.histar_object.proofs.Changes.{put_back}
 use Rattle.histar_container.proofs.TableMoves.{put_here, put_other}
-use Rattle.histar_refinement.specs.Lines.{IsStatus, IsThreadOf}
+use Rattle.histar_layout.specs.Status.{IsStatus}
+use Rattle.histar_refinement.specs.Lines.{IsThreadOf}
 
 -- a thread that takes labels twice has the last ones
 abbrev changed_if : Bool → (Object Levels → Object Levels) → Found → Found

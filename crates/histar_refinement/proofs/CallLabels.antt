@@ -14,13 +14,13 @@ use Rattle.histar_label.specs.Level.{is_star}
 use Rattle.histar_label.specs.Levels.{level_of}
 use Rattle.histar_object.specs.State.{State}
 use Rattle.histar_calls.specs.Categories.{read_category, write_category, owns, IsUserOf}
-use Rattle.histar_calls.specs.Labelling.{written_by, secret_of}
+use Rattle.histar_calls.specs.Labelling.{written_by, secret_of, guarded_by, owning, cleared_at}
 use Rattle.histar_login.specs.Start.{own_read_category, own_write_category}
 use Rattle.histar_login.specs.Login.{place_of, user_label, user_clearance}
 use Rattle.histar_refinement.specs.Categories.CategoryName.{ReadsUser, WritesUser, ReadsProcess, WritesProcess, OfJob}
 use Rattle.histar_refinement.specs.Categories.{among}
 use Rattle.histar_refinement.specs.Processes.{or_zero}
-use Rattle.histar_refinement.specs.Guards.{guarded_by, owning, cleared_at, guard_label, rights_label, rights_clearance}
+use Rattle.histar_refinement.specs.Guards.{guard_label, rights_label, rights_clearance}
 use Rattle.histar_refinement.specs.Labels.{private_guard, readable_guard, owned_as, thread_rights}
 use Rattle.histar_refinement.specs.LaysOut.{Laid}
 use Rattle.histar_refinement.proofs.Members.{is_in, same_truth}

@@ -20,13 +20,15 @@ use Rattle.histar_login.specs.Boot.{boot_thread_number}
 use Rattle.histar_flat.specs.Sessions.{Session}
 use Rattle.histar_flat.specs.Classes.{Process, knows}
 use Rattle.histar_flat.specs.FlatState.{Flat, with_process, was_given, is_given}
+use Rattle.histar_layout.specs.declared.status.Child.{Child as Listed}
+use Rattle.histar_layout.specs.Status.{status_bytes}
 use Rattle.histar_refinement.specs.Categories.{CategoryName, IsMade, IsKnown, IsServed, IsUsed}
 use Rattle.histar_refinement.specs.Categories.CategoryName.{OfBoot, ReadsUser, WritesUser, ReadsGroup, WritesGroup, ReadsProcess, WritesProcess, OfJob}
 use Rattle.histar_refinement.specs.Guards.{guard_label}
 use Rattle.histar_refinement.specs.Labels.{process_guard}
 use Rattle.histar_refinement.specs.Addresses.{Step, same_step, address_of, home_of, path_at, process_at, inside_at, boot_number}
 use Rattle.histar_refinement.specs.Addresses.Step.{Left, Slash, Listing, Named, Home, Status, Inside, Runner, Child}
-use Rattle.histar_refinement.specs.Processes.{Listed, or_zero, children, listed_by, status_bytes, process_bytes}
+use Rattle.histar_refinement.specs.Processes.{or_zero, children, listed_by, process_bytes}
 use Rattle.histar_refinement.specs.Stands.{Stands}
 use Rattle.histar_refinement.specs.Expected.{segment, listing_object, home_object, status_object, inside_object, thread_object, node_at, listing_at, home_at, bytes_for, status_at, container_inside, thread_at, expected}
 use Rattle.histar_refinement.specs.LaysOut.{IsProcess, AreJobsGiven, Laid, LaysOut}

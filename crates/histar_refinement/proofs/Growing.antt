@@ -5,9 +5,9 @@ use Rattle.std.proofs.lemmas.Bool.Decides.{eqb_tells, nat_tests}
 use mathlib.Core.Bool.{true≢false}
 use Rattle.histar_label.specs.declared.levels.Level.TheVariants.{Star, L3}
 use Rattle.histar_label.specs.Levels.{with_level, level_of-with_level, same_levels}
-use Rattle.histar_calls.specs.Labelling.{written_by, secret_of, owner_of, cleared_of}
+use Rattle.histar_calls.specs.Labelling.{written_by, secret_of, owner_of, cleared_of, guarded_by, owning, cleared_at}
 use Rattle.histar_refinement.specs.Categories.{CategoryName, Categories, AreDifferent, IsMade, same_category, among, swapped, naming_next}
-use Rattle.histar_refinement.specs.Guards.{Guard, Rights, guarded_by, owning, cleared_at, guard_label, rights_label, rights_clearance}
+use Rattle.histar_refinement.specs.Guards.{Guard, Rights, guard_label, rights_label, rights_clearance}
 use Rattle.histar_refinement.proofs.AmongNames.{each_append}
 use Rattle.histar_refinement.proofs.Members.{is_in, or_first, or_second}
 use Rattle.histar_refinement.proofs.Levelled.{owning_level, cleared_level, at_owning, at_cleared}

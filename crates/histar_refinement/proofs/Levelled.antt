@@ -10,8 +10,7 @@ use Rattle.histar_label.specs.Levels.{Levels, level_of, constant, with_level, le
 use Rattle.histar_label.proofs.Orders.{is_below-law, is_below_raised-law}
 use Rattle.histar_label.proofs.Made.{is_made-constant, is_made-with_level}
 use Rattle.histar_label.proofs.Stars.{has_star-none}
-use Rattle.histar_calls.specs.Labelling.{with_levels}
-use Rattle.histar_refinement.specs.Guards.{each_at, guarded_by, owning, cleared_at}
+use Rattle.histar_calls.specs.Labelling.{with_levels, each_at, guarded_by, owning, cleared_at}
 use Rattle.histar_refinement.specs.Categories.{IsMade}
 use Rattle.histar_refinement.proofs.Members.{is_in, same_truth, and_both, first_of, second_of, or_first, all_from, each_of, AreApart, or_second}
 

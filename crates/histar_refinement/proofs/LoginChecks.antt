@@ -25,9 +25,10 @@ use Rattle.histar_rules.specs.declared.raw.RawCall.TheVariants.{Enter, Read, Set
 use Rattle.histar_rules.specs.Rules.{no_link, known, check}
 use Rattle.histar_rules.specs.Sound.{root_number}
 use Rattle.histar_login.specs.Login.{password_of, gate_of}
+use Rattle.histar_calls.specs.Labelling.{cleared_at}
 use Rattle.histar_refinement.specs.Categories.{CategoryName, IsUsed, booted, among}
 use Rattle.histar_refinement.specs.Categories.CategoryName.{ReadsUser, WritesUser, ReadsGroup, WritesGroup, ReadsProcess, WritesProcess, OfJob}
-use Rattle.histar_refinement.specs.Guards.{Rights, cleared_at, guard_label, rights_label, rights_clearance}
+use Rattle.histar_refinement.specs.Guards.{Rights, guard_label, rights_label, rights_clearance}
 use Rattle.histar_refinement.specs.Labels.{boot_guard, private_guard, gate_rights, reading, writing, owned_as, thread_rights}
 use Rattle.histar_refinement.specs.LaysOut.{Laid}
 use Rattle.histar_refinement.specs.Laws.{RunsAs}

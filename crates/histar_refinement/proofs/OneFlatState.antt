@@ -18,6 +18,7 @@ use Rattle.histar_layout.specs.Directory.{Entries}
 use Rattle.histar_layout.specs.declared.entry.Target.{Target}
 use Rattle.histar_layout.specs.declared.entry.Target.TheVariants as targets
 use Rattle.histar_layout.proofs.DirectoryLemmas.{same_directory}
+use Rattle.histar_layout.specs.Status.{ProcessStatus}
 use Rattle.histar_refinement.specs.Categories.{CategoryName, Categories}
 use Rattle.histar_refinement.specs.Guards.{guard_label, rights_label}
 use Rattle.histar_refinement.specs.Labels.{process_guard, thread_rights}
@@ -28,7 +29,7 @@ use Rattle.histar_refinement.specs.Stands.{bare}
 use Rattle.histar_refinement.specs.Expected.{content_kind, home_object, expected}
 use Rattle.histar_refinement.specs.LaysOut.{IsInOrder, IsProcess, Laid}
 use Rattle.histar_refinement.specs.Laws.{AreAlike}
-use Rattle.histar_refinement.specs.Processes.{ProcessStatus, or_zero, status_by}
+use Rattle.histar_refinement.specs.Processes.{or_zero, status_by}
 use Rattle.histar_refinement.proofs.Steps.{step_tells}
 use Rattle.histar_refinement.proofs.Moving.{at_number}
 use Rattle.histar_refinement.proofs.Places.{asked_home}

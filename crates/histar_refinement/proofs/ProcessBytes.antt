@@ -4,9 +4,11 @@ use Rattle.std.specs.Prelude.{is_some}
 use Rattle.std.specs.List.{filter, range_with_len}
 use Rattle.histar_flat.specs.Words.{ProcName}
 use Rattle.histar_flat.specs.Classes.{Process}
+use Rattle.histar_layout.specs.declared.status.Child.{Child as Listed}
+use Rattle.histar_layout.specs.Status.{status_bytes}
 use Rattle.histar_refinement.specs.Addresses.{Numbers, home_of}
 use Rattle.histar_refinement.specs.Addresses.Step.{Status, Inside, Runner}
-use Rattle.histar_refinement.specs.Processes.{Listed, or_zero, status_bytes, process_bytes}
+use Rattle.histar_refinement.specs.Processes.{or_zero, process_bytes}
 
 pub alike_bytes : (processes others : ProcName → Option Process) (number numbers : Numbers) (q : ProcName) (x : Process)
     → number (Inside ∷ home_of q) ≡ numbers (Inside ∷ home_of q) → number (Runner ∷ Inside ∷ home_of q) ≡ numbers (Runner ∷ Inside ∷ home_of q)

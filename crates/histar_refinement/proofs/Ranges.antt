@@ -12,9 +12,10 @@ use Rattle.histar_label.proofs.Floors.{level_of-combined_of}
 use Rattle.histar_label.proofs.Orders.{is_below-law, is_below_join_raised-law}
 use Rattle.histar_flat.specs.Sessions.{Session, user_number, groups_of}
 use Rattle.histar_flat.specs.Classes.{Process, is_free}
+use Rattle.histar_calls.specs.Labelling.{owning, cleared_at}
 use Rattle.histar_refinement.specs.Categories.{CategoryName, Categories, AreDifferent, among}
 use Rattle.histar_refinement.specs.Categories.CategoryName.{ReadsGroup, WritesGroup, ReadsProcess, WritesProcess, OfJob}
-use Rattle.histar_refinement.specs.Guards.{Rights, owning, cleared_at, guard_label, rights_label, rights_clearance}
+use Rattle.histar_refinement.specs.Guards.{Rights, guard_label, rights_label, rights_clearance}
 use Rattle.histar_refinement.specs.Labels.{process_guard, inside_guard, reading, writing, owned_as, thread_rights, gate_rights}
 use Rattle.histar_refinement.proofs.AmongNames.{covers, in_first, in_second, at_head, later, each_head, each_append}
 use Rattle.histar_refinement.proofs.Members.{is_in, is_in-append, and_both}

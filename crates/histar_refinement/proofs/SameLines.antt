@@ -14,8 +14,9 @@ use Rattle.histar_layout.specs.declared.entry.Target.{Target}
 use Rattle.histar_layout.specs.declared.entry.Target.TheVariants as targets
 use Rattle.histar_layout.proofs.DirectoryLemmas.{same_directory}
 use Rattle.histar_flat.specs.Sessions.{Session}
-use Rattle.histar_refinement.specs.Processes.{life_bytes, Listed, ProcessStatus, listed_bytes, status_bytes}
-use Rattle.histar_refinement.specs.Lines.{IsListed, IsStatus, listed_at, IsStatusSegment, IsThreadOf, IsDirectoryAt}
+use Rattle.histar_layout.specs.declared.status.Child.{Child as Listed}
+use Rattle.histar_layout.specs.Status.{life_bytes, ProcessStatus, child_bytes, status_bytes, IsChild, IsStatus, child_at}
+use Rattle.histar_refinement.specs.Lines.{IsStatusSegment, IsThreadOf, IsDirectoryAt}
 
 -- a number at the front of bytes, and the rest
 one_number : (a b : ℕ) (x y : List ℕ) → a < 2 ^ 64 → b < 2 ^ 64 → to_be_bytes w64 a ++ x ≡ to_be_bytes w64 b ++ y → (a ≡ b) × (x ≡ y)
@@ -37,19 +38,19 @@ same_front : (a b : ℕ) (x y : List ℕ) → a ∷ x ≡ b ∷ y → (a ≡ b) 
 same_front a b x y e = (ap (λ (l : List ℕ). get_or l 0 0) e, ap (λ (l : List ℕ). drop 1 l) e)
 
 -- children that are spelled alike are the same
-same_children : (a b : List Listed) → AllByRecursion IsListed a → AllByRecursion IsListed b → flat_map listed_bytes a ≡ flat_map listed_bytes b → a ≡ b
+same_children : (a b : List Listed) → AllByRecursion IsChild a → AllByRecursion IsChild b → flat_map child_bytes a ≡ flat_map child_bytes b → a ≡ b
 same_children [] [] l m e = refl
 same_children [] (y ∷ b) l m e = absurd cc
 same_children (x ∷ a) [] l m e = absurd cc
 same_children (x ∷ a) (y ∷ b) l m e =
-    let f = same_front x.number y.number ((to_be_bytes w64 x.container ++ to_be_bytes w64 x.segment) ++ flat_map listed_bytes a) ((to_be_bytes w64 y.container ++ to_be_bytes w64 y.segment) ++ flat_map listed_bytes b) e in
-    let g = two_numbers x.container x.segment y.container y.segment (flat_map listed_bytes a) (flat_map listed_bytes b) l.0.0 l.0.1 m.0.0 m.0.1 f.1 in
+    let f = same_front x.number y.number ((to_be_bytes w64 x.container ++ to_be_bytes w64 x.segment) ++ flat_map child_bytes a) ((to_be_bytes w64 y.container ++ to_be_bytes w64 y.segment) ++ flat_map child_bytes b) e in
+    let g = two_numbers x.container x.segment y.container y.segment (flat_map child_bytes a) (flat_map child_bytes b) l.0.0 l.0.1 m.0.0 m.0.1 f.1 in
     let k = same_children a b l.1 m.1 g.2 in
     λ i. record { number = f.0 i; container = g.0 i; segment = g.1 i } ∷ k i
 
 -- what follows the first two bytes of a process segment
 abbrev tail_of : ProcessStatus → List ℕ
-tail_of t = t.born ∷ (to_be_bytes w64 t.internal ++ to_be_bytes w64 t.thread) ++ flat_map listed_bytes t.children
+tail_of t = t.born ∷ (to_be_bytes w64 t.internal ++ to_be_bytes w64 t.thread) ++ flat_map child_bytes t.children
 
 -- the first two bytes tell whether the process runs
 same_life : (a b : Option ℕ) (x y : List ℕ) → life_bytes a ++ x ≡ life_bytes b ++ y → (a ≡ b) × (x ≡ y)
@@ -66,7 +67,7 @@ same_life (Some m) (Some n) x y e = (ap (λ (l : List ℕ). Some (get_or l 1 0))
 life_first : (t : ProcessStatus) → status_bytes t ≡ life_bytes t.exited ++ tail_of t
 life_first t = by t.exited
   where
-    by : (o : Option ℕ) → life_bytes o ++ (t.born ∷ to_be_bytes w64 t.internal) ++ to_be_bytes w64 t.thread ++ flat_map listed_bytes t.children ≡ life_bytes o ++ tail_of t
+    by : (o : Option ℕ) → life_bytes o ++ (t.born ∷ to_be_bytes w64 t.internal) ++ to_be_bytes w64 t.thread ++ flat_map child_bytes t.children ≡ life_bytes o ++ tail_of t
     by None = refl
     by (Some n) = refl
 
@@ -74,8 +75,8 @@ life_first t = by t.exited
 pub same_status : (bytes : List ℕ) (a b : ProcessStatus) → IsStatus bytes a → IsStatus bytes b → a ≡ b
 same_status bytes a b l m =
     let e = same_life a.exited b.exited (tail_of a) (tail_of b) (sym (life_first a) ∙ sym l.spelled ∙ m.spelled ∙ life_first b) in
-    let f = same_front a.born b.born ((to_be_bytes w64 a.internal ++ to_be_bytes w64 a.thread) ++ flat_map listed_bytes a.children) ((to_be_bytes w64 b.internal ++ to_be_bytes w64 b.thread) ++ flat_map listed_bytes b.children) e.1 in
-    let g = two_numbers a.internal a.thread b.internal b.thread (flat_map listed_bytes a.children) (flat_map listed_bytes b.children) l.internal l.thread m.internal m.thread f.1 in
+    let f = same_front a.born b.born ((to_be_bytes w64 a.internal ++ to_be_bytes w64 a.thread) ++ flat_map child_bytes a.children) ((to_be_bytes w64 b.internal ++ to_be_bytes w64 b.thread) ++ flat_map child_bytes b.children) e.1 in
+    let g = two_numbers a.internal a.thread b.internal b.thread (flat_map child_bytes a.children) (flat_map child_bytes b.children) l.internal l.thread m.internal m.thread f.1 in
     let k = same_children a.children b.children l.each m.each g.2 in
     λ i. record { exited = e.0 i; born = f.0 i; internal = g.0 i; thread = g.1 i; children = k i }
 
@@ -95,7 +96,7 @@ module _ (session : Session) (s : State) where
   same_status_segment (n ∷ p) c d g h x y =
       let k = same_status_segment p x.0 y.0 x.1 y.1 x.3 y.3 in
       let t = same_status (bytes_in (s.objects x.1)) x.2 y.2 x.4 (subst (λ q. IsStatus (bytes_in (s.objects q)) y.2) (sym k.1) y.4) in
-      let z = same_Some (record { number = n; container = c; segment = g }) (record { number = n; container = d; segment = h }) (sym x.5 ∙ ap (λ (u : ProcessStatus). listed_at u.children n) t ∙ y.5) in
+      let z = same_Some (record { number = n; container = c; segment = g }) (record { number = n; container = d; segment = h }) (sym x.5 ∙ ap (λ (u : ProcessStatus). child_at u.children n) t ∙ y.5) in
       (ap (λ (l : Listed). l.container) z, ap (λ (l : Listed). l.segment) z)
 
   -- a process has one thread at most

@@ -24,7 +24,7 @@ use Rattle.histar_object.specs.State.{Found}
 use Rattle.histar_container.specs.Tree.{Address, objects_at}
 use Rattle.histar_container.proofs.Addresses.{same_tells}
 use Rattle.histar_calls.specs.Categories.{write_category}
-use Rattle.histar_calls.specs.Labelling.{written_by}
+use Rattle.histar_calls.specs.Labelling.{written_by, guarded_by, owning, cleared_at}
 use Rattle.histar_login.specs.Start.{numbered, declared, of_user, of_users, of_directory, of_process, user_table, start_objects, start_state, object_at, process_bytes, own_read_category, own_write_category}
 use Rattle.histar_flat.specs.Sessions.{Session, session_of, user_number}
 use Rattle.histar_flat.specs.Classes.{Process, nobody, knows}
@@ -34,7 +34,7 @@ use Rattle.histar_flat.specs.Meaning.{first_user, first_process, boot}
 use Rattle.histar_flat.specs.FlatState.Content.{Dir}
 use Rattle.histar_refinement.specs.Categories.{CategoryName, IsMade, boot_category, is_for, IsKnown, IsServed, IsUsed}
 use Rattle.histar_refinement.specs.Categories.CategoryName.{OfBoot, ReadsUser, WritesUser, ReadsGroup, WritesGroup, ReadsProcess, WritesProcess, OfJob}
-use Rattle.histar_refinement.specs.Guards.{Rights, guarded_by, owning, cleared_at, guard_label, rights_label, rights_clearance}
+use Rattle.histar_refinement.specs.Guards.{Rights, guard_label, rights_label, rights_clearance}
 use Rattle.histar_refinement.specs.Labels.{class_guard, readable_guard, owned_as}
 use Rattle.histar_refinement.specs.LeftByBoot.{left_by_boot, left_for_user}
 use Rattle.histar_refinement.specs.Addresses.{Step, Numbers, same_step, same_address, if_at, path_at, process_at, inside_at, boot_number}

@@ -8,11 +8,11 @@ use Rattle.histar_flat.specs.Words.{Name}
 use Rattle.histar_label.specs.declared.levels.Level.{Level}
 use Rattle.histar_label.specs.declared.levels.Level.TheVariants.{Star, L1, L2, L3}
 use Rattle.histar_calls.specs.Categories.{read_category, write_category}
-use Rattle.histar_calls.specs.Labelling.{labelled}
+use Rattle.histar_calls.specs.Labelling.{labelled, each_at, owning, cleared_at}
 use Rattle.histar_login.specs.Start.{group_owner, owners_of, at_both, gate_label, gate_clearance}
 use Rattle.histar_refinement.specs.Categories.{CategoryName, booted}
 use Rattle.histar_refinement.specs.Categories.CategoryName.{ReadsUser, WritesUser, ReadsGroup, WritesGroup}
-use Rattle.histar_refinement.specs.Guards.{each_at, owning, cleared_at, rights_label, rights_clearance}
+use Rattle.histar_refinement.specs.Guards.{rights_label, rights_clearance}
 use Rattle.histar_refinement.specs.Labels.{reading, writing, gate_rights}
 use Rattle.histar_refinement.proofs.Members.{is_in, is_in-append}
 use Rattle.histar_refinement.proofs.Levelled.{same_owning, same_cleared}

@@ -12,12 +12,14 @@ use Rattle.histar_flat.specs.Classes.{Process}
 use Rattle.histar_flat.specs.FlatState.{Flat, was_given, is_given}
 use Rattle.histar_object.specs.Objects.{bytes_in, is_there}
 use Rattle.histar_object.specs.State.{State}
+use Rattle.histar_layout.specs.declared.status.Child.{Child as Listed}
+use Rattle.histar_layout.specs.Status.{ProcessStatus, child_at}
 use Rattle.histar_refinement.specs.Addresses.{Numbers, home_of}
 use Rattle.histar_refinement.specs.Addresses.Step.{Home, Status, Inside, Runner, Child}
 use Rattle.histar_refinement.specs.Expected.{home_object, status_object, thread_object, bytes_for}
 use Rattle.histar_refinement.specs.LaysOut.{Laid}
-use Rattle.histar_refinement.specs.Lines.{listed_at, IsStatusSegment, IsThreadOf}
-use Rattle.histar_refinement.specs.Processes.{Listed, ProcessStatus, or_zero, listed_by, status_by}
+use Rattle.histar_refinement.specs.Lines.{IsStatusSegment, IsThreadOf}
+use Rattle.histar_refinement.specs.Processes.{or_zero, listed_by, status_by}
 use Rattle.histar_refinement.proofs.Members.{first_of, second_of}
 use Rattle.histar_refinement.proofs.Places.{asked_home, asked_status, asked_runner}
 use Rattle.histar_refinement.proofs.Standing.{some_of}
@@ -28,7 +30,7 @@ use Rattle.histar_refinement.proofs.StatusLaid.{holds_status}
 
 module _ (number : Numbers) (me : ProcName) (test : ℕ → Bool) (n : ℕ) where
   abbrev listed_from : ℕ → ℕ → Option Listed
-  listed_from a k = listed_at (map (listed_by number me) (filter test (range_with_len a k))) n
+  listed_from a k = child_at (map (listed_by number me) (filter test (range_with_len a k))) n
 
   abbrev Tells : ℕ → Type 0
   Tells a = (((a == n) ≡ true) × (a ≡ n)) ⊎ (((a == n) ≡ false) × (a ≢ n))
@@ -37,7 +39,7 @@ module _ (number : Numbers) (me : ProcName) (test : ℕ → Bool) (n : ℕ) wher
   later_number a low other = elim (cases_lt a n) [ inl lt ↦ omega (arith, lt) | inr le ↦ absurd (other (omega (arith, low, le))) ]
 
   abbrev one_more : ℕ → ℕ → Bool → Option Listed
-  one_more a k b = listed_at (map (listed_by number me) (cond b (a ∷ filter test (range_with_len (a + 1) k)) (filter test (range_with_len (a + 1) k)))) n
+  one_more a k b = child_at (map (listed_by number me) (cond b (a ∷ filter test (range_with_len (a + 1) k)) (filter test (range_with_len (a + 1) k)))) n
 
   -- a number that passes the test is listed
   listed_step : test n ≡ true → (a k : ℕ) → a ≤ n → (b : Bool) → test a ≡ b → Tells a → (a + 1 ≤ n → listed_from (a + 1) k ≡ Some (listed_by number me n)) → one_more a k b ≡ Some (listed_by number me n)
@@ -126,7 +128,7 @@ module _ (session : Session) (s : State) (f : Flat) (l : Laid session s f) where
   status_back (n ∷ me) c g found =
       let above = status_back me found.0 found.1 found.3 in
       let same = same_status (bytes_in (s.objects found.1)) found.2 (status_by f.processes l.naming.number me above.0) found.4 (holds_status session s f l me above.0 found.1 above.1 above.3) in
-      let listed = listed_back l.naming.number me (λ k. is_some (f.processes (k ∷ me))) n (record { number = n; container = c; segment = g }) 1 above.0.born (sym (ap (λ (t : ProcessStatus). listed_at t.children n) same) ∙ found.5) in
+      let listed = listed_back l.naming.number me (λ k. is_some (f.processes (k ∷ me))) n (record { number = n; container = c; segment = g }) 1 above.0.born (sym (ap (λ (t : ProcessStatus). child_at t.children n) same) ∙ found.5) in
       let there = some_of (f.processes (n ∷ me)) listed.0 in (
         there.0,
         there.1,

@@ -11,13 +11,14 @@ use Rattle.histar_container.specs.Tree.{Address}
 use Rattle.histar_flat.specs.Sessions.{Session}
 use Rattle.histar_flat.specs.Classes.{Process}
 use Rattle.histar_flat.specs.FlatState.{Flat}
+use Rattle.histar_layout.specs.Status.{IsChild, IsStatus}
 use Rattle.histar_refinement.specs.Addresses.{Step, home_of}
 use Rattle.histar_refinement.specs.Addresses.Step.{Status, Inside, Runner}
 use Rattle.histar_refinement.specs.Stands.{bare}
 use Rattle.histar_refinement.specs.Processes.{or_zero, listed_by, status_by, children}
 use Rattle.histar_refinement.specs.Expected.{bytes_for, status_object}
 use Rattle.histar_refinement.specs.LaysOut.{Laid}
-use Rattle.histar_refinement.specs.Lines.{IsListed, IsStatus, IsStatusSegment, IsThreadOf}
+use Rattle.histar_refinement.specs.Lines.{IsStatusSegment, IsThreadOf}
 use Rattle.histar_refinement.proofs.Places.{asked_status}
 use Rattle.histar_refinement.proofs.LinesLaid.{bytes_bare}
 
@@ -32,7 +33,7 @@ module _ (session : Session) (s : State) (f : Flat) (l : Laid session s f) where
         | inr le ↦ absurd (none-some a (sym (l.stands.tree.unused q le) ∙ l.stands.tree.addressed a q e))
       ]
 
-  each_small : (me : ProcName) (ns : List ℕ) → AllByRecursion IsListed (map (listed_by l.naming.number me) ns)
+  each_small : (me : ProcName) (ns : List ℕ) → AllByRecursion IsChild (map (listed_by l.naming.number me) ns)
   each_small me [] = tt
   each_small me (n ∷ ns) = ((number_small (home_of (n ∷ me)), number_small (Status ∷ home_of (n ∷ me))), each_small me ns)
 

@@ -12,9 +12,10 @@ use Rattle.histar_label.specs.Levels.{is_below, is_below_raised, is_below_join_r
 use Rattle.histar_label.proofs.Orders.{is_below-law, is_below_raised-law, is_below_join_raised-law}
 use Rattle.histar_flat.specs.Sessions.{Session, has, user_number}
 use Rattle.histar_flat.specs.Classes.{Class, Process, is_free, may_write}
+use Rattle.histar_calls.specs.Labelling.{guarded_by, owning}
 use Rattle.histar_refinement.specs.Categories.{CategoryName, Categories, AreDifferent, among}
 use Rattle.histar_refinement.specs.Categories.CategoryName.{ReadsUser, ReadsProcess, WritesProcess, OfJob}
-use Rattle.histar_refinement.specs.Guards.{Guard, Rights, guarded_by, owning, guard_label, rights_label, rights_clearance}
+use Rattle.histar_refinement.specs.Guards.{Guard, Rights, guard_label, rights_label, rights_clearance}
 use Rattle.histar_refinement.specs.Labels.{class_guard, scratch_guard, process_guard, inside_guard, reading, writing, owned_as, thread_rights}
 use Rattle.histar_refinement.proofs.Members.{is_in, same_truth, and_both, or_first, or_second, or_either, or_false}
 use Rattle.histar_refinement.proofs.Levelled.{guarded_level, owning_level, at_guarded, at_owning, cleared_exactly, same_owning, same_cleared}

@@ -1,34 +1,17 @@
 -- What the process segments and the directory segments of a state tell, from those that boot made on.
-use Rattle.std.specs.Prelude.{◌≡◌, ℕ, ◌<◌, ◌^◌, ◌==◌, cond, List, [], ◌∷◌, length, Option, None, Some}
-use Rattle.std.specs.List.{AllByRecursion}
+use Rattle.std.specs.Prelude.{◌≡◌, ℕ, [], ◌∷◌, length, None, Some}
 use Rattle.std.specs.FinMap as map
 use Rattle.histar_flat.specs.Words.{Path, ProcName}
 use Rattle.histar_object.specs.Objects.{bytes_in}
 use Rattle.histar_object.specs.State.{State}
 use Rattle.histar_layout.specs.Directory.{Entries, IsDirectory}
 use Rattle.histar_layout.specs.Listing.{object_of}
+use Rattle.histar_layout.specs.Status.{ProcessStatus, IsStatus, child_at}
 use Rattle.histar_layout.specs.declared.entry.Target.{Target}
 use Rattle.histar_layout.specs.declared.entry.Target.TheVariants as targets
 use Rattle.histar_rules.specs.Sound.{root_number}
 use Rattle.histar_flat.specs.Sessions.{Session}
 use Rattle.histar_refinement.specs.Addresses.{slash_number, slash_listing_number, home_number, status_number}
-use Rattle.histar_refinement.specs.Processes.{Listed, ProcessStatus, status_bytes}
-
--- both numbers of a child's objects are numbers of 64 bits
-abbrev pub IsListed : Listed → Type 0
-IsListed l = (l.container < 2 ^ 64) × (l.segment < 2 ^ 64)
-
--- the bytes tell this of a process
-pub record IsStatus (bytes : List ℕ) (status : ProcessStatus) : Type 0 where
-  pub internal : status.internal < 2 ^ 64
-  pub thread : status.thread < 2 ^ 64
-  pub each : AllByRecursion IsListed status.children
-  pub spelled : bytes ≡ status_bytes status
-
--- the child with this number
-abbrev pub listed_at : List Listed → ℕ → Option Listed
-listed_at [] n = None
-listed_at (l ∷ more) n = cond (l.number == n) (Some l) (listed_at more n)
 
 -- The container and the process segment of a process: those of process 0 boot made, and those of a child the process segment above
 -- it lists.
@@ -37,7 +20,7 @@ IsStatusSegment session s [] container segment = (container ≡ home_number (len
 IsStatusSegment session s (n ∷ p) container segment =
     (above : ℕ) × (listing : ℕ) × (status : ProcessStatus)
     × IsStatusSegment session s p above listing × IsStatus (bytes_in (s.objects listing)) status
-    × (listed_at status.children n ≡ Some (record { number = n; container = container; segment = segment }))
+    × (child_at status.children n ≡ Some (record { number = n; container = container; segment = segment }))
 
 -- the thread is the one that the process segment of this process, which runs, names
 abbrev pub IsThreadOf : Session → State → ProcName → ℕ → Type 0

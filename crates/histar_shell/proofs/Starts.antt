@@ -9,9 +9,9 @@ use Rattle.histar_script.specs.Script.{IsUserList}
 use Rattle.histar_rules.specs.Rules.{greatest}
 use Rattle.histar_syscall.specs.KernelModel.{state}
 use Rattle.histar_login.specs.Start.{process_bytes, start_state, places_of, thread_number}
+use Rattle.histar_layout.specs.Status.{ProcessStatus}
 use Rattle.histar_refinement.specs.LaysOut.{LaysOut}
 use Rattle.histar_refinement.specs.Lines.{IsThreadOf}
-use Rattle.histar_refinement.specs.Processes.{ProcessStatus}
 use Rattle.histar_refinement.proofs.Start.{start_lays_out}
 use Rattle.histar_refinement.proofs.StartTable.{status_stands, length_start}
 use Rattle.histar_rows.specs.Rows.{IsReady}

@@ -1,6 +1,7 @@
 //! The kernel and its raw calls.
 ghost use Rattle.std.specs.Prelude.{◌≡◌, [], Some, IfOk};
-ghost use Rattle.histar_object.specs.Objects.{objects_of, bytes_in};
+ghost use Rattle.std.specs.Option.{option_copied};
+ghost use Rattle.histar_object.specs.Objects.{objects_of, bytes_in, label_there};
 ghost use Rattle.histar_object.specs.State.{empty_state};
 ghost use Rattle.histar_rules.specs.Rules.{IsNextNumber, AreBytesOf, AreLabelsOf, IsLabelOf, IsEntryOf};
 ghost use Rattle.histar_rules.specs.Sound.{IsSound};
@@ -246,14 +247,22 @@ impl<S: LabelStore + Drop> Kernel<S> {
         Ok(self.bytes(segment))
     }
 
-    // The bytes of a segment, and none of anything else.
-    fn bytes(&self, segment: ObjId) -> &[u8]
+    /// The bytes of a segment, and none of anything else. This is no raw call, and leaves no entry: the
+    /// machine looks at its own table so, to find which thread makes a call.
+    pub fn bytes(&self, segment: ObjId) -> &[u8]
         ensures { result.now ≡ bytes_in (objects_of self.now.kept.objects segment) }
     {
         match self.objects.bytes(segment) {
             Some(bytes) => bytes,
             None => &[],
         }
+    }
+
+    /// The label of an object, if there is one. This is no raw call either.
+    pub fn label(&self, object: ObjId) -> Option<&Label>
+        ensures { option_copied result ≡ label_there (objects_of self.now.kept.objects object) }
+    {
+        self.objects.label(object)
     }
 
     /// The same call, answered with a copy of the bytes, which stays while the kernel goes on.

@@ -1,0 +1,40 @@
+-- The birth of a child: its two categories, its container, its internal container, its thread and its process segment are made, and it
+-- is added to its parent's segment.
+use Rattle.std.specs.Prelude.{ℕ, [], ◌∷◌, ◌++◌}
+use Rattle.histar_rules.specs.declared.raw.RawCall.TheVariants.{MakeCategory, MakeSegment, MakeContainer, MakeThread}
+use Rattle.histar_label.specs.Levels.{Levels}
+use Rattle.histar_layout.specs.Status.{ProcessStatus, started, status_bytes, with_child}
+use Rattle.histar_calls.specs.declared.places.Home.{Home}
+use Rattle.histar_calls.specs.Labelling.{guarded_by, owning, cleared_at}
+use Rattle.histar_calls.specs.Programs.{Part}
+use Rattle.histar_calls.specs.Parts.{◌>>=◌, ◌>>◌, ask}
+use Rattle.histar_process.specs.Kin.{Kin}
+use Rattle.histar_process.specs.Parts.{write_status}
+
+-- the label of the child's container and of its process segment: it alone writes them, and they are secret to its jobs
+abbrev pub outer_label : Kin → ℕ → Levels
+outer_label kin write = guarded_by kin.jobs (write ∷ [])
+
+-- that of its internal container, which is secret to the child too
+abbrev pub inner_label : Kin → ℕ → ℕ → Levels
+inner_label kin read write = guarded_by (read ∷ kin.jobs) (write ∷ [])
+
+-- that of its thread, which owns the child's two categories and what it has of its parent's user, and has those of its jobs at 3
+abbrev pub thread_label : Kin → ℕ → ℕ → Levels
+thread_label kin read write = owning (read ∷ write ∷ kin.owned) kin.jobs
+
+-- and the clearance of its thread
+abbrev pub thread_clearance : Kin → ℕ → ℕ → Levels
+thread_clearance kin read write = cleared_at ((read ∷ write ∷ kin.owned) ++ kin.jobs)
+
+-- the raw calls of a birth, by a thread of the parent, whose segment tells this
+unfoldable pub birth : Home → ProcessStatus → Kin → Part (Unit {0})
+birth parent status kin rest = do
+  read ← ask MakeCategory
+  write ← ask MakeCategory
+  container ← ask (MakeContainer parent.container (outer_label kin write))
+  internal ← ask (MakeContainer container (inner_label kin read write))
+  thread ← ask (MakeThread internal (thread_label kin read write) (thread_clearance kin read write))
+  segment ← ask (MakeSegment container (outer_label kin write) (status_bytes (started internal thread)))
+  write_status parent (with_child container segment status)
+  rest tt

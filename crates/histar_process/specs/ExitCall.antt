@@ -1,0 +1,18 @@
+-- The program of `exit STATUS`.
+use Rattle.std.specs.Prelude.{ℕ}
+use Rattle.histar_flat.specs.declared.replies.Reply.TheVariants.{Done}
+use Rattle.histar_rules.specs.declared.raw.RawCall.TheVariants.{Unlink}
+use Rattle.histar_layout.specs.Status.{once_exited}
+use Rattle.histar_calls.specs.declared.places.Home.{Home}
+use Rattle.histar_calls.specs.Programs.{Program}
+use Rattle.histar_calls.specs.Programs.Program.{Answers}
+use Rattle.histar_calls.specs.Parts.{◌>>=◌, ◌>>◌, ask}
+use Rattle.histar_process.specs.Parts.{read_status, write_status}
+
+-- the process's own segment is read, and written so that it has exited; its internal container is taken away, with its thread
+unfoldable pub exit_program : Home → ℕ → Program
+exit_program me number = do
+  status ← read_status me
+  write_status me (once_exited number status)
+  ask (Unlink me.container status.internal)
+  Answers Done

@@ -1,0 +1,20 @@
+-- What the kernel's refusals come to in these programs.
+use Rattle.std.specs.Prelude.{ℕ, List}
+use Rattle.histar_flat.specs.declared.calls.User.{User}
+use Rattle.histar_flat.specs.Words.{ProcName}
+use Rattle.histar_calls.specs.declared.places.Home.{Home}
+use Rattle.histar_calls.specs.declared.places.Places.{Places}
+use Rattle.histar_calls.specs.Laws.{TellsRefusals}
+use Rattle.histar_process.specs.Whoami.{whoami_program}
+use Rattle.histar_process.specs.StatusCall.{status_program}
+use Rattle.histar_process.specs.KillCall.{kill_program}
+use Rattle.histar_process.specs.ExitCall.{exit_program}
+use Rattle.histar_process.specs.SpawnCall.{spawn_program}
+
+-- the programs of these calls tell their refusals
+pub record ProcessCallsTellRefusals : Type 0 where
+  pub whoami : (users : List User) → TellsRefusals (whoami_program users)
+  pub status : (places : Places) (name : ProcName) → TellsRefusals (status_program places name)
+  pub kill : (places : Places) (name : ProcName) → TellsRefusals (kill_program places name)
+  pub exit : (me : Home) (number : ℕ) → TellsRefusals (exit_program me number)
+  pub spawn : (users : ℕ) (name : ProcName) (me : Home) → TellsRefusals (spawn_program users name me)

@@ -1,0 +1,32 @@
+-- The program of `spawn`.
+use Rattle.std.specs.Prelude.{ℕ, ◌+◌, Bool, true, false, nat_lt, ◌∷◌, length, Result, Ok, Err}
+use Rattle.histar_flat.specs.Words.{ProcName, most_children, most_numbers}
+use Rattle.histar_flat.specs.declared.replies.Errno.{Errno}
+use Rattle.histar_flat.specs.declared.replies.Errno.TheVariants.{EAGAIN}
+use Rattle.histar_flat.specs.declared.replies.Reply.TheVariants as replies
+use Rattle.histar_rules.specs.declared.raw.RawCall.TheVariants.{OwnLabel, SetLabel, SetClearance}
+use Rattle.histar_calls.specs.declared.places.Home.{Home}
+use Rattle.histar_calls.specs.Programs.{Program}
+use Rattle.histar_calls.specs.Programs.Program.{Answers}
+use Rattle.histar_calls.specs.Parts.{◌>>=◌, ◌>>◌, ask, given}
+use Rattle.histar_process.specs.Kin.{kin_of}
+use Rattle.histar_process.specs.Parts.{read_status}
+use Rattle.histar_process.specs.Birth.{birth}
+
+-- there must be room for a child
+abbrev pub must_have_room : Bool → Result (Unit {0}) Errno
+must_have_room true = Ok tt
+must_have_room false = Err EAGAIN
+
+-- A name of 8 numbers has no room for one more, which is known without a raw call. The process's own segment is read: fewer than 64
+-- children may have been born. The thread asks for its own labels, the child is born, and the thread takes its own labels again.
+unfoldable pub spawn_program : ℕ → ProcName → Home → Program
+spawn_program users name me = do
+  given (must_have_room (nat_lt (length name) most_numbers))
+  status ← read_status me
+  given (must_have_room (nat_lt status.born most_children))
+  own ← ask OwnLabel
+  birth me status (kin_of users own.0)
+  ask (SetLabel own.0)
+  ask (SetClearance own.1)
+  Answers (replies.Child ((status.born + 1) ∷ name))

@@ -1,0 +1,22 @@
+-- The program of `status PROC`.
+use Rattle.std.specs.Prelude.{ℕ, Option, None, Some}
+use Rattle.histar_flat.specs.Words.{ProcName}
+use Rattle.histar_flat.specs.declared.replies.Reply.{Reply}
+use Rattle.histar_flat.specs.declared.replies.Reply.TheVariants.{Running, Exited}
+use Rattle.histar_calls.specs.declared.places.Places.{Places}
+use Rattle.histar_calls.specs.Programs.{Program}
+use Rattle.histar_calls.specs.Programs.Program.{Answers}
+use Rattle.histar_calls.specs.Parts.{◌>>=◌}
+use Rattle.histar_process.specs.Parts.{find_home, read_status}
+
+-- what is told of a process that has exited with this number, or runs
+abbrev pub life_told : Option ℕ → Reply
+life_told None = Running
+life_told (Some number) = Exited number
+
+-- the process is found, and its segment is read
+unfoldable pub status_program : Places → ProcName → Program
+status_program places name = do
+  home ← find_home places.home name
+  status ← read_status home
+  Answers (life_told status.exited)
