@@ -22,13 +22,13 @@ six_more : {A : Type 0} (xs : List A) (a b c d e f : A) → ((((((xs ++ a ∷ []
 six_more xs a b c d e f = simp append_assoc
 
 -- process 0, where each category and each number is the one that the kernel answered
-module _ (first k0 k1 k2 k3 k4 k5 k6 : KernelModel) (p : Part) (n owners read write outer inner thread : ℕ) (at : next_number p ≡ 6 + 2 * n) (made : next_made p ≡ own_read_category owners) (b0 : Boots first k0 p)
+module _ (first k0 k1 k2 k3 k4 k5 k6 : KernelModel) (p : Part) (n owners read write outer inner thread status : ℕ) (at : next_number p ≡ 6 + 2 * n) (made : next_made p ≡ own_read_category owners) (b0 : Boots first k0 p)
     (c1 : Called k0 k1 boot_thread_number calls.MakeCategory None) (is_read : read ≡ k0.kept.next_category)
     (c2 : Called k1 k2 boot_thread_number calls.MakeCategory None) (is_write : write ≡ k1.kept.next_category)
     (c3 : Called k2 k3 boot_thread_number (calls.MakeContainer root_number (written_by write)) None) (is_outer : outer ≡ k2.kept.next_object)
     (c4 : Called k3 k4 boot_thread_number (calls.MakeContainer outer (secret_of read write)) None) (is_inner : inner ≡ k3.kept.next_object)
     (c5 : Called k4 k5 boot_thread_number (calls.MakeThread inner (owner_of read write) (cleared_of read write)) None) (is_thread : thread ≡ k4.kept.next_object)
-    (c6 : Called k5 k6 boot_thread_number (calls.MakeSegment outer (written_by write) (process_bytes inner thread)) None) where
+    (c6 : Called k5 k6 boot_thread_number (calls.MakeSegment outer (written_by write) (process_bytes inner thread)) None) (is_status : status ≡ k5.kept.next_object) where
   -- the container of process 0
   outer_object : Object Levels
   outer_object = record { label = written_by write; kind = Container set.empty }
@@ -167,6 +167,10 @@ module _ (first k0 k1 k2 k3 k4 k5 k6 : KernelModel) (p : Part) (n owners read wr
       ∷ Some (record { label = owner_of (read_is j) (write_is j); kind = Thread (cleared_of (read_is j) (write_is j)) }) ∷ segment (written_by (write_is j)) (process_bytes (inner_is j) (process_thread j)) ∷ [])
       (omega arith)
 
-  -- what stands then, and the number of the thread
-  pub process_stage : Boots first k6 (and_then p (process_part n owners)) × (thread ≡ 8 + 2 * n)
-  process_stage = (process_boots, process_thread)
+  -- its process segment has its number too
+  process_status : status ≡ 9 + 2 * n
+  process_status = is_status ∙ next_number_is first k5 k5 p5 b5 ∙ next5
+
+  -- what stands then, and where process 0 is found
+  pub process_stage : Boots first k6 (and_then p (process_part n owners)) × (outer ≡ 6 + 2 * n) × (status ≡ 9 + 2 * n)
+  process_stage = (process_boots, outer_is, process_status)

@@ -6,6 +6,7 @@ use Rattle.histar_rules.specs.Sound.{root_number}
 use Rattle.histar_calls.specs.Laws.{TellsRefusals}
 use Rattle.histar_calls.specs.Programs.Program.{Answers}
 use Rattle.histar_calls.proofs.TellingPrograms.{told_for}
+use Rattle.histar_process.specs.declared.caller.Caller.{Caller}
 use Rattle.histar_login.specs.Login.{place_of, password_of, entering, label_if, clearance_if, reply_if, login_as_program, login_at, LoginsTellRefusals}
 
 -- behind the gate no refusal is left to tell
@@ -13,14 +14,14 @@ replied : (right : Bool) → TellsRefusals (Answers (reply_if right))
 replied true = (refl, refl)
 replied false = (refl, refl)
 
-as_program : (users i : ℕ) (password : List ℕ) → TellsRefusals (login_as_program users i password)
+as_program : (caller : Caller) (i : ℕ) (password : List ℕ) → TellsRefusals (login_as_program caller i password)
 unfolding login_as_program
-as_program users i password = (
+as_program caller i password = (
   (λ own. (
     (λ entry. (
       (λ kept. (
-        (λ label. ((λ clearance. replied (bytes_eq kept password)), told_for (SetClearance (clearance_if (bytes_eq kept password) users i own.1)))),
-        told_for (SetLabel (label_if (bytes_eq kept password) users i own.0)),
+        (λ label. ((λ clearance. replied (bytes_eq kept password)), told_for (SetClearance (clearance_if (bytes_eq kept password) caller i own.1)))),
+        told_for (SetLabel (label_if (bytes_eq kept password) caller i own.0)),
       )),
       told_for (Read root_number (password_of i)),
     )),
@@ -29,9 +30,9 @@ as_program users i password = (
   told_for OwnLabel,
 )
 
-at_place : (users : ℕ) (password : List ℕ) (place : Option ℕ) → TellsRefusals (login_at users password place)
-at_place users password None = (refl, refl)
-at_place users password (Some place) = as_program users (place + 1) password
+at_place : (caller : Caller) (password : List ℕ) (place : Option ℕ) → TellsRefusals (login_at caller password place)
+at_place caller password None = (refl, refl)
+at_place caller password (Some place) = as_program caller (place + 1) password
 
 pub logins_tell_refusals : LoginsTellRefusals
-logins_tell_refusals users name password = at_place _ password (place_of users name)
+logins_tell_refusals users caller name password = at_place caller password (place_of users name)

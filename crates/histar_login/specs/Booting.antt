@@ -12,7 +12,8 @@ use Rattle.histar_rules.specs.declared.raw.RawCall.TheVariants.{MakeCategory}
 use Rattle.histar_syscall.specs.KernelModel.{KernelModel, state}
 use Rattle.histar_syscall.specs.Runs.{Granted}
 use Rattle.histar_calls.specs.Labelling.{written_by}
-use Rattle.histar_login.specs.Start.{numbered, boot_category, own_read_category, owners_of, container, state_with, thread_number, of_user, of_users, of_directory, of_process}
+use Rattle.histar_calls.specs.declared.places.Home.{Home}
+use Rattle.histar_login.specs.Start.{numbered, boot_category, own_read_category, owners_of, container, state_with, places_of, of_user, of_users, of_directory, of_process}
 use Rattle.histar_login.specs.Boot.{boot_thread_number, category_calls, user_calls, directory_calls, process_calls}
 
 -- A part of boot: its raw calls, the numbers that the root container links by them, the objects that they make, and how many
@@ -111,6 +112,6 @@ process_part n owners = record { calls = process_calls n owners; linked = (6 + 2
 abbrev pub MakesProcess : KernelModel → KernelModel → Type 0
 MakesProcess old new = (n owners : ℕ) → BootsOn old new (IsBeforeBoth (6 + 2 * n) (own_read_category owners)) (process_part n owners)
 
--- the thread that is made behind `/` is the one of process 0
-abbrev pub IsFirstThread : KernelModel → ℕ → Type 0
-IsFirstThread old thread = (n owners : ℕ) → Tells old (IsBeforeBoth (6 + 2 * n) (own_read_category owners)) (thread ≡ thread_number n)
+-- the container and the segment that are made behind `/` are those of process 0
+abbrev pub IsFirstHome : KernelModel → Home → Type 0
+IsFirstHome old home = (n owners : ℕ) → Tells old (IsBeforeBoth (6 + 2 * n) (own_read_category owners)) (home ≡ (places_of n).home)

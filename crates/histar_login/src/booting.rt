@@ -4,12 +4,12 @@ ghost use Rattle.histar_rules.specs.Sound.{root_number};
 ghost use Rattle.histar_syscall.specs.KernelModel.{state};
 ghost use Rattle.histar_calls.specs.Labelling.{labelled};
 ghost use Rattle.histar_login.specs.Boot.{IsBooted, boot_thread_number};
-ghost use Rattle.histar_login.specs.Booting.{BootsOn, Tells, IsAnywhere, IsBefore, MakesUser, MakesDirectory, MakesProcess, IsFirstThread, two_categories, categories_part, users_part};
-ghost use Rattle.histar_login.specs.Start.{session_with, IsSmall, own_read_category, own_write_category, owners_of, at_both, process_bytes, start_state, places_of, thread_number};
+ghost use Rattle.histar_login.specs.Booting.{BootsOn, Tells, IsAnywhere, IsBefore, MakesUser, MakesDirectory, MakesProcess, IsFirstHome, two_categories, categories_part, users_part};
+ghost use Rattle.histar_login.specs.Start.{session_with, IsSmall, own_read_category, own_write_category, owners_of, at_both, process_bytes, start_state, places_of};
 
 use crate::table::{group_owner, user_table};
 use histar_base::Bytes;
-use histar_calls::{Place, Places, Stopped, label_of, read_category, write_category};
+use histar_calls::{Home, Place, Places, Stopped, label_of, read_category, write_category};
 use histar_flat::{Group, Name, User};
 use histar_label::{Category, Label, LabelStore, Level};
 use histar_object::{Entry, ObjId};
@@ -171,12 +171,12 @@ fn make_directory<S: LabelStore + Drop>(
     kernel: &mut Kernel<S>,
     users: &[User],
     groups: &[Group],
-) -> Result<Places, Stopped>
+) -> Result<Place, Stopped>
     requires users { length users.now ≤ 16 }
     requires groups { length groups.now ≤ 8 }
     requires members { All IsSmall groups.now }
     ensures boots { OnOk result (MakesDirectory kernel.old kernel.new (session_with users.now groups.now)) }
-    ensures places { IfOk result (λ places. Tells kernel.old (IsBefore (3 + 2 * length users.now)) (places ≡ places_of (length users.now))) }
+    ensures slash { IfOk result (λ slash. Tells kernel.old (IsBefore (3 + 2 * length users.now)) (slash ≡ (places_of (length users.now)).slash)) }
 {
     let guarded = label_of(alloc, Level::L1, &[(Category::new(BOOT), Level::L0)])?;
     let table = user_table(alloc, users, groups)?;
@@ -189,10 +189,7 @@ fn make_directory<S: LabelStore + Drop>(
     let empty = Bytes::new(alloc);
     let segment = kernel.make_segment(alloc, boot_thread(), container, readable, empty);
     let listing = granted(segment)?;
-    Ok(Places {
-        slash: Place { container, listing },
-        users: users.len() as u8,
-    })
+    Ok(Place { container, listing })
 }
 
 /// The bytes of the process segment of process 0: it runs, and no child was born.
@@ -205,14 +202,14 @@ fn process_bytes(alloc: Global, internal: ObjId, thread: ObjId) -> Result<Bytes,
     Ok(Bytes::from_vec(bytes))
 }
 
-/// Makes process 0: its two categories, its container, its internal container, its thread, which it
-/// answers, and its process segment.
+/// Makes process 0: its two categories, its container, its internal container, its thread, and its
+/// process segment. It answers where the process is found.
 fn make_process<S: LabelStore + Drop>(
     alloc: Global,
     kernel: &mut Kernel<S>,
-) -> Result<ObjId, Stopped>
+) -> Result<Home, Stopped>
     ensures boots { OnOk result (MakesProcess kernel.old kernel.new) }
-    ensures thread { IfOk result (IsFirstThread kernel.old) }
+    ensures home { IfOk result (IsFirstHome kernel.old) }
 {
     let read = granted(kernel.make_category(boot_thread()))?;
     let write = granted(kernel.make_category(boot_thread()))?;
@@ -232,32 +229,39 @@ fn make_process<S: LabelStore + Drop>(
     let thread = granted(kernel.make_thread(boot_thread(), internal, own, most))?;
     let bytes = process_bytes(alloc, internal, thread)?;
     let segment = kernel.make_segment(alloc, boot_thread(), outer, guarded, bytes);
-    granted(segment)?;
-    Ok(thread)
+    let segment = granted(segment)?;
+    Ok(Home {
+        container: outer,
+        segment,
+    })
 }
 
 /// Boots a machine: on the empty kernel the boot thread makes two categories for nobody, for each user
 /// and for each group, the users' passwords and gates, the user table, `/`, and process 0, and takes
-/// itself away. It answers the kernel, the places of `/`, and the thread of process 0.
+/// itself away. It answers the kernel, and where `/` and process 0 are found.
 pub fn boot<S: LabelStore + Drop>(
     alloc: Global,
     store: S,
     users: &[User],
     groups: &[Group],
-) -> Result<(Kernel<S>, Places, ObjId), Stopped>
+) -> Result<(Kernel<S>, Places), Stopped>
     requires users { length users.now ≤ 16 }
     requires groups { length groups.now ≤ 8 }
     requires members { All IsSmall groups.now }
     ensures booted { IfOk result (λ r. IsBooted (session_with users.now groups.now) r.0) }
     ensures state { IfOk result (λ r. state r.0 ≡ start_state (session_with users.now groups.now)) }
     ensures places { IfOk result (λ r. r.1 ≡ places_of (length users.now)) }
-    ensures thread { IfOk result (λ r. r.2 ≡ thread_number (length users.now)) }
 {
     let mut kernel = Kernel::new(alloc, store)?;
     make_categories(&mut kernel, 1 + users.len() + groups.len())?;
     make_users(alloc, &mut kernel, users, groups)?;
-    let places = make_directory(alloc, &mut kernel, users, groups)?;
-    let thread = make_process(alloc, &mut kernel)?;
+    let slash = make_directory(alloc, &mut kernel, users, groups)?;
+    let home = make_process(alloc, &mut kernel)?;
     granted(kernel.unlink(alloc, boot_thread(), root_container(), boot_thread()))?;
-    Ok((kernel, places, thread))
+    let places = Places {
+        slash,
+        home,
+        users: users.len() as u8,
+    };
+    Ok((kernel, places))
 }

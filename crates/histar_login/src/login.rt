@@ -1,5 +1,5 @@
 //! Logging in, by raw calls of the thread that logs in.
-ghost use Rattle.std.specs.Prelude.{◌≡◌, ◌≤◌, length, IfOk};
+ghost use Rattle.std.specs.Prelude.{◌≡◌, ◌<◌, ◌≤◌, length, IfOk};
 ghost use Rattle.std.specs.Str.{bytes_eq};
 ghost use Rattle.histar_rules.specs.Sound.{root_number};
 ghost use Rattle.histar_calls.specs.Categories.{read_category, write_category};
@@ -8,37 +8,32 @@ ghost use Rattle.histar_calls.specs.Programs.{Runs, RunsPart};
 ghost use Rattle.histar_calls.specs.Refusals.{settled};
 ghost use Rattle.histar_login.specs.Login.{user_label, user_clearance, gate_of, password_of, entering, label_if, clearance_if, reply_if, IsOfGate, login_program, login_as_program};
 
-use crate::booting::{own_read_category, own_write_category};
 use crate::table::{number_of, place_of};
 use histar_base::Bytes;
-use histar_calls::{Ending, Stopped, label_of, read_category, settle, write_category};
+use histar_calls::{
+    Ending, Stopped, cleared_at, label_of, owning, read_category, settle, write_category,
+};
 use histar_flat::{Errno, Name, Password, Reply, User};
 use histar_label::{Label, LabelStore, Level};
 use histar_object::{Entry, ObjId};
+use histar_process::Caller;
 use histar_syscall::Kernel;
 use std::alloc::{AllocError, Global};
 
-/// The label and the clearance of process 0 as this user's: it owns the user's categories and its own.
-fn user_labels(alloc: Global, users: u64, number: u8) -> Result<(Label, Label), AllocError>
-    requires { users ≤ 16 }
-    ensures { IfOk result (λ own. (own.0 ≡ user_label users number) × (own.1 ≡ user_clearance users number)) }
+/// The label and the clearance of a process's thread as this user's: it owns the user's categories and
+/// the process's own.
+fn user_labels(alloc: Global, caller: &Caller, number: u8) -> Result<(Label, Label), AllocError>
+    requires { 0 < number }
+    ensures { IfOk result (λ own. (own.0 ≡ user_label caller.now number) × (own.1 ≡ user_clearance caller.now number)) }
 {
     let owned = [
+        caller.read,
+        caller.write,
         read_category(number),
         write_category(number),
-        own_read_category(users),
-        own_write_category(users),
     ];
-    let label = label_of(
-        alloc,
-        Level::L1,
-        &owned.map(|category| (category, Level::Star)),
-    )?;
-    let clearance = label_of(
-        alloc,
-        Level::L2,
-        &owned.map(|category| (category, Level::L3)),
-    )?;
+    let label = owning(alloc, &owned, &[])?;
+    let clearance = cleared_at(alloc, &owned)?;
     Ok((label, clearance))
 }
 
@@ -89,16 +84,16 @@ fn enter_gate<S: LabelStore + Drop>(
 fn due_labels(
     alloc: Global,
     right: bool,
-    users: u64,
+    caller: &Caller,
     number: u8,
     own: Label,
     most: Label,
 ) -> Result<(Label, Label), AllocError>
-    requires { users ≤ 16 }
-    ensures { IfOk result (λ due. (due.0 ≡ label_if right users number own) × (due.1 ≡ clearance_if right users number most)) }
+    requires { 0 < number }
+    ensures { IfOk result (λ due. (due.0 ≡ label_if right caller.now number own) × (due.1 ≡ clearance_if right caller.now number most)) }
 {
     if right {
-        return user_labels(alloc, users, number);
+        return user_labels(alloc, caller, number);
     }
     Ok((own, most))
 }
@@ -120,44 +115,43 @@ fn is_password(kept: &Bytes, password: Password) -> bool
     kept.as_slice() == password.as_bytes()
 }
 
-/// Gives a thread of process 0 the label and the clearance of a user, by the user's password: ENOENT where
-/// no user has the name, EACCES where the user's gate doesn't let the thread in, EAUTH where the
-/// password is another; the thread has then its own label and clearance again.
+/// Gives the thread of a process the label and the clearance of a user, by the user's password: ENOENT
+/// where no user has the name, EACCES where the user's gate doesn't let the thread in, EAUTH where the
+/// password is another; the thread has then its own label and clearance again. Who logs in holds no job.
 pub fn login<S: LabelStore + Drop>(
     kernel: &mut Kernel<S>,
     alloc: Global,
     users: &[User],
-    thread: ObjId,
+    caller: &Caller,
     name: Name,
     password: Password,
 ) -> Result<Reply, Stopped>
     requires { length users.now ≤ 16 }
-    ensures { Runs (login_program users.now name password) kernel.old kernel.new thread result }
+    ensures { Runs (login_program users.now caller.now name password) kernel.old kernel.new caller.now.thread result }
 {
     let Some(at) = place_of(users, name) else {
         return Ok(Reply::Refused(Errno::ENOENT));
     };
-    let count = users.len() as u64;
-    settle(login_as(kernel, alloc, count, number_of(at), thread, password))
+    settle(login_as(kernel, alloc, caller, number_of(at), password))
 }
 
-/// Logs in as a user of this number.
+/// Logs in as the user of this number.
 fn login_as<S: LabelStore + Drop>(
     kernel: &mut Kernel<S>,
     alloc: Global,
-    users: u64,
+    caller: &Caller,
     number: u8,
-    thread: ObjId,
     password: Password,
 ) -> Result<Reply, Ending>
-    requires { users ≤ 16 }
-    ensures { Runs (login_as_program users number password) kernel.old kernel.new thread (settled result) }
+    requires { 0 < number }
+    ensures { Runs (login_as_program caller.now number password) kernel.old kernel.new caller.now.thread (settled result) }
 {
+    let thread = caller.thread;
     let (own, most) = kernel.own_label(thread)?;
     enter_gate(kernel, alloc, thread, number, &own, &most)?;
     let kept = kernel.read_copy(alloc, thread, ObjId::new(1), password_segment(number))?;
     let right = is_password(&kept, password);
-    let (label, clearance) = due_labels(alloc, right, users, number, own, most)?;
+    let (label, clearance) = due_labels(alloc, right, caller, number, own, most)?;
     kernel.set_label(thread, label)?;
     kernel.set_clearance(thread, clearance)?;
     Ok(reply_if(right))

@@ -4,7 +4,7 @@ use Rattle.histar_rules.specs.Sound.{root_number}
 use Rattle.histar_syscall.specs.KernelModel.{Called}
 use Rattle.histar_login.specs.Boot.{boot_thread_number}
 use Rattle.histar_login.specs.Booting.{BootsOn, IsAnywhere, categories_part}
-use Rattle.histar_login.specs.Start.{session_with, declared}
+use Rattle.histar_login.specs.Start.{session_with, declared, places_of}
 use Rattle.histar_login.proofs.Parts.{granted_as}
 use Rattle.histar_login.proofs.LastStage.{HasParts, has_parts, booted, started, first_parts, more_parts}
 use Rattle.histar_login.proofs.booting.boot.Given as given
@@ -18,7 +18,7 @@ parts g c =
     has_parts session c.in_ok-kernel.kernel c.make_categories.new.kernel c.make_users.new.kernel c.make_directory.new.kernel c.make_process.new.kernel
     c.in_ok-kernel.ensures.state
     (subst (λ (n : ℕ). BootsOn c.in_ok-kernel.kernel c.make_categories.new.kernel IsAnywhere (categories_part n)) count c.in_ok-make_categories.ensures)
-    c.in_ok-make_users.ensures c.in_ok-places.ensures.boots c.in_ok-thread.ensures.boots
+    c.in_ok-make_users.ensures c.in_ok-slash.ensures.boots c.in_ok-home.ensures.boots
 
 unlinked : (g : given.Over) (c : goal.In_ok-granted g) → Called c.make_process.new.kernel c.unlink.new.self boot_thread_number (Unlink root_number boot_thread_number) None
 unlinked g c =
@@ -31,8 +31,11 @@ returns-clause-booted g c =
 pub returns-clause-state : goal.returns-clause-state
 returns-clause-state g c = started (session_with c.args.users.now c.args.groups.now) c.in_ok-kernel.kernel c.make_process.new.kernel c.unlink.new.self (parts g c).all (unlinked g c)
 
-pub returns-clause-places : goal.returns-clause-places
-returns-clause-places g c = c.in_ok-places.ensures.places c.in_ok-kernel.kernel (first_parts (session_with c.args.users.now c.args.groups.now)) (parts g c).is_next (parts g c).before
+slash_is : (g : given.Over) (c : goal.In_ok-granted g) → c.in_ok-slash.slash ≡ (places_of (length c.args.users.now)).slash
+slash_is g c = c.in_ok-slash.ensures.slash c.in_ok-kernel.kernel (first_parts (session_with c.args.users.now c.args.groups.now)) (parts g c).is_next (parts g c).before
 
-pub returns-clause-thread : goal.returns-clause-thread
-returns-clause-thread g c = c.in_ok-thread.ensures.thread (length c.args.users.now) (declared (session_with c.args.users.now c.args.groups.now)) c.in_ok-kernel.kernel (more_parts (session_with c.args.users.now c.args.groups.now)) (parts g c).is_after (parts g c).middle
+home_is : (g : given.Over) (c : goal.In_ok-granted g) → c.in_ok-home.home ≡ (places_of (length c.args.users.now)).home
+home_is g c = c.in_ok-home.ensures.home (length c.args.users.now) (declared (session_with c.args.users.now c.args.groups.now)) c.in_ok-kernel.kernel (more_parts (session_with c.args.users.now c.args.groups.now)) (parts g c).is_after (parts g c).middle
+
+pub returns-clause-places : goal.returns-clause-places
+returns-clause-places g c = λ j. record { slash = slash_is g c j; home = home_is g c j; users = length c.args.users.now }

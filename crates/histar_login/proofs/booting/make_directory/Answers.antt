@@ -31,7 +31,7 @@ stage g c first p at b =
 pub returns-clause-boots : goal.returns-clause-boots
 returns-clause-boots g c = λ first p at b. (stage g c first p at b).0
 
-pub returns-clause-places : goal.returns-clause-places
-returns-clause-places g c = λ first p at b.
+pub returns-clause-slash : goal.returns-clause-slash
+returns-clause-slash g c = λ first p at b.
     let s = stage g c first p at b in
-    λ j. record { slash = record { container = s.1 j; listing = s.2 j }; users = length c.args.users.now }
+    λ j. record { container = s.1 j; listing = s.2 j }
