@@ -1,22 +1,26 @@
 -- What it comes to that a state lays out a flat state: who observes and modifies what, what is reached and found, that there is one
 -- such flat state at most, and the start.
-use Rattle.std.specs.Prelude.{◌≡◌, ℕ, ◌<◌, ◌≤◌, ◌⊎◌, ◌↔◌, true, ◌∷◌, length, Option, None, Some}
+use Rattle.std.specs.Prelude.{◌≡◌, ℕ, ◌<◌, ◌≤◌, ◌⊎◌, ◌↔◌, true, ◌∷◌, length, Option, None, Some, is_some}
 use Rattle.histar_flat.specs.Words.{Path, ProcName}
 use Rattle.histar_flat.specs.Sessions.{Session}
 use Rattle.histar_flat.specs.Files.{get}
 use Rattle.histar_flat.specs.Classes.{Process, may_read, may_write}
 use Rattle.histar_flat.specs.FlatState.{Node, Flat, is_dir_at}
+use Rattle.histar_flat.specs.FlatCalls.{running}
 use Rattle.histar_flat.specs.Meaning.{boot}
 use Rattle.histar_object.specs.Objects.{is_there}
 use Rattle.histar_object.specs.State.{State, observes, modifies}
 use Rattle.histar_container.specs.Tree.{Reached}
 use Rattle.histar_rules.specs.Rules.{greatest}
 use Rattle.histar_rules.specs.Sound.{root_number}
-use Rattle.histar_login.specs.Start.{start_state}
+use Rattle.histar_process.specs.declared.caller.Caller.{Caller}
+use Rattle.histar_process.specs.Caller.{caller_at}
+use Rattle.histar_login.specs.Start.{places_of, start_state}
 use Rattle.histar_refinement.specs.Sessions.{IsSession}
 use Rattle.histar_refinement.specs.Categories.{CategoryName}
+use Rattle.histar_refinement.specs.Categories.CategoryName.{ReadsProcess, WritesProcess}
 use Rattle.histar_refinement.specs.Addresses.{address_of, home_of}
-use Rattle.histar_refinement.specs.Addresses.Step.{Listing, Inside, Runner}
+use Rattle.histar_refinement.specs.Addresses.Step.{Listing, Status, Inside, Runner}
 use Rattle.histar_refinement.specs.LaysOut.{Laid, LaysOut}
 use Rattle.histar_refinement.specs.Lines.{IsThreadOf, IsDirectoryAt}
 
@@ -64,6 +68,23 @@ OneIsLaidOut = (session : Session) (s : State) (f g : Flat) (l : LaysOut session
 -- the thread that the process segments lead to is that of the process, which runs
 abbrev pub ThreadsAreFound : Type 0
 ThreadsAreFound = (session : Session) (s : State) (f : Flat) (l : Laid session s f) (me : ProcName) (t : ℕ) → IsThreadOf session s me t ↔ ((p : Process) × RunsAs session s f l me p t)
+
+-- A process that runs, as it is found: its container and its process segment, its thread, and the numbers of its own two categories.
+pub record IsCallerOf (session : Session) (s : State) (f : Flat) (l : Laid session s f) (me : ProcName) (p : Process) (caller : Caller) : Type 0 where
+  pub runs : RunsAs session s f l me p caller.thread
+  pub home : l.naming.number (home_of me) ≡ Some caller.home.container
+  pub segment : l.naming.number (Status ∷ home_of me) ≡ Some caller.home.segment
+  pub reads : l.category (ReadsProcess me) ≡ caller.read
+  pub writes : l.category (WritesProcess me) ≡ caller.write
+
+-- the processes that are found from where boot left process 0 are exactly those that run
+abbrev pub CallersAreFound : Type 0
+CallersAreFound = (session : Session) (s : State) (f : Flat) (l : Laid session s f) (me : ProcName) (caller : Caller)
+    → (caller_at s (places_of (length session.users)).home me ≡ Some caller) ↔ ((p : Process) × IsCallerOf session s f l me p caller)
+
+-- and each that runs is found
+abbrev pub CallersAreThere : Type 0
+CallersAreThere = (session : Session) (s : State) (f : Flat) → Laid session s f → (me : ProcName) → is_some (caller_at s (places_of (length session.users)).home me) ≡ is_some (running f me)
 
 -- the objects that the directory segments lead to are those of the directory at the path
 abbrev pub DirectoriesAreFound : Type 0

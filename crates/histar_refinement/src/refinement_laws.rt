@@ -1,6 +1,6 @@
 //! What it comes to that a state lays out a flat state. Each law is the contract of a function that
 //! does nothing.
-ghost use Rattle.histar_refinement.specs.Laws.{DirectoriesAreFound, ObjectsAreReached, OneIsLaidOut, StartIsLaidOut, ThreadsAreFound, ThreadsModifyWhatIsWritten, ThreadsObserveWhatIsRead};
+ghost use Rattle.histar_refinement.specs.Laws.{CallersAreFound, CallersAreThere, DirectoriesAreFound, ObjectsAreReached, OneIsLaidOut, StartIsLaidOut, ThreadsAreFound, ThreadsModifyWhatIsWritten, ThreadsObserveWhatIsRead};
 
 /// A thread may observe what is of a class exactly where its process may read it.
 pub fn threads_observe_what_is_read()
@@ -27,6 +27,17 @@ pub fn one_flat_state_is_laid_out()
 /// no other.
 pub fn threads_are_found()
     ensures { ThreadsAreFound }
+{}
+
+/// The processes that are found by the bytes of process segments and the labels of containers are
+/// exactly those that run, each with its thread and its own two categories.
+pub fn callers_are_found()
+    ensures { CallersAreFound }
+{}
+
+/// Each process that runs is found so, and no other.
+pub fn callers_are_there()
+    ensures { CallersAreThere }
 {}
 
 /// The directory segments lead from that of `/` to each directory, and to nothing else.

@@ -1,5 +1,5 @@
 -- What it means that the calls of processes are the rows of the flat rules.
-use Rattle.std.specs.Prelude.{ℕ, List, length, IsTrue, Result}
+use Rattle.std.specs.Prelude.{ℕ, ◌≡◌, List, length, Some, IsTrue, Result}
 use Rattle.histar_flat.specs.declared.calls.User.{User}
 use Rattle.histar_flat.specs.declared.calls.Mode.{Mode}
 use Rattle.histar_flat.specs.declared.calls.UnixCall.TheVariants.{Create, Mkdir, Write, Append, Read, List as ListCall, Stat, Login}
@@ -18,6 +18,8 @@ use Rattle.histar_calls.specs.Mkdir.{mkdir_program}
 use Rattle.histar_calls.specs.Append.{append_program}
 use Rattle.histar_calls.specs.ListCall.{list_program}
 use Rattle.histar_calls.specs.StatCall.{stat_program}
+use Rattle.histar_process.specs.declared.caller.Caller.{Caller}
+use Rattle.histar_process.specs.Caller.{caller_at}
 use Rattle.histar_login.specs.Login.{login_program}
 use Rattle.histar_login.specs.Start.{places_of}
 use Rattle.histar_refinement.specs.Sessions.{IsSession}
@@ -29,6 +31,13 @@ abbrev pub IsRowOf : Session → UnixCall → Program → Type 0
 IsRowOf session call program =
     (me : ProcName) (old new : KernelModel) (f : Flat) (t : ℕ) (result : Result Reply Stopped)
     → IsReady session (state old) f me t → Runs program old new t result → DoesItsRow session f me call old new t result
+
+-- The same of a program that asks where its process is found, which is what the state shows.
+abbrev pub IsRowOfCaller : Session → UnixCall → (ProcName → Caller → Program) → Type 0
+IsRowOfCaller session call program =
+    (me : ProcName) (caller : Caller) (old new : KernelModel) (f : Flat) (result : Result Reply Stopped)
+    → IsReady session (state old) f me caller.thread → caller_at (state old) (places_of (length session.users)).home me ≡ Some caller
+    → Runs (program me caller) old new caller.thread result → DoesItsRow session f me call old new caller.thread result
 
 abbrev pub ReadsAreRows : Type 0
 ReadsAreRows = (session : Session) → IsSession session → (path : Path) → IsRowOf session (Read path) (read_program (places_of (length session.users)) path)
@@ -56,7 +65,8 @@ StatsAreRows = (users : List User) → IsSession (session_of users) → (path : 
 
 -- a login, where no group is declared
 abbrev pub LoginsAreRows : Type 0
-LoginsAreRows = (users : List User) → IsSession (session_of users) → (name : Name) (password : Password) → IsRowOf (session_of users) (Login name password) (login_program users name password)
+LoginsAreRows = (users : List User) → IsSession (session_of users) → (name : Name) (password : Password)
+    → IsRowOfCaller (session_of users) (Login name password) (λ me caller. login_program users caller name password)
 
 -- the calls that a line can make are rows
 pub record CallsAreRows : Type 0 where

@@ -1,10 +1,10 @@
 -- What a machine keeps, and what a call line does to it.
-use Rattle.std.specs.Prelude.{◌≡◌, ℕ, Bool, true, false, List, [], ◌∷◌, length, Result, Ok, IsErr, is_err, refl}
-use Rattle.std.specs.Coded.{Coded, code_by, coded×, coded_ℕ, coded_bool, coded_list}
+use Rattle.std.specs.Prelude.{◌≡◌, ℕ, Bool, true, false, List, length, Option, None, Some, Result, Ok, IsErr, is_err, refl}
+use Rattle.std.specs.Coded.{Coded, code_by, coded×, coded_bool, coded_list}
 use Rattle.histar_flat.specs.declared.calls.User.{User}
 use Rattle.histar_flat.specs.contracts.calls.User as user
 use Rattle.histar_flat.specs.declared.calls.UnixCall.{UnixCall}
-use Rattle.histar_flat.specs.declared.calls.UnixCall.TheVariants.{Create, Mkdir, Write, Append, Read, List as ListCall, Stat, Unlink, Rmdir, Rmtree, Rename, Login}
+use Rattle.histar_flat.specs.declared.calls.UnixCall.TheVariants.{Create, Mkdir, Write, Append, Read, List as ListCall, Stat, Unlink, Rmdir, Rmtree, Rename, Spawn, Exit, Status, Kill, Whoami, Login, Wrap}
 use Rattle.histar_flat.specs.declared.replies.Reply.{Reply}
 use Rattle.histar_flat.specs.declared.replies.Reply.TheVariants.{Gone}
 use Rattle.histar_flat.specs.Sessions.{session_of}
@@ -29,20 +29,26 @@ use Rattle.histar_moves.specs.Rmtree.{rmtree_program}
 use Rattle.histar_moves.specs.Rename.{rename_program}
 use Rattle.histar_login.specs.Boot.{IsBooted}
 use Rattle.histar_login.specs.Login.{login_program}
-use Rattle.histar_login.specs.Start.{places_of, thread_number, start_state}
+use Rattle.histar_process.specs.declared.caller.Caller.{Caller}
+use Rattle.histar_process.specs.Caller.{caller_at}
+use Rattle.histar_process.specs.SpawnCall.{spawn_program}
+use Rattle.histar_process.specs.ExitCall.{exit_program}
+use Rattle.histar_process.specs.StatusCall.{status_program}
+use Rattle.histar_process.specs.KillCall.{kill_program}
+use Rattle.histar_process.specs.Whoami.{whoami_program}
+use Rattle.histar_login.specs.Start.{places_of, start_state}
 use Rattle.histar_calls.specs.declared.ending.Stopped.{Stopped}
 
--- the kernel of a machine, the places of `/`, the thread of its process, its users, and whether a call of it has ended without a reply
+-- the kernel of a machine, the places of `/` and process 0, its users, and whether a call of it has ended without a reply
 pub record MachineModel : Type 0 where
   pub kernel : KernelModel
   pub places : Places
-  pub thread : ℕ
   pub users : List User
   pub is_stopped : Bool
 
 -- stored as the tuple of its parts
 abbrev pub coded_machine_model : Coded MachineModel
-coded_machine_model = code_by (KernelModel × (Places × (ℕ × (List User × Bool)))) (coded× coded_kernel_model (coded× where_is.the_row.coded (coded× coded_ℕ (coded× (coded_list user.the_row.coded) coded_bool)))) (λ m. (m.kernel, (m.places, (m.thread, (m.users, m.is_stopped))))) (λ p. record { kernel = p.0; places = p.1.0; thread = p.1.1.0; users = p.1.1.1.0; is_stopped = p.1.1.1.1 }) (λ _. refl)
+coded_machine_model = code_by (KernelModel × (Places × (List User × Bool))) (coded× coded_kernel_model (coded× where_is.the_row.coded (coded× (coded_list user.the_row.coded) coded_bool))) (λ m. (m.kernel, (m.places, (m.users, m.is_stopped)))) (λ p. record { kernel = p.0; places = p.1.0; users = p.1.1.0; is_stopped = p.1.1.1 }) (λ _. refl)
 
 -- the trace of the kernel is a run from the empty kernel to its state
 abbrev pub IsTraced : KernelModel → Type 0
@@ -52,7 +58,6 @@ IsTraced k = IsRun empty_state k.trace (state k)
 pub record IsStart (declared : List User) (m : MachineModel) : Type 0 where
   pub users : m.users ≡ declared
   pub places : m.places ≡ places_of (length declared)
-  pub thread : m.thread ≡ thread_number (length declared)
   pub state : state m.kernel ≡ start_state (session_of declared)
   pub booted : IsBooted (session_of declared) m.kernel
   pub line : m.kernel.line ≡ 0
@@ -62,39 +67,47 @@ pub record IsStart (declared : List User) (m : MachineModel) : Type 0 where
 abbrev pub on_line : ℕ → KernelModel → KernelModel
 on_line line k = record { kept = k.kept; line = line; trace = k.trace }
 
--- the program of raw calls that a call runs; a call that no line can hold stops before its first
-abbrev pub program_of : List User → Places → UnixCall → Program
-program_of users places (Create path mode) = create_program places path mode
-program_of users places (Mkdir path mode) = mkdir_program places path mode
-program_of users places (Write path bytes) = write_program places path bytes
-program_of users places (Append path bytes) = append_program places path bytes
-program_of users places (Read path) = read_program places path
-program_of users places (ListCall path) = list_program places path
-program_of users places (Stat path) = stat_program users places path
-program_of users places (Unlink path) = unlink_program places path
-program_of users places (Rmdir path) = rmdir_program places path
-program_of users places (Rmtree path) = rmtree_program places path
-program_of users places (Rename path name) = rename_program places path name
-program_of users places (Login name password) = login_program users name password
-program_of users places _ = Stops
+-- the program of raw calls that a call of a process runs; a call that no line can hold stops before its first
+abbrev pub program_of : List User → Places → ProcName → Caller → UnixCall → Program
+program_of users places me caller (Create path mode) = create_program places path mode
+program_of users places me caller (Mkdir path mode) = mkdir_program places path mode
+program_of users places me caller (Write path bytes) = write_program places path bytes
+program_of users places me caller (Append path bytes) = append_program places path bytes
+program_of users places me caller (Read path) = read_program places path
+program_of users places me caller (ListCall path) = list_program places path
+program_of users places me caller (Stat path) = stat_program users places path
+program_of users places me caller (Unlink path) = unlink_program places path
+program_of users places me caller (Rmdir path) = rmdir_program places path
+program_of users places me caller (Rmtree path) = rmtree_program places path
+program_of users places me caller (Rename path name) = rename_program places path name
+program_of users places me caller Spawn = spawn_program places.users me caller.home
+program_of users places me caller (Exit number) = exit_program caller.home number
+program_of users places me caller (Status name) = status_program places name
+program_of users places me caller (Kill name) = kill_program places name
+program_of users places me caller Whoami = whoami_program users
+program_of users places me caller (Login name password) = login_program users caller name password
+program_of users places me caller (Wrap path) = Stops
 
--- a call runs its program, by the thread on the line that was begun
-abbrev pub Makes : List User → Places → KernelModel → KernelModel → ℕ → UnixCall → Result Reply Stopped → Type 0
-Makes users places old new thread call result = Runs (program_of users places call) old new thread result
+-- a call of a process runs its program, by the process's thread on the line that was begun
+abbrev pub Makes : List User → Places → ProcName → Caller → KernelModel → KernelModel → UnixCall → Result Reply Stopped → Type 0
+Makes users places me caller old new call result = Runs (program_of users places me caller call) old new caller.thread result
 
--- The call was made by the thread on the line that was begun; the machine has the places, the thread and the users that it
--- had, and has stopped where the call ended without an answer.
-pub record HasMade (old new : MachineModel) (line : ℕ) (call : UnixCall) (result : Result Reply Stopped) : Type 0 where
-  pub made : Makes old.users old.places (on_line line old.kernel) new.kernel old.thread call result
+-- The call was made by the thread of the process on the line that was begun; the machine has the places and the users that it had, and
+-- has stopped where the call ended without an answer.
+pub record HasMade (old new : MachineModel) (line : ℕ) (me : ProcName) (caller : Caller) (call : UnixCall) (result : Result Reply Stopped) : Type 0 where
+  pub made : Makes old.users old.places me caller (on_line line old.kernel) new.kernel call result
   pub places : new.places ≡ old.places
-  pub thread : new.thread ≡ old.thread
   pub users : new.users ≡ old.users
   pub stops : new.is_stopped ≡ is_err result
 
--- a running machine: a process other than 0 is gone and nothing changes, process 0 has its call made
+-- a process that is found has its call made; one that is not is answered `gone`, and nothing changes
+abbrev pub AnswersFound : Option Caller → MachineModel → MachineModel → ℕ → ProcName → UnixCall → Result Reply Stopped → Type 0
+AnswersFound None old new line me call result = (result ≡ Ok Gone) × (new ≡ old)
+AnswersFound (Some caller) old new line me call result = HasMade old new line me caller call result
+
+-- a running machine: the process is looked for in the kernel's own table
 abbrev pub AnswersRunning : MachineModel → MachineModel → ℕ → ProcName → UnixCall → Result Reply Stopped → Type 0
-AnswersRunning old new line [] call result = HasMade old new line call result
-AnswersRunning old new line (n ∷ process) call result = (result ≡ Ok Gone) × (new ≡ old)
+AnswersRunning old new line me call result = AnswersFound (caller_at (state old.kernel) old.places.home me) old new line me call result
 
 -- a machine that has stopped does nothing, and answers so
 abbrev pub AnswersIf : Bool → MachineModel → MachineModel → ℕ → ProcName → UnixCall → Result Reply Stopped → Type 0

@@ -1,5 +1,5 @@
 -- A run against the flat meaning of its script.
-use Rattle.std.specs.Prelude.{◌≡◌, ℕ, ◌⊎◌, List, ◌++◌, length, Option, Result, Ok, Err, MatchResult}
+use Rattle.std.specs.Prelude.{◌≡◌, ℕ, ◌⊎◌, List, ◌++◌, length, Option, Some, Result, Ok, Err, MatchResult}
 use Rattle.std.specs.List.{AllByRecursion}
 use Rattle.std.specs.Io.KnownBytes.{Appends, Keeps}
 use Rattle.histar_flat.specs.declared.calls.User.{User}
@@ -7,7 +7,9 @@ use Rattle.histar_flat.specs.declared.replies.Reply.{Reply}
 use Rattle.histar_flat.specs.declared.calls.UnixCall.{UnixCall}
 use Rattle.histar_flat.specs.Words.{ProcName}
 use Rattle.histar_flat.specs.Sessions.{session_of}
+use Rattle.histar_flat.specs.Classes.{Process}
 use Rattle.histar_flat.specs.FlatState.{Flat}
+use Rattle.histar_flat.specs.Laws.{HasNoJob}
 use Rattle.histar_flat.specs.FlatCalls.{reply_to, flat_after}
 use Rattle.histar_flat.specs.Meaning.{boot, meaning}
 use Rattle.histar_object.specs.State.{State, empty_state}
@@ -22,7 +24,8 @@ use Rattle.histar_calls.specs.declared.ending.Stopped.{Stopped}
 use Rattle.histar_login.specs.Boot.{boot_thread_number}
 use Rattle.histar_login.specs.Start.{places_of}
 use Rattle.histar_refinement.specs.LaysOut.{LaysOut}
-use Rattle.histar_rows.specs.Rows.{IsScriptable, IsReady, IsRow, AreRows, IsRunUnlessExhausted}
+use Rattle.histar_refinement.specs.Lines.{IsThreadOf}
+use Rattle.histar_rows.specs.Rows.{IsScriptable, IsRow, AreRows, AreFilesSmall, IsRunUnlessExhausted}
 use Rattle.histar_devices.specs.Writing.{AppendsFront}
 use Rattle.histar_shell.specs.Answers.{answers_text}
 use Rattle.histar_shell.specs.Machine.{MachineModel}
@@ -31,12 +34,18 @@ use Rattle.histar_shell.specs.Machine.{MachineModel}
 abbrev pub meaning_text : Reading → List ℕ
 meaning_text script = answers_text (meaning (session_of script.users) script.calls)
 
--- A machine lays out a flat state, in which process 0 is alone: its kernel does, its thread is the one of process 0, and it knows of
--- `/` and of its users what boot told it.
+-- no process is in a job or holds one, since no line of a script can start a job yet
+abbrev pub AreJobless : Flat → Type 0
+AreJobless f = (me : ProcName) (p : Process) → f.processes me ≡ Some p → HasNoJob p
+
+-- A machine lays out a flat state, in which there are no jobs: its kernel does, and it knows of `/`, of process 0 and of its users what
+-- boot told it.
 pub record Shows (m : MachineModel) (f : Flat) : Type 0 where
   pub users : IsUserList m.users
   pub places : m.places ≡ places_of (length m.users)
-  pub ready : IsReady (session_of m.users) (state m.kernel) f m.thread
+  pub lays_out : LaysOut (session_of m.users) (state m.kernel) f
+  pub jobless : AreJobless f
+  pub small : AreFilesSmall f
 
 -- The line was answered what the flat state says. The new end of the trace are its raw calls, which are its row, and the machine lays
 -- out the flat state after the call.
@@ -49,16 +58,16 @@ pub record AnswersAsMeant (old new : MachineModel) (f : Flat) (asked : CallLine)
 
 -- The line ended without an answer: its raw calls are a run of the kernel by the thread of its process, of which none was refused but
 -- where a counter has its greatest value.
-pub record StopsUnrefused (old new : MachineModel) (line : ℕ) : Type 0 where
+pub record StopsUnrefused (old new : MachineModel) (line : ℕ) (process : ProcName) : Type 0 where
   pub entries : List TraceEntry
   pub trace : new.kernel.trace ≡ old.kernel.trace ++ entries
   pub run : IsRunUnlessExhausted (state old.kernel) entries (state new.kernel)
-  pub own : AllByRecursion (IsBy line old.thread) entries
+  pub own : AllByRecursion (λ e. (e.line ≡ line) × IsThreadOf (session_of old.users) (state old.kernel) process e.thread) entries
 
 -- a line that ends so
 abbrev pub EndsAsMeant : MachineModel → MachineModel → Flat → CallLine → Result Reply Stopped → Type 0
 EndsAsMeant old new f asked (Ok reply) = AnswersAsMeant old new f asked reply
-EndsAsMeant old new f asked (Err stopped) = StopsUnrefused old new asked.line
+EndsAsMeant old new f asked (Err stopped) = StopsUnrefused old new asked.line asked.process
 
 -- Whatever flat state the machine lays out before the line, the line ends as that says.
 abbrev pub FollowsMeaning : MachineModel → MachineModel → ℕ → ProcName → UnixCall → Result Reply Stopped → Type 0

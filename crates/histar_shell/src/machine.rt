@@ -9,7 +9,7 @@ use histar_flat::{ProcName, Reply, UnixCall, User};
 use histar_label::LabelStore;
 use histar_login::{boot, login};
 use histar_moves::{rename, rmdir, rmtree, unlink};
-use histar_object::ObjId;
+use histar_process::{Caller, exit, find_caller, kill, spawn, status, whoami};
 use histar_syscall::{Kernel, TraceEntry};
 use std::alloc::Global;
 use std::marker::Model;
@@ -48,7 +48,6 @@ impl Trace {
 pub struct Machine<S: LabelStore + Drop> {
     kernel: Kernel<S>,
     places: Places,
-    thread: ObjId,
     users: Vec<User>,
     is_stopped: bool,
 }
@@ -62,7 +61,7 @@ impl<S: LabelStore + Drop> Model for Machine<S> {
 
     ghost coded = { coded_machine_model };
 
-    ghost view = { λ m. record { kernel = m.kernel; places = m.places; thread = m.thread; users = m.users.items; is_stopped = m.is_stopped } };
+    ghost view = { λ m. record { kernel = m.kernel; places = m.places; users = m.users.items; is_stopped = m.is_stopped } };
 
     ghost invariant = { λ m. (length m.users.items ≤ most_users) × IsTraced m.kernel };
 }
@@ -76,18 +75,17 @@ impl<S: LabelStore + Drop> Machine<S> {
         ensures shows { IfOk result (ShowsStart users.now) }
     {
         let users = Vec::from_slice(alloc, users)?;
-        let (kernel, places, thread) = boot(alloc, store, users.as_slice(), &[])?;
+        let (kernel, places) = boot(alloc, store, users.as_slice(), &[])?;
         Ok(Machine {
             kernel,
             places,
-            thread,
             users,
             is_stopped: false,
         })
     }
 
-    /// Does one call of a process, on this line of the script. `Gone` for every process but 0.
-    /// After the first `Stopped` it does nothing and answers `Stopped`.
+    /// Does one call of a process, on this line of the script. `Gone` for a process that was never born,
+    /// has exited or was killed. After the first `Stopped` it does nothing and answers `Stopped`.
     pub fn step(
         &mut self,
         alloc: Global,
@@ -101,9 +99,9 @@ impl<S: LabelStore + Drop> Machine<S> {
         if self.is_stopped {
             return Err(Stopped);
         }
-        if !process.is_zero() {
+        let Some(caller) = find_caller(&self.kernel, self.places.home, process) else {
             return Ok(Reply::Gone);
-        }
+        };
         self.kernel.begin(line);
         let users = self.users.as_slice();
         let result = make(
@@ -111,7 +109,8 @@ impl<S: LabelStore + Drop> Machine<S> {
             alloc,
             &self.places,
             users,
-            self.thread,
+            process,
+            &caller,
             call,
         );
         self.is_stopped = result.is_err();
@@ -129,19 +128,20 @@ impl<S: LabelStore + Drop> Machine<S> {
     }
 }
 
-/// Does one call of a thread on the line that was begun. A call that no line can hold yet is not
-/// done.
+/// Does one call of a process on the line that was begun. A call that no line can hold yet is not done.
 fn make<S: LabelStore + Drop>(
     kernel: &mut Kernel<S>,
     alloc: Global,
     places: &Places,
     users: &[User],
-    thread: ObjId,
+    me: &ProcName,
+    caller: &Caller,
     call: UnixCall,
 ) -> Result<Reply, Stopped>
     requires { length users.now ≤ most_users }
-    ensures { Makes users.now places.now kernel.old kernel.new thread call result }
+    ensures { Makes users.now places.now me.now caller.now kernel.old kernel.new call result }
 {
+    let thread = caller.thread;
     match call {
         UnixCall::Create(path, mode) => create::create(kernel, alloc, places, thread, &path, mode),
         UnixCall::Mkdir(path, mode) => mkdir::mkdir(kernel, alloc, places, thread, &path, mode),
@@ -156,14 +156,14 @@ fn make<S: LabelStore + Drop>(
         UnixCall::Rmdir(path) => rmdir::rmdir(kernel, alloc, places, thread, &path),
         UnixCall::Rmtree(path) => rmtree::rmtree(kernel, alloc, places, thread, &path),
         UnixCall::Rename(path, name) => rename::rename(kernel, alloc, places, thread, &path, &name),
+        UnixCall::Spawn => spawn::spawn(kernel, alloc, places.users, me, caller),
+        UnixCall::Exit(number) => exit::exit(kernel, alloc, caller, number),
+        UnixCall::Status(name) => status::status(kernel, places, thread, &name),
+        UnixCall::Kill(name) => kill::kill(kernel, alloc, places, thread, &name),
+        UnixCall::Whoami => whoami::whoami(kernel, users, thread),
         UnixCall::Login(name, password) => login::login(
-            kernel, alloc, users, thread, name, password,
+            kernel, alloc, users, caller, name, password,
         ),
-        UnixCall::Spawn
-        | UnixCall::Exit(_)
-        | UnixCall::Status(_)
-        | UnixCall::Kill(_)
-        | UnixCall::Whoami
-        | UnixCall::Wrap(_) => Err(Stopped),
+        UnixCall::Wrap(_) => Err(Stopped),
     }
 }
