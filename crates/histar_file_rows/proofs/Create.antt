@@ -8,7 +8,7 @@ use Rattle.histar_flat.specs.declared.calls.UnixCall.{UnixCall}
 use Rattle.histar_flat.specs.declared.calls.UnixCall.TheVariants as calls
 use Rattle.histar_flat.specs.declared.replies.Reply.{Reply}
 use Rattle.histar_flat.specs.declared.replies.Reply.TheVariants.{Done}
-use Rattle.histar_flat.specs.Words.{Name, Path, is_name}
+use Rattle.histar_flat.specs.Words.{Name, Path, ProcName, is_name}
 use Rattle.histar_flat.specs.Modes.{is_line_mode}
 use Rattle.histar_flat.specs.Sessions.{Session}
 use Rattle.histar_flat.specs.Classes.{Process}
@@ -19,7 +19,6 @@ use Rattle.histar_label.specs.Levels.{Levels}
 use Rattle.histar_object.specs.declared.objects.Kind.TheVariants.{Segment}
 use Rattle.histar_object.specs.declared.objects.Object.{Object}
 use Rattle.histar_object.specs.State.{State, added}
-use Rattle.histar_container.specs.Tree.{Naming}
 use Rattle.histar_rules.specs.declared.raw.RawCall.{RawCall}
 use Rattle.histar_rules.specs.declared.raw.RawCall.TheVariants as raw
 use Rattle.histar_rules.specs.Rules.{greatest}
@@ -33,8 +32,7 @@ use Rattle.histar_calls.specs.Parts.{write_entries}
 use Rattle.histar_calls.specs.Create.{create_program}
 use Rattle.histar_refinement.specs.Sessions.{IsSession}
 use Rattle.histar_refinement.specs.Guards.{guard_label}
-use Rattle.histar_refinement.specs.Addresses.{Step, address_of, home_of}
-use Rattle.histar_refinement.specs.Addresses.Step.{Inside, Runner}
+use Rattle.histar_refinement.specs.Addresses.{address_of}
 use Rattle.histar_refinement.proofs.Creating.{laid_created}
 use Rattle.histar_rows.specs.Rows.{IsReady}
 use Rattle.histar_rows.specs.Laws.{CreatesAreRows}
@@ -43,8 +41,8 @@ use Rattle.histar_file_rows.proofs.MadeEntries.{MakesEntry, slash_stands, asked,
 use Rattle.histar_file_rows.proofs.NewEntries.{last_name}
 
 -- a create makes an empty file
-create_makes : (session : Session) (f : Flat) (p : Process) (q : Path) (mode : Mode) → MakesEntry session f p q mode (File []) (calls.Create q mode)
-create_makes session f p q mode = record { refuses = refl; changes = refl; answers = refl; reads = λ s reply entries walk. walk }
+create_makes : (session : Session) (f : Flat) (me : ProcName) (p : Process) (q : Path) (mode : Mode) → MakesEntry session f me p q mode (File []) (calls.Create q mode)
+create_makes session f me p q mode = record { refuses = refl; changes = refl; answers = refl; reads = λ s reply entries walk. walk }
 
 -- the segment of the file is made, and the directory is written
 abbrev make : ℕ → Levels → RawCall
@@ -53,35 +51,35 @@ make container x = raw.MakeSegment container x []
 abbrev within : Room → Levels → ℕ → Program
 within room x file = write_entries room.place (map.insert room.entries room.name (targets.File file)) (λ _. Answers Done)
 
-module _ (session : Session) (ok : IsSession session) (old new : KernelModel) (f : Flat) (t : ℕ) (ready : IsReady session (state old) f t) (m : Name) (named : IsTrue (is_name m)) (d : Path) (mode : Mode) (nameable : IsTrue (is_line_mode mode)) (result : Result Reply Stopped) where
+module _ (session : Session) (ok : IsSession session) (old new : KernelModel) (f : Flat) (me : ProcName) (t : ℕ) (ready : IsReady session (state old) f me t) (m : Name) (named : IsTrue (is_name m)) (d : Path) (mode : Mode) (nameable : IsTrue (is_line_mode mode)) (result : Result Reply Stopped) where
   abbrev call : UnixCall
   call = calls.Create (m ∷ d) mode
 
-  makes : MakesEntry session f ready.alone.process (m ∷ d) mode (File []) call
-  makes = create_makes session f ready.alone.process (m ∷ d) mode
+  makes : MakesEntry session f me ready.caller.process (m ∷ d) mode (File []) call
+  makes = create_makes session f me ready.caller.process (m ∷ d) mode
 
   -- once the file is made the directory is written
-  goes_on : GoesOn session ok old new f t ready m d mode (File []) call result makes nameable make within
+  goes_on : GoesOn session ok old new f me t ready m d mode (File []) call result makes nameable make within
   goes_on open_so_far absent room made is_may has mid stays linked number called number_is chain rest =
-      let above = container session ok (state old) f t ready d in
+      let above = container session ok (state old) f me t ready d in
       let file : Object Levels = record { label = guard_label ready.lays_out.laid.category made.guard; kind = Segment [] } in
-      let at_container = container_numbered session ok (state old) f t ready d open_so_far in
-      let low = below session ok (state old) f t ready (address_of d) above at_container in
+      let at_container = container_numbered session ok (state old) f me t ready d open_so_far in
+      let low = below session ok (state old) f me t ready (address_of d) above at_container in
       let next_below = ltb-true (state old).next_object greatest has in
-      let later = laid_created session (state old) f ready.lays_out.laid d (directory_class session ok (state old) f t ready d open_so_far) (directory_stands session ok (state old) f t ready d open_so_far) above (listing session ok (state old) f t ready d)
-      at_container (listing_numbered session ok (state old) f t ready d open_so_far) m absent made.class made.fits made.guard made.guarded named (ltb-true (length (entries_in f d)) most_entries room) next_below in
+      let later = laid_created session (state old) f ready.lays_out.laid d (directory_class session ok (state old) f me t ready d open_so_far) (directory_stands session ok (state old) f me t ready d open_so_far) above (listing session ok (state old) f me t ready d)
+      at_container (listing_numbered session ok (state old) f me t ready d open_so_far) m absent made.class made.fits made.guard made.guarded named (ltb-true (length (entries_in f d)) most_entries room) next_below in
       let making : RawCall = make above (guard_label ready.lays_out.laid.category made.guard) in
-      entry_written session ok old new f t ready m d mode (File []) call result makes nameable named open_so_far absent room made is_may
-      (targets.File (state old).next_object) (omega (arith, low), omega (arith, next_below)) (added (state old) above file) (listing_still session ok (state old) f t ready d open_so_far file)
-      (asked session ok (state old) f t ready d ++ making ∷ []) (among_asked session ok (state old) f t ready d old.line (making ∷ []))
-      linked (called.state ∙ ap (λ (s : State). added s above file) stays) chain later.0 (ap (λ (n : Naming Step). n.number (Runner ∷ Inside ∷ home_of [])) later.1)
-      (subst (λ (q : ℕ). Runs (within (the_room session ok (state old) f t ready d m) (guard_label ready.lays_out.laid.category made.guard) q) linked new t result) (number_is ∙ ap (λ (s : State). s.next_object) stays) rest)
+      entry_written session ok old new f me t ready m d mode (File []) call result makes nameable named open_so_far absent room made is_may
+      (targets.File (state old).next_object) (omega (arith, low), omega (arith, next_below)) (added (state old) above file) (listing_still session ok (state old) f me t ready d open_so_far file)
+      (asked session ok (state old) f me t ready d ++ making ∷ []) (among_asked session ok (state old) f me t ready d old.line (making ∷ []))
+      linked (called.state ∙ ap (λ (s : State). added s above file) stays) chain later.0
+      (subst (λ (q : ℕ). Runs (within (the_room session ok (state old) f me t ready d m) (guard_label ready.lays_out.laid.category made.guard) q) linked new t result) (number_is ∙ ap (λ (s : State). s.next_object) stays) rest)
 
 -- a create does what its flat rule says
 pub creates_are_rows : CreatesAreRows
 unfolding create_program
-creates_are_rows session ok [] mode right nameable old new f t result ready run =
-    slash_stands session old new f t ready mode (File []) (calls.Create [] mode) result (create_makes session f ready.alone.process [] mode) _ run
-creates_are_rows session ok (m ∷ d) mode right nameable old new f t result ready run =
-    entry_step session ok old new f t ready m d mode (File []) (calls.Create (m ∷ d) mode) result (create_makes session f ready.alone.process (m ∷ d) mode) nameable make within
-    (λ open_so_far. segment_made session ok (state old) f t ready d open_so_far) run (goes_on session ok old new f t ready m (last_name m d right) d mode nameable result)
+creates_are_rows session ok [] mode right nameable me old new f t result ready run =
+    slash_stands session old new f me t ready mode (File []) (calls.Create [] mode) result (create_makes session f me ready.caller.process [] mode) _ run
+creates_are_rows session ok (m ∷ d) mode right nameable me old new f t result ready run =
+    entry_step session ok old new f me t ready m d mode (File []) (calls.Create (m ∷ d) mode) result (create_makes session f me ready.caller.process (m ∷ d) mode) nameable make within
+    (λ open_so_far. segment_made session ok (state old) f me t ready d open_so_far) run (goes_on session ok old new f me t ready m (last_name m d right) d mode nameable result)

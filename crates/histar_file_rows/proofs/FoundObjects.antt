@@ -3,7 +3,7 @@ use Rattle.std.proofs.Common.{◌≡◌, ℕ, ◌+◌, ◌<◌, ◌&&◌, Bool, 
 use Rattle.std.specs.Prelude.{min}
 use Rattle.std.specs.FinSet as set
 use Rattle.histar_base.specs.Refusals.{◌orelse◌, unless}
-use Rattle.histar_flat.specs.Words.{Name, Path}
+use Rattle.histar_flat.specs.Words.{Name, Path, ProcName}
 use Rattle.histar_flat.specs.Sessions.{Session}
 use Rattle.histar_flat.specs.Files.{get}
 use Rattle.histar_flat.specs.Classes.{Class, Process, may_read, may_write}
@@ -30,7 +30,6 @@ use Rattle.histar_refinement.specs.Addresses.Step.{Listing, Inside, Runner}
 use Rattle.histar_refinement.specs.Directories.{directory_of}
 use Rattle.histar_refinement.specs.Expected.{expected}
 use Rattle.histar_refinement.specs.LaysOut.{Laid}
-use Rattle.histar_refinement.specs.Lines.{IsThreadOf}
 use Rattle.histar_refinement.specs.Processes.{or_zero}
 use Rattle.histar_refinement.proofs.Steps.{step_tells}
 use Rattle.histar_refinement.proofs.Moving.{number_below}
@@ -39,48 +38,43 @@ use Rattle.histar_refinement.proofs.FileChecks.{read_file_said, write_file_said,
 use Rattle.histar_refinement.proofs.FileRows.{AreKnown}
 use Rattle.histar_refinement.proofs.MakingRanges.{is_made_within}
 use Rattle.histar_refinement.proofs.Standing.{thread_found, guard_at, container_found, listing_found, file_found, step_linked}
-use Rattle.histar_refinement.proofs.StatusFound.{thread_led}
 use Rattle.histar_rows.specs.Rows.{IsReady}
 use Rattle.histar_rows.proofs.Walks.{runs, place_at, stands, at_container, at_listing, dir, seen, file_number}
 use Rattle.histar_file_rows.proofs.NewEntries.{HasSegment, still_there, there_then, making_inside}
 
-module _ (session : Session) (ok : IsSession session) (s : State) (f : Flat) (t : ℕ) (ready : IsReady session s f t) where
+module _ (session : Session) (ok : IsSession session) (s : State) (f : Flat) (me : ProcName) (t : ℕ) (ready : IsReady session s f me t) where
   abbrev p : Process
-  p = ready.alone.process
+  p = ready.caller.process
 
   abbrev l : Laid session s f
   l = ready.lays_out.laid
 
   abbrev runner : Address Step
-  runner = Runner ∷ Inside ∷ home_of []
+  runner = Runner ∷ Inside ∷ home_of me
 
-  -- the label and the clearance of the thread of process 0
+  -- the label and the clearance of the thread
   abbrev pub label : Levels
-  label = rights_label ready.lays_out.laid.category (thread_rights session [] ready.alone.process)
+  label = rights_label ready.lays_out.laid.category (thread_rights session me ready.caller.process)
 
   abbrev pub clearance : Levels
-  clearance = rights_clearance ready.lays_out.laid.category (thread_rights session [] ready.alone.process)
+  clearance = rights_clearance ready.lays_out.laid.category (thread_rights session me ready.caller.process)
 
   pub thread : s.objects t ≡ object label (Thread clearance)
-  thread = thread_found session s f l [] p ready.alone.stands ready.alone.runs t (runs session ok s f t ready).2
-
-  -- a state that lays out a flat state with the same processes, and gives the thread its number, has it still
-  pub thread_kept : (later : State) (g : Flat) (laid : Laid session later g) → g.processes [] ≡ Some p → laid.naming.number runner ≡ l.naming.number runner → IsThreadOf session later [] t
-  thread_kept later g laid stands same = thread_led session later g laid [] p t stands ready.alone.runs (same ∙ (runs session ok s f t ready).2)
+  thread = thread_found session s f l me p ready.caller.stands ready.caller.runs t (runs session ok s f me t ready).2
 
   -- a number that is given is below the next one
   pub below : (a : Address Step) (q : ℕ) → l.naming.number a ≡ Some q → q < s.next_object
   below a q at = number_below same_step step_tells s l.naming (expected session l.category f l.naming.number) l.stands a q at
 
   pub thread_below : t < s.next_object
-  thread_below = below runner t (runs session ok s f t ready).2
+  thread_below = below runner t (runs session ok s f me t ready).2
 
   module _ (d : Path) where
     abbrev pub container : ℕ
-    container = (place_at session ok s f t ready d).container
+    container = (place_at session ok s f me t ready d).container
 
     abbrev pub listing : ℕ
-    listing = (place_at session ok s f t ready d).listing
+    listing = (place_at session ok s f me t ready d).listing
 
     abbrev pub entries : Entries
     entries = directory_of f.files ready.lays_out.laid.naming.number d
@@ -91,23 +85,23 @@ module _ (session : Session) (ok : IsSession session) (s : State) (f : Flat) (t 
 
     module _ (open_so_far : into session f p d ≡ None) where
       pub is_dir : is_dir_at f d ≡ true
-      is_dir = dir session ok s f t ready d open_so_far
+      is_dir = dir session ok s f me t ready d open_so_far
 
       -- the class of the directory
       abbrev pub directory_class : Class
-      directory_class = (stands session ok s f t ready d (dir session ok s f t ready d open_so_far)).0
+      directory_class = (stands session ok s f me t ready d (dir session ok s f me t ready d open_so_far)).0
 
       pub directory_stands : get f.files d ≡ Some (record { class = directory_class; content = Dir })
-      directory_stands = (stands session ok s f t ready d (dir session ok s f t ready d open_so_far)).1
+      directory_stands = (stands session ok s f me t ready d (dir session ok s f me t ready d open_so_far)).1
 
       pub container_numbered : l.naming.number (address_of d) ≡ Some container
-      container_numbered = at_container session ok s f t ready d is_dir
+      container_numbered = at_container session ok s f me t ready d is_dir
 
       pub listing_numbered : l.naming.number (Listing ∷ address_of d) ≡ Some listing
-      listing_numbered = at_listing session ok s f t ready d is_dir
+      listing_numbered = at_listing session ok s f me t ready d is_dir
 
       pub may_look : may_read session p directory_class ≡ true
-      may_look = seen session ok s f t ready d open_so_far
+      may_look = seen session ok s f me t ready d open_so_far
 
       pub writes_as_class : writes session f p d ≡ may_write session p directory_class
       writes_as_class = ap (λ (o : Option Node). is_some_and o (λ n. may_write session p n.class)) directory_stands
@@ -146,29 +140,29 @@ module _ (session : Session) (ok : IsSession session) (s : State) (f : Flat) (t 
       -- out of the thread's range, and else only where the directory may not be written or there is no number for the object.
       pub record MakesObject (make : Levels → RawCall) : Type 0 where
         pub tells : (x : Levels) (denied : Denied) → errno_for (make x) denied ≡ errno_of denied
-        pub outside : (g : Guard) → is_made_within session l.category l.different [] p g ≡ false → check s t (make (guard_label l.category g)) ≡ (unless (may_write session p directory_class) Modify orelse Some Range)
+        pub outside : (g : Guard) → is_made_within session l.category l.different me p g ≡ false → check s t (make (guard_label l.category g)) ≡ (unless (may_write session p directory_class) Modify orelse Some Range)
         pub within : (class : Class) → AreKnown session s f l class → (g : Guard) → class_guard session class ≡ Some g
-            → check s t (make (guard_label l.category g)) ≡ (unless (may_write session p directory_class) Modify orelse unless (is_made_within session l.category l.different [] p g) Range orelse unless (has_number s) TooBig)
+            → check s t (make (guard_label l.category g)) ≡ (unless (may_write session p directory_class) Modify orelse unless (is_made_within session l.category l.different me p g) Range orelse unless (has_number s) TooBig)
 
       -- an empty segment is made so, and a container
       pub segment_made : MakesObject (λ x. raw.MakeSegment container x [])
       segment_made = record {
         tells = λ x denied. refl;
-        outside = λ g out. segment_out_of_range session s f l ok [] p t (runs session ok s f t ready) d directory_class directory_stands container listing container_numbered listing_numbered may_look g out [];
-        within = λ class known g is. make_segment_said session s f l ok [] p t (runs session ok s f t ready) d directory_class directory_stands container listing container_numbered listing_numbered may_look class known g is;
+        outside = λ g out. segment_out_of_range session s f l ok me p t (runs session ok s f me t ready) d directory_class directory_stands container listing container_numbered listing_numbered may_look g out [];
+        within = λ class known g is. make_segment_said session s f l ok me p t (runs session ok s f me t ready) d directory_class directory_stands container listing container_numbered listing_numbered may_look class known g is;
       }
 
       pub container_made : MakesObject (λ x. raw.MakeContainer container x)
       container_made = record {
         tells = λ x denied. refl;
-        outside = λ g out. container_out_of_range session s f l ok [] p t (runs session ok s f t ready) d directory_class directory_stands container listing container_numbered listing_numbered may_look g out;
-        within = λ class known g is. make_container_said session s f l ok [] p t (runs session ok s f t ready) d directory_class directory_stands container listing container_numbered listing_numbered may_look class known g is;
+        outside = λ g out. container_out_of_range session s f l ok me p t (runs session ok s f me t ready) d directory_class directory_stands container listing container_numbered listing_numbered may_look g out;
+        within = λ class known g is. make_container_said session s f l ok me p t (runs session ok s f me t ready) d directory_class directory_stands container listing container_numbered listing_numbered may_look class known g is;
       }
 
       -- a file in it
       module _ (m : Name) (class : Class) (held : List ℕ) (at : get f.files (m ∷ d) ≡ Some (record { class = class; content = File held })) where
         pub file_numbered : l.naming.number (address_of (m ∷ d)) ≡ Some (segment m)
-        file_numbered = file_number session ok s f t ready m d class held at
+        file_numbered = file_number session ok s f me t ready m d class held at
 
         pub holds_bytes : bytes_at f (m ∷ d) ≡ held
         holds_bytes = ap bytes_of at
@@ -188,10 +182,10 @@ module _ (session : Session) (ok : IsSession session) (s : State) (f : Flat) (t 
         -- and is read and written as the flat rules say
         pub read_said : check s t (raw.Read container (segment m)) ≡ unless (reads session f p (m ∷ d)) Observe
         read_said =
-            read_file_said session s f l ok [] p t (runs session ok s f t ready) d directory_class directory_stands container listing container_numbered listing_numbered may_look m (segment m) file_numbered class held at
+            read_file_said session s f l ok me p t (runs session ok s f me t ready) d directory_class directory_stands container listing container_numbered listing_numbered may_look m (segment m) file_numbered class held at
             ∙ sym (ap (λ (b : Bool). unless b Observe) reads_is)
 
         pub write_said : (keep : ℕ) (bytes : List ℕ) → check s t (raw.Write container (segment m) keep bytes) ≡ (unless (writes session f p (m ∷ d)) Modify orelse unless (fits_segment (min keep (length (bytes_at f (m ∷ d))) + length bytes)) TooBig)
         write_said keep bytes =
-            write_file_said session s f l ok [] p t (runs session ok s f t ready) d directory_class directory_stands container listing container_numbered listing_numbered may_look m (segment m) file_numbered class held at keep bytes
+            write_file_said session s f l ok me p t (runs session ok s f me t ready) d directory_class directory_stands container listing container_numbered listing_numbered may_look m (segment m) file_numbered class held at keep bytes
             ∙ sym (λ i. unless (writes_is i) Modify orelse unless (fits_segment (min keep (length (holds_bytes i)) + length bytes)) TooBig)

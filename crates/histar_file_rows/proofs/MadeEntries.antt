@@ -13,7 +13,7 @@ use Rattle.histar_flat.specs.declared.replies.Errno.{Errno}
 use Rattle.histar_flat.specs.declared.replies.Errno.TheVariants.{EACCES, EPERM, EEXIST, ENOSPC}
 use Rattle.histar_flat.specs.declared.replies.Reply.{Reply}
 use Rattle.histar_flat.specs.declared.replies.Reply.TheVariants.{Done, Refused}
-use Rattle.histar_flat.specs.Words.{Name, Path, is_name}
+use Rattle.histar_flat.specs.Words.{Name, Path, ProcName, is_name}
 use Rattle.histar_flat.specs.Modes.{is_line_mode}
 use Rattle.histar_flat.specs.Sessions.{Session}
 use Rattle.histar_flat.specs.Files.{get}
@@ -50,9 +50,6 @@ use Rattle.histar_login.specs.Start.{places_of}
 use Rattle.histar_refinement.specs.Sessions.{IsSession}
 use Rattle.histar_refinement.specs.Guards.{guard_label}
 use Rattle.histar_refinement.specs.LaysOut.{Laid, LaysOut}
-use Rattle.histar_refinement.specs.Lines.{IsThreadOf}
-use Rattle.histar_refinement.specs.Addresses.{home_of}
-use Rattle.histar_refinement.specs.Addresses.Step.{Inside, Runner}
 use Rattle.histar_refinement.proofs.ClassTests.{observes_class, modifies_class}
 use Rattle.histar_refinement.proofs.DirectoryLaws.{spelling_fits}
 use Rattle.histar_refinement.proofs.Making.{count_entries, jobs_made}
@@ -62,66 +59,66 @@ use Rattle.histar_rows.proofs.Chains.{all_granted, entries_of, Chain, Step}
 use Rattle.histar_rows.proofs.Endings.{IsBacked, ReadsAmong}
 use Rattle.histar_rows.proofs.Steps.{Goal, granted_step, refused_step, exhausted_step, answered_step, refused_at_once}
 use Rattle.histar_rows.proofs.Walks.{place_at, walk_reads, holds, among_granted_all, among_then, among_also, nothing_there, file_there, directory_there, has_walk, walk_step}
-use Rattle.histar_file_rows.proofs.FoundObjects.{label, thread_kept, clearance, thread, entries, is_dir, directory_class, may_look, writes_as_class, directory_guard, HasListing, MakesObject}
+use Rattle.histar_file_rows.proofs.FoundObjects.{label, clearance, thread, entries, is_dir, directory_class, may_look, writes_as_class, directory_guard, HasListing, MakesObject}
 use Rattle.histar_file_rows.proofs.Makers.{own, MakesClass, makes}
 use Rattle.histar_file_rows.proofs.NewEntries.{segment_written}
 
 -- What the flat rules say of a call that makes an entry with this content: what they refuse and change, their answer, and that it cannot do without the reads of the walk.
-pub record MakesEntry (session : Session) (f : Flat) (p : Process) (q : Path) (mode : Mode) (content : Content) (call : UnixCall) : Type 0 where
-  pub refuses : refused session f [] p call ≡ (no_room session f p q orelse unless (is_some (class_made session p mode)) EPERM)
-  pub changes : changed session f [] p call ≡ with_node f q (class_or_open (class_made session p mode)) content
-  pub answers : flat.answer f [] p call ≡ Done
+pub record MakesEntry (session : Session) (f : Flat) (me : ProcName) (p : Process) (q : Path) (mode : Mode) (content : Content) (call : UnixCall) : Type 0 where
+  pub refuses : refused session f me p call ≡ (no_room session f p q orelse unless (is_some (class_made session p mode)) EPERM)
+  pub changes : changed session f me p call ≡ with_node f q (class_or_open (class_made session p mode)) content
+  pub answers : flat.answer f me p call ≡ Done
   pub reads : (s : State) (reply : Reply) (entries : List TraceEntry) → HasWalk session s f p q entries → HasReads session s f p call reply entries
 
 -- a call that would make `/`, which stands already
-pub slash_stands : (session : Session) (old new : KernelModel) (f : Flat) (t : ℕ) (ready : IsReady session (state old) f t) (mode : Mode) (content : Content) (call : UnixCall) (result : Result Reply Stopped)
-    → MakesEntry session f ready.alone.process [] mode content call → (rest : Room → Program) → Runs (find_room (places_of (length session.users)) [] rest) old new t result → Goal session f ready.alone call old new t ready.thread result
+pub slash_stands : (session : Session) (old new : KernelModel) (f : Flat) (me : ProcName) (t : ℕ) (ready : IsReady session (state old) f me t) (mode : Mode) (content : Content) (call : UnixCall) (result : Result Reply Stopped)
+    → MakesEntry session f me ready.caller.process [] mode content call → (rest : Room → Program) → Runs (find_room (places_of (length session.users)) [] rest) old new t result → Goal session f me ready.caller call old new t ready.thread result
 unfolding find_room
-slash_stands session old new f t ready mode content call result entry rest run =
-    refused_at_once session f ready.alone call old new t ready.thread result [] old (same_kernel old) refl ready.lays_out EEXIST entry.refuses refl refl (entry.reads (state old) (Refused EEXIST) [] tt) run
+slash_stands session old new f me t ready mode content call result entry rest run =
+    refused_at_once session f me ready.caller call old new t ready.thread result [] old (same_kernel old) refl ready.lays_out EEXIST entry.refuses refl refl (entry.reads (state old) (Refused EEXIST) [] tt) run
 
-module _ (session : Session) (ok : IsSession session) (s : State) (f : Flat) (t : ℕ) (ready : IsReady session s f t) (d : Path) where
+module _ (session : Session) (ok : IsSession session) (s : State) (f : Flat) (me : ProcName) (t : ℕ) (ready : IsReady session s f me t) (d : Path) where
   abbrev walk : List RawCall
-  walk = walk_reads session ok s f t ready d
+  walk = walk_reads session ok s f me t ready d
 
   -- the place of a new entry in the directory
   abbrev pub the_room : Name → Room
-  the_room m = record { place = place_at session ok s f t ready d; entries = entries session ok s f t ready d; name = m }
+  the_room m = record { place = place_at session ok s f me t ready d; entries = entries session ok s f me t ready d; name = m }
 
   -- the raw calls up to the making
   abbrev pub asked : List RawCall
-  asked = walk_reads session ok s f t ready d ++ raw.OwnLabel ∷ []
+  asked = walk_reads session ok s f me t ready d ++ raw.OwnLabel ∷ []
 
   -- the reads of the walk are among all that begins with them
   pub among_asked : (line : ℕ) (more : List RawCall) → AreAmong walk (entries_of line t (all_granted (asked ++ more)))
   among_asked line more = among_then line t walk asked more (among_then line t walk walk (raw.OwnLabel ∷ []) (among_granted_all line t walk))
 
-module _ (session : Session) (ok : IsSession session) (old new : KernelModel) (f : Flat) (t : ℕ) (ready : IsReady session (state old) f t) (m : Name) (d : Path) (mode : Mode) (content : Content) (call : UnixCall) (result : Result Reply Stopped)
-    (entry : MakesEntry session f ready.alone.process (m ∷ d) mode content call) where
+module _ (session : Session) (ok : IsSession session) (old new : KernelModel) (f : Flat) (me : ProcName) (t : ℕ) (ready : IsReady session (state old) f me t) (m : Name) (d : Path) (mode : Mode) (content : Content) (call : UnixCall) (result : Result Reply Stopped)
+    (entry : MakesEntry session f me ready.caller.process (m ∷ d) mode content call) where
   abbrev Row : Type 0
-  Row = Goal session f ready.alone call old new t ready.thread result
+  Row = Goal session f me ready.caller call old new t ready.thread result
 
   abbrev p : Process
-  p = ready.alone.process
+  p = ready.caller.process
 
   abbrev place : Place
-  place = place_at session ok (state old) f t ready d
+  place = place_at session ok (state old) f me t ready d
 
   abbrev listed : Entries
-  listed = entries session ok (state old) f t ready d
+  listed = entries session ok (state old) f me t ready d
 
   abbrev reads : List RawCall
-  reads = walk_reads session ok (state old) f t ready d
+  reads = walk_reads session ok (state old) f me t ready d
 
   abbrev calls : List RawCall
-  calls = asked session ok (state old) f t ready d
+  calls = asked session ok (state old) f me t ready d
 
   abbrev room_here : Room
-  room_here = the_room session ok (state old) f t ready d m
+  room_here = the_room session ok (state old) f me t ready d m
 
   -- the reads of the walk are reads that the call cannot do without
-  has_reads : (steps : List Step) (reply : Reply) → AreAmong reads (entries_of old.line t steps) → ReadsAmong session f ready.alone call old new t ready.thread steps reply
-  has_reads steps reply among = entry.reads (state old) reply (entries_of old.line t steps) (has_walk session ok (state old) f t ready m d (entries_of old.line t steps) among)
+  has_reads : (steps : List Step) (reply : Reply) → AreAmong reads (entries_of old.line t steps) → ReadsAmong session f me ready.caller call old new t ready.thread steps reply
+  has_reads steps reply among = entry.reads (state old) reply (entries_of old.line t steps) (has_walk session ok (state old) f me t ready m d (entries_of old.line t steps) among)
 
   -- the directory has room
   abbrev roomy : Bool
@@ -132,7 +129,7 @@ module _ (session : Session) (ok : IsSession session) (old new : KernelModel) (f
   tests o room may = unless (not (is_some_and o (λ n. true))) EEXIST orelse unless room ENOSPC orelse unless may EACCES
 
   refused_is : (way : Option Errno) (o : Option Node) (room may : Bool) → into session f p d ≡ way → get f.files (m ∷ d) ≡ o → roomy ≡ room → writes session f p d ≡ may
-      → refused session f [] p call ≡ ((way orelse tests o room may) orelse unless (is_some (class_made session p mode)) EPERM)
+      → refused session f me p call ≡ ((way orelse tests o room may) orelse unless (is_some (class_made session p mode)) EPERM)
   refused_is way o room may is_way is_o is_room is_may = entry.refuses ∙ (λ i. (is_way i orelse tests (is_o i) (is_room i) (is_may i)) orelse unless (is_some (class_made session p mode)) EPERM)
 
   -- ---- there is room
@@ -149,23 +146,23 @@ module _ (session : Session) (ok : IsSession session) (old new : KernelModel) (f
     module _ (go_on : GoesOnWithRoom) (open_so_far : into session f p d ≡ None) (mid : KernelModel) (stays : state mid ≡ state old) (chain : Chain old t (all_granted reads) mid) (on : Runs (at_entry (map.get listed m) (map.len listed == layout.most_entries)) mid new t result) where
       -- the directory is full exactly where it has no room
       few : map.len listed ≤ layout.most_entries
-      few = (holds session ok (state old) f t ready d (is_dir session ok (state old) f t ready d open_so_far)).listable.few
+      few = (holds session ok (state old) f me t ready d (is_dir session ok (state old) f me t ready d open_so_far)).listable.few
 
       full_test : (has_room : Bool) → roomy ≡ has_room → (map.len listed == layout.most_entries) ≡ not has_room
       full_test true e = let count = count_entries session (state old) f ready.lays_out.laid d in grind (arith, nat_tests, count, few, e)
       full_test false e = let count = count_entries session (state old) f ready.lays_out.laid d in grind (arith, nat_tests, count, few, e)
 
       -- the call is refused with no raw call more
-      ends_here : (errno : Errno) → is_access errno ≡ false → is_permission errno ≡ false → refused session f [] p call ≡ Some errno → Runs (Answers (Refused errno)) mid new t result → Row
+      ends_here : (errno : Errno) → is_access errno ≡ false → is_permission errno ≡ false → refused session f me p call ≡ Some errno → Runs (Answers (Refused errno)) mid new t result → Row
       ends_here errno no_access no_permission is end =
-          refused_at_once session f ready.alone call old new t ready.thread result reads mid chain stays ready.lays_out errno is no_access no_permission (has_reads (all_granted reads) (Refused errno) (among_granted_all old.line t reads)) end
+          refused_at_once session f me ready.caller call old new t ready.thread result reads mid chain stays ready.lays_out errno is no_access no_permission (has_reads (all_granted reads) (Refused errno) (among_granted_all old.line t reads)) end
 
       looked_up : (target : Option Target) → map.get listed m ≡ target → Runs (at_entry target (map.len listed == layout.most_entries)) mid new t result
       looked_up target is = subst (λ (o : Option Target). Runs (at_entry o (map.len listed == layout.most_entries)) mid new t result) is on
 
       by_content : (class : Class) (c : Content) → get f.files (m ∷ d) ≡ Some (record { class = class; content = c }) → Row
-      by_content class Dir is = ends_here EEXIST refl refl (refused_is None _ roomy (writes session f p d) open_so_far is refl refl) (looked_up _ (directory_there session ok (state old) f t ready m d class is))
-      by_content class (File bytes) is = ends_here EEXIST refl refl (refused_is None _ roomy (writes session f p d) open_so_far is refl refl) (looked_up _ (file_there session ok (state old) f t ready m d class bytes is))
+      by_content class Dir is = ends_here EEXIST refl refl (refused_is None _ roomy (writes session f p d) open_so_far is refl refl) (looked_up _ (directory_there session ok (state old) f me t ready m d class is))
+      by_content class (File bytes) is = ends_here EEXIST refl refl (refused_is None _ roomy (writes session f p d) open_so_far is refl refl) (looked_up _ (file_there session ok (state old) f me t ready m d class bytes is))
 
       by_room : (b : Bool) → roomy ≡ b → get f.files (m ∷ d) ≡ None → Runs (at_entry None (not b)) mid new t result → Row
       by_room false no_room absent full = ends_here ENOSPC refl refl (refused_is None None false (writes session f p d) open_so_far absent no_room refl) full
@@ -173,36 +170,36 @@ module _ (session : Session) (ok : IsSession session) (old new : KernelModel) (f
 
       by_stands : (o : Option Node) → get f.files (m ∷ d) ≡ o → Row
       by_stands None absent =
-          by_room roomy refl absent (subst (λ (b : Bool). Runs (at_entry None b) mid new t result) (full_test roomy refl) (looked_up None (nothing_there session ok (state old) f t ready m d absent)))
+          by_room roomy refl absent (subst (λ (b : Bool). Runs (at_entry None b) mid new t result) (full_test roomy refl) (looked_up None (nothing_there session ok (state old) f me t ready m d absent)))
       by_stands (Some node) is = by_content node.class node.content is
 
     -- there is room, or the call is refused
     room_step : Runs (find_room (places_of (length session.users)) (m ∷ d) rest) old new t result → GoesOnWithRoom → Row
     unfolding find_room
     room_step runs go_on =
-        walk_step session ok old new f t ready call result d (λ directory. given (room_at (map.get directory.entries m) (map.len directory.entries == layout.most_entries)) (λ _. rest (record { place = directory.place; entries = directory.entries; name = m }))) runs
+        walk_step session ok old new f me t ready call result d (λ directory. given (room_at (map.get directory.entries m) (map.len directory.entries == layout.most_entries)) (λ _. rest (record { place = directory.place; entries = directory.entries; name = m }))) runs
         (λ errno is steps among. (refused_is (Some errno) (get f.files (m ∷ d)) roomy (writes session f p d) is refl refl refl, has_reads steps (Refused errno) among))
         (λ open_so_far mid stays chain on. by_stands go_on open_so_far mid stays chain on (get f.files (m ∷ d)) refl)
 
   -- once there is room the directory may be written and the process makes something of this mode, or the call is refused
-  refused_in_room : (open_so_far : into session f p d ≡ None) → get f.files (m ∷ d) ≡ None → roomy ≡ true → (may makes : Bool) → may_write session p (directory_class session ok (state old) f t ready d open_so_far) ≡ may → is_some (class_made session p mode) ≡ makes
-      → refused session f [] p call ≡ (unless may EACCES orelse unless makes EPERM)
+  refused_in_room : (open_so_far : into session f p d ≡ None) → get f.files (m ∷ d) ≡ None → roomy ≡ true → (may makes : Bool) → may_write session p (directory_class session ok (state old) f me t ready d open_so_far) ≡ may → is_some (class_made session p mode) ≡ makes
+      → refused session f me p call ≡ (unless may EACCES orelse unless makes EPERM)
   refused_in_room open_so_far absent room may makes is_may is_makes =
-      refused_is None None true may open_so_far absent room (writes_as_class session ok (state old) f t ready d open_so_far ∙ is_may) ∙ ap (λ (b : Bool). unless may EACCES orelse unless b EPERM) is_makes
+      refused_is None None true may open_so_far absent room (writes_as_class session ok (state old) f me t ready d open_so_far ∙ is_may) ∙ ap (λ (b : Bool). unless may EACCES orelse unless b EPERM) is_makes
 
   -- ---- the object is made
 
   module _ (nameable : IsTrue (is_line_mode mode)) where
     -- what the process makes in this mode, and its label
     abbrev Made : Type 0
-    Made = MakesClass session ok (state old) f t ready mode nameable
+    Made = MakesClass session ok (state old) f me t ready mode nameable
 
     abbrev due : Made → Levels
     due made = guard_label ready.lays_out.laid.category made.guard
 
     -- the thread's own label
     abbrev mine : Levels
-    mine = own session ok (state old) f t ready mode nameable
+    mine = own session ok (state old) f me t ready mode nameable
 
     module _ (make : ℕ → Levels → RawCall) (within : (room : Room) (x : Levels) → AnswerOf (make room.place.container x) → Program) where
       -- the object is made with a label
@@ -215,19 +212,19 @@ module _ (session : Session) (ok : IsSession session) (old new : KernelModel) (f
 
       -- The call goes on once the object is made: the way is open, nothing of the name is there and there is room, the process makes this and may write the directory.
       abbrev pub GoesOn : Type 0
-      GoesOn = (open_so_far : into session f p d ≡ None) → get f.files (m ∷ d) ≡ None → roomy ≡ true → (made : Made) → may_write session p (directory_class session ok (state old) f t ready d open_so_far) ≡ true → has_number (state old) ≡ true
+      GoesOn = (open_so_far : into session f p d ≡ None) → get f.files (m ∷ d) ≡ None → roomy ≡ true → (made : Made) → may_write session p (directory_class session ok (state old) f me t ready d open_so_far) ≡ true → has_number (state old) ≡ true
           → (mid : KernelModel) → state mid ≡ state old → GoesOnWith mid (due made)
 
-      module _ (open_so_far : into session f p d ≡ None) (absent : get f.files (m ∷ d) ≡ None) (room : roomy ≡ true) (object : MakesObject session ok (state old) f t ready d open_so_far (make place.container))
+      module _ (open_so_far : into session f p d ≡ None) (absent : get f.files (m ∷ d) ≡ None) (room : roomy ≡ true) (object : MakesObject session ok (state old) f me t ready d open_so_far (make place.container))
           (mid : KernelModel) (stays : state mid ≡ state old) (chain : Chain old t (all_granted calls) mid) where
         -- the directory may be written
         abbrev may : Bool
-        may = may_write session p (directory_class session ok (state old) f t ready d open_so_far)
+        may = may_write session p (directory_class session ok (state old) f me t ready d open_so_far)
 
         -- the making is denied, and so the call refused
-        denied : (x : Levels) (why : Denied) (errno : Errno) → check (state mid) t (make place.container x) ≡ Some why → errno_of why ≡ Some errno → refused session f [] p call ≡ Some errno → Runs (making x) mid new t result → Row
+        denied : (x : Levels) (why : Denied) (errno : Errno) → check (state mid) t (make place.container x) ≡ Some why → errno_of why ≡ Some errno → refused session f me p call ≡ Some errno → Runs (making x) mid new t result → Row
         denied x why errno fails told is on =
-            refused_step session f ready.alone call old new t ready.thread result calls mid chain stays ready.lays_out errno is (make place.container x) (within room_here x) why fails (object.tells x why ∙ told)
+            refused_step session f me ready.caller call old new t ready.thread result calls mid chain stays ready.lays_out errno is (make place.container x) (within room_here x) why fails (object.tells x why ∙ told)
             (has_reads _ _ (among_also old.line t reads calls ((make place.container x, Some why) ∷ []) (among_then old.line t reads reads (raw.OwnLabel ∷ []) (among_granted_all old.line t reads)))) on
 
         -- where the kernel lets the thread hand in a label as the flat rules let the process make something, the making is granted or denied as they say
@@ -236,13 +233,13 @@ module _ (session : Session) (ok : IsSession session) (old new : KernelModel) (f
         by_right x false makes has is_may is_makes is_has said go_on on = denied x Modify EACCES said refl (refused_in_room open_so_far absent room false makes is_may is_makes) on
         by_right x true false has is_may is_makes is_has said go_on on = denied x Range EPERM said refl (refused_in_room open_so_far absent room true false is_may is_makes) on
         by_right x true true false is_may is_makes is_has said go_on on =
-            exhausted_step session f ready.alone call old new t ready.thread result calls mid chain (make place.container x) (within room_here x) said (object.tells x TooBig) (ap has_number stays ∙ is_has) on
-        by_right x true true true is_may is_makes is_has said go_on on = granted_step session f ready.alone call old new t ready.thread result calls mid chain (make place.container x) (within room_here x) said on (go_on is_may refl is_has)
+            exhausted_step session f me ready.caller call old new t ready.thread result calls mid chain (make place.container x) (within room_here x) said (object.tells x TooBig) (ap has_number stays ∙ is_has) on
+        by_right x true true true is_may is_makes is_has said go_on on = granted_step session f me ready.caller call old new t ready.thread result calls mid chain (make place.container x) (within room_here x) said on (go_on is_may refl is_has)
 
         -- the thread hands in the label of what it makes
         made_step : GoesOn → Runs (making (label_made (length session.users) mine mode)) mid new t result → Row
         made_step go_on on =
-            makes session ok (state old) f t ready mode nameable
+            makes session ok (state old) f me t ready mode nameable
             (λ nothing.
             by_right _ may false (has_number (state old)) refl nothing.nothing refl (ap (λ (s : State). check s t (make place.container (guard_label ready.lays_out.laid.category nothing.guard))) stays ∙ object.outside nothing.guard nothing.outside) (λ is_may is_false is_has. absurd cc)
             (subst (λ (x : Levels). Runs (making x) mid new t result) nothing.label_is on))
@@ -252,15 +249,15 @@ module _ (session : Session) (ok : IsSession session) (old new : KernelModel) (f
             (λ is_may is_true is_has. go_on open_so_far absent room made is_may is_has mid stays) (subst (λ (x : Levels). Runs (making x) mid new t result) made.label_is on))
 
       -- There is room, the thread asks for its own label and makes the object, or the call is refused.
-      pub entry_step : ((open_so_far : into session f p d ≡ None) → MakesObject session ok (state old) f t ready d open_so_far (make place.container))
+      pub entry_step : ((open_so_far : into session f p d ≡ None) → MakesObject session ok (state old) f me t ready d open_so_far (make place.container))
           → Runs (find_room (places_of (length session.users)) (m ∷ d) (λ room. ask raw.OwnLabel (λ labels. ask (make room.place.container (label_made (length session.users) labels.0 mode)) (within room (label_made (length session.users) labels.0 mode))))) old new t result
           → GoesOn → Row
       entry_step object run go_on =
-          let there = thread session ok (state old) f t ready in
+          let there = thread session ok (state old) f me t ready in
           room_step (λ room. ask raw.OwnLabel (λ labels. ask (make room.place.container (label_made (length session.users) labels.0 mode)) (within room (label_made (length session.users) labels.0 mode)))) run
           (λ open_so_far absent room mid stays chain on.
-          granted_step session f ready.alone call old new t ready.thread result reads mid chain raw.OwnLabel (λ labels. making (label_made (length session.users) labels.0 mode))
-          (ap (λ (s : State). check s t raw.OwnLabel) stays ∙ caller_passes (state old) t (label session ok (state old) f t ready) (clearance session ok (state old) f t ready) there) on
+          granted_step session f me ready.caller call old new t ready.thread result reads mid chain raw.OwnLabel (λ labels. making (label_made (length session.users) labels.0 mode))
+          (ap (λ (s : State). check s t raw.OwnLabel) stays ∙ caller_passes (state old) t (label session ok (state old) f me t ready) (clearance session ok (state old) f me t ready) there) on
           (λ later labels called right longer rest.
           let is_own : labels.0 ≡ mine = same_Some labels.0 mine (right.0 ∙ ap (λ (s : State). label_there (s.objects t)) stays ∙ ap label_there there) in
           made_step open_so_far absent room (object open_so_far) later (called.state ∙ stays) longer go_on
@@ -268,8 +265,8 @@ module _ (session : Session) (ok : IsSession session) (old new : KernelModel) (f
 
     -- ---- the directory is written
 
-    module _ (named : IsTrue (is_name m)) (open_so_far : into session f p d ≡ None) (absent : get f.files (m ∷ d) ≡ None) (room : roomy ≡ true) (made : Made) (is_may : may_write session p (directory_class session ok (state old) f t ready d open_so_far) ≡ true)
-        (target : Target) (is_target : IsTarget target) (later : State) (there : HasListing session ok (state old) f t ready d open_so_far later) where
+    module _ (named : IsTrue (is_name m)) (open_so_far : into session f p d ≡ None) (absent : get f.files (m ∷ d) ≡ None) (room : roomy ≡ true) (made : Made) (is_may : may_write session p (directory_class session ok (state old) f me t ready d open_so_far) ≡ true)
+        (target : Target) (is_target : IsTarget target) (later : State) (there : HasListing session ok (state old) f me t ready d open_so_far later) where
       -- what the directory segment holds then, and the state
       abbrev bytes : List ℕ
       bytes = spelling (map.insert listed m target)
@@ -280,32 +277,30 @@ module _ (session : Session) (ok : IsSession session) (old new : KernelModel) (f
       write_said : check later t (raw.Write place.container place.listing 0 bytes) ≡ None
       write_said =
           let l = ready.lays_out.laid in
-          let above = directory_class session ok (state old) f t ready d open_so_far in
-          let guard = directory_guard session ok (state old) f t ready d open_so_far in
+          let above = directory_class session ok (state old) f me t ready d open_so_far in
+          let guard = directory_guard session ok (state old) f me t ready d open_so_far in
           let count = count_entries session (state old) f l d in
           let few : length (entries_in f d) < most_entries = ltb-true (length (entries_in f d)) most_entries room in
           let room_left : map.len listed < 64 = omega (arith, count, few) in
-          let listable = (holds session ok (state old) f t ready d (is_dir session ok (state old) f t ready d open_so_far)).listable in
-          segment_written later t place.container place.listing (label session ok (state old) f t ready) (clearance session ok (state old) f t ready) (guard_label l.category guard.0) (spelling listed) there
-          (observes_class session [] p l.category l.different ok above guard.0 guard.1 ∙ may_look session ok (state old) f t ready d open_so_far) (modifies_class session [] p l.category l.different ok above guard.0 guard.1 ∙ is_may)
+          let listable = (holds session ok (state old) f me t ready d (is_dir session ok (state old) f me t ready d open_so_far)).listable in
+          segment_written later t place.container place.listing (label session ok (state old) f me t ready) (clearance session ok (state old) f me t ready) (guard_label l.category guard.0) (spelling listed) there
+          (observes_class session me p l.category l.different ok above guard.0 guard.1 ∙ may_look session ok (state old) f me t ready d open_so_far) (modifies_class session me p l.category l.different ok above guard.0 guard.1 ∙ is_may)
           bytes (spelling_fits (map.insert listed m target) (listable_insert listed m target listable room_left (named, is_target)))
 
-      changed_is : changed session f [] p call ≡ with_node f (m ∷ d) made.class content
+      changed_is : changed session f me p call ≡ with_node f (m ∷ d) made.class content
       changed_is = entry.changes ∙ ap (λ (o : Option Class). with_node f (m ∷ d) (class_or_open o) content) made.class_is
 
       -- The directory is written with the entry, and the call is done, where the objects of the flat state with the new entry stand then.
       pub entry_written : (before : List RawCall) → AreAmong reads (entries_of old.line t (all_granted before)) → (linked : KernelModel) → state linked ≡ later → Chain old t (all_granted before) linked
-          → (laid : Laid session after (with_node f (m ∷ d) made.class content)) → laid.naming.number (Runner ∷ Inside ∷ home_of []) ≡ ready.lays_out.laid.naming.number (Runner ∷ Inside ∷ home_of [])
+          → Laid session after (with_node f (m ∷ d) made.class content)
           → Runs (write_entries room_here.place (map.insert room_here.entries m target) (λ _. Answers Done)) linked new t result → Row
-      entry_written before among linked is_later chain laid same_thread on =
+      entry_written before among linked is_later chain laid on =
           let write : RawCall = raw.Write place.container place.listing 0 bytes in
           let jobs = jobs_made session (state old) f ready.lays_out.laid d m made.class content absent made.fits made.known ready.lays_out.jobs_given in
           let lays_out : LaysOut session after (with_node f (m ∷ d) made.class content) = record { laid = laid; jobs_given = jobs } in
-          let thread_is = thread_kept session ok (state old) f t ready after (with_node f (m ∷ d) made.class content) laid ready.alone.stands same_thread in
-          granted_step session f ready.alone call old new t ready.thread result before linked chain write (λ _. Answers Done) (ap (λ (s : State). check s t write) is_later ∙ write_said) on
+          granted_step session f me ready.caller call old new t ready.thread result before linked chain write (λ _. Answers Done) (ap (λ (s : State). check s t write) is_later ∙ write_said) on
           (λ end done wrote right whole last.
           let end_state : state end ≡ after = wrote.state ∙ ap (λ (s : State). with_bytes s place.listing bytes) is_later in
-          answered_step session f ready.alone call old new t ready.thread result (before ++ write ∷ []) end whole Done (sym entry.answers) (refused_in_room open_so_far absent room true true is_may (ap is_some made.class_is))
+          answered_step session f me ready.caller call old new t ready.thread result (before ++ write ∷ []) end whole Done (sym entry.answers) (refused_in_room open_so_far absent room true true is_may (ap is_some made.class_is))
           (subst (λ (r : Reply). IsBacked (state old) (entries_of old.line t (all_granted (before ++ write ∷ []))) r) (sym entry.answers) tt) (has_reads _ _ (among_then old.line t reads before (write ∷ []) among))
-          (subst (λ (s : State). LaysOut session s (changed session f [] p call)) (sym end_state) (subst (LaysOut session after) (sym changed_is) lays_out))
-          (subst (λ (s : State). IsThreadOf session s [] t) (sym end_state) thread_is) last)
+          (subst (λ (s : State). LaysOut session s (changed session f me p call)) (sym end_state) (subst (LaysOut session after) (sym changed_is) lays_out)) last)

@@ -44,16 +44,16 @@ abbrev is_open : Mode → Bool
 is_open modes.Open = true
 is_open _ = false
 
-module _ (session : Session) (ok : IsSession session) (s : State) (f : Flat) (t : ℕ) (ready : IsReady session s f t) (mode : Mode) (nameable : IsTrue (is_line_mode mode)) where
+module _ (session : Session) (ok : IsSession session) (s : State) (f : Flat) (me : ProcName) (t : ℕ) (ready : IsReady session s f me t) (mode : Mode) (nameable : IsTrue (is_line_mode mode)) where
   abbrev p : Process
-  p = ready.alone.process
+  p = ready.caller.process
 
   abbrev number : Option ℕ
   number = user_number session p.user
 
   -- the thread's own label, and the one that it hands in
   abbrev pub own : Levels
-  own = rights_label ready.lays_out.laid.category (thread_rights session [] ready.alone.process)
+  own = rights_label ready.lays_out.laid.category (thread_rights session me ready.caller.process)
 
   abbrev pub handed : Levels
   handed = label_made (length session.users) own mode
@@ -62,7 +62,7 @@ module _ (session : Session) (ok : IsSession session) (s : State) (f : Flat) (t 
   pub record MakesNothing : Type 0 where
     pub guard : Guard
     pub label_is : handed ≡ guard_label ready.lays_out.laid.category guard
-    pub outside : is_made_within session ready.lays_out.laid.category ready.lays_out.laid.different [] p guard ≡ false
+    pub outside : is_made_within session ready.lays_out.laid.category ready.lays_out.laid.different me p guard ≡ false
     pub nothing : is_some (class_made session p mode) ≡ false
 
   -- Of this label the thread makes what the flat rules say that the process makes.
@@ -72,18 +72,18 @@ module _ (session : Session) (ok : IsSession session) (s : State) (f : Flat) (t 
     pub guard : Guard
     pub guarded : class_guard session class ≡ Some guard
     pub label_is : handed ≡ guard_label ready.lays_out.laid.category guard
-    pub within : is_made_within session ready.lays_out.laid.category ready.lays_out.laid.different [] p guard ≡ true
+    pub within : is_made_within session ready.lays_out.laid.category ready.lays_out.laid.different me p guard ≡ true
     pub fits : ClassFits session s f ready.lays_out.laid class
     pub known : AreKnown session s f ready.lays_out.laid class
     pub reads : may_read session p class ≡ true
     pub writes : may_write session p class ≡ true
 
   free : is_free p ≡ true
-  free = ap (λ (chain : List ProcName). elim chain as (λ _. Bool) [ [] ↦ true | job ∷ jobs ↦ false ]) ready.alone.free
+  free = ap (λ (chain : List ProcName). elim chain as (λ _. Bool) [ [] ↦ true | job ∷ jobs ↦ false ]) ready.caller.free
 
   label_so : (i : ℕ) → or_zero number ≡ i → i ≤ length session.users → handed ≡ guard_label ready.lays_out.laid.category (guard_of mode i)
   label_so i is low =
-      ap (file_label mode) (user_is own (length session.users) (or_zero number) (user_of_thread session s f ready.lays_out.laid [] p) ∙ is)
+      ap (file_label mode) (user_is own (length session.users) (or_zero number) (user_of_thread session s f ready.lays_out.laid me p) ∙ is)
       ∙ by mode nameable
     where
       by : (x : Mode) → IsTrue (is_line_mode x) → file_label x i ≡ guard_label ready.lays_out.laid.category (guard_of x i)
@@ -117,9 +117,9 @@ module _ (session : Session) (ok : IsSession session) (s : State) (f : Flat) (t 
         guard = guard_of mode i;
         guarded = guarded;
         label_is = label_so i is low;
-        within = made_in_range session ready.lays_out.laid.category ready.lays_out.laid.different [] p ok mode (class_of_mode mode p.user) (guard_of mode i) class_is guarded;
-        fits = made_fits session s f ready.lays_out.laid [] p ready.alone.stands (class_of_mode mode p.user) has_guard (no_jobs p.user mode);
-        known = made_known session s f ready.lays_out.laid [] p ready.alone.stands (class_of_mode mode p.user) (no_jobs p.user mode);
+        within = made_in_range session ready.lays_out.laid.category ready.lays_out.laid.different me p ok mode (class_of_mode mode p.user) (guard_of mode i) class_is guarded;
+        fits = made_fits session s f ready.lays_out.laid me p ready.caller.stands (class_of_mode mode p.user) has_guard (no_jobs p.user mode);
+        known = made_known session s f ready.lays_out.laid me p ready.caller.stands (class_of_mode mode p.user) (no_jobs p.user mode);
         reads = (may_use mode nameable).0;
         writes = (may_use mode nameable).1;
       }
@@ -149,7 +149,7 @@ module _ (session : Session) (ok : IsSession session) (s : State) (f : Flat) (t 
 
   module _ (none : number ≡ None) where
     is_nobody : same p.user nobody ≡ true
-    is_nobody = elim ((ready.lays_out.laid.processes [] p ready.alone.stands).someone ready.alone.runs) [
+    is_nobody = elim ((ready.lays_out.laid.processes me p ready.caller.stands).someone ready.caller.runs) [
       | inl e ↦ ap (λ (u : Name). same u nobody) e
       | inr e ↦ absurd (true≢false (sym e ∙ ap is_some none))
     ]
@@ -182,9 +182,9 @@ module _ (session : Session) (ok : IsSession session) (s : State) (f : Flat) (t 
         off : (is_free p && is_number number 0) ≡ false
         off = (λ i. free i && is_number (none i) 0)
 
-        outside : (x : Mode) → IsTrue (is_line_mode x) → is_open x ≡ false → is_made_within session ready.lays_out.laid.category ready.lays_out.laid.different [] p (guard_of x 0) ≡ false
-        outside modes.Private right is = private_range session ready.lays_out.laid.category ready.lays_out.laid.different [] p 0 ∙ off
-        outside modes.Readable right is = readable_range session ready.lays_out.laid.category ready.lays_out.laid.different [] p 0 ∙ off
+        outside : (x : Mode) → IsTrue (is_line_mode x) → is_open x ≡ false → is_made_within session ready.lays_out.laid.category ready.lays_out.laid.different me p (guard_of x 0) ≡ false
+        outside modes.Private right is = private_range session ready.lays_out.laid.category ready.lays_out.laid.different me p 0 ∙ off
+        outside modes.Readable right is = readable_range session ready.lays_out.laid.category ready.lays_out.laid.different me p 0 ∙ off
         outside modes.Open right is = absurd (true≢false is)
         outside (modes.Group group) right is = absurd (true≢false (sym right))
 

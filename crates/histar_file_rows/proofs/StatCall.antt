@@ -11,7 +11,7 @@ use Rattle.histar_flat.specs.declared.replies.Errno.{Errno}
 use Rattle.histar_flat.specs.declared.replies.Errno.TheVariants.{ENOENT}
 use Rattle.histar_flat.specs.declared.replies.Reply.{Reply}
 use Rattle.histar_flat.specs.declared.replies.Reply.TheVariants.{Stats, Refused}
-use Rattle.histar_flat.specs.Words.{Name, Path}
+use Rattle.histar_flat.specs.Words.{Name, Path, ProcName}
 use Rattle.histar_flat.specs.Sessions.{Session, session_of}
 use Rattle.histar_flat.specs.Files.{get}
 use Rattle.histar_flat.specs.Classes.{Class, Process}
@@ -45,7 +45,7 @@ use Rattle.histar_refinement.specs.Directories.{directory_of}
 use Rattle.histar_refinement.specs.Guards.{Guard, guard_label}
 use Rattle.histar_refinement.specs.Labels.{class_guard}
 use Rattle.histar_refinement.specs.LaysOut.{LaysOut}
-use Rattle.histar_refinement.specs.Lines.{IsThreadOf, IsObjectAt}
+use Rattle.histar_refinement.specs.Lines.{IsObjectAt}
 use Rattle.histar_refinement.proofs.ClassTold.{Tells, class_told}
 use Rattle.histar_refinement.proofs.FileChecks.{label_said}
 use Rattle.histar_refinement.proofs.LabelsTold.{label_at, no_thread_at, slash_label_said}
@@ -61,17 +61,17 @@ use Rattle.histar_rows.proofs.Walks.{runs, place_at, walk_reads, reads_way, has_
 label_less : (session : Session) (s : State) (f : Flat) (m : Name) (d : Path) (errno : Errno) (entries : List TraceEntry) (p : Process) → HasWay session s f p d entries → HasLabel session s f p (m ∷ d) (Refused errno) entries
 label_less session s f m d errno entries p way = (way.0, [], way.1, refl, subst (λ (calls : List RawCall). AreAmong calls entries) (sym (append-nil way.0)) way.2)
 
-module _ (users : List User) (ok : IsSession (session_of users)) (old new : KernelModel) (f : Flat) (t : ℕ) (ready : IsReady (session_of users) (state old) f t) (result : Result Reply Stopped) where
+module _ (users : List User) (ok : IsSession (session_of users)) (old new : KernelModel) (f : Flat) (me : ProcName) (t : ℕ) (ready : IsReady (session_of users) (state old) f me t) (result : Result Reply Stopped) where
   abbrev session : Session
   session = session_of users
 
   abbrev Row : Path → Type 0
-  Row q = Goal session f ready.alone (calls.Stat q) old new t ready.thread result
+  Row q = Goal session f me ready.caller (calls.Stat q) old new t ready.thread result
 
   -- the label of what stands at a path is asked for, once these raw calls were made
   module _ (q : Path) (there : Node) (at : get f.files q ≡ Some there) (D O : ℕ) (numbered : ready.lays_out.laid.naming.number (address_of q) ≡ Some O) (object_at : IsObjectAt session (state old) q D O)
-      (allowed : refused session f [] ready.alone.process (calls.Stat q) ≡ None) (passes : check (state old) t (raw.LabelOf D O) ≡ None)
-      (reads : List RawCall) (are_reads : AreReadsOf session (state old) (walked session (state old) f ready.alone.process q) reads) (mid : KernelModel) (stays : state mid ≡ state old) (chain : Chain old t (all_granted reads) mid) where
+      (allowed : refused session f me ready.caller.process (calls.Stat q) ≡ None) (passes : check (state old) t (raw.LabelOf D O) ≡ None)
+      (reads : List RawCall) (are_reads : AreReadsOf session (state old) (walked session (state old) f ready.caller.process q) reads) (mid : KernelModel) (stays : state mid ≡ state old) (chain : Chain old t (all_granted reads) mid) where
     abbrev call : UnixCall
     call = calls.Stat q
 
@@ -95,18 +95,18 @@ module _ (users : List User) (ok : IsSession (session_of users)) (old new : Kern
         let same = same_Some _ _ (right ∙ ap (λ (s : State). label_there (s.objects O)) stays ∙ label_at session (state old) f ready.lays_out.laid q there at O numbered guard.0 guard.1) in
         ap (λ (l : Levels). told (is_dir there) (class_of users l)) same ∙ ap (told (is_dir there)) tells.is
 
-    all_reads : ReadsAmong session f ready.alone call old new t ready.thread (all_granted (reads ++ next ∷ [])) due
+    all_reads : ReadsAmong session f me ready.caller call old new t ready.thread (all_granted (reads ++ next ∷ [])) due
     all_reads = (reads, next ∷ [], are_reads, (D, O, object_at, refl), among_granted_all old.line t (reads ++ next ∷ []))
 
     label_step : Runs (ask next (λ label. told (is_dir there) (class_of users label))) mid new t result → Row q
     label_step on =
-        granted_step session f ready.alone call old new t ready.thread result reads mid chain next (λ label. told (is_dir there) (class_of users label)) (ap (λ (s : State). check s t next) stays ∙ passes) on
+        granted_step session f me ready.caller call old new t ready.thread result reads mid chain next (λ label. told (is_dir there) (class_of users label)) (ap (λ (s : State). check s t next) stays ∙ passes) on
         (λ later label called right longer end.
         let same : state later ≡ state old = called.state ∙ stays in
         let entries = entries_of old.line t (all_granted (reads ++ next ∷ [])) in
-        answered_step session f ready.alone call old new t ready.thread result (reads ++ next ∷ []) later longer due due_is allowed
-        (subst (IsBacked (state old) entries) due_is tt) (subst (ReadsAmong session f ready.alone call old new t ready.thread (all_granted (reads ++ next ∷ []))) due_is all_reads)
-        (subst (λ (s : State). LaysOut session s f) (sym same) ready.lays_out) (subst (λ (s : State). IsThreadOf session s [] t) (sym same) ready.thread)
+        answered_step session f me ready.caller call old new t ready.thread result (reads ++ next ∷ []) later longer due due_is allowed
+        (subst (IsBacked (state old) entries) due_is tt) (subst (ReadsAmong session f me ready.caller call old new t ready.thread (all_granted (reads ++ next ∷ []))) due_is all_reads)
+        (subst (λ (s : State). LaysOut session s f) (sym same) ready.lays_out)
         (subst (λ (program : Program). Runs program later new t result) (told_is label right) end))
 
   module _ (m : Name) (d : Path) where
@@ -114,20 +114,20 @@ module _ (users : List User) (ok : IsSession (session_of users)) (old new : Kern
     stat = calls.Stat (m ∷ d)
 
     abbrev walk : List RawCall
-    walk = walk_reads session ok (state old) f t ready d
+    walk = walk_reads session ok (state old) f me t ready d
 
     abbrev place : Place
-    place = place_at session ok (state old) f t ready d
+    place = place_at session ok (state old) f me t ready d
 
     -- the way, and then whether something stands there
-    refused_is : (way : Option Errno) (o : Option Node) → into session f ready.alone.process d ≡ way → get f.files (m ∷ d) ≡ o → refused session f [] ready.alone.process stat ≡ (way orelse unless (is_some_and o (λ n. true)) ENOENT)
+    refused_is : (way : Option Errno) (o : Option Node) → into session f ready.caller.process d ≡ way → get f.files (m ∷ d) ≡ o → refused session f me ready.caller.process stat ≡ (way orelse unless (is_some_and o (λ n. true)) ENOENT)
     refused_is way o is_way is_o = λ i. is_way i orelse unless (is_some_and (is_o i) (λ n. true)) ENOENT
 
     -- once the entry was looked up
     abbrev at_entry : Option Target → Program
     at_entry target = given (entry_at target) (λ found. ask (raw.LabelOf place.container (object_of found)) (λ label. told (is_directory found) (class_of users label)))
 
-    module _ (open_so_far : into session f ready.alone.process d ≡ None) (mid : KernelModel) (stays : state mid ≡ state old) (chain : Chain old t (all_granted walk) mid)
+    module _ (open_so_far : into session f ready.caller.process d ≡ None) (mid : KernelModel) (stays : state mid ≡ state old) (chain : Chain old t (all_granted walk) mid)
         (on : Runs (at_entry (map.get (directory_of f.files ready.lays_out.laid.naming.number d) m)) mid new t result) where
       leads : (target : Option Target) → map.get (directory_of f.files ready.lays_out.laid.naming.number d) m ≡ target → Runs (at_entry target) mid new t result
       leads target is = subst (λ (target : Option Target). Runs (at_entry target) mid new t result) is on
@@ -135,34 +135,34 @@ module _ (users : List User) (ok : IsSession (session_of users)) (old new : Kern
       by_target : (there : Node) → get f.files (m ∷ d) ≡ Some there → (target : Target) → map.get (directory_of f.files ready.lays_out.laid.naming.number d) m ≡ Some target
           → ready.lays_out.laid.naming.number (address_of (m ∷ d)) ≡ Some (object_of target) → is_directory target ≡ is_dir there → Row (m ∷ d)
       by_target there at target is numbered kind =
-          let is_dir_above = dir session ok (state old) f t ready d open_so_far in
-          let above = stands session ok (state old) f t ready d is_dir_above in
+          let is_dir_above = dir session ok (state old) f me t ready d open_so_far in
+          let above = stands session ok (state old) f me t ready d is_dir_above in
           let object_at : IsObjectAt session (state old) (m ∷ d) place.container (object_of target) =
-          (place.listing, directory_of f.files ready.lays_out.laid.naming.number d, target, found session ok (state old) f t ready d is_dir_above, holds session ok (state old) f t ready d is_dir_above, is, refl) in
-          let passes = label_said session (state old) f ready.lays_out.laid ok [] ready.alone.process t (runs session ok (state old) f t ready) d above.0 above.1 place.container place.listing
-          (at_container session ok (state old) f t ready d is_dir_above) (at_listing session ok (state old) f t ready d is_dir_above) (seen session ok (state old) f t ready d open_so_far) m (object_of target) numbered
+          (place.listing, directory_of f.files ready.lays_out.laid.naming.number d, target, found session ok (state old) f me t ready d is_dir_above, holds session ok (state old) f me t ready d is_dir_above, is, refl) in
+          let passes = label_said session (state old) f ready.lays_out.laid ok me ready.caller.process t (runs session ok (state old) f me t ready) d above.0 above.1 place.container place.listing
+          (at_container session ok (state old) f me t ready d is_dir_above) (at_listing session ok (state old) f me t ready d is_dir_above) (seen session ok (state old) f me t ready d open_so_far) m (object_of target) numbered
           (no_thread_at session (state old) f ready.lays_out.laid (m ∷ d) there at (object_of target) numbered) in
-          label_step (m ∷ d) there at place.container (object_of target) numbered object_at (refused_is None (Some there) open_so_far at) passes walk (reads_way session ok (state old) f t ready d) mid stays chain
+          label_step (m ∷ d) there at place.container (object_of target) numbered object_at (refused_is None (Some there) open_so_far at) passes walk (reads_way session ok (state old) f me t ready d) mid stays chain
           (subst (λ (b : Bool). Runs (ask (raw.LabelOf place.container (object_of target)) (λ label. told b (class_of users label))) mid new t result) kind (leads (Some target) is))
 
       by_content : (class : Class) (c : Content) → get f.files (m ∷ d) ≡ Some (record { class = class; content = c }) → Row (m ∷ d)
       by_content class Dir at =
           let here : is_dir_at f (m ∷ d) ≡ true = ap (λ (o : Option Node). is_some_and o is_dir) at in
-          by_target (record { class = class; content = Dir }) at _ (directory_there session ok (state old) f t ready m d class at) (at_container session ok (state old) f t ready (m ∷ d) here) refl
+          by_target (record { class = class; content = Dir }) at _ (directory_there session ok (state old) f me t ready m d class at) (at_container session ok (state old) f me t ready (m ∷ d) here) refl
       by_content class (File bytes) at =
-          by_target (record { class = class; content = File bytes }) at _ (file_there session ok (state old) f t ready m d class bytes at) (file_number session ok (state old) f t ready m d class bytes at) refl
+          by_target (record { class = class; content = File bytes }) at _ (file_there session ok (state old) f me t ready m d class bytes at) (file_number session ok (state old) f me t ready m d class bytes at) refl
 
       by_stands : (o : Option Node) → get f.files (m ∷ d) ≡ o → Row (m ∷ d)
       by_stands None at =
-          refused_at_once session f ready.alone stat old new t ready.thread result walk mid chain stays ready.lays_out ENOENT (refused_is None None open_so_far at) refl refl
-          (label_less session (state old) f m d ENOENT _ ready.alone.process (has_way session ok (state old) f t ready d _ (among_granted_all old.line t walk))) (leads None (nothing_there session ok (state old) f t ready m d at))
+          refused_at_once session f me ready.caller stat old new t ready.thread result walk mid chain stays ready.lays_out ENOENT (refused_is None None open_so_far at) refl refl
+          (label_less session (state old) f m d ENOENT _ ready.caller.process (has_way session ok (state old) f me t ready d _ (among_granted_all old.line t walk))) (leads None (nothing_there session ok (state old) f me t ready m d at))
       by_stands (Some there) at = by_content there.class there.content at
 
     stat_is_row : Runs (stat_program users (places_of (length users)) (m ∷ d)) old new t result → Row (m ∷ d)
     unfolding stat_program find_object
     stat_is_row run =
-        walk_step session ok old new f t ready stat result d (λ directory. given (entry_at (map.get directory.entries m)) (λ found. ask (raw.LabelOf directory.place.container (object_of found)) (λ label. told (is_directory found) (class_of users label)))) run
-        (λ errno is steps among. (refused_is (Some errno) (get f.files (m ∷ d)) is refl, label_less session (state old) f m d errno _ ready.alone.process (has_way session ok (state old) f t ready d _ among)))
+        walk_step session ok old new f me t ready stat result d (λ directory. given (entry_at (map.get directory.entries m)) (λ found. ask (raw.LabelOf directory.place.container (object_of found)) (λ label. told (is_directory found) (class_of users label)))) run
+        (λ errno is steps among. (refused_is (Some errno) (get f.files (m ∷ d)) is refl, label_less session (state old) f m d errno _ ready.caller.process (has_way session ok (state old) f me t ready d _ among)))
         (λ open_so_far mid stays chain on. by_stands open_so_far mid stays chain on (get f.files (m ∷ d)) refl)
 
   -- a stat of `/`
@@ -172,10 +172,10 @@ module _ (users : List User) (ok : IsSession (session_of users)) (old new : Kern
       let root = root_is_dir session (state old) f ready.lays_out.laid in
       let slash = slash_number (length users) in
       label_step [] (record { class = root.0; content = Dir }) root.1 root_number slash (ready.lays_out.laid.as_booted (Slash ∷ []) slash refl) (refl, refl)
-      (ap (λ (o : Option Node). unless (is_some_and o (λ n. true)) ENOENT) root.1) (slash_label_said session (state old) f ready.lays_out.laid [] ready.alone.process t (runs session ok (state old) f t ready))
+      (ap (λ (o : Option Node). unless (is_some_and o (λ n. true)) ENOENT) root.1) (slash_label_said session (state old) f ready.lays_out.laid me ready.caller.process t (runs session ok (state old) f me t ready))
       [] refl old refl (same_kernel old) run
 
 -- a stat does what its flat rule says
 pub stats_are_rows : StatsAreRows
-stats_are_rows users ok [] old new f t result ready run = stat_of_slash users ok old new f t ready result run
-stats_are_rows users ok (m ∷ d) old new f t result ready run = stat_is_row users ok old new f t ready result m d run
+stats_are_rows users ok [] me old new f t result ready run = stat_of_slash users ok old new f me t ready result run
+stats_are_rows users ok (m ∷ d) me old new f t result ready run = stat_is_row users ok old new f me t ready result m d run

@@ -1,4 +1,4 @@
-//! The file calls of process 0 are the rows of the flat rules. Each law is the contract of a function
+//! The file calls of processes are the rows of the flat rules. Each law is the contract of a function
 //! that does nothing.
 ghost use Rattle.histar_rows.specs.Laws.{AppendsAreRows, CreatesAreRows, ListsAreRows, MkdirsAreRows, ReadsAreRows, StatsAreRows, WritesAreRows};
 

@@ -1,4 +1,4 @@
-//! The file calls of process 0 are the rows of the flat rules.
+//! The file calls of processes are the rows of the flat rules.
 #![tactic(auto)]
 
 pub mod file_rows;

@@ -9,7 +9,7 @@ use Rattle.histar_flat.specs.declared.replies.Errno.{Errno}
 use Rattle.histar_flat.specs.declared.replies.Errno.TheVariants.{EACCES, EBUSY, EEXIST}
 use Rattle.histar_flat.specs.declared.replies.Reply.{Reply}
 use Rattle.histar_flat.specs.declared.replies.Reply.TheVariants.{Done}
-use Rattle.histar_flat.specs.Words.{Name, Path, is_name}
+use Rattle.histar_flat.specs.Words.{Name, Path, ProcName, is_name}
 use Rattle.histar_flat.specs.Sessions.{Session}
 use Rattle.histar_flat.specs.Files.{get}
 use Rattle.histar_flat.specs.Classes.{Class, Process, may_read, may_write}
@@ -23,7 +23,6 @@ use Rattle.histar_rules.specs.declared.raw.RawCall.TheVariants as raw
 use Rattle.histar_rules.specs.Rules.{check}
 use Rattle.histar_syscall.specs.KernelModel.{KernelModel, state}
 use Rattle.histar_syscall.proofs.Runs.{same_kernel}
-use Rattle.histar_container.specs.Tree.{Address, Naming}
 use Rattle.histar_layout.specs.Directory.{Entries, spelling}
 use Rattle.histar_layout.specs.declared.entry.Target.{Target}
 use Rattle.histar_calls.specs.declared.ending.Stopped.{Stopped}
@@ -34,17 +33,14 @@ use Rattle.histar_moves.specs.Parts.{find_entry, must_be_free}
 use Rattle.histar_moves.specs.Rename.{rename_program}
 use Rattle.histar_login.specs.Start.{places_of}
 use Rattle.histar_refinement.specs.Sessions.{IsSession}
-use Rattle.histar_refinement.specs.Addresses.{Step, address_of, home_of}
-use Rattle.histar_refinement.specs.Addresses.Step.{Listing, Inside, Runner}
+use Rattle.histar_refinement.specs.Addresses.{address_of}
+use Rattle.histar_refinement.specs.Addresses.Step.{Listing}
 use Rattle.histar_refinement.specs.Directories.{directory_of}
 use Rattle.histar_refinement.specs.LaysOut.{LaysOut}
-use Rattle.histar_refinement.specs.Lines.{IsThreadOf}
 use Rattle.histar_refinement.proofs.DirectoryLaws.{get_directory}
 use Rattle.histar_refinement.proofs.FileChecks.{write_listing_said}
 use Rattle.histar_refinement.proofs.FileRows.{leads_at}
-use Rattle.histar_refinement.proofs.Renaming.{listable_renamed, laid_renamed, lays_out_renamed}
-use Rattle.histar_refinement.proofs.StatusFound.{thread_led}
-use Rattle.histar_refinement.proofs.Turning.{turned_home}
+use Rattle.histar_refinement.proofs.Renaming.{listable_renamed, lays_out_renamed}
 use Rattle.histar_rows.specs.Rows.{IsReady}
 use Rattle.histar_rows.proofs.Chains.{all_granted, Chain}
 use Rattle.histar_rows.proofs.Steps.{Goal, granted_step, refused_step, refused_at_once, answered_step}
@@ -52,25 +48,25 @@ use Rattle.histar_rows.proofs.Walks.{runs, place_at, walk_reads, among_granted_a
 use Rattle.histar_move_rows.specs.Laws.{RenamesAreRows}
 use Rattle.histar_move_rows.proofs.Entries.{target_at, entry_leads, reached, entry_step}
 
-module _ (session : Session) (ok : IsSession session) (old new : KernelModel) (f : Flat) (t : ℕ) (ready : IsReady session (state old) f t) (m : Name) (d : Path) (name : Name) (named : IsTrue (is_name name)) (result : Result Reply Stopped) where
+module _ (session : Session) (ok : IsSession session) (old new : KernelModel) (f : Flat) (me : ProcName) (t : ℕ) (ready : IsReady session (state old) f me t) (m : Name) (d : Path) (name : Name) (named : IsTrue (is_name name)) (result : Result Reply Stopped) where
   abbrev call : UnixCall
   call = calls.Rename (m ∷ d) name
 
   abbrev walk : List RawCall
-  walk = walk_reads session ok (state old) f t ready d
+  walk = walk_reads session ok (state old) f me t ready d
 
   abbrev Row : Type 0
-  Row = Goal session f ready.alone call old new t ready.thread result
+  Row = Goal session f me ready.caller call old new t ready.thread result
 
   abbrev p : Process
-  p = ready.alone.process
+  p = ready.caller.process
 
   -- the container of the directory and its directory segment
   abbrev container : ℕ
-  container = (place_at session ok (state old) f t ready d).container
+  container = (place_at session ok (state old) f me t ready d).container
 
   abbrev listing : ℕ
-  listing = (place_at session ok (state old) f t ready d).listing
+  listing = (place_at session ok (state old) f me t ready d).listing
 
   abbrev entries : Entries
   entries = directory_of f.files ready.lays_out.laid.naming.number d
@@ -81,37 +77,37 @@ module _ (session : Session) (ok : IsSession session) (old new : KernelModel) (f
 
   module _ (open_so_far : into session f p d ≡ None) (class : Class) (content : Content) (at : get f.files (m ∷ d) ≡ Some (record { class = class; content = content })) (mid : KernelModel) (stays : state mid ≡ state old) (chain : Chain old t (all_granted walk) mid) where
     is_dir_here : is_dir_at f d ≡ true
-    is_dir_here = dir session ok (state old) f t ready d open_so_far
+    is_dir_here = dir session ok (state old) f me t ready d open_so_far
 
     abbrev root : Class
-    root = (stands session ok (state old) f t ready d (dir session ok (state old) f t ready d open_so_far)).0
+    root = (stands session ok (state old) f me t ready d (dir session ok (state old) f me t ready d open_so_far)).0
 
     root_at : get f.files d ≡ Some (record { class = root; content = Dir })
-    root_at = (stands session ok (state old) f t ready d (dir session ok (state old) f t ready d open_so_far)).1
+    root_at = (stands session ok (state old) f me t ready d (dir session ok (state old) f me t ready d open_so_far)).1
 
     at_D : ready.lays_out.laid.naming.number (address_of d) ≡ Some container
-    at_D = at_container session ok (state old) f t ready d is_dir_here
+    at_D = at_container session ok (state old) f me t ready d is_dir_here
 
     at_N : ready.lays_out.laid.naming.number (Listing ∷ address_of d) ≡ Some listing
-    at_N = at_listing session ok (state old) f t ready d is_dir_here
+    at_N = at_listing session ok (state old) f me t ready d is_dir_here
 
     sees : may_read session p root ≡ true
-    sees = seen session ok (state old) f t ready d open_so_far
+    sees = seen session ok (state old) f me t ready d open_so_far
 
     right_is : writes session f p d ≡ may_write session p root
     right_is = ap (λ (o : Option Node). is_some_and o (λ n. may_write session p n.class)) root_at
 
-    refused_by : (o : Option Node) (may : Bool) → get f.files (name ∷ d) ≡ o → may_write session p root ≡ may → refused session f [] p call ≡ refusal o may
+    refused_by : (o : Option Node) (may : Bool) → get f.files (name ∷ d) ≡ o → may_write session p root ≡ may → refused session f me p call ≡ refusal o may
     refused_by o may is_o is_may =
-        reached session ok old new f t ready m d call result (refusal (get f.files (name ∷ d)) (writes session f p d)) refl (λ _ steps r among. has_walk session ok (state old) f t ready m d _ among) open_so_far (record { class = class; content = content }) at
+        reached session ok old new f me t ready m d call result (refusal (get f.files (name ∷ d)) (writes session f p d)) refl (λ _ steps r among. has_walk session ok (state old) f me t ready m d _ among) open_so_far (record { class = class; content = content }) at
         ∙ (λ i. refusal (is_o i) ((right_is ∙ is_may) i))
 
     -- where the entry leads
     abbrev target : Target
-    target = target_at session ok (state old) f t ready m d content
+    target = target_at session ok (state old) f me t ready m d content
 
     leads : leads_at f.files ready.lays_out.laid.naming.number (m ∷ d) ≡ Some target
-    leads = sym (get_directory f.files ready.lays_out.laid.naming.number d m) ∙ entry_leads session ok (state old) f t ready m d class content at
+    leads = sym (get_directory f.files ready.lays_out.laid.naming.number d m) ∙ entry_leads session ok (state old) f me t ready m d class content at
 
     -- the directory with the entry under its new name
     abbrev renamed : Entries
@@ -125,30 +121,24 @@ module _ (session : Session) (ok : IsSession session) (old new : KernelModel) (f
       said : (may : Bool) → may_write session p root ≡ may → check (state mid) t next ≡ unless may Modify
       said may is_may =
           ap (λ (s : State). check s t next) stays
-          ∙ write_listing_said session (state old) f ready.lays_out.laid ok [] p t (runs session ok (state old) f t ready) d root root_at container listing at_D at_N sees renamed
+          ∙ write_listing_said session (state old) f ready.lays_out.laid ok me p t (runs session ok (state old) f me t ready) d root root_at container listing at_D at_N sees renamed
           (listable_renamed session (state old) f ready.lays_out.laid m name d listing at_N absent target leads named (ready.lays_out.laid.listable d is_dir_here))
           ∙ ap (λ (b : Bool). unless b Modify) is_may
 
-      -- the kernel has the objects of the flat state with the entry renamed, and the thread is the one that it was
+      -- the kernel has the objects of the flat state with the entry renamed
       laid_after : LaysOut session (with_bytes (state old) listing (spelling renamed)) (with_renamed f (m ∷ d) (name ∷ d))
       laid_after = lays_out_renamed session (state old) f ready.lays_out.laid m name d listing at_N absent target leads ready.lays_out.jobs_given named is_dir_here
 
-      thread_after : IsThreadOf session (with_bytes (state old) listing (spelling renamed)) [] t
-      thread_after =
-          let later = laid_renamed session (state old) f ready.lays_out.laid m name d listing at_N absent target leads named is_dir_here in
-          thread_led session (with_bytes (state old) listing (spelling renamed)) (with_renamed f (m ∷ d) (name ∷ d)) later.0 [] p t ready.alone.stands ready.alone.runs
-          (ap (λ (n : Naming Step). n.number (Runner ∷ Inside ∷ home_of [])) later.1 ∙ ap (λ (a : Address Step). ready.lays_out.laid.naming.number (Runner ∷ Inside ∷ a)) (turned_home m name d []) ∙ (runs session ok (state old) f t ready).2)
-
       by_right : (may : Bool) → may_write session p root ≡ may → Runs (ask next (λ _. Answers Done)) mid new t result → Row
       by_right false is_may on =
-          refused_step session f ready.alone call old new t ready.thread result walk mid chain stays ready.lays_out EACCES (refused_by None false absent is_may) next (λ _. Answers Done) Modify (said false is_may) refl
-          (walked_also session ok (state old) f t ready m d old.line ((next, Some Modify) ∷ [])) on
+          refused_step session f me ready.caller call old new t ready.thread result walk mid chain stays ready.lays_out EACCES (refused_by None false absent is_may) next (λ _. Answers Done) Modify (said false is_may) refl
+          (walked_also session ok (state old) f me t ready m d old.line ((next, Some Modify) ∷ [])) on
       by_right true is_may on =
-          granted_step session f ready.alone call old new t ready.thread result walk mid chain next (λ _. Answers Done) (said true is_may) on
+          granted_step session f me ready.caller call old new t ready.thread result walk mid chain next (λ _. Answers Done) (said true is_may) on
           (λ later answer called right longer end.
           let new_state : state later ≡ with_bytes (state old) listing (spelling renamed) = called.state ∙ ap (λ (s : State). with_bytes s listing (spelling renamed)) stays in
-          answered_step session f ready.alone call old new t ready.thread result (walk ++ next ∷ []) later longer Done refl (refused_by None true absent is_may) tt (walked_then session ok (state old) f t ready m d old.line (next ∷ []))
-          (subst (λ (s : State). LaysOut session s (with_renamed f (m ∷ d) (name ∷ d))) (sym new_state) laid_after) (subst (λ (s : State). IsThreadOf session s [] t) (sym new_state) thread_after) end)
+          answered_step session f me ready.caller call old new t ready.thread result (walk ++ next ∷ []) later longer Done refl (refused_by None true absent is_may) tt (walked_then session ok (state old) f me t ready m d old.line (next ∷ []))
+          (subst (λ (s : State). LaysOut session s (with_renamed f (m ∷ d) (name ∷ d))) (sym new_state) laid_after) end)
 
     -- once the new name was looked up
     abbrev at_name : Option Target → Program
@@ -156,25 +146,25 @@ module _ (session : Session) (ok : IsSession session) (old new : KernelModel) (f
 
     by_name : (o : Option Node) → get f.files (name ∷ d) ≡ o → Runs (at_name (map.get entries name)) mid new t result → Row
     by_name None absent on =
-        by_right absent (may_write session p root) refl (subst (λ (o : Option Target). Runs (at_name o) mid new t result) (nothing_there session ok (state old) f t ready name d absent) on)
+        by_right absent (may_write session p root) refl (subst (λ (o : Option Target). Runs (at_name o) mid new t result) (nothing_there session ok (state old) f me t ready name d absent) on)
     by_name (Some node) is on =
-        refused_at_once session f ready.alone call old new t ready.thread result walk mid chain stays ready.lays_out EEXIST (refused_by (Some node) (may_write session p root) is refl) refl refl
-        (has_walk session ok (state old) f t ready m d _ (among_granted_all old.line t walk))
-        (subst (λ (o : Option Target). Runs (at_name o) mid new t result) (entry_leads session ok (state old) f t ready name d node.class node.content is) on)
+        refused_at_once session f me ready.caller call old new t ready.thread result walk mid chain stays ready.lays_out EEXIST (refused_by (Some node) (may_write session p root) is refl) refl refl
+        (has_walk session ok (state old) f me t ready m d _ (among_granted_all old.line t walk))
+        (subst (λ (o : Option Target). Runs (at_name o) mid new t result) (entry_leads session ok (state old) f me t ready name d node.class node.content is) on)
 
   rename_is_row : Runs (rename_program (places_of (length session.users)) (m ∷ d) name) old new t result → Row
   unfolding rename_program
-  rename_is_row run = entry_step session ok old new f t ready m d call result (refusal (get f.files (name ∷ d)) (writes session f p d)) refl (λ _ steps r among. has_walk session ok (state old) f t ready m d _ among) _ run
+  rename_is_row run = entry_step session ok old new f me t ready m d call result (refusal (get f.files (name ∷ d)) (writes session f p d)) refl (λ _ steps r among. has_walk session ok (state old) f me t ready m d _ among) _ run
       (λ open_so_far class content at mid stays chain on. by_name open_so_far class content at mid stays chain (get f.files (name ∷ d)) refl on)
 
 -- a rename of `/`
-rename_of_slash : (session : Session) (old new : KernelModel) (f : Flat) (t : ℕ) (name : Name) (result : Result Reply Stopped) (ready : IsReady session (state old) f t) → Runs (rename_program (places_of (length session.users)) [] name) old new t result
-    → Goal session f ready.alone (calls.Rename [] name) old new t ready.thread result
+rename_of_slash : (session : Session) (old new : KernelModel) (f : Flat) (me : ProcName) (t : ℕ) (name : Name) (result : Result Reply Stopped) (ready : IsReady session (state old) f me t) → Runs (rename_program (places_of (length session.users)) [] name) old new t result
+    → Goal session f me ready.caller (calls.Rename [] name) old new t ready.thread result
 unfolding rename_program find_entry
-rename_of_slash session old new f t name result ready run =
-    refused_at_once session f ready.alone (calls.Rename [] name) old new t ready.thread result [] old (same_kernel old) refl ready.lays_out EBUSY refl refl refl tt run
+rename_of_slash session old new f me t name result ready run =
+    refused_at_once session f me ready.caller (calls.Rename [] name) old new t ready.thread result [] old (same_kernel old) refl ready.lays_out EBUSY refl refl refl tt run
 
 -- a rename does what its flat rule says
 pub renames_are_rows : RenamesAreRows
-renames_are_rows session ok [] name named old new f t result ready run = rename_of_slash session old new f t name result ready run
-renames_are_rows session ok (m ∷ d) name named old new f t result ready run = rename_is_row session ok old new f t ready m d name named result run
+renames_are_rows session ok [] name named me old new f t result ready run = rename_of_slash session old new f me t name result ready run
+renames_are_rows session ok (m ∷ d) name named me old new f t result ready run = rename_is_row session ok old new f me t ready m d name named result run

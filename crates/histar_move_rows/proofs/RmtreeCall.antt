@@ -7,7 +7,7 @@ use Rattle.histar_flat.specs.declared.replies.Errno.{Errno}
 use Rattle.histar_flat.specs.declared.replies.Errno.TheVariants.{EACCES, EBUSY}
 use Rattle.histar_flat.specs.declared.replies.Reply.{Reply}
 use Rattle.histar_flat.specs.declared.replies.Reply.TheVariants.{Done}
-use Rattle.histar_flat.specs.Words.{Name, Path}
+use Rattle.histar_flat.specs.Words.{Name, Path, ProcName}
 use Rattle.histar_flat.specs.Sessions.{Session}
 use Rattle.histar_flat.specs.FlatState.{Flat, writes}
 use Rattle.histar_syscall.specs.KernelModel.{KernelModel, state}
@@ -26,31 +26,31 @@ use Rattle.histar_move_rows.specs.Laws.{RmtreesAreRows}
 use Rattle.histar_move_rows.proofs.Entries.{reached, entry_step}
 use Rattle.histar_move_rows.proofs.TakingAway.{take_away_step}
 
-module _ (session : Session) (ok : IsSession session) (old new : KernelModel) (f : Flat) (t : ℕ) (ready : IsReady session (state old) f t) (m : Name) (d : Path) (result : Result Reply Stopped) where
+module _ (session : Session) (ok : IsSession session) (old new : KernelModel) (f : Flat) (me : ProcName) (t : ℕ) (ready : IsReady session (state old) f me t) (m : Name) (d : Path) (result : Result Reply Stopped) where
   abbrev call : UnixCall
   call = calls.Rmtree (m ∷ d)
 
   -- what the flat rules refuse of the entry
   abbrev refusal : Option Errno
-  refusal = unless (writes session f ready.alone.process d) EACCES
+  refusal = unless (writes session f ready.caller.process d) EACCES
 
-  rmtree_is_row : Runs (rmtree_program (places_of (length session.users)) (m ∷ d)) old new t result → Goal session f ready.alone call old new t ready.thread result
+  rmtree_is_row : Runs (rmtree_program (places_of (length session.users)) (m ∷ d)) old new t result → Goal session f me ready.caller call old new t ready.thread result
   unfolding rmtree_program
   rmtree_is_row run =
-      entry_step session ok old new f t ready m d call result refusal refl (λ none steps r among. has_walk session ok (state old) f t ready m d _ among) (λ entry. take_away entry (λ _. Answers Done)) run
+      entry_step session ok old new f me t ready m d call result refusal refl (λ none steps r among. has_walk session ok (state old) f me t ready m d _ among) (λ entry. take_away entry (λ _. Answers Done)) run
       (λ open_so_far class content at mid stays chain on.
-      let refuses = reached session ok old new f t ready m d call result refusal refl (λ none steps r among. has_walk session ok (state old) f t ready m d _ among) open_so_far (record { class = class; content = content }) at in
-      take_away_step session ok old new f t ready m d call result (record { refuses = refuses; removes = refl; answers = refl }) open_so_far class content at
-      (walk_reads session ok (state old) f t ready d) (λ steps r among. has_walk session ok (state old) f t ready m d _ among) mid stays chain on)
+      let refuses = reached session ok old new f me t ready m d call result refusal refl (λ none steps r among. has_walk session ok (state old) f me t ready m d _ among) open_so_far (record { class = class; content = content }) at in
+      take_away_step session ok old new f me t ready m d call result (record { refuses = refuses; removes = refl; answers = refl }) open_so_far class content at
+      (walk_reads session ok (state old) f me t ready d) (λ steps r among. has_walk session ok (state old) f me t ready m d _ among) mid stays chain on)
 
 -- an rmtree of `/`
-rmtree_of_slash : (session : Session) (old new : KernelModel) (f : Flat) (t : ℕ) (result : Result Reply Stopped) (ready : IsReady session (state old) f t) → Runs (rmtree_program (places_of (length session.users)) []) old new t result
-    → Goal session f ready.alone (calls.Rmtree []) old new t ready.thread result
+rmtree_of_slash : (session : Session) (old new : KernelModel) (f : Flat) (me : ProcName) (t : ℕ) (result : Result Reply Stopped) (ready : IsReady session (state old) f me t) → Runs (rmtree_program (places_of (length session.users)) []) old new t result
+    → Goal session f me ready.caller (calls.Rmtree []) old new t ready.thread result
 unfolding rmtree_program find_entry
-rmtree_of_slash session old new f t result ready run =
-    refused_at_once session f ready.alone (calls.Rmtree []) old new t ready.thread result [] old (same_kernel old) refl ready.lays_out EBUSY refl refl refl tt run
+rmtree_of_slash session old new f me t result ready run =
+    refused_at_once session f me ready.caller (calls.Rmtree []) old new t ready.thread result [] old (same_kernel old) refl ready.lays_out EBUSY refl refl refl tt run
 
 -- an rmtree does what its flat rule says
 pub rmtrees_are_rows : RmtreesAreRows
-rmtrees_are_rows session ok [] old new f t result ready run = rmtree_of_slash session old new f t result ready run
-rmtrees_are_rows session ok (m ∷ d) old new f t result ready run = rmtree_is_row session ok old new f t ready m d result run
+rmtrees_are_rows session ok [] me old new f t result ready run = rmtree_of_slash session old new f me t result ready run
+rmtrees_are_rows session ok (m ∷ d) me old new f t result ready run = rmtree_is_row session ok old new f me t ready m d result run

@@ -1,4 +1,4 @@
--- What it means that these calls of process 0 are the rows of the flat rules.
+-- What it means that these calls of processes are the rows of the flat rules.
 use Rattle.std.specs.Prelude.{length, IsTrue}
 use Rattle.histar_flat.specs.declared.calls.UnixCall.TheVariants.{Unlink, Rmdir, Rmtree, Rename}
 use Rattle.histar_flat.specs.Words.{Name, Path, is_name}

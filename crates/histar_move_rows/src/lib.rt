@@ -1,4 +1,4 @@
-//! The calls of process 0 that take entries away or rename them are the rows of the flat rules.
+//! The calls of processes that take entries away or rename them are the rows of the flat rules.
 #![tactic(auto)]
 
 pub mod move_rows;

@@ -1,4 +1,4 @@
-//! The calls of process 0 that take entries away are the rows of the flat rules. Each law is the contract of a function
+//! The calls of processes that take entries away are the rows of the flat rules. Each law is the contract of a function
 //! that does nothing.
 ghost use Rattle.histar_move_rows.specs.Laws.{RmdirsAreRows, RmtreesAreRows, UnlinksAreRows};
 

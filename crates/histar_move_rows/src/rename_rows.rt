@@ -1,4 +1,4 @@
-//! A rename of process 0 is the row of the flat rules. The law is the contract of a function that does
+//! A rename of a process is the row of the flat rules. The law is the contract of a function that does
 //! nothing.
 ghost use Rattle.histar_move_rows.specs.Laws.{RenamesAreRows};
 

@@ -1,17 +1,18 @@
 -- Raw calls that were made, one after another, each with its outcome.
-use Rattle.std.proofs.Common.{◌≡◌, ℕ, false, List, [], ◌∷◌, ◌++◌, Option, None, Some, refl, sym, ap, ◌∙◌, subst, append_assoc}
+use Rattle.std.proofs.Common.{◌≡◌, ℕ, false, List, [], ◌∷◌, ◌++◌, ◌⊎◌, Option, None, Some, refl, sym, ap, ◌∙◌, subst, append_assoc}
 use Rattle.std.proofs.lemmas.List.{append-nil}
 use Rattle.std.specs.Prelude.{map}
 use Rattle.std.specs.List.{AllByRecursion}
+use Rattle.histar_object.specs.State.{State}
 use Rattle.histar_rules.specs.declared.raw.Denied.{Denied}
 use Rattle.histar_rules.specs.declared.raw.Denied.TheVariants.{TooBig}
 use Rattle.histar_rules.specs.declared.raw.RawCall.{RawCall}
-use Rattle.histar_rules.specs.Rules.{check, has_number}
+use Rattle.histar_rules.specs.Rules.{has_number}
 use Rattle.histar_syscall.specs.declared.trace.TraceEntry.{TraceEntry}
 use Rattle.histar_syscall.specs.KernelModel.{KernelModel, state, Called, IsUnchanged}
 use Rattle.histar_syscall.specs.Runs.{IsBy, IsRun, GoesOn, Made}
 use Rattle.histar_syscall.proofs.Runs.{entry_of, still_same, call_after}
-use Rattle.histar_rows.specs.Rows.{IsRunUnlessExhausted}
+use Rattle.histar_rows.specs.Rows.{has_category, IsRunUnlessExhausted}
 
 -- a raw call with its outcome
 abbrev pub Step : Type 0
@@ -83,10 +84,10 @@ module _ (t : ℕ) where
   granted_unless old new line [] same = same.state
   granted_unless old new line (call ∷ calls) chain = (state chain.0, chain.1.outcome, chain.1.state, tt, granted_unless chain.0 new line calls chain.2)
 
-  -- nor is one whose last raw call was refused since the next object has no number
-  pub exhausted_unless : (old mid new : KernelModel) (line : ℕ) (calls : List RawCall) (last : RawCall) → Chain old t (all_granted calls) mid → Chain mid t ((last, Some TooBig) ∷ []) new → has_number (state mid) ≡ false
+  -- nor is one whose last raw call was refused since the next object or the next category has no number
+  pub exhausted_unless : (old mid new : KernelModel) (line : ℕ) (calls : List RawCall) (last : RawCall) → Chain old t (all_granted calls) mid → Chain mid t ((last, Some TooBig) ∷ []) new → (has_number (state mid) ≡ false) ⊎ (has_category (state mid) ≡ false)
       → IsRunUnlessExhausted (state old) (entries_of line t (all_granted calls ++ (last, Some TooBig) ∷ [])) (state new)
   exhausted_unless old mid new line [] last same later greatest =
       let end = chain_from old mid new ((last, Some TooBig) ∷ []) same later in
-      (state end.0, end.1.outcome, end.1.state, (refl, ap has_number (sym same.state) ∙ greatest), end.2.state)
+      (state end.0, end.1.outcome, end.1.state, (refl, subst (λ (s : State). (has_number s ≡ false) ⊎ (has_category s ≡ false)) same.state greatest), end.2.state)
   exhausted_unless old mid new line (call ∷ calls) last chain later greatest = (state chain.0, chain.1.outcome, chain.1.state, tt, exhausted_unless chain.0 mid new line calls last chain.2 later greatest)

@@ -7,6 +7,7 @@ use Rattle.histar_flat.specs.declared.calls.UnixCall.{UnixCall}
 use Rattle.histar_flat.specs.declared.replies.Errno.{Errno}
 use Rattle.histar_flat.specs.declared.replies.Reply.{Reply}
 use Rattle.histar_flat.specs.declared.replies.Reply.TheVariants.{Done, Data, Entries, Stats, Refused, Gone}
+use Rattle.histar_flat.specs.Words.{ProcName}
 use Rattle.histar_flat.specs.Sessions.{Session}
 use Rattle.histar_flat.specs.Classes.{Process}
 use Rattle.histar_flat.specs.FlatState.{Flat, is_some_and}
@@ -27,7 +28,7 @@ use Rattle.histar_calls.specs.Refusals.{errno_for, errno_of, write_errno_of}
 use Rattle.histar_calls.specs.Replies.{is_access, is_permission, is_no_access, is_no_permission, IsRefusedOnce}
 use Rattle.histar_refinement.specs.LaysOut.{LaysOut}
 use Rattle.histar_refinement.specs.Lines.{IsThreadOf}
-use Rattle.histar_rows.specs.Rows.{IsFirstAlone, IsDenialTold, EndsWithRead, HasReads, HasReadsOf, IsLine, IsUnanswered, IsRunUnlessExhausted, DoesItsRow}
+use Rattle.histar_rows.specs.Rows.{RunsFree, IsDenialTold, EndsWithRead, HasReads, HasReadsOf, IsLine, IsUnanswered, IsRunUnlessExhausted, DoesItsRow}
 use Rattle.histar_rows.proofs.Chains.{Step, all_granted, entries_of, Chain, chain_run, chain_own}
 
 -- a chain that was refused nowhere else ends without a reply
@@ -118,40 +119,40 @@ read_last old mid t calls chain container segment = record {
   answers = refl;
 }
 
-module _ (session : Session) (f : Flat) (alone : IsFirstAlone f) (call : UnixCall) (old new : KernelModel) (t : ℕ) (named : IsThreadOf session (state old) [] t) where
-  -- process 0 runs
-  runs : running f [] ≡ Some alone.process
-  runs = ap if_running alone.stands ∙ ap (λ (x : Option ℕ). elim x as (λ _. Option Process) [ None ↦ Some alone.process | Some n ↦ None ]) alone.runs
+module _ (session : Session) (f : Flat) (me : ProcName) (caller : RunsFree f me) (call : UnixCall) (old new : KernelModel) (t : ℕ) (named : IsThreadOf session (state old) me t) where
+  -- the process runs
+  runs : running f me ≡ Some caller.process
+  runs = ap if_running caller.stands ∙ ap (λ (x : Option ℕ). elim x as (λ _. Option Process) [ None ↦ Some caller.process | Some n ↦ None ]) caller.runs
 
   -- so its call is answered by its flat rule, and the state after it is the rule's too
-  reply_is : (refusal : Option Errno) → refused session f [] alone.process call ≡ refusal → reply_to session f [] call ≡ reply_or refusal (flat.answer f [] alone.process call)
-  reply_is refusal e = ap (λ (r : Option Process). reply_by session f [] r call) runs ∙ ap (λ (r : Option Errno). reply_or r (flat.answer f [] alone.process call)) e
+  reply_is : (refusal : Option Errno) → refused session f me caller.process call ≡ refusal → reply_to session f me call ≡ reply_or refusal (flat.answer f me caller.process call)
+  reply_is refusal e = ap (λ (r : Option Process). reply_by session f me r call) runs ∙ ap (λ (r : Option Errno). reply_or r (flat.answer f me caller.process call)) e
 
-  after_is : (refusal : Option Errno) → refused session f [] alone.process call ≡ refusal → flat_after session f [] call ≡ flat_or refusal f (changed session f [] alone.process call)
-  after_is refusal e = ap (λ (r : Option Process). flat_by session f [] r call) runs ∙ ap (λ (r : Option Errno). flat_or r f (changed session f [] alone.process call)) e
+  after_is : (refusal : Option Errno) → refused session f me caller.process call ≡ refusal → flat_after session f me call ≡ flat_or refusal f (changed session f me caller.process call)
+  after_is refusal e = ap (λ (r : Option Process). flat_by session f me r call) runs ∙ ap (λ (r : Option Errno). flat_or r f (changed session f me caller.process call)) e
 
   -- the reads that the call cannot do without, where it is answered so, are among these raw calls
   abbrev pub ReadsAmong : List Step → Reply → Type 0
-  ReadsAmong steps r = HasReads session (state old) f alone.process call r (entries_of old.line t steps)
+  ReadsAmong steps r = HasReads session (state old) f caller.process call r (entries_of old.line t steps)
 
   -- what the flat rules answer where they allow the call
   abbrev pub allowed : Reply
-  allowed = flat.answer f [] alone.process call
+  allowed = flat.answer f me caller.process call
 
   -- each entry is of the line's thread
-  all_own : (line : ℕ) (steps : List Step) → AllByRecursion (λ (e : TraceEntry). (e.line ≡ line) × IsThreadOf session (state old) [] e.thread) (entries_of line t steps)
+  all_own : (line : ℕ) (steps : List Step) → AllByRecursion (λ (e : TraceEntry). (e.line ≡ line) × IsThreadOf session (state old) me e.thread) (entries_of line t steps)
   all_own line [] = tt
   all_own line (s ∷ steps) = ((refl, named), all_own line steps)
 
   -- where the raw calls agree with the reply of the flat rules, and the state lays out the flat state after the call, a call is answered so
-  agreed_row : (steps : List Step) → Chain old t steps new → (refusal : Option Errno) → refused session f [] alone.process call ≡ refusal → (r : Reply) → reply_or refusal allowed ≡ r
+  agreed_row : (steps : List Step) → Chain old t steps new → (refusal : Option Errno) → refused session f me caller.process call ≡ refusal → (r : Reply) → reply_or refusal allowed ≡ r
       → Agrees r (entries_of old.line t steps) → ((bytes : List ℕ) → r ≡ Data bytes → EndsWithRead (state old) (entries_of old.line t steps) bytes) → ReadsAmong steps r → r ≢ Gone
-      → LaysOut session (state new) (flat_or refusal f (changed session f [] alone.process call)) → IsThreadOf session (state new) [] t → DoesItsRow session f call old new t (Ok r)
-  agreed_row steps chain refusal is r r_is agrees told reads lives lays_out thread =
+      → LaysOut session (state new) (flat_or refusal f (changed session f me caller.process call)) → DoesItsRow session f me call old new t (Ok r)
+  agreed_row steps chain refusal is r r_is agrees told reads lives lays_out =
       let part = chain_run t old new steps chain in
       let reply = reply_is refusal is ∙ r_is in
       let entries = entries_of old.line t steps in
-      let is_line : IsLine session (state old) old.line [] r entries (state new) = record {
+      let is_line : IsLine session (state old) old.line me r entries (state new) = record {
         run = part.run;
         own = all_own old.line steps;
         access = agrees.access;
@@ -167,38 +168,34 @@ module _ (session : Session) (f : Flat) (alone : IsFirstAlone f) (call : UnixCal
           trace = part.trace;
           line = part.line;
           row = record {
-            line = subst (λ (x : Reply). IsLine session (state old) old.line [] x entries (state new)) (sym reply) is_line;
-            reads = subst (λ (o : Option Process). HasReadsOf session (state old) f o call (reply_to session f [] call) entries) (sym runs)
-                (subst (λ (x : Reply). HasReads session (state old) f alone.process call x entries) (sym reply) reads);
+            line = subst (λ (x : Reply). IsLine session (state old) old.line me x entries (state new)) (sym reply) is_line;
+            reads = subst (λ (o : Option Process). HasReadsOf session (state old) f o call (reply_to session f me call) entries) (sym runs)
+                (subst (λ (x : Reply). HasReads session (state old) f caller.process call x entries) (sym reply) reads);
             lays_out = subst (LaysOut session (state new)) (sym (after_is refusal is)) lays_out;
           };
-          thread = thread;
         },
       )
 
   -- where every raw call was granted, a call that the flat rules allow is answered what they answer
-  pub granted_row : (calls : List RawCall) → Chain old t (all_granted calls) new → refused session f [] alone.process call ≡ None → IsBacked (state old) (entries_of old.line t (all_granted calls)) allowed → ReadsAmong (all_granted calls) allowed
-      → LaysOut session (state new) (changed session f [] alone.process call) → IsThreadOf session (state new) [] t → DoesItsRow session f call old new t (Ok allowed)
-  granted_row calls chain is backed reads lays_out thread =
+  pub granted_row : (calls : List RawCall) → Chain old t (all_granted calls) new → refused session f me caller.process call ≡ None → IsBacked (state old) (entries_of old.line t (all_granted calls)) allowed → ReadsAmong (all_granted calls) allowed
+      → LaysOut session (state new) (changed session f me caller.process call) → DoesItsRow session f me call old new t (Ok allowed)
+  granted_row calls chain is backed reads lays_out =
       let entries = entries_of old.line t (all_granted calls) in
       agreed_row (all_granted calls) chain None is allowed refl (granted_agree old.line t allowed (backed_plain (state old) entries allowed backed) calls)
-      (backed_told (state old) entries allowed backed) reads (backed_runs (state old) entries allowed backed) lays_out thread
+      (backed_told (state old) entries allowed backed) reads (backed_runs (state old) entries allowed backed) lays_out
 
   module _ (stays : state new ≡ state old) (lays_out : LaysOut session (state old) f) where
     still : LaysOut session (state new) f
     still = subst (λ (s : State). LaysOut session s f) (sym stays) lays_out
 
-    same_thread : IsThreadOf session (state new) [] t
-    same_thread = subst (λ (s : State). IsThreadOf session s [] t) (sym stays) named
-
     -- where every raw call was granted and nothing has changed, a call that the flat rules refuse is answered their errno, if it is neither EACCES nor EPERM
-    pub unchanged_row : (calls : List RawCall) → Chain old t (all_granted calls) new → (errno : Errno) → is_access errno ≡ false → is_permission errno ≡ false → refused session f [] alone.process call ≡ Some errno
-        → ReadsAmong (all_granted calls) (Refused errno) → DoesItsRow session f call old new t (Ok (Refused errno))
+    pub unchanged_row : (calls : List RawCall) → Chain old t (all_granted calls) new → (errno : Errno) → is_access errno ≡ false → is_permission errno ≡ false → refused session f me caller.process call ≡ Some errno
+        → ReadsAmong (all_granted calls) (Refused errno) → DoesItsRow session f me call old new t (Ok (Refused errno))
     unchanged_row calls chain errno no_access no_permission is reads =
-        agreed_row (all_granted calls) chain (Some errno) is (Refused errno) refl (granted_agree old.line t (Refused errno) (no_access, no_permission) calls) (λ bytes e. absurd cc) reads (λ e. absurd cc) still same_thread
+        agreed_row (all_granted calls) chain (Some errno) is (Refused errno) refl (granted_agree old.line t (Refused errno) (no_access, no_permission) calls) (λ bytes e. absurd cc) reads (λ e. absurd cc) still
 
     -- where the last raw call was refused, the others granted and nothing has changed, a call that the flat rules refuse as that refusal is told is answered so
     pub refused_row : (calls : List RawCall) (last : RawCall) (denied : Denied) → Chain old t (all_granted calls ++ (last, Some denied) ∷ []) new
-        → (errno : Errno) → write_errno_of denied ≡ Some errno → refused session f [] alone.process call ≡ Some errno → ReadsAmong (all_granted calls ++ (last, Some denied) ∷ []) (Refused errno) → DoesItsRow session f call old new t (Ok (Refused errno))
+        → (errno : Errno) → write_errno_of denied ≡ Some errno → refused session f me caller.process call ≡ Some errno → ReadsAmong (all_granted calls ++ (last, Some denied) ∷ []) (Refused errno) → DoesItsRow session f me call old new t (Ok (Refused errno))
     refused_row calls last denied chain errno told is reads =
-        agreed_row (all_granted calls ++ (last, Some denied) ∷ []) chain (Some errno) is (Refused errno) refl (refused_agree old.line t last denied errno told calls) (λ bytes e. absurd cc) reads (λ e. absurd cc) still same_thread
+        agreed_row (all_granted calls ++ (last, Some denied) ∷ []) chain (Some errno) is (Refused errno) refl (refused_agree old.line t last denied errno told calls) (λ bytes e. absurd cc) reads (λ e. absurd cc) still

@@ -6,6 +6,7 @@ use Rattle.histar_flat.specs.declared.calls.UnixCall.{UnixCall}
 use Rattle.histar_flat.specs.declared.replies.Errno.{Errno}
 use Rattle.histar_flat.specs.declared.replies.Reply.{Reply}
 use Rattle.histar_flat.specs.declared.replies.Reply.TheVariants.{Refused}
+use Rattle.histar_flat.specs.Words.{ProcName}
 use Rattle.histar_flat.specs.Sessions.{Session}
 use Rattle.histar_flat.specs.FlatState.{Flat}
 use Rattle.histar_flat.specs.FlatCalls as flat
@@ -20,14 +21,14 @@ use Rattle.histar_syscall.proofs.Runs.{same_kernel}
 use Rattle.histar_layout.specs.Directory.{Entries, IsDirectory}
 use Rattle.histar_layout.proofs.DirectoryLemmas.{found_directory}
 use Rattle.histar_calls.specs.declared.ending.Stopped.{Stopped}
-use Rattle.histar_calls.specs.Refusals.{errno_for, write_errno_of}
+use Rattle.histar_calls.specs.Refusals.{errno_for}
 use Rattle.histar_calls.specs.Replies.{is_access, is_permission}
 use Rattle.histar_calls.specs.Programs.{AnswerOf, IsAnswer, Outcome, Program, Asked, Completes, Begins, Runs}
 use Rattle.histar_calls.specs.Programs.Program.{Answers}
 use Rattle.histar_calls.specs.Parts.{refused_with, or_refused, ask, if_there, list}
 use Rattle.histar_refinement.specs.LaysOut.{LaysOut}
 use Rattle.histar_refinement.specs.Lines.{IsThreadOf}
-use Rattle.histar_rows.specs.Rows.{IsFirstAlone, DoesItsRow}
+use Rattle.histar_rows.specs.Rows.{RunsFree, has_category, DoesItsRow}
 use Rattle.histar_rows.proofs.Chains.{Step, all_granted, entries_of, Chain, chain_after, granted_unless, exhausted_unless}
 use Rattle.histar_rows.proofs.Endings.{IsBacked, ReadsAmong, told_shown, chain_unanswered, granted_row, unchanged_row, refused_row}
 
@@ -114,10 +115,10 @@ module _ (t : ℕ) (old new : KernelModel) where
               runs = subst (λ (d : Denied). Runs (refused_with (errno_for call d)) mid new t result) same runs;
             })
 
-module _ (session : Session) (f : Flat) (alone : IsFirstAlone f) (call : UnixCall) (old new : KernelModel) (t : ℕ) (named : IsThreadOf session (state old) [] t) (result : Result Reply Stopped) where
+module _ (session : Session) (f : Flat) (me : ProcName) (caller : RunsFree f me) (call : UnixCall) (old new : KernelModel) (t : ℕ) (named : IsThreadOf session (state old) me t) (result : Result Reply Stopped) where
   -- what a row shows
   abbrev pub Goal : Type 0
-  Goal = DoesItsRow session f call old new t result
+  Goal = DoesItsRow session f me call old new t result
 
   -- the raw calls so far, each granted
   module _ (calls : List RawCall) (mid : KernelModel) (so_far : Chain old t (all_granted calls) mid) where
@@ -137,7 +138,7 @@ module _ (session : Session) (f : Flat) (alone : IsFirstAlone f) (call : UnixCal
         chain : Chain old t (all_granted calls) new
         chain = kept ends.unchanged
 
-        by : (r : Result Reply Stopped) → IsErr r → DoesItsRow session f call old new t r
+        by : (r : Result Reply Stopped) → IsErr r → DoesItsRow session f me call old new t r
         by (Ok reply) err = absurd cc
         by (Err stopped) err = chain_unanswered old new t (all_granted calls) chain (granted_unless t old new old.line calls chain)
 
@@ -153,9 +154,10 @@ module _ (session : Session) (f : Flat) (alone : IsFirstAlone f) (call : UnixCal
     pub listed_step : (bytes : List ℕ) (dir : Entries) → IsDirectory bytes dir → (rest : Entries → Program) → Runs (list bytes rest) mid new t result → (Runs (rest dir) mid new t result → Goal) → Goal
     listed_step bytes dir is rest runs go_on = elim (listed_as t mid new bytes dir is rest result runs) [ inl ends ↦ ends_here ends | inr goes ↦ go_on goes ]
 
-    -- a raw call that they refuse since the next object has no number
-    pub exhausted_step : (next : RawCall) (rest : AnswerOf next → Program) → check (state mid) t next ≡ Some TooBig → errno_for next TooBig ≡ None → has_number (state mid) ≡ false → Runs (ask next rest) mid new t result → Goal
-    exhausted_step next rest fails untold greatest runs = elim (refused_so t mid new next rest TooBig fails result runs) [
+    -- a raw call that they refuse since a counter has its greatest value
+    counted_out : (next : RawCall) (rest : AnswerOf next → Program) → check (state mid) t next ≡ Some TooBig → errno_for next TooBig ≡ None
+        → (has_number (state mid) ≡ false) ⊎ (has_category (state mid) ≡ false) → Runs (ask next rest) mid new t result → Goal
+    counted_out next rest fails untold greatest runs = elim (refused_so t mid new next rest TooBig fails result runs) [
       | inl ends ↦ ends_here ends
       | inr end ↦
           let here = stopped_here t end.mid new result (subst (λ (o : Option Errno). Runs (refused_with o) end.mid new t result) untold end.runs) in
@@ -164,35 +166,43 @@ module _ (session : Session) (f : Flat) (alone : IsFirstAlone f) (call : UnixCal
           by result here.unanswered (chain_unanswered old new t (all_granted calls ++ (next, Some TooBig) ∷ []) chain (exhausted_unless t old mid new old.line calls next so_far last greatest))
     ]
       where
-        by : (r : Result Reply Stopped) → IsErr r → DoesItsRow session f call old new t (Err (record {})) → DoesItsRow session f call old new t r
+        by : (r : Result Reply Stopped) → IsErr r → DoesItsRow session f me call old new t (Err (record {})) → DoesItsRow session f me call old new t r
         by (Ok reply) err row = absurd cc
         by (Err stopped) err row = row
 
-    module _ (stays : state mid ≡ state old) (lays_out : LaysOut session (state old) f) (errno : Errno) (is : refused session f [] alone.process call ≡ Some errno) where
+    -- one that makes an object, since the next object has no number
+    pub exhausted_step : (next : RawCall) (rest : AnswerOf next → Program) → check (state mid) t next ≡ Some TooBig → errno_for next TooBig ≡ None → has_number (state mid) ≡ false → Runs (ask next rest) mid new t result → Goal
+    exhausted_step next rest fails untold greatest runs = counted_out next rest fails untold (inl greatest) runs
+
+    -- and one that makes a category, since the next category has none
+    pub exhausted_category_step : (next : RawCall) (rest : AnswerOf next → Program) → check (state mid) t next ≡ Some TooBig → errno_for next TooBig ≡ None → has_category (state mid) ≡ false → Runs (ask next rest) mid new t result → Goal
+    exhausted_category_step next rest fails untold greatest runs = counted_out next rest fails untold (inr greatest) runs
+
+    module _ (stays : state mid ≡ state old) (lays_out : LaysOut session (state old) f) (errno : Errno) (is : refused session f me caller.process call ≡ Some errno) where
       -- a raw call that they refuse, as the flat rules refuse the call
       pub refused_step : (next : RawCall) (rest : AnswerOf next → Program) (denied : Denied) → check (state mid) t next ≡ Some denied → errno_for next denied ≡ Some errno
-          → ReadsAmong session f alone call old new t named (all_granted calls ++ (next, Some denied) ∷ []) (Refused errno) → Runs (ask next rest) mid new t result → Goal
+          → ReadsAmong session f me caller call old new t named (all_granted calls ++ (next, Some denied) ∷ []) (Refused errno) → Runs (ask next rest) mid new t result → Goal
       refused_step next rest denied fails told reads runs = elim (refused_so t mid new next rest denied fails result runs) [
         | inl ends ↦ ends_here ends
         | inr end ↦
             let said = replied t end.mid new (Refused errno) result (subst (λ (o : Option Errno). Runs (refused_with o) end.mid new t result) told end.runs) in
             let chain = chain_after t old mid new (all_granted calls) ((next, Some denied) ∷ []) so_far (end.mid, end.called, said.0) in
-            subst (DoesItsRow session f call old new t) (sym said.1)
-            (refused_row session f alone call old new t named (said.0.state ∙ end.called.state ∙ stays) lays_out calls next denied chain errno (told_shown next denied errno told) is reads)
+            subst (DoesItsRow session f me call old new t) (sym said.1)
+            (refused_row session f me caller call old new t named (said.0.state ∙ end.called.state ∙ stays) lays_out calls next denied chain errno (told_shown next denied errno told) is reads)
       ]
 
       -- and a call that is refused with no raw call more
-      pub refused_at_once : is_access errno ≡ false → is_permission errno ≡ false → ReadsAmong session f alone call old new t named (all_granted calls) (Refused errno) → Runs (Answers (Refused errno)) mid new t result → Goal
+      pub refused_at_once : is_access errno ≡ false → is_permission errno ≡ false → ReadsAmong session f me caller call old new t named (all_granted calls) (Refused errno) → Runs (Answers (Refused errno)) mid new t result → Goal
       refused_at_once no_access no_permission reads runs =
           let end = replied t mid new (Refused errno) result runs in
-          subst (DoesItsRow session f call old new t) (sym end.1)
-          (unchanged_row session f alone call old new t named (end.0.state ∙ stays) lays_out calls (kept end.0) errno no_access no_permission is reads)
+          subst (DoesItsRow session f me call old new t) (sym end.1)
+          (unchanged_row session f me caller call old new t named (end.0.state ∙ stays) lays_out calls (kept end.0) errno no_access no_permission is reads)
 
     -- a call that replies what the flat rules answer
-    pub answered_step : (reply : Reply) → reply ≡ flat.answer f [] alone.process call → refused session f [] alone.process call ≡ None → IsBacked (state old) (entries_of old.line t (all_granted calls)) (flat.answer f [] alone.process call)
-        → ReadsAmong session f alone call old new t named (all_granted calls) (flat.answer f [] alone.process call) → LaysOut session (state mid) (changed session f [] alone.process call) → IsThreadOf session (state mid) [] t → Runs (Answers reply) mid new t result → Goal
-    answered_step reply said is backed reads lays_out thread runs =
+    pub answered_step : (reply : Reply) → reply ≡ flat.answer f me caller.process call → refused session f me caller.process call ≡ None → IsBacked (state old) (entries_of old.line t (all_granted calls)) (flat.answer f me caller.process call)
+        → ReadsAmong session f me caller call old new t named (all_granted calls) (flat.answer f me caller.process call) → LaysOut session (state mid) (changed session f me caller.process call) → Runs (Answers reply) mid new t result → Goal
+    answered_step reply said is backed reads lays_out runs =
         let end = replied t mid new reply result runs in
-        subst (DoesItsRow session f call old new t) (sym (end.1 ∙ ap Ok said))
-        (granted_row session f alone call old new t named calls (kept end.0) is backed reads
-        (subst (λ (s : State). LaysOut session s (changed session f [] alone.process call)) (sym end.0.state) lays_out) (subst (λ (s : State). IsThreadOf session s [] t) (sym end.0.state) thread))
+        subst (DoesItsRow session f me call old new t) (sym (end.1 ∙ ap Ok said))
+        (granted_row session f me caller call old new t named calls (kept end.0) is backed reads
+        (subst (λ (s : State). LaysOut session s (changed session f me caller.process call)) (sym end.0.state) lays_out))

@@ -11,7 +11,7 @@ use Rattle.histar_flat.specs.declared.replies.Errno.{Errno}
 use Rattle.histar_flat.specs.declared.replies.Errno.TheVariants.{EACCES, ENOENT, ENOTDIR}
 use Rattle.histar_flat.specs.declared.replies.Reply.{Reply}
 use Rattle.histar_flat.specs.declared.replies.Reply.TheVariants.{Refused}
-use Rattle.histar_flat.specs.Words.{Name, Path}
+use Rattle.histar_flat.specs.Words.{Name, Path, ProcName}
 use Rattle.histar_flat.specs.Sessions.{Session}
 use Rattle.histar_flat.specs.Files.{get}
 use Rattle.histar_flat.specs.Classes.{Class, Process, may_read}
@@ -106,16 +106,16 @@ module _ (line t : ℕ) where
   among_refused [] last denied = inl (refl, tt)
   among_refused (call ∷ calls) last denied = inl (refl, among_refused calls last denied)
 
-module _ (session : Session) (ok : IsSession session) (s : State) (f : Flat) (t : ℕ) (ready : IsReady session s f t) where
+module _ (session : Session) (ok : IsSession session) (s : State) (f : Flat) (me : ProcName) (t : ℕ) (ready : IsReady session s f me t) where
   abbrev pub numbers : Numbers
   numbers = ready.lays_out.laid.naming.number
 
-  abbrev pub me : Process
-  me = ready.alone.process
+  abbrev p : Process
+  p = ready.caller.process
 
-  -- the thread is that of process 0
-  pub runs : RunsAs session s f ready.lays_out.laid [] ready.alone.process t
-  runs = (ready.alone.stands, ready.alone.runs, (thread_back session s f ready.lays_out.laid [] t ready.thread).3)
+  -- the thread is that of the process
+  pub runs : RunsAs session s f ready.lays_out.laid me ready.caller.process t
+  runs = (ready.caller.stands, ready.caller.runs, (thread_back session s f ready.lays_out.laid me t ready.thread).3)
 
   -- where a directory is found
   abbrev pub place_at : Path → Place
@@ -127,7 +127,7 @@ module _ (session : Session) (ok : IsSession session) (s : State) (f : Flat) (t 
 
   -- the raw calls of the walk into it
   abbrev pub walk_reads : Path → List RawCall
-  walk_reads d = map read_of (tested session f me d)
+  walk_reads d = map read_of (tested session f p d)
 
   -- the directory once it was read
   abbrev pub directory_read : Path → Directory
@@ -159,21 +159,21 @@ module _ (session : Session) (ok : IsSession session) (s : State) (f : Flat) (t 
     pub found : IsDirectoryAt session s d (place_at d).container (place_at d).listing
     found = directory_found session s f ready.lays_out.laid d (place_at d).container (place_at d).listing dir at_container at_listing
 
-    pub reads_is : reads session f me d ≡ may_read session me stands.0
-    reads_is = ap (λ (o : Option Node). is_some_and o (λ n. may_read session me n.class)) stands.1
+    pub reads_is : reads session f p d ≡ may_read session p stands.0
+    reads_is = ap (λ (o : Option Node). is_some_and o (λ n. may_read session p n.class)) stands.1
 
     -- its directory segment is read unless the process may not read it
-    pub read_said : check s t (read_of d) ≡ unless (reads session f me d) Observe
+    pub read_said : check s t (read_of d) ≡ unless (reads session f p d) Observe
     read_said =
-        read_listing_said session s f ready.lays_out.laid ok [] me t runs d stands.0 stands.1 (place_at d).container (place_at d).listing at_container at_listing
+        read_listing_said session s f ready.lays_out.laid ok me p t runs d stands.0 stands.1 (place_at d).container (place_at d).listing at_container at_listing
         ∙ ap (λ (b : Bool). unless b Observe) (sym reads_is)
 
   -- the walk looks whether directories may be read, and nothing else
-  tested_dirs : (d : Path) → AllByRecursion (λ (q : Path). is_dir_at f q ≡ true) (tested session f me d)
+  tested_dirs : (d : Path) → AllByRecursion (λ (q : Path). is_dir_at f q ≡ true) (tested session f p d)
   tested_dirs [] = (slash_is_dir, tt)
   tested_dirs (n ∷ d) =
-      all_joined (λ (q : Path). is_dir_at f q ≡ true) (tested session f me d) (if not (is_some (into session f me d)) && is_dir_at f (n ∷ d) then (n ∷ d) ∷ [] else []) (tested_dirs d)
-      (by (not (is_some (into session f me d))) (is_dir_at f (n ∷ d)) refl)
+      all_joined (λ (q : Path). is_dir_at f q ≡ true) (tested session f p d) (if not (is_some (into session f p d)) && is_dir_at f (n ∷ d) then (n ∷ d) ∷ [] else []) (tested_dirs d)
+      (by (not (is_some (into session f p d))) (is_dir_at f (n ∷ d)) refl)
     where
       by : (a b : Bool) → is_dir_at f (n ∷ d) ≡ b → AllByRecursion (λ (q : Path). is_dir_at f q ≡ true) (if a && b then (n ∷ d) ∷ [] else [])
       by true true e = (e, tt)
@@ -185,37 +185,37 @@ module _ (session : Session) (ok : IsSession session) (s : State) (f : Flat) (t 
   are_reads (d ∷ more) all = ((place_at d).container, (place_at d).listing, map read_of more, found d all.0, refl, are_reads more all.1)
 
   -- the raw calls of the walk into a directory read the directories that it looks at
-  pub reads_way : (d : Path) → AreReadsOf session s (tested session f me d) (walk_reads d)
-  reads_way d = are_reads (tested session f me d) (tested_dirs d)
+  pub reads_way : (d : Path) → AreReadsOf session s (tested session f p d) (walk_reads d)
+  reads_way d = are_reads (tested session f p d) (tested_dirs d)
 
   -- the reads of the way into a directory are the reads that a call that looks into it cannot do without
-  pub has_way : (d : Path) (entries : List TraceEntry) → AreAmong (walk_reads d) entries → HasWay session s f me d entries
+  pub has_way : (d : Path) (entries : List TraceEntry) → AreAmong (walk_reads d) entries → HasWay session s f p d entries
   has_way d entries among = (walk_reads d, reads_way d, among)
 
   -- and so for a call on what lies in the directory
-  pub has_walk : (m : Name) (d : Path) (entries : List TraceEntry) → AreAmong (walk_reads d) entries → HasWalk session s f me (m ∷ d) entries
+  pub has_walk : (m : Name) (d : Path) (entries : List TraceEntry) → AreAmong (walk_reads d) entries → HasWalk session s f p (m ∷ d) entries
   has_walk m d entries among = has_way d entries among
 
   -- they are among the entries of the walk and of raw calls behind it
-  pub walked_then : (m : Name) (d : Path) (line : ℕ) (more : List RawCall) → HasWalk session s f me (m ∷ d) (entries_of line t (all_granted (walk_reads d ++ more)))
+  pub walked_then : (m : Name) (d : Path) (line : ℕ) (more : List RawCall) → HasWalk session s f p (m ∷ d) (entries_of line t (all_granted (walk_reads d ++ more)))
   walked_then m d line more = has_walk m d _ (among_then line t (walk_reads d) (walk_reads d) more (among_granted_all line t (walk_reads d)))
 
   -- also of one that was refused
-  pub walked_also : (m : Name) (d : Path) (line : ℕ) (steps : List Step) → HasWalk session s f me (m ∷ d) (entries_of line t (all_granted (walk_reads d) ++ steps))
+  pub walked_also : (m : Name) (d : Path) (line : ℕ) (steps : List Step) → HasWalk session s f p (m ∷ d) (entries_of line t (all_granted (walk_reads d) ++ steps))
   walked_also m d line steps = has_walk m d _ (among_also line t (walk_reads d) (walk_reads d) steps (among_granted_all line t (walk_reads d)))
 
   -- the way into a directory is open: it is one, and the process may read it
-  module _ (d : Path) (open_so_far : into session f me d ≡ None) where
-    passed_so : (d : Path) → into session f me d ≡ None → (is_dir_at f d ≡ true) × (reads session f me d ≡ true)
-    passed_so [] is = (slash_is_dir, passed (reads session f me []) EACCES is)
+  module _ (d : Path) (open_so_far : into session f p d ≡ None) where
+    passed_so : (d : Path) → into session f p d ≡ None → (is_dir_at f d ≡ true) × (reads session f p d ≡ true)
+    passed_so [] is = (slash_is_dir, passed (reads session f p []) EACCES is)
     passed_so (n ∷ d) is =
-        let all = three_pass (into session f me d) (is_there f (n ∷ d)) (is_dir_at f (n ∷ d)) (reads session f me (n ∷ d)) ENOENT ENOTDIR EACCES is in
+        let all = three_pass (into session f p d) (is_there f (n ∷ d)) (is_dir_at f (n ∷ d)) (reads session f p (n ∷ d)) ENOENT ENOTDIR EACCES is in
         (all.2, all.3)
 
     pub dir : is_dir_at f d ≡ true
     dir = (passed_so d open_so_far).0
 
-    pub seen : may_read session me (stands d dir).0 ≡ true
+    pub seen : may_read session p (stands d dir).0 ≡ true
     seen = sym (reads_is d dir) ∙ (passed_so d open_so_far).1
 
   module _ (m : Name) (d : Path) where
@@ -244,71 +244,71 @@ module _ (session : Session) (ok : IsSession session) (s : State) (f : Flat) (t 
         let dir : is_dir_at f (m ∷ d) ≡ true = ap (λ (o : Option Node). is_some_and o is_dir) is in
         target_is (Some (record { class = class; content = Dir })) is ∙ (λ i. both_numbers (at_container (m ∷ d) dir i) (at_listing (m ∷ d) dir i))
 
-module _ (session : Session) (ok : IsSession session) (old new : KernelModel) (f : Flat) (t : ℕ) (ready : IsReady session (state old) f t) (call : UnixCall) (result : Result Reply Stopped) where
+module _ (session : Session) (ok : IsSession session) (old new : KernelModel) (f : Flat) (me : ProcName) (t : ℕ) (ready : IsReady session (state old) f me t) (call : UnixCall) (result : Result Reply Stopped) where
   abbrev Row : Type 0
-  Row = Goal session f ready.alone call old new t ready.thread result
+  Row = Goal session f me ready.caller call old new t ready.thread result
 
-  abbrev p : Process
-  p = ready.alone.process
+  abbrev process : Process
+  process = ready.caller.process
 
   abbrev calls_to : Path → List RawCall
-  calls_to d = walk_reads session ok (state old) f t ready d
+  calls_to d = walk_reads session ok (state old) f me t ready d
 
   abbrev last_of : Path → Directory
-  last_of d = directory_read session ok (state old) f t ready d
+  last_of d = directory_read session ok (state old) f me t ready d
 
   abbrev read : Path → RawCall
-  read d = read_of session ok (state old) f t ready d
+  read d = read_of session ok (state old) f me t ready d
 
   -- the call is refused so, and these raw calls are the reads that it cannot do without
   abbrev pub IsRefusedBy : Errno → List Step → Type 0
-  IsRefusedBy errno steps = (refused session f [] p call ≡ Some errno) × ReadsAmong session f ready.alone call old new t ready.thread steps (Refused errno)
+  IsRefusedBy errno steps = (refused session f me process call ≡ Some errno) × ReadsAmong session f me ready.caller call old new t ready.thread steps (Refused errno)
 
   -- where the way into the directory is refused, so is the call, once the reads of the walk are made
   abbrev pub Refuses : Path → Type 0
-  Refuses d = (errno : Errno) → into session f p d ≡ Some errno → (steps : List Step) → AreAmong (calls_to d) (entries_of old.line t steps) → IsRefusedBy errno steps
+  Refuses d = (errno : Errno) → into session f process d ≡ Some errno → (steps : List Step) → AreAmong (calls_to d) (entries_of old.line t steps) → IsRefusedBy errno steps
 
   -- where it is not, the call goes on with the directory
   abbrev pub GoesOn : Path → (Directory → Program) → Type 0
-  GoesOn d rest = into session f p d ≡ None → (mid : KernelModel) → state mid ≡ state old → Chain old t (all_granted (calls_to d)) mid → Runs (rest (last_of d)) mid new t result → Row
+  GoesOn d rest = into session f process d ≡ None → (mid : KernelModel) → state mid ≡ state old → Chain old t (all_granted (calls_to d)) mid → Runs (rest (last_of d)) mid new t result → Row
 
   -- a directory is read after these raw calls
   pub read_step : (d : Path) → is_dir_at f d ≡ true → (before : List RawCall) (mid : KernelModel) → state mid ≡ state old → Chain old t (all_granted before) mid
-      → (rest : Directory → Program) → Runs (read_directory (place_at session ok (state old) f t ready d) rest) mid new t result
-      → (reads session f p d ≡ false → IsRefusedBy EACCES (all_granted before ++ (read d, Some Observe) ∷ []))
-      → (reads session f p d ≡ true → (later : KernelModel) → state later ≡ state old → Chain old t (all_granted (before ++ read d ∷ [])) later → Runs (rest (last_of d)) later new t result → Row) → Row
+      → (rest : Directory → Program) → Runs (read_directory (place_at session ok (state old) f me t ready d) rest) mid new t result
+      → (reads session f process d ≡ false → IsRefusedBy EACCES (all_granted before ++ (read d, Some Observe) ∷ []))
+      → (reads session f process d ≡ true → (later : KernelModel) → state later ≡ state old → Chain old t (all_granted (before ++ read d ∷ [])) later → Runs (rest (last_of d)) later new t result → Row) → Row
   unfolding read_directory
-  read_step d dir before mid stays chain rest run refuses go_on = by (reads session f p d) refl
+  read_step d dir before mid stays chain rest run refuses go_on = by (reads session f process d) refl
     where
-      said : (b : Bool) → reads session f p d ≡ b → check (state mid) t (read d) ≡ unless b Observe
-      said b is = ap (λ (s : State). check s t (read d)) stays ∙ read_said session ok (state old) f t ready d dir ∙ ap (λ (b : Bool). unless b Observe) is
+      said : (b : Bool) → reads session f process d ≡ b → check (state mid) t (read d) ≡ unless b Observe
+      said b is = ap (λ (s : State). check s t (read d)) stays ∙ read_said session ok (state old) f me t ready d dir ∙ ap (λ (b : Bool). unless b Observe) is
 
-      by : (b : Bool) → reads session f p d ≡ b → Row
+      by : (b : Bool) → reads session f process d ≡ b → Row
       by false is =
           let end = refuses is in
-          refused_step session f ready.alone call old new t ready.thread result before mid chain stays ready.lays_out EACCES end.0 (read d) _ Observe (said false is) refl end.1 run
+          refused_step session f me ready.caller call old new t ready.thread result before mid chain stays ready.lays_out EACCES end.0 (read d) _ Observe (said false is) refl end.1 run
       by true is =
-          granted_step session f ready.alone call old new t ready.thread result before mid chain (read d) _ (said true is) run
+          granted_step session f me ready.caller call old new t ready.thread result before mid chain (read d) _ (said true is) run
           (λ later bytes called right longer on.
-          let bytes_are : bytes ≡ bytes_in ((state old).objects (place_at session ok (state old) f t ready d).listing) = right ∙ ap (λ (s : State). bytes_in (s.objects (place_at session ok (state old) f t ready d).listing)) stays in
+          let bytes_are : bytes ≡ bytes_in ((state old).objects (place_at session ok (state old) f me t ready d).listing) = right ∙ ap (λ (s : State). bytes_in (s.objects (place_at session ok (state old) f me t ready d).listing)) stays in
           let entries = directory_of f.files ready.lays_out.laid.naming.number d in
-          listed_step session f ready.alone call old new t ready.thread result (before ++ read d ∷ []) later longer bytes entries
-          (subst (λ (b : List ℕ). IsDirectory b entries) (sym bytes_are) (holds session ok (state old) f t ready d dir)) _ on
+          listed_step session f me ready.caller call old new t ready.thread result (before ++ read d ∷ []) later longer bytes entries
+          (subst (λ (b : List ℕ). IsDirectory b entries) (sym bytes_are) (holds session ok (state old) f me t ready d dir)) _ on
           (go_on is later (called.state ∙ stays) longer))
 
   -- from a directory that may be read on to the next
-  module _ (n : Name) (d : Path) (rest : Directory → Program) (refuses : Refuses (n ∷ d)) (go_on : GoesOn (n ∷ d) rest) (open_so_far : into session f p d ≡ None) (mid : KernelModel) (stays : state mid ≡ state old) (chain : Chain old t (all_granted (calls_to d)) mid) where
+  module _ (n : Name) (d : Path) (rest : Directory → Program) (refuses : Refuses (n ∷ d)) (go_on : GoesOn (n ∷ d) rest) (open_so_far : into session f process d ≡ None) (mid : KernelModel) (stays : state mid ≡ state old) (chain : Chain old t (all_granted (calls_to d)) mid) where
     -- the tests of the next name
     abbrev tests : Option Node → Option Errno
-    tests o = unless (is_some_and o (λ n. true)) ENOENT orelse unless (is_some_and o is_dir) ENOTDIR orelse unless (is_some_and o (λ n. may_read session p n.class)) EACCES
+    tests o = unless (is_some_and o (λ n. true)) ENOENT orelse unless (is_some_and o is_dir) ENOTDIR orelse unless (is_some_and o (λ n. may_read session process n.class)) EACCES
 
-    into_is : (o : Option Node) → get f.files (n ∷ d) ≡ o → into session f p (n ∷ d) ≡ tests o
+    into_is : (o : Option Node) → get f.files (n ∷ d) ≡ o → into session f process (n ∷ d) ≡ tests o
     into_is o is = λ i. open_so_far i orelse tests (is i)
 
     -- the directories that are looked at
     calls_are : (b : Bool) → is_dir_at f (n ∷ d) ≡ b → calls_to (n ∷ d) ≡ calls_to d ++ (if b then read (n ∷ d) ∷ [] else [])
     calls_are b is =
-        map-append read (tested session f p d) (if not (is_some (into session f p d)) && is_dir_at f (n ∷ d) then (n ∷ d) ∷ [] else [])
+        map-append read (tested session f process d) (if not (is_some (into session f process d)) && is_dir_at f (n ∷ d) then (n ∷ d) ∷ [] else [])
         ∙ (λ i. calls_to d ++ map read (if not (is_some (open_so_far i)) && is i then (n ∷ d) ∷ [] else [])) ∙ by b
       where
         by : (b : Bool) → calls_to d ++ map read (if b then (n ∷ d) ∷ [] else []) ≡ calls_to d ++ (if b then read (n ∷ d) ∷ [] else [])
@@ -316,14 +316,14 @@ module _ (session : Session) (ok : IsSession session) (old new : KernelModel) (f
         by false = refl
 
     -- the walk ends here, with no raw call more
-    breaks_off : (errno : Errno) → into session f p (n ∷ d) ≡ Some errno → is_dir_at f (n ∷ d) ≡ false → IsRefusedBy errno (all_granted (calls_to d))
+    breaks_off : (errno : Errno) → into session f process (n ∷ d) ≡ Some errno → is_dir_at f (n ∷ d) ≡ false → IsRefusedBy errno (all_granted (calls_to d))
     breaks_off errno is no_dir = refuses errno is (all_granted (calls_to d))
         (subst (λ (calls : List RawCall). AreAmong calls (entries_of old.line t (all_granted (calls_to d)))) (sym (calls_are false no_dir ∙ append-nil (calls_to d))) (among_granted_all old.line t (calls_to d)))
 
-    enters : (class : Class) → get f.files (n ∷ d) ≡ Some (record { class = class; content = Dir }) → Runs (read_directory (place_at session ok (state old) f t ready (n ∷ d)) rest) mid new t result → Row
+    enters : (class : Class) → get f.files (n ∷ d) ≡ Some (record { class = class; content = Dir }) → Runs (read_directory (place_at session ok (state old) f me t ready (n ∷ d)) rest) mid new t result → Row
     enters class is on =
         let dir : is_dir_at f (n ∷ d) ≡ true = ap (λ (o : Option Node). is_some_and o is_dir) is in
-        let into_so : into session f p (n ∷ d) ≡ unless (reads session f p (n ∷ d)) EACCES = λ i. open_so_far i orelse unless (is_some_and (is i) (λ n. true)) ENOENT orelse unless (is_some_and (is i) is_dir) ENOTDIR orelse unless (reads session f p (n ∷ d)) EACCES in
+        let into_so : into session f process (n ∷ d) ≡ unless (reads session f process (n ∷ d)) EACCES = λ i. open_so_far i orelse unless (is_some_and (is i) (λ n. true)) ENOENT orelse unless (is_some_and (is i) is_dir) ENOTDIR orelse unless (reads session f process (n ∷ d)) EACCES in
         read_step (n ∷ d) dir (calls_to d) mid stays chain rest on
         (λ unseen. refuses EACCES (into_so ∙ ap (λ (b : Bool). unless b EACCES) unseen) (all_granted (calls_to d) ++ (read (n ∷ d), Some Observe) ∷ [])
         (subst (λ (calls : List RawCall). AreAmong calls (entries_of old.line t (all_granted (calls_to d) ++ (read (n ∷ d), Some Observe) ∷ []))) (sym (calls_are true dir)) (among_refused old.line t (calls_to d) (read (n ∷ d)) Observe)))
@@ -334,35 +334,35 @@ module _ (session : Session) (ok : IsSession session) (old new : KernelModel) (f
     at_name target = given (directory_at target) (λ place. read_directory place rest)
 
     by_content : (class : Class) (c : Content) → get f.files (n ∷ d) ≡ Some (record { class = class; content = c }) → Runs (at_name (finite.get (directory_of f.files ready.lays_out.laid.naming.number d) n)) mid new t result → Row
-    by_content class Dir is on = enters class is (subst (λ (target : Option Target). Runs (at_name target) mid new t result) (directory_there session ok (state old) f t ready n d class is) on)
+    by_content class Dir is on = enters class is (subst (λ (target : Option Target). Runs (at_name target) mid new t result) (directory_there session ok (state old) f me t ready n d class is) on)
     by_content class (File bytes) is on =
         let end = breaks_off ENOTDIR (into_is _ is) (ap (λ (o : Option Node). is_some_and o is_dir) is) in
-        refused_at_once session f ready.alone call old new t ready.thread result (calls_to d) mid chain stays ready.lays_out ENOTDIR end.0 refl refl end.1
-        (subst (λ (target : Option Target). Runs (at_name target) mid new t result) (file_there session ok (state old) f t ready n d class bytes is) on)
+        refused_at_once session f me ready.caller call old new t ready.thread result (calls_to d) mid chain stays ready.lays_out ENOTDIR end.0 refl refl end.1
+        (subst (λ (target : Option Target). Runs (at_name target) mid new t result) (file_there session ok (state old) f me t ready n d class bytes is) on)
 
     next_step : (o : Option Node) → get f.files (n ∷ d) ≡ o → Runs (at_name (finite.get (directory_of f.files ready.lays_out.laid.naming.number d) n)) mid new t result → Row
     next_step None is on =
         let end = breaks_off ENOENT (into_is _ is) (ap (λ (o : Option Node). is_some_and o is_dir) is) in
-        refused_at_once session f ready.alone call old new t ready.thread result (calls_to d) mid chain stays ready.lays_out ENOENT end.0 refl refl end.1
-        (subst (λ (target : Option Target). Runs (at_name target) mid new t result) (nothing_there session ok (state old) f t ready n d is) on)
+        refused_at_once session f me ready.caller call old new t ready.thread result (calls_to d) mid chain stays ready.lays_out ENOENT end.0 refl refl end.1
+        (subst (λ (target : Option Target). Runs (at_name target) mid new t result) (nothing_there session ok (state old) f me t ready n d is) on)
     next_step (Some node) is on = by_content node.class node.content is on
 
   -- The walk into a directory: it is refused as the flat rules refuse the call, or the call goes on with the directory.
   pub walk_step : (d : Path) (rest : Directory → Program) → Runs (walk (places_of (length session.users)) d rest) old new t result → Refuses d → GoesOn d rest → Row
   unfolding walk
   walk_step [] rest run refuses go_on =
-      read_step [] (slash_is_dir session ok (state old) f t ready) [] old refl (same_kernel old) rest
-      (subst (λ (place : Place). Runs (read_directory place rest) old new t result) (slash_place session ok (state old) f t ready) run)
+      read_step [] (slash_is_dir session ok (state old) f me t ready) [] old refl (same_kernel old) rest
+      (subst (λ (place : Place). Runs (read_directory place rest) old new t result) (slash_place session ok (state old) f me t ready) run)
       (λ unseen. refuses EACCES (ap (λ (b : Bool). unless b EACCES) unseen) ((read [], Some Observe) ∷ []) (inl (refl, tt)))
       (λ seen later stays chain on. go_on (ap (λ (b : Bool). unless b EACCES) seen) later stays chain on)
   walk_step (n ∷ d) rest run refuses go_on =
       walk_step d (λ above. given (directory_at (finite.get above.entries n)) (λ place. read_directory place rest)) run
-      (λ errno is steps among. refuses errno (ap (λ (o : Option Errno). o orelse unless (is_there f (n ∷ d)) ENOENT orelse unless (is_dir_at f (n ∷ d)) ENOTDIR orelse unless (reads session f p (n ∷ d)) EACCES) is) steps
+      (λ errno is steps among. refuses errno (ap (λ (o : Option Errno). o orelse unless (is_there f (n ∷ d)) ENOENT orelse unless (is_dir_at f (n ∷ d)) ENOTDIR orelse unless (reads session f process (n ∷ d)) EACCES) is) steps
       (subst (λ (calls : List RawCall). AreAmong calls (entries_of old.line t steps)) (sym (stopped_before n d errno is)) among))
       (λ open_so_far mid stays chain on. next_step n d rest refuses go_on open_so_far mid stays chain (get f.files (n ∷ d)) refl on)
     where
       -- a walk that was refused looks at no directory more
-      stopped_before : (n : Name) (d : Path) (errno : Errno) → into session f p d ≡ Some errno → calls_to (n ∷ d) ≡ calls_to d
+      stopped_before : (n : Name) (d : Path) (errno : Errno) → into session f process d ≡ Some errno → calls_to (n ∷ d) ≡ calls_to d
       stopped_before n d errno is =
-          map-append read (tested session f p d) (if not (is_some (into session f p d)) && is_dir_at f (n ∷ d) then (n ∷ d) ∷ [] else [])
+          map-append read (tested session f process d) (if not (is_some (into session f process d)) && is_dir_at f (n ∷ d) then (n ∷ d) ∷ [] else [])
           ∙ (λ i. calls_to d ++ map read (if not (is_some (is i)) && is_dir_at f (n ∷ d) then (n ∷ d) ∷ [] else [])) ∙ append-nil (calls_to d)
