@@ -11,7 +11,7 @@ use Rattle.histar_flat.specs.declared.replies.Errno.{Errno}
 use Rattle.histar_flat.specs.declared.replies.Errno.TheVariants.{ENOENT, EACCES, EAUTH}
 use Rattle.histar_flat.specs.declared.replies.Reply.{Reply}
 use Rattle.histar_flat.specs.declared.replies.Reply.TheVariants.{Done, Refused}
-use Rattle.histar_flat.specs.Words.{Name, Password}
+use Rattle.histar_flat.specs.Words.{Name, Password, ProcName}
 use Rattle.histar_flat.specs.PathOrder.{same}
 use Rattle.histar_flat.specs.Sessions.{Session, session_of, user_named, user_number}
 use Rattle.histar_flat.specs.Classes.{Process, is_free}
@@ -35,21 +35,25 @@ use Rattle.histar_calls.specs.Labelling.{owner_of, cleared_of, owning, cleared_a
 use Rattle.histar_calls.specs.Programs.{Program, Runs}
 use Rattle.histar_calls.specs.Programs.Program.{Answers}
 use Rattle.histar_calls.specs.Parts.{◌>>=◌, ◌>>◌, ask}
+use Rattle.histar_process.specs.declared.caller.Caller.{Caller}
+use Rattle.histar_process.specs.Caller.{caller_at}
+use Rattle.histar_login.specs.Start.{places_of}
 use Rattle.histar_login.specs.Login.{place_of, password_of, gate_of, user_label, user_clearance, entering, label_if, clearance_if, reply_if, login_at, login_as_program}
 use Rattle.histar_refinement.specs.Categories.{CategoryName, among}
+use Rattle.histar_refinement.specs.Categories.CategoryName.{ReadsProcess, WritesProcess}
 use Rattle.histar_refinement.specs.Guards.{Rights, rights_label, rights_clearance}
 use Rattle.histar_refinement.specs.Labels.{thread_rights, gate_rights}
 use Rattle.histar_refinement.specs.LaysOut.{Laid, LaysOut}
 use Rattle.histar_refinement.specs.Laws.{RunsAs}
-use Rattle.histar_refinement.specs.Lines.{IsThreadOf}
 use Rattle.histar_refinement.proofs.SessionLemmas.{user_range}
 use Rattle.histar_refinement.proofs.Standing.{thread_found}
 use Rattle.histar_refinement.proofs.StatusFound.{thread_back}
 use Rattle.histar_refinement.proofs.LeftObjects.{password_found, unnumbered_user}
+use Rattle.histar_refinement.proofs.CallerFound.{caller_found}
 use Rattle.histar_refinement.proofs.LoginChecks.{more, wanted, limit, entered, as_user, enter_said, read_password_said, user_owns_less, own_owns_less, set_label_said, relabelled_state, set_clearance_said}
 use Rattle.histar_refinement.proofs.LoggingIn.{lays_out_login}
 use Rattle.histar_refinement.proofs.CallLabels.{equal_bytes, number_by_place, reads_numbered, writes_numbered, user_label_is, user_clearance_is}
-use Rattle.histar_login_rows.proofs.TakenLabels.{labels_taken, labels_back, kept_bytes, thread_kept}
+use Rattle.histar_login_rows.proofs.TakenLabels.{labels_taken, labels_back, kept_bytes}
 use Rattle.histar_rows.specs.Laws.{LoginsAreRows}
 use Rattle.histar_rows.specs.Rows.{AreAmong, reads_of_login, IsReady, DoesItsRow}
 use Rattle.histar_rows.proofs.Chains.{all_granted, entries_of, Chain}
@@ -59,12 +63,16 @@ use Rattle.histar_rows.proofs.Steps.{granted_step, refused_at_once, answered_ste
 free_in_none : (p : Process) → p.chain ≡ [] → is_free p ≡ true
 free_in_none p e = λ i. elim (e i) as (λ _. Bool) [ [] ↦ true | job ∷ jobs ↦ false ]
 
-module _ (users : List User) (name : Name) (password : Password) (old new : KernelModel) (f : Flat) (t : ℕ) (result : Result Reply Stopped) (ready : IsReady (session_of users) (state old) f t) where
+module _ (users : List User) (name : Name) (password : Password) (me : ProcName) (caller : Caller) (old new : KernelModel) (f : Flat) (result : Result Reply Stopped)
+    (ready : IsReady (session_of users) (state old) f me caller.thread) (found : caller_at (state old) (places_of (length users)).home me ≡ Some caller) where
+  abbrev t : ℕ
+  t = caller.thread
+
   abbrev session : Session
   session = record { users = users; groups = [] }
 
   abbrev p : Process
-  p = ready.alone.process
+  p = ready.caller.process
 
   abbrev l : Laid (record { users = users; groups = [] }) (state old) f
   l = ready.lays_out.laid
@@ -73,25 +81,32 @@ module _ (users : List User) (name : Name) (password : Password) (old new : Kern
   call = Login name password
 
   abbrev Goal : Type 0
-  Goal = DoesItsRow session f call old new t result
+  Goal = DoesItsRow session f me call old new t result
 
-  runs_as : RunsAs session (state old) f l [] p t
-  runs_as = (ready.alone.stands, ready.alone.runs, (thread_back session (state old) f l [] t ready.thread).3)
+  runs_as : RunsAs session (state old) f l me p t
+  runs_as = (ready.caller.stands, ready.caller.runs, (thread_back session (state old) f l me t ready.thread).3)
+
+  -- the numbers of its own two categories
+  own_reads : l.category (ReadsProcess me) ≡ caller.read
+  own_reads = (caller_found session (state old) f l me caller found).1.reads
+
+  own_writes : l.category (WritesProcess me) ≡ caller.write
+  own_writes = (caller_found session (state old) f l me caller found).1.writes
 
   is_alone : is_free p ≡ true
-  is_alone = free_in_none p ready.alone.free
+  is_alone = free_in_none p ready.caller.free
 
   -- what the flat rules refuse, in their order
   abbrev refusal : Option User → Bool → Option Errno
   refusal found alone = unless (is_some found) ENOENT orelse unless alone EACCES orelse unless (is_some_and found (λ (u : User). same u.password password)) EAUTH
 
-  refused_is : (found : Option User) → user_named users name ≡ found → refused session f [] p call ≡ refusal found true
+  refused_is : (found : Option User) → user_named users name ≡ found → refused session f me p call ≡ refusal found true
   refused_is found e = λ i. refusal (e i) (is_alone i)
 
   -- no user has the name
   unknown : place_of users name ≡ None → Runs (Answers (Refused ENOENT)) old new t result → Goal
   unknown nowhere runs =
-      refused_at_once session f ready.alone call old new t ready.thread result [] old (same_kernel old) refl ready.lays_out ENOENT
+      refused_at_once session f me ready.caller call old new t ready.thread result [] old (same_kernel old) refl ready.lays_out ENOENT
       (refused_is None (unnumbered_user session name (number_by_place session name ∙ ap (option_map (λ place. place + 1)) nowhere))) refl refl
       (subst (λ (o : Option ℕ). AreAmong (reads_of_login session o false) []) (sym nowhere) tt) runs
 
@@ -106,13 +121,13 @@ module _ (users : List User) (name : Name) (password : Password) (old new : Kern
     user = let found = password_found session (state old) f l name (place + 1) numbered in (found.0, found.1, ap bytes_in found.2)
 
     abbrev own : Levels
-    own = rights_label l.category (thread_rights session [] p)
+    own = rights_label l.category (thread_rights session me p)
 
     abbrev most : Levels
-    most = rights_clearance l.category (thread_rights session [] p)
+    most = rights_clearance l.category (thread_rights session me p)
 
     thread : (state old).objects t ≡ Some (thread_of own most)
-    thread = thread_found session (state old) f l [] p runs_as.0 runs_as.1 t runs_as.2
+    thread = thread_found session (state old) f l me p runs_as.0 runs_as.1 t runs_as.2
 
     -- ---- the labels that the code hands in are those of names
 
@@ -123,22 +138,22 @@ module _ (users : List User) (name : Name) (password : Password) (old new : Kern
     gate_clearance = λ k. cleared_at (reads_numbered session (state old) f l (place + 1) high k ∷ writes_numbered session (state old) f l (place + 1) high k ∷ [])
 
     abbrev behind : State
-    behind = entered session (state old) f l [] p t runs_as name (place + 1) numbered
+    behind = entered session (state old) f l me p t runs_as name (place + 1) numbered
 
     -- behind the gate the password is what it was
     password_then : bytes_in (behind.objects (password_of (place + 1))) ≡ user.0.password
-    password_then = kept_bytes (state old) t own most thread (wanted session (state old) f l [] p t runs_as name (place + 1) numbered) (limit session (state old) f l [] p t runs_as name (place + 1) numbered) (password_of (place + 1)) ∙ user.2
+    password_then = kept_bytes (state old) t own most thread (wanted session (state old) f l me p t runs_as name (place + 1) numbered) (limit session (state old) f l me p t runs_as name (place + 1) numbered) (password_of (place + 1)) ∙ user.2
 
     abbrev process_then : Process
-    process_then = as_user session (state old) f l [] p t runs_as name (place + 1) numbered
+    process_then = as_user session (state old) f l me p t runs_as name (place + 1) numbered
 
-    user_takes : user_label (length users) (place + 1) ≡ rights_label l.category (thread_rights session [] process_then)
-    user_takes = sym (user_label_is users (state old) f l name (place + 1) numbered p.exited p.born)
-        ∙ λ k. rights_label l.category (thread_rights session [] (record { user = name; chain = sym ready.alone.free k; held = []; exited = p.exited; born = p.born }))
+    user_takes : user_label caller (place + 1) ≡ rights_label l.category (thread_rights session me process_then)
+    user_takes = sym (user_label_is users (state old) f l me caller own_reads own_writes name (place + 1) numbered p.exited p.born)
+        ∙ λ k. rights_label l.category (thread_rights session me (record { user = name; chain = sym ready.caller.free k; held = []; exited = p.exited; born = p.born }))
 
-    user_clears : user_clearance (length users) (place + 1) ≡ rights_clearance l.category (thread_rights session [] process_then)
-    user_clears = sym (user_clearance_is users (state old) f l name (place + 1) numbered p.exited p.born)
-        ∙ λ k. rights_clearance l.category (thread_rights session [] (record { user = name; chain = sym ready.alone.free k; held = []; exited = p.exited; born = p.born }))
+    user_clears : user_clearance caller (place + 1) ≡ rights_clearance l.category (thread_rights session me process_then)
+    user_clears = sym (user_clearance_is users (state old) f l me caller own_reads own_writes name (place + 1) numbered p.exited p.born)
+        ∙ λ k. rights_clearance l.category (thread_rights session me (record { user = name; chain = sym ready.caller.free k; held = []; exited = p.exited; born = p.born }))
 
     -- ---- the raw calls
 
@@ -154,7 +169,7 @@ module _ (users : List User) (name : Name) (password : Password) (old new : Kern
     enters_said : check (state old) t enters ≡ None
     enters_said =
         (λ k. check (state old) t (Enter root_number (gate_of (place + 1)) (floor_of own (sym gate_label k)) (join_of most (sym gate_clearance k)) own))
-        ∙ enter_said session (state old) f l [] p t runs_as name (place + 1) numbered ∙ ap (λ (b : Bool). unless b Gate) is_alone
+        ∙ enter_said session (state old) f l me p t runs_as name (place + 1) numbered ∙ ap (λ (b : Bool). unless b Gate) is_alone
 
     -- behind it the thread has the labels that the code asks for
     abbrev code_label : Levels
@@ -168,10 +183,10 @@ module _ (users : List User) (name : Name) (password : Password) (old new : Kern
 
     -- the last raw calls, and the reply
     abbrev takes_label : Bool → RawCall
-    takes_label right = SetLabel (label_if right (length users) (place + 1) own)
+    takes_label right = SetLabel (label_if right caller (place + 1) own)
 
     abbrev takes_clearance : Bool → RawCall
-    takes_clearance right = SetClearance (clearance_if right (length users) (place + 1) most)
+    takes_clearance right = SetClearance (clearance_if right caller (place + 1) most)
 
     abbrev taking : Bool → Program
     taking right = ask (takes_label right) (λ _. ask (takes_clearance right) (λ _. Answers (reply_if right)))
@@ -185,12 +200,12 @@ module _ (users : List User) (name : Name) (password : Password) (old new : Kern
     among_calls right = subst (λ (o : Option ℕ). AreAmong (reads_of_login session o true) (entries_of old.line t (all_granted (all_calls right)))) (sym at_place) (inr (inr (inl (refl, tt))))
 
     -- labels of rights that are no more than the thread has behind the gate are taken
-    module _ (right : Bool) (r : Rights) (owned : (c : CategoryName) → among r.owned c ≡ true → among (more session (state old) f l [] p t runs_as name (place + 1) numbered).owned c ≡ true)
-        (fewer : (c : CategoryName) → among r.tainted c ≡ true → among (thread_rights session [] p).tainted c ≡ true) (as_many : (c : CategoryName) → among (thread_rights session [] p).tainted c ≡ true → among r.tainted c ≡ true)
-        (label_is : label_if right (length users) (place + 1) own ≡ rights_label l.category r) (clearance_is : clearance_if right (length users) (place + 1) most ≡ rights_clearance l.category r)
+    module _ (right : Bool) (r : Rights) (owned : (c : CategoryName) → among r.owned c ≡ true → among (more session (state old) f l me p t runs_as name (place + 1) numbered).owned c ≡ true)
+        (fewer : (c : CategoryName) → among r.tainted c ≡ true → among (thread_rights session me p).tainted c ≡ true) (as_many : (c : CategoryName) → among (thread_rights session me p).tainted c ≡ true → among r.tainted c ≡ true)
+        (label_is : label_if right caller (place + 1) own ≡ rights_label l.category r) (clearance_is : clearance_if right caller (place + 1) most ≡ rights_clearance l.category r)
         (mid : KernelModel) (so_far : Chain old t (all_granted (OwnLabel ∷ enters ∷ reads ∷ [])) mid) (at : state mid ≡ behind) where
       abbrev with_label : State
-      with_label = relabelled_state session (state old) f l [] p t runs_as name (place + 1) numbered r owned fewer as_many
+      with_label = relabelled_state session (state old) f l me p t runs_as name (place + 1) numbered r owned fewer as_many
 
       -- what comes after the labels were taken
       abbrev GoesOn : Type 0
@@ -199,35 +214,33 @@ module _ (users : List User) (name : Name) (password : Password) (old new : Kern
       -- the clearance behind the label
       cleared : (labelled : KernelModel) → Chain old t (all_granted (OwnLabel ∷ enters ∷ reads ∷ takes_label right ∷ [])) labelled → state labelled ≡ with_label → Runs (ask (takes_clearance right) (λ _. Answers (reply_if right))) labelled new t result → GoesOn → Goal
       cleared labelled chain is runs go_on =
-          granted_step session f ready.alone call old new t ready.thread result (OwnLabel ∷ enters ∷ reads ∷ takes_label right ∷ []) labelled chain (takes_clearance right) (λ _. Answers (reply_if right))
-          ((λ k. check (is k) t (SetClearance (clearance_is k))) ∙ set_clearance_said session (state old) f l [] p t runs_as name (place + 1) numbered r owned fewer as_many) runs
+          granted_step session f me ready.caller call old new t ready.thread result (OwnLabel ∷ enters ∷ reads ∷ takes_label right ∷ []) labelled chain (takes_clearance right) (λ _. Answers (reply_if right))
+          ((λ k. check (is k) t (SetClearance (clearance_is k))) ∙ set_clearance_said session (state old) f l me p t runs_as name (place + 1) numbered r owned fewer as_many) runs
           (λ later done called told longer answers. go_on later longer
           (called.state ∙ (λ k. with_changed (is k) t (clearing (clearance_is k)))
-          ∙ labels_taken (state old) t (wanted session (state old) f l [] p t runs_as name (place + 1) numbered) (limit session (state old) f l [] p t runs_as name (place + 1) numbered) (rights_label l.category r) (rights_clearance l.category r))
+          ∙ labels_taken (state old) t (wanted session (state old) f l me p t runs_as name (place + 1) numbered) (limit session (state old) f l me p t runs_as name (place + 1) numbered) (rights_label l.category r) (rights_clearance l.category r))
           answers)
 
       taken : Runs (taking right) mid new t result → GoesOn → Goal
       taken runs go_on =
-          granted_step session f ready.alone call old new t ready.thread result (OwnLabel ∷ enters ∷ reads ∷ []) mid so_far (takes_label right) (λ _. ask (takes_clearance right) (λ _. Answers (reply_if right)))
-          ((λ k. check (at k) t (SetLabel (label_is k))) ∙ set_label_said session (state old) f l [] p t runs_as name (place + 1) numbered r owned fewer as_many) runs
+          granted_step session f me ready.caller call old new t ready.thread result (OwnLabel ∷ enters ∷ reads ∷ []) mid so_far (takes_label right) (λ _. ask (takes_clearance right) (λ _. Answers (reply_if right)))
+          ((λ k. check (at k) t (SetLabel (label_is k))) ∙ set_label_said session (state old) f l me p t runs_as name (place + 1) numbered r owned fewer as_many) runs
           (λ labelled done called told chain clears. cleared labelled chain (called.state ∙ λ k. with_changed (at k) t (relabelled (label_is k))) clears go_on)
 
-    refused_by : (right : Bool) → same user.0.password password ≡ right → refused session f [] p call ≡ unless right EAUTH
+    refused_by : (right : Bool) → same user.0.password password ≡ right → refused session f me p call ≡ unless right EAUTH
     refused_by right is = refused_is (Some user.0) user.1 ∙ ap (λ (b : Bool). unless b EAUTH) is
 
     -- behind the gate, by whether the password is right
     ends : (right : Bool) → same user.0.password password ≡ right → (mid : KernelModel) → Chain old t (all_granted (OwnLabel ∷ enters ∷ reads ∷ [])) mid → state mid ≡ behind → Runs (taking right) mid new t result → Goal
     ends true is mid so_far at runs =
-        taken true (thread_rights session [] process_then) (user_owns_less session (state old) f l [] p t runs_as name (place + 1) numbered) (λ c e. e) (λ c e. e) user_takes user_clears mid so_far at runs
+        taken true (thread_rights session me process_then) (user_owns_less session (state old) f l me p t runs_as name (place + 1) numbered) (λ c e. e) (λ c e. e) user_takes user_clears mid so_far at runs
         (λ later chain later_is answers.
-        answered_step session f ready.alone call old new t ready.thread result (all_calls true) later chain Done refl (refused_by true is) tt (among_calls true)
-        (subst (λ (s : State). LaysOut session s (with_process f [] process_then)) (sym later_is) (lays_out_login session (state old) f ready.lays_out [] p runs_as.0 runs_as.1 name (ap is_some numbered) t runs_as.2))
-        (subst (λ (s : State). IsThreadOf session s [] t) (sym later_is)
-        (thread_kept (state old) t own most thread (rights_label l.category (thread_rights session [] process_then)) (rights_clearance l.category (thread_rights session [] process_then)) session t ready.thread)) answers)
+        answered_step session f me ready.caller call old new t ready.thread result (all_calls true) later chain Done refl (refused_by true is) tt (among_calls true)
+        (subst (λ (s : State). LaysOut session s (with_process f me process_then)) (sym later_is) (lays_out_login session (state old) f ready.lays_out me p runs_as.0 runs_as.1 name (ap is_some numbered) t runs_as.2)) answers)
     ends false is mid so_far at runs =
-        taken false (thread_rights session [] p) (own_owns_less session (state old) f l [] p t runs_as name (place + 1) numbered) (λ c e. e) (λ c e. e) refl refl mid so_far at runs
+        taken false (thread_rights session me p) (own_owns_less session (state old) f l me p t runs_as name (place + 1) numbered) (λ c e. e) (λ c e. e) refl refl mid so_far at runs
         (λ later chain later_is answers.
-        refused_at_once session f ready.alone call old new t ready.thread result (all_calls false) later chain (later_is ∙ labels_back (state old) t own most thread) ready.lays_out EAUTH (refused_by false is) refl refl (among_calls false) answers)
+        refused_at_once session f me ready.caller call old new t ready.thread result (all_calls false) later chain (later_is ∙ labels_back (state old) t own most thread) ready.lays_out EAUTH (refused_by false is) refl refl (among_calls false) answers)
 
     -- the program behind the gate
     abbrev reading : Program
@@ -236,8 +249,8 @@ module _ (users : List User) (name : Name) (password : Password) (old new : Kern
     -- the password is read
     from_gate : (inside : KernelModel) → Chain old t (all_granted (OwnLabel ∷ enters ∷ [])) inside → state inside ≡ behind → Runs reading inside new t result → Goal
     from_gate inside chain is runs =
-        granted_step session f ready.alone call old new t ready.thread result (OwnLabel ∷ enters ∷ []) inside chain reads (λ kept. taking (bytes_eq kept password))
-        (ap (λ (s : State). check s t reads) is ∙ read_password_said session (state old) f l [] p t runs_as name (place + 1) numbered) runs
+        granted_step session f me ready.caller call old new t ready.thread result (OwnLabel ∷ enters ∷ []) inside chain reads (λ kept. taking (bytes_eq kept password))
+        (ap (λ (s : State). check s t reads) is ∙ read_password_said session (state old) f l me p t runs_as name (place + 1) numbered) runs
         (λ read kept called kept_is longer goes.
         let kept_so : kept ≡ user.0.password = kept_is ∙ ap (λ (s : State). bytes_in (s.objects (password_of (place + 1)))) is ∙ password_then in
         ends (bytes_eq kept password) (sym (ap (λ (bytes : List ℕ). bytes_eq bytes password) kept_so ∙ equal_bytes user.0.password password)) read longer (called.state ∙ is) goes)
@@ -245,7 +258,7 @@ module _ (users : List User) (name : Name) (password : Password) (old new : Kern
     -- the gate is entered
     to_gate : (asked : KernelModel) → Chain old t (all_granted (OwnLabel ∷ [])) asked → state asked ≡ state old → Runs (ask enters (λ _. reading)) asked new t result → Goal
     to_gate asked chain stays runs =
-        granted_step session f ready.alone call old new t ready.thread result (OwnLabel ∷ []) asked chain enters (λ _. reading) (ap (λ (s : State). check s t enters) stays ∙ enters_said) runs
+        granted_step session f me ready.caller call old new t ready.thread result (OwnLabel ∷ []) asked chain enters (λ _. reading) (ap (λ (s : State). check s t enters) stays ∙ enters_said) runs
         (λ inside entry called entry_is longer goes.
         from_gate inside longer (called.state ∙ ap (λ (s : State). with_own s t code_label code_clearance) stays ∙ entered_is) goes)
 
@@ -254,23 +267,23 @@ module _ (users : List User) (name : Name) (password : Password) (old new : Kern
     with_labels own = do
       entry ← ask (entering (place + 1) own.0 own.1)
       kept ← ask reads
-      ask (SetLabel (label_if (bytes_eq kept password) (length users) (place + 1) own.0))
-      ask (SetClearance (clearance_if (bytes_eq kept password) (length users) (place + 1) own.1))
+      ask (SetLabel (label_if (bytes_eq kept password) caller (place + 1) own.0))
+      ask (SetClearance (clearance_if (bytes_eq kept password) caller (place + 1) own.1))
       Answers (reply_if (bytes_eq kept password))
 
     -- a user has the name
-    someone : Runs (login_as_program (length users) (place + 1) password) old new t result → Goal
+    someone : Runs (login_as_program caller (place + 1) password) old new t result → Goal
     unfolding login_as_program
     someone runs =
-        granted_step session f ready.alone call old new t ready.thread result [] old (same_kernel old) OwnLabel with_labels asks_said runs
+        granted_step session f me ready.caller call old new t ready.thread result [] old (same_kernel old) OwnLabel with_labels asks_said runs
         (λ asked told called tells chain goes.
         let told_is : told ≡ (own, most) = λ k. (same_Some told.0 own (tells.0 ∙ ap label_there thread) k, same_Some told.1 most (tells.1 ∙ ap clearance_there thread) k) in
         to_gate asked chain called.state (subst (λ (x : Levels × Levels). Runs (with_labels x) asked new t result) told_is goes))
 
-  by_place : (o : Option ℕ) → place_of users name ≡ o → Runs (login_at (length users) password o) old new t result → Goal
+  by_place : (o : Option ℕ) → place_of users name ≡ o → Runs (login_at caller password o) old new t result → Goal
   by_place None nowhere runs = unknown nowhere runs
   by_place (Some place) at_place runs = someone place at_place runs
 
 -- A login is the row of its call.
 pub logins_are_rows : LoginsAreRows
-logins_are_rows users ok name password old new f t result ready runs = by_place users name password old new f t result ready (place_of users name) refl runs
+logins_are_rows users ok name password me caller old new f result ready found runs = by_place users name password me caller old new f result ready found (place_of users name) refl runs

@@ -37,7 +37,3 @@ module _ (s : State) (t : ℕ) (own most : Levels) (thread : s.objects t ≡ Som
       | inl e ↦ ap (λ (k : ℕ). bytes_in ((with_own s t label clearance).objects k)) e.1 ∙ ap bytes_in (put_here s.objects t (thread_of label clearance)) ∙ sym (ap (λ (k : ℕ). bytes_in (s.objects k)) e.1 ∙ ap bytes_in thread)
       | inr e ↦ ap bytes_in (put_other s.objects t (thread_of label clearance) q e.1)
     ]
-
-    -- so the process segment of process 0 tells what it told
-    pub thread_kept : (session : Session) (x : ℕ) → IsThreadOf session s [] x → IsThreadOf session (with_own s t label clearance) [] x
-    thread_kept session x found = (found.0, found.1, found.2, found.3, subst (λ (bytes : List ℕ). IsStatus bytes found.2) (sym (kept_bytes found.1)) found.4, found.5, found.6)

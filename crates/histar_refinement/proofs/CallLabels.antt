@@ -1,5 +1,5 @@
 -- The labels that calls hand in by the numbers of users are those of names: what is private or readable, and a thread as a user's.
-use Rattle.std.proofs.Common.{◌≡◌, ℕ, ◌+◌, ◌*◌, ◌<◌, ◌≤◌, ◌==◌, Bool, true, false, ◌||◌, cond, List, [], ◌∷◌, ◌++◌, length, Option, None, Some, arith, refl, sym, ap, ◌∙◌}
+use Rattle.std.proofs.Common.{◌≡◌, ℕ, zero, suc, ◌+◌, ◌<◌, ◌≤◌, ◌==◌, Bool, true, false, ◌||◌, cond, List, [], ◌∷◌, ◌++◌, length, Option, None, Some, arith, refl, sym, ap, ◌∙◌}
 use Rattle.std.specs.Prelude.{map, position, nat_eq, nat_le, option_map}
 use Rattle.std.specs.Str.{bytes_eq}
 use Rattle.std.proofs.lemmas.Bool.Decides.{nat_tests}
@@ -15,7 +15,8 @@ use Rattle.histar_label.specs.Levels.{level_of}
 use Rattle.histar_object.specs.State.{State}
 use Rattle.histar_calls.specs.Categories.{read_category, write_category, owns, IsUserOf}
 use Rattle.histar_calls.specs.Labelling.{written_by, secret_of, guarded_by, owning, cleared_at}
-use Rattle.histar_login.specs.Start.{own_read_category, own_write_category}
+use Rattle.histar_process.specs.declared.caller.Caller.{Caller}
+use Rattle.histar_process.specs.Kin.{owned_by}
 use Rattle.histar_login.specs.Login.{place_of, user_label, user_clearance}
 use Rattle.histar_refinement.specs.Categories.CategoryName.{ReadsUser, WritesUser, ReadsProcess, WritesProcess, OfJob}
 use Rattle.histar_refinement.specs.Categories.{among}
@@ -98,54 +99,35 @@ module _ (session : Session) (s : State) (f : Flat) (l : Laid session s f) (me :
             known = high;
           }
 
--- two tests before two others
-turned_four : (a b c d : Bool) → (a || (b || (c || (d || false)))) ≡ (c || (d || (a || (b || false))))
-turned_four true b true d = refl
-turned_four true b false true = refl
-turned_four true b false false = refl
-turned_four false true true d = refl
-turned_four false true false true = refl
-turned_four false true false false = refl
-turned_four false false true d = refl
-turned_four false false false true = refl
-turned_four false false false false = refl
+-- what a user owns, who has a number
+owned_as_one : (i : ℕ) → 0 < i → owned_by i true ≡ read_category i ∷ write_category i ∷ []
+owned_as_one zero low = absurd (omega (arith, low))
+owned_as_one (suc i) low = refl
 
-module _ (users : List User) where
+module _ (users : List User) (s : State) (f : Flat) (l : Laid (record { users = users; groups = [] }) s f) (me : ProcName) (caller : Caller) (own_reads : l.category (ReadsProcess me) ≡ caller.read) (own_writes : l.category (WritesProcess me) ≡ caller.write)
+    (name : Name) (i : ℕ) (numbered : user_number (record { users = users; groups = [] }) name ≡ Some i) (exited : Option ℕ) (born : ℕ) where
   abbrev session : Session
   session = record { users = users; groups = [] }
 
-  module _ (s : State) (f : Flat) (l : Laid (record { users = users; groups = [] }) s f) (name : Name) (i : ℕ) (numbered : user_number (record { users = users; groups = [] }) name ≡ Some i) (exited : Option ℕ) (born : ℕ) where
-    -- process 0 as the user's, in no job and holding none
-    abbrev pub as_user : Process
-    as_user = record { user = name; chain = []; held = []; exited = exited; born = born }
+  -- the process as the user's, in no job and holding none
+  abbrev pub as_user : Process
+  as_user = record { user = name; chain = []; held = []; exited = exited; born = born }
 
-    low : i ≤ length users
-    low = (user_range session name i numbered).1
+  high : i ≤ length users
+  high = (user_range session name i numbered).1
 
-    own_reads : l.category (ReadsProcess []) ≡ own_read_category (length users)
-    own_reads = let total : 4 + 2 * length users + 2 * 0 ≡ own_read_category (length users) = omega arith in l.as_made (ReadsProcess []) (4 + 2 * length users + 2 * 0) refl ∙ total
+  owns : owned_by i true ≡ read_category i ∷ write_category i ∷ []
+  owns = owned_as_one i (user_range session name i numbered).0
 
-    own_writes : l.category (WritesProcess []) ≡ own_write_category (length users)
-    own_writes = let total : 5 + 2 * length users + 2 * 0 ≡ own_write_category (length users) = omega arith in l.as_made (WritesProcess []) (5 + 2 * length users + 2 * 0) refl ∙ total
+  -- Without groups the label and the clearance that a login gives a process are those of the user.
+  pub user_label_is : rights_label l.category (thread_rights (record { users = users; groups = [] }) me as_user) ≡ user_label caller i
+  user_label_is =
+      ap (λ (x : Option ℕ). rights_label l.category (record { owned = ReadsProcess me ∷ WritesProcess me ∷ owned_as session as_user x ++ []; tainted = [] })) numbered
+      ∙ (λ k. owning (own_reads k ∷ own_writes k ∷ reads_numbered session s f l i high k ∷ writes_numbered session s f l i high k ∷ []) [])
+      ∙ ap (λ (o : List ℕ). owning (caller.read ∷ caller.write ∷ o) []) (sym owns)
 
-    abbrev names_then : List ℕ
-    names_then = own_read_category (length users) ∷ own_write_category (length users) ∷ read_category i ∷ write_category i ∷ []
-
-    abbrev numbers : List ℕ
-    numbers = read_category i ∷ write_category i ∷ own_read_category (length users) ∷ own_write_category (length users) ∷ []
-
-    any_order : (q : ℕ) → is_in names_then q ≡ is_in numbers q
-    any_order q = turned_four (q == own_read_category (length users)) (q == own_write_category (length users)) (q == read_category i) (q == write_category i)
-
-    -- Without groups the label and the clearance that a login gives process 0 are those of the user.
-    pub user_label_is : rights_label l.category (thread_rights (record { users = users; groups = [] }) [] as_user) ≡ user_label (length users) i
-    user_label_is =
-        ap (λ (x : Option ℕ). rights_label l.category (record { owned = ReadsProcess [] ∷ WritesProcess [] ∷ owned_as session as_user x ++ []; tainted = [] })) numbered
-        ∙ (λ k. owning (own_reads k ∷ own_writes k ∷ reads_numbered session s f l i low k ∷ writes_numbered session s f l i low k ∷ []) [])
-        ∙ same_owning names_then [] numbers [] any_order (λ q. refl)
-
-    pub user_clearance_is : rights_clearance l.category (thread_rights (record { users = users; groups = [] }) [] as_user) ≡ user_clearance (length users) i
-    user_clearance_is =
-        ap (λ (x : Option ℕ). rights_clearance l.category (record { owned = ReadsProcess [] ∷ WritesProcess [] ∷ owned_as session as_user x ++ []; tainted = [] })) numbered
-        ∙ (λ k. cleared_at (own_reads k ∷ own_writes k ∷ reads_numbered session s f l i low k ∷ writes_numbered session s f l i low k ∷ []))
-        ∙ same_cleared names_then numbers any_order
+  pub user_clearance_is : rights_clearance l.category (thread_rights (record { users = users; groups = [] }) me as_user) ≡ user_clearance caller i
+  user_clearance_is =
+      ap (λ (x : Option ℕ). rights_clearance l.category (record { owned = ReadsProcess me ∷ WritesProcess me ∷ owned_as session as_user x ++ []; tainted = [] })) numbered
+      ∙ (λ k. cleared_at (own_reads k ∷ own_writes k ∷ reads_numbered session s f l i high k ∷ writes_numbered session s f l i high k ∷ []))
+      ∙ ap (λ (o : List ℕ). cleared_at (caller.read ∷ caller.write ∷ o)) (sym owns)

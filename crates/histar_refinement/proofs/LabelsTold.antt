@@ -30,7 +30,7 @@ use Rattle.histar_refinement.proofs.LeftObjects.{root_found, root_label}
 use Rattle.histar_refinement.proofs.ClassTests.{sees_unguarded}
 
 -- an object has the label that it has but for its links
-label_bare : (o : Found) → label_there (bare o) ≡ label_there o
+pub label_bare : (o : Found) → label_there (bare o) ≡ label_there o
 label_bare None = refl
 label_bare (Some o) = refl
 

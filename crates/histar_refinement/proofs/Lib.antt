@@ -62,3 +62,6 @@ pub mod WrapRefused
 pub mod WrapTests
 pub mod Wrapping
 pub mod Listings
+pub mod FoundCategories
+pub mod CallerLabels
+pub mod CallerFound

@@ -48,7 +48,7 @@ module _ (number : Numbers) (me : ProcName) (test : ℕ → Bool) (n : ℕ) wher
   listed_step passes a k low false is (inl e) later = absurd (true≢false (sym passes ∙ ap test (sym e.1) ∙ is))
   listed_step passes a k low false is (inr e) later = later (later_number a low e.1)
 
-  listed_there : test n ≡ true → (a k : ℕ) → a ≤ n → n < a + k → listed_from a k ≡ Some (listed_by number me n)
+  pub listed_there : test n ≡ true → (a k : ℕ) → a ≤ n → n < a + k → listed_from a k ≡ Some (listed_by number me n)
   listed_there passes a zero low high = absurd (omega (arith, low, high))
   listed_there passes a (suc k) low high = listed_step passes a k low (test a) refl (eqb_tells a n) (λ more. listed_there passes (a + 1) k more (omega (arith, high)))
 
@@ -60,7 +60,7 @@ module _ (number : Numbers) (me : ProcName) (test : ℕ → Bool) (n : ℕ) wher
   back_step x a k true is (inr e) later found = later (sym (ap (λ t. cond t (Some (listed_by number me a)) (listed_from (a + 1) k)) e.0) ∙ found)
   back_step x a k false is tells later found = later found
 
-  listed_back : (x : Listed) (a k : ℕ) → listed_from a k ≡ Some x → (test n ≡ true) × (listed_by number me n ≡ x)
+  pub listed_back : (x : Listed) (a k : ℕ) → listed_from a k ≡ Some x → (test n ≡ true) × (listed_by number me n ≡ x)
   listed_back x a zero found = absurd (none-some x found)
   listed_back x a (suc k) found = back_step x a k (test a) refl (eqb_tells a n) (listed_back x (a + 1) k) found
 
@@ -95,7 +95,7 @@ module _ (session : Session) (s : State) (f : Flat) (l : Laid session s f) where
       by (Some n) is = absurd (none-some n (sym is))
 
   -- a child's number is one of those that its parent gave
-  child_range : (n : ℕ) (me : ProcName) (p : Process) → f.processes me ≡ Some p → is_some (f.processes (n ∷ me)) ≡ true → (1 ≤ n) × (n < 1 + p.born)
+  pub child_range : (n : ℕ) (me : ProcName) (p : Process) → f.processes me ≡ Some p → is_some (f.processes (n ∷ me)) ≡ true → (1 ≤ n) × (n < 1 + p.born)
   child_range n me p here there =
       let given : was_given (Some p) n ≡ true = sym (ap (λ (o : Option Process). was_given o n) here) ∙ first_of (was_given (f.processes me) n) (is_given f.processes me) (l.processes_given (n ∷ me) there) in
       let low : nat_le 1 n ≡ true = first_of (nat_le 1 n) (nat_le n p.born) given in

@@ -5,10 +5,10 @@ use Rattle.std.proofs.lemmas.Bool.Decides.{nat_tests}
 use Rattle.std.proofs.lemmas.Option.{same_Some}
 use mathlib.Core.Bool.{true≢false}
 use Rattle.histar_flat.specs.declared.calls.UnixCall.{UnixCall}
-use Rattle.histar_flat.specs.declared.calls.UnixCall.TheVariants.{Create, Mkdir, Write, Append, Read, List as ListCall, Stat, Unlink, Rmdir, Rmtree, Rename, Login}
+use Rattle.histar_flat.specs.declared.calls.UnixCall.TheVariants.{Create, Mkdir, Write, Append, Read, List as ListCall, Stat, Unlink, Rmdir, Rmtree, Rename, Spawn, Exit, Status, Kill, Whoami, Login, Wrap}
 use Rattle.histar_flat.specs.declared.replies.Errno.{Errno}
 use Rattle.histar_flat.specs.declared.replies.Errno.TheVariants.{ENOENT, EEXIST, EACCES, EFBIG}
-use Rattle.histar_flat.specs.Words.{Name, Path}
+use Rattle.histar_flat.specs.Words.{Name, Path, ProcName}
 use Rattle.histar_flat.specs.PathOrder.{under_path}
 use Rattle.histar_flat.specs.Sessions.{Session}
 use Rattle.histar_flat.specs.Files.{get, insert, empty}
@@ -16,14 +16,13 @@ use Rattle.histar_flat.specs.Classes.{Class, Process}
 use Rattle.histar_flat.specs.Classes.Class.{Readable}
 use Rattle.histar_flat.specs.FlatState.{Flat, Node, Content, bytes_at, is_there, into, writes, moved, with_node, with_renamed, without_below}
 use Rattle.histar_flat.specs.FlatState.Content.{Dir, File}
-use Rattle.histar_flat.specs.FlatCalls.{most_bytes, no_file, no_entry, refused, changed, flat_or, flat_by, flat_after}
+use Rattle.histar_flat.specs.FlatCalls.{most_bytes, no_file, no_entry, running, refused, changed, flat_or, flat_by, flat_after}
 use Rattle.histar_flat.specs.Meaning.{boot, first_user}
 use Rattle.histar_flat.proofs.FileLemmas.{same_path_found, get_new, get_other, get-keep}
 use Rattle.histar_flat.proofs.Renaming.{get_renamed}
 use Rattle.histar_flat.proofs.Changes.{nothing_there}
 use Rattle.histar_flat.proofs.Refusals.{one_passes, two_pass}
-use Rattle.histar_rows.specs.Rows.{IsScriptable, IsFirstAlone, AreFilesSmall}
-use Rattle.histar_shell.proofs.FirstAlone.{first_runs}
+use Rattle.histar_rows.specs.Rows.{IsScriptable, AreFilesSmall}
 
 -- what is put at a path is a directory, or a file that is small enough
 abbrev IsSmall : Content → Type 0
@@ -60,41 +59,48 @@ module _ (f : Flat) (small : AreFilesSmall f) where
       by true e = absurd cc
       by false e = small (moved (k ∷ d) (n ∷ d) r) class bytes e
 
-  module _ (session : Session) (h : IsFirstAlone f) (below : (top : Path) → get f.files top ≡ None → (r : Path) → under_path top r ≡ true → get f.files r ≡ None) where
+  module _ (session : Session) (me : ProcName) (below : (top : Path) → get f.files top ≡ None → (r : Path) → under_path top r ≡ true → get f.files r ≡ None) where
     fits_test : (n : ℕ) → nat_le n most_bytes ≡ true → n ≤ most_bytes
     fits_test n e = grind (arith, nat_tests, e)
 
     -- the change of a call that is not refused
-    after_change : (call : UnixCall) → IsScriptable call → refused session f [] h.process call ≡ None → AreFilesSmall (changed session f [] h.process call)
-    after_change (Create q mode) can passes = small_put q _ (File []) (grind arith)
-    after_change (Mkdir q mode) can passes = small_put q _ Dir tt
-    after_change (Write q bytes) can passes =
-        small_put q _ (File bytes) (fits_test (length bytes) (two_pass (no_file session f h.process q) (writes session f h.process q) (nat_le (length bytes) most_bytes) EACCES EFBIG passes).2)
-    after_change (Append q bytes) can passes =
-        small_put q _ (File (bytes_at f q ++ bytes)) (fits_test (length (bytes_at f q ++ bytes)) (two_pass (no_file session f h.process q) (writes session f h.process q) (nat_le (length (bytes_at f q ++ bytes)) most_bytes) EACCES EFBIG passes).2)
-    after_change (Read q) can passes = small
-    after_change (ListCall q) can passes = small
-    after_change (Stat q) can passes = small
-    after_change (Unlink q) can passes = small_cut q
-    after_change (Rmdir q) can passes = small_cut q
-    after_change (Rmtree q) can passes = small_cut q
-    after_change (Rename [] k) can passes = absurd cc
-    after_change (Rename (n ∷ d) k) can passes =
-        let tests = two_pass (no_entry session f h.process (n ∷ d)) (not (is_there f (k ∷ d))) (writes session f h.process d) EEXIST EACCES passes in
-        let there = (one_passes (into session f h.process d) (is_there f (n ∷ d)) ENOENT tests.0).1 in
+    after_change : (p : Process) (call : UnixCall) → IsScriptable call → refused session f me p call ≡ None → AreFilesSmall (changed session f me p call)
+    after_change p (Create q mode) can passes = small_put q _ (File []) (grind arith)
+    after_change p (Mkdir q mode) can passes = small_put q _ Dir tt
+    after_change p (Write q bytes) can passes =
+        small_put q _ (File bytes) (fits_test (length bytes) (two_pass (no_file session f p q) (writes session f p q) (nat_le (length bytes) most_bytes) EACCES EFBIG passes).2)
+    after_change p (Append q bytes) can passes =
+        small_put q _ (File (bytes_at f q ++ bytes)) (fits_test (length (bytes_at f q ++ bytes)) (two_pass (no_file session f p q) (writes session f p q) (nat_le (length (bytes_at f q ++ bytes)) most_bytes) EACCES EFBIG passes).2)
+    after_change p (Read q) can passes = small
+    after_change p (ListCall q) can passes = small
+    after_change p (Stat q) can passes = small
+    after_change p (Unlink q) can passes = small_cut q
+    after_change p (Rmdir q) can passes = small_cut q
+    after_change p (Rmtree q) can passes = small_cut q
+    after_change p (Rename [] k) can passes = absurd cc
+    after_change p (Rename (n ∷ d) k) can passes =
+        let tests = two_pass (no_entry session f p (n ∷ d)) (not (is_there f (k ∷ d))) (writes session f p d) EEXIST EACCES passes in
+        let there = (one_passes (into session f p d) (is_there f (n ∷ d)) ENOENT tests.0).1 in
         small_renamed n k d (λ e. true≢false (sym tests.1 ∙ ap (λ (x : Name). not (is_there f (x ∷ d))) (sym e) ∙ ap not there)) (below (k ∷ d) (nothing_there (get f.files (k ∷ d)) tests.1))
-    after_change (Login name password) can passes = small
-    after_change _ can passes = absurd can
+    after_change p Spawn can passes = small
+    after_change p (Exit n) can passes = small
+    after_change p (Status name) can passes = small
+    after_change p (Kill name) can passes = small
+    after_change p Whoami can passes = small
+    after_change p (Login name password) can passes = small
+    after_change p (Wrap q) can passes = absurd can
 
-    by_refusal : (call : UnixCall) → IsScriptable call → (refusal : Option Errno) → refused session f [] h.process call ≡ refusal → AreFilesSmall (flat_or refusal f (changed session f [] h.process call))
-    by_refusal call can None is = after_change call can is
-    by_refusal call can (Some e) is = small
+    by_refusal : (p : Process) (call : UnixCall) → IsScriptable call → (refusal : Option Errno) → refused session f me p call ≡ refusal → AreFilesSmall (flat_or refusal f (changed session f me p call))
+    by_refusal p call can None is = after_change p call can is
+    by_refusal p call can (Some e) is = small
 
-    -- and so after each line of process 0
-    pub small_after : (call : UnixCall) → IsScriptable call → AreFilesSmall (flat_after session f [] call)
-    small_after call can =
-        subst (λ (p : Option Process). AreFilesSmall (flat_by session f [] p call)) (sym (first_runs session f h))
-        (by_refusal call can (refused session f [] h.process call) refl)
+    -- and so after each line
+    pub small_after : (call : UnixCall) → IsScriptable call → AreFilesSmall (flat_after session f me call)
+    small_after call can = by (running f me)
+      where
+        by : (o : Option Process) → AreFilesSmall (flat_by session f me o call)
+        by None = small
+        by (Some p) = by_refusal p call can (refused session f me p call) refl
 
 -- nothing is no file
 nothing_here : {Told : Type 0} (node : Node) → None ≡ Some node → Told

@@ -4,6 +4,7 @@ use Rattle.std.proofs.lemmas.List.{append-nil}
 use Rattle.histar_flat.specs.declared.calls.User.{User}
 use Rattle.histar_flat.specs.declared.calls.UnixCall.{UnixCall}
 use Rattle.histar_flat.specs.declared.replies.Reply.{Reply}
+use Rattle.histar_flat.specs.Words.{ProcName}
 use Rattle.histar_object.specs.State.{empty_state}
 use Rattle.histar_rules.specs.declared.raw.Denied.{Denied}
 use Rattle.histar_rules.specs.declared.raw.RawCall.{RawCall}
@@ -15,6 +16,7 @@ use Rattle.histar_calls.specs.declared.ending.Stopped.{Stopped}
 use Rattle.histar_calls.specs.declared.places.Places.{Places}
 use Rattle.histar_calls.specs.Programs.{Outcome, Program, Asked, Completes, Begins, Runs}
 use Rattle.histar_calls.specs.Programs.Program.{Answers, Asks, Lists, Stops}
+use Rattle.histar_process.specs.declared.caller.Caller.{Caller}
 use Rattle.histar_shell.specs.Machine.{IsTraced, Makes}
 use Rattle.histar_shell.proofs.RowRuns.{run_after}
 
@@ -61,7 +63,7 @@ by_program p old new t (Ok reply) runs = completed p old new t reply runs
 by_program p old new t (Err stopped) runs = begun p old new t runs
 
 -- so the trace stays a run from the empty kernel
-pub traced_on : (users : List User) (places : Places) (old new : KernelModel) (t : ℕ) (call : UnixCall) (result : Result Reply Stopped) → IsTraced old → Makes users places old new t call result → IsTraced new
-traced_on users places old new t call result traced made =
-    let goes = by_program _ old new t result made in
+pub traced_on : (users : List User) (places : Places) (me : ProcName) (caller : Caller) (old new : KernelModel) (call : UnixCall) (result : Result Reply Stopped) → IsTraced old → Makes users places me caller old new call result → IsTraced new
+traced_on users places me caller old new call result traced made =
+    let goes = by_program _ old new caller.thread result made in
     subst (λ (es : List TraceEntry). IsRun empty_state es (state new)) (sym goes.trace) (run_after empty_state (state old) (state new) old.trace goes.entries traced goes.run)

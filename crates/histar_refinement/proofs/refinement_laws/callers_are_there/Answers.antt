@@ -1,0 +1,5 @@
+use Rattle.histar_refinement.proofs.CallerFound as law
+use Rattle.histar_refinement.proofs.refinement_laws.callers_are_there.Goals as goal
+
+pub returns : goal.returns
+returns c = law.callers_are_there
