@@ -1,21 +1,23 @@
 -- Calls are read from the texts that spell them, and from no others.
-use Rattle.std.proofs.Common.{◌≡◌, ℕ, true, cond, List, Option, Some, codes, refl, sym, ap, subst, ◌∙◌, inl, inr, IsTrue}
+use Rattle.std.proofs.Common.{◌≡◌, ℕ, true, cond, List, Option, Some, None, codes, refl, sym, ap, subst, ◌∙◌, inl, inr, IsTrue}
 use Rattle.std.proofs.lemmas.Option.{cond_some, same_Some}
 use Rattle.std.specs.Option.{option_map}
 use Rattle.std.specs.Str.{bytes_eq}
 use Rattle.histar_flat.specs.declared.calls.Mode.{Mode}
 use Rattle.histar_flat.specs.declared.calls.User.{User}
 use Rattle.histar_flat.specs.declared.calls.UnixCall.{UnixCall}
-use Rattle.histar_flat.specs.declared.calls.UnixCall.TheVariants.{Create, Mkdir, Write, Append, Read, List as ListCall, Stat, Unlink, Rmdir, Rmtree, Rename, Login}
-use Rattle.histar_flat.specs.Words.{Path, split_at_first, is_name, is_user_name, is_password, is_path, name_of, user_name_of, password_of, path_of}
+use Rattle.histar_flat.specs.declared.calls.UnixCall.TheVariants.{Create, Mkdir, Write, Append, Read, List as ListCall, Stat, Unlink, Rmdir, Rmtree, Rename, Spawn, Exit, Status, Kill, Whoami, Login, Wrap}
+use Rattle.histar_flat.specs.Words.{Path, ProcName, split_at_first, is_name, is_user_name, is_password, is_path, name_of, user_name_of, password_of, path_of, status_of, process_of}
 use Rattle.histar_flat.specs.Modes.{mode_of, is_line_mode}
 use Rattle.histar_flat.specs.Texts.{path_text, mode_text}
 use Rattle.histar_script.specs.Lines.{split_word, ◌space◌}
-use Rattle.histar_script.specs.Reading.{◌>>=◌, user_of, path_mode_of, path_bytes_of, rename_of, login_of, call_on, call_named, call_of}
-use Rattle.histar_script.specs.Grammar.{SpellsMode, SpellsBytes, SpellsPath, IsCallText}
+use Rattle.histar_script.specs.Reading.{◌>>=◌, user_of, path_mode_of, path_bytes_of, rename_of, login_of, call_on, call_alone, call_named, call_of}
+use Rattle.histar_script.specs.Grammar.{SpellsMode, SpellsBytes, SpellsPath, SpellsProcess, IsCallText}
 use Rattle.histar_script.proofs.Chains.{bind_some, mapped, chosen}
-use Rattle.histar_script.proofs.Parting.{parted}
+use Rattle.histar_script.proofs.Parting.{parted, split_part}
 use Rattle.histar_script.proofs.PathsBack.{split_path, path_takes, path_again}
+use Rattle.histar_script.proofs.NumbersBack.{status_takes, status_again}
+use Rattle.histar_script.proofs.ProcessesBack.{process_takes, process_again}
 use Rattle.histar_script.proofs.WordsBack.{split_name, user_name_is_name, same_bytes, mode_takes, mode_again}
 
 -- ---- NAME PASSWORD of a user line
@@ -133,6 +135,10 @@ login_again : (name password : List ℕ) → is_name name ≡ true → is_passwo
 unfolding login_of
 login_again name password h k = rw (split_name name password h, h, k) refl
 
+-- a process that is read is spelled so
+process_part : (text word : List ℕ) (process : ProcName) → process_of text ≡ Some process → SpellsProcess (word space text) word process
+process_part text word process e = let is = process_takes text process e in (ap (λ (l : List ℕ). word space l) is.0, is.1)
+
 -- ---- calls
 
 -- the call has this word, or what the other words make of it
@@ -158,6 +164,21 @@ write_takes rest c e = let m = mapped (path_bytes_of rest) (λ w. Write w.0 w.1)
 -- an `append` that is read is spelled so
 append_takes : (rest : List ℕ) (c : UnixCall) → option_map (λ w. Append w.0 w.1) (path_bytes_of rest) ≡ Some c → IsCallText (codes "append" space rest) c
 append_takes rest c e = let m = mapped (path_bytes_of rest) (λ w. Append w.0 w.1) c e in subst (IsCallText (codes "append" space rest)) m.2 (bytes_part rest (codes "append") m.0 m.1)
+
+-- an `exit` that is read is spelled so
+exit_takes : (rest : List ℕ) (c : UnixCall) → option_map (λ status. Exit status) (status_of rest) ≡ Some c → IsCallText (codes "exit" space rest) c
+exit_takes rest c e =
+    let m = mapped (status_of rest) (λ status. Exit status) c e in
+    let is = status_takes rest m.0 m.1 in
+    subst (IsCallText (codes "exit" space rest)) m.2 (ap (λ (l : List ℕ). codes "exit" space l) is.0, is.1)
+
+-- a `status` that is read is spelled so
+status_call_takes : (rest : List ℕ) (c : UnixCall) → option_map (λ process. Status process) (process_of rest) ≡ Some c → IsCallText (codes "status" space rest) c
+status_call_takes rest c e = let m = mapped (process_of rest) (λ process. Status process) c e in subst (IsCallText (codes "status" space rest)) m.2 (process_part rest (codes "status") m.0 m.1)
+
+-- a `kill` that is read is spelled so
+kill_takes : (rest : List ℕ) (c : UnixCall) → option_map (λ process. Kill process) (process_of rest) ≡ Some c → IsCallText (codes "kill" space rest) c
+kill_takes rest c e = let m = mapped (process_of rest) (λ process. Kill process) c e in subst (IsCallText (codes "kill" space rest)) m.2 (process_part rest (codes "kill") m.0 m.1)
 
 -- a call on a path and nothing else is spelled by its word and the path
 on_takes : (word rest : List ℕ) (path : Path) (c : UnixCall) → path_of rest ≡ Some path → call_on word path ≡ Some c → IsCallText (word space rest) c
@@ -187,20 +208,40 @@ named_takes word rest c =
     word_takes (codes "append") word rest c _ _ (append_takes rest c) (
     word_takes (codes "rename") word rest c _ _ (rename_takes rest c) (
     word_takes (codes "login") word rest c _ _ (login_takes rest c) (
+    word_takes (codes "exit") word rest c _ _ (exit_takes rest c) (
+    word_takes (codes "status") word rest c _ _ (status_call_takes rest c) (
+    word_takes (codes "kill") word rest c _ _ (kill_takes rest c) (
     λ e. let on = bind_some (path_of rest) (call_on word) c e in on_takes word rest on.0 c on.1 on.2)
     )
     )
     )
     )
     )
+    )
+    )
+    )
+
+-- a call whose word stands alone is spelled by its word
+alone_takes : (word : List ℕ) (c : UnixCall) → call_alone word ≡ Some c → IsCallText word c
+alone_takes word c e =
+    elim (chosen (bytes_eq word (codes "spawn")) (Some Spawn) (cond (bytes_eq word (codes "whoami")) (Some Whoami) None) (Some c) e) [
+      | inl h ↦ subst (IsCallText word) (same_Some Spawn c h.1) (same_bytes word (codes "spawn") h.0)
+      | inr h ↦ let g = cond_some (bytes_eq word (codes "whoami")) Whoami c h.1 in subst (IsCallText word) g.1 (same_bytes word (codes "whoami") g.0)
+    ]
+
+-- the call that a word and what follows it make
+abbrev call_by : List ℕ → Option (List ℕ) → Option UnixCall
+call_by word after = elim after [ None ↦ call_alone word | Some rest ↦ call_named word rest ]
+
+-- it is spelled so
+by_takes : (text : List ℕ) (after : Option (List ℕ)) (c : UnixCall) → (split_word text).1 ≡ after → call_by (split_word text).0 after ≡ Some c → IsCallText text c
+by_takes text None c end e = subst (λ (l : List ℕ). IsCallText l c) (sym (split_part 32 text end)) (alone_takes (split_word text).0 c e)
+by_takes text (Some rest) c on e = subst (λ (l : List ℕ). IsCallText l c) (sym (parted text (split_word text).0 rest refl on)) (named_takes (split_word text).0 rest c e)
 
 -- a call that is read is spelled so
 pub call_takes : (text : List ℕ) (c : UnixCall) → call_of text ≡ Some c → IsCallText text c
 unfolding call_of
-call_takes text c e =
-    let w = split_word text in
-    let a = bind_some w.1 (call_named w.0) c e in
-    subst (λ (l : List ℕ). IsCallText l c) (sym (parted text w.0 a.0 refl a.1)) (named_takes w.0 a.0 c a.2)
+call_takes text c e = by_takes text (split_word text).1 c refl e
 
 -- and a call that is spelled is read
 pub call_again : (text : List ℕ) (c : UnixCall) → IsCallText text c → call_of text ≡ Some c
@@ -217,4 +258,9 @@ call_again text (Rmdir path) h = ap call_of h.0 ∙ ap (λ o. o >>= call_on (cod
 call_again text (Rmtree path) h = ap call_of h.0 ∙ ap (λ o. o >>= call_on (codes "rmtree")) (path_again path h.1)
 call_again text (Rename path name) h = ap call_of h.0 ∙ rename_again path name h.1 h.2
 call_again text (Login name password) h = ap call_of h.0 ∙ login_again name password h.1 h.2
-call_again text _ h = absurd h
+call_again text Spawn h = ap call_of h
+call_again text (Exit status) h = ap call_of h.0 ∙ ap (option_map (λ n. Exit n)) (status_again status h.1)
+call_again text (Status process) h = ap call_of h.0 ∙ ap (option_map (λ p. Status p)) (process_again process h.1)
+call_again text (Kill process) h = ap call_of h.0 ∙ ap (option_map (λ p. Kill p)) (process_again process h.1)
+call_again text Whoami h = ap call_of h
+call_again text (Wrap path) h = absurd h

@@ -1,16 +1,19 @@
 -- Lines say by reading what they say by the grammar.
-use Rattle.std.proofs.Common.{◌≡◌, ℕ, true, cond, eqb, List, [], ◌∷◌, Some, None, codes, refl, sym, ap, subst, ◌∙◌, inl, inr}
+use Rattle.std.proofs.Common.{◌≡◌, ℕ, true, false, cond, eqb, List, [], ◌∷◌, Option, Some, None, codes, refl, sym, ap, subst, ◌∙◌, inl, inr}
 use Rattle.std.specs.Str.{bytes_eq}
 use Rattle.std.proofs.lemmas.Bool.{eqb-true}
-use Rattle.histar_flat.specs.Words.{split_at_first, process_of}
+use Rattle.histar_flat.specs.declared.calls.UnixCall.{UnixCall}
+use Rattle.histar_flat.specs.Words.{ProcName, digit_zero, split_at_first, is_process, process_of}
+use Rattle.histar_flat.specs.Texts.{process_text}
 use Rattle.histar_script.specs.declared.items.Item.{Item}
 use Rattle.histar_script.specs.declared.items.Item.TheVariants as items
 use Rattle.histar_script.specs.Lines.{is_plain, split_word, ◌space◌}
 use Rattle.histar_script.specs.Reading.{◌>>=◌, user_of, call_of, user_item, call_item, words_item, item_of}
-use Rattle.histar_script.specs.Grammar.{IsUserText, SaysInWords, Says}
+use Rattle.histar_script.specs.Grammar.{IsUserText, IsCallText, SaysInWords, Says}
 use Rattle.histar_script.proofs.Chains.{bind_some, chosen}
 use Rattle.histar_script.proofs.Parting.{parted}
-use Rattle.histar_script.proofs.WordsBack.{same_bytes, process_takes}
+use Rattle.histar_script.proofs.WordsBack.{same_bytes}
+use Rattle.histar_script.proofs.ProcessesBack.{process_begins, process_takes, process_again, split_process}
 use Rattle.histar_script.proofs.CallsBack.{user_takes, user_again, call_takes, call_again}
 
 -- a user line that is read is spelled so
@@ -58,13 +61,36 @@ item_takes (b ∷ bs) i e =
       | inr h ↦ absurd cc
     ]
 
+-- a line that begins with a 0 is read word by word
+zero_item : (line rest : List ℕ) → line ≡ digit_zero ∷ rest → is_plain line ≡ true → item_of line ≡ words_item line
+unfolding item_of
+zero_item line rest begins plain = ap item_of begins ∙ rw (ap is_plain (sym begins) ∙ plain) (ap words_item (sym begins))
+
+-- a process is no `user`
+no_user : (process : ProcName) → bytes_eq (process_text process) (codes "user") ≡ false
+no_user process = ap (λ (l : List ℕ). bytes_eq l (codes "user")) (process_begins process).1
+
+-- what a line of words says by its parts
+abbrev item_by : List ℕ × Option (List ℕ) → Option Item
+item_by w = w.1 >>= λ rest. cond (bytes_eq w.0 (codes "user")) (user_item rest) (call_item w.0 rest)
+
+-- a call line that is spelled is read
+call_line_again : (process : ProcName) (rest : List ℕ) (c : UnixCall) → is_plain (process_text process space rest) ≡ true → is_process process ≡ true → IsCallText rest c → item_of (process_text process space rest) ≡ Some (items.Call process c)
+unfolding words_item
+call_line_again process rest c plain named said =
+    let begins = process_begins process in
+    zero_item (process_text process space rest) (begins.0 space rest) (ap (λ (l : List ℕ). l space rest) begins.1) plain
+    ∙ ap item_by (split_process process rest named)
+    ∙ ap (λ b. cond b (user_item rest) (call_item (process_text process) rest)) (no_user process)
+    ∙ ap (λ o. o >>= λ p. call_of rest >>= λ call. Some (items.Call p call)) (process_again process named)
+    ∙ ap (λ o. o >>= λ call. Some (items.Call process call)) (call_again rest c said)
+
 -- and the other way
 words_again : (line : List ℕ) (i : Item) → is_plain line ≡ true → SaysInWords line i → item_of line ≡ Some i
 unfolding item_of words_item split_at_first
 words_again line items.Comment plain h = ap item_of h.1 ∙ rw (ap is_plain (sym h.1) ∙ plain) refl
 words_again line (items.User u) plain h = ap item_of h.spelled ∙ rw (ap is_plain (sym h.spelled) ∙ plain, user_again u.name u.password h.name h.password) refl
-words_again line (items.Call [] c) plain h = ap item_of h.1 ∙ rw (ap is_plain (sym h.1) ∙ plain, call_again h.0 c h.3) refl
-words_again line (items.Call (n ∷ p) c) plain h = absurd cc
+words_again line (items.Call process c) plain h = ap item_of h.1 ∙ call_line_again process h.0 c (ap is_plain (sym h.1) ∙ plain) h.2 h.3
 
 -- and the other way
 pub item_again : (line : List ℕ) (i : Item) → Says line i → item_of line ≡ Some i

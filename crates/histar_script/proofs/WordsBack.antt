@@ -1,5 +1,5 @@
 -- Words are read from the texts that spell them, and from no others.
-use Rattle.std.proofs.Common.{◌≡◌, ℕ, ◌<◌, true, false, not, cond, eqb, ltb, leb, ◌&&◌, List, [], ◌∷◌, length, Some, None, codes, refl, sym, ap, subst, ◌∙◌, inl, inr}
+use Rattle.std.proofs.Common.{◌≡◌, ℕ, ◌<◌, Bool, true, false, not, cond, eqb, ltb, leb, ◌&&◌, List, [], ◌∷◌, length, Some, None, codes, refl, sym, ap, subst, ◌∙◌, inl, inr}
 use Rattle.std.proofs.lemmas.Option.{cond_some}
 use Rattle.std.specs.List.{list_all}
 use Rattle.std.specs.Str.{bytes_eq}
@@ -7,9 +7,9 @@ use Rattle.std.proofs.lemmas.Slice.Eq.{bytes_eq-Decides}
 use Rattle.std.proofs.lemmas.Bool.{false≢true, false_from_ne_true, eqb-true, ltb-true, and_parts}
 use Rattle.histar_flat.specs.declared.calls.Mode.{Mode}
 use Rattle.histar_flat.specs.declared.calls.Mode.TheVariants.{Private, Readable, Open, Group}
-use Rattle.histar_flat.specs.Words.{ProcName, is_name, is_name_byte, is_dots, is_user_name, begins_with_letter, is_process, process_of}
+use Rattle.histar_flat.specs.Words.{is_name, is_name_byte, is_dots, is_user_name, begins_with_letter}
 use Rattle.histar_flat.specs.Modes.{mode_of, is_line_mode}
-use Rattle.histar_flat.specs.Texts.{process_text, mode_text}
+use Rattle.histar_flat.specs.Texts.{mode_text}
 use Rattle.histar_script.specs.Lines.{split_word, ◌space◌}
 use Rattle.histar_script.proofs.Chains.{chosen}
 use Rattle.histar_script.proofs.Parting.{lacks, split_before}
@@ -28,23 +28,23 @@ name_bytes : (name : List ℕ) → is_name name ≡ true → list_all is_name_by
 unfolding is_name
 name_bytes name h = (and_parts _ (list_all is_name_byte name) (and_parts _ (not (is_dots name)) h).0).1
 
--- a byte that a name may not have is not among such bytes
-bytes_lack : (a : ℕ) (bs : List ℕ) → is_name_byte a ≡ false → list_all is_name_byte bs ≡ true → lacks a bs ≡ true
-bytes_lack a [] other h = refl
-bytes_lack a (b ∷ bs) other h =
-    let p = and_parts (is_name_byte b) (list_all is_name_byte bs) h in
-    rw (differs b p.0, bytes_lack a bs other p.1) refl
+-- a byte that fails a test is not among bytes that pass it
+pub bytes_lack : (test : ℕ → Bool) (a : ℕ) (bs : List ℕ) → test a ≡ false → list_all test bs ≡ true → lacks a bs ≡ true
+bytes_lack test a [] other h = refl
+bytes_lack test a (b ∷ bs) other h =
+    let p = and_parts (test b) (list_all test bs) h in
+    rw (differs b p.0, bytes_lack test a bs other p.1) refl
   where
-    differs : (x : ℕ) → is_name_byte x ≡ true → eqb x a ≡ false
-    differs x named = false_from_ne_true (eqb x a) (λ e. false≢true (sym other ∙ sym (ap is_name_byte (eqb-true x a e)) ∙ named))
+    differs : (x : ℕ) → test x ≡ true → eqb x a ≡ false
+    differs x passes = false_from_ne_true (eqb x a) (λ e. false≢true (sym other ∙ sym (ap test (eqb-true x a e)) ∙ passes))
 
 -- a name has no space
 pub name_lacks_space : (name : List ℕ) → is_name name ≡ true → lacks 32 name ≡ true
-name_lacks_space name h = bytes_lack 32 name refl (name_bytes name h)
+name_lacks_space name h = bytes_lack is_name_byte 32 name refl (name_bytes name h)
 
 -- a name has no slash
 pub name_lacks_slash : (name : List ℕ) → is_name name ≡ true → lacks 47 name ≡ true
-name_lacks_slash name h = bytes_lack 47 name refl (name_bytes name h)
+name_lacks_slash name h = bytes_lack is_name_byte 47 name refl (name_bytes name h)
 
 -- a name ends at the space after it
 pub split_name : (name rest : List ℕ) → is_name name ≡ true → split_word (name space rest) ≡ (name, Some rest)
@@ -60,13 +60,7 @@ user_name_is_name name h =
 pub same_bytes : (xs ys : List ℕ) → bytes_eq xs ys ≡ true → xs ≡ ys
 same_bytes xs ys h = (bytes_eq-Decides xs ys).0 h
 
--- ---- processes and modes
-
--- a process that is read is spelled so
-pub process_takes : (text : List ℕ) (process : ProcName) → process_of text ≡ Some process → (text ≡ process_text process) × (is_process process ≡ true)
-process_takes text process e =
-    let g = cond_some (bytes_eq text (codes "0")) [] process e in
-    subst (λ (p : ProcName). (text ≡ process_text p) × (is_process p ≡ true)) g.1 (same_bytes text (codes "0") g.0, refl)
+-- ---- modes
 
 -- the text is that of a mode that a line can name
 abbrev IsSpelled : List ℕ → Mode → Type 0

@@ -5,8 +5,8 @@ use Rattle.std.specs.Str.{bytes_eq}
 use Rattle.histar_flat.specs.declared.calls.Mode.{Mode}
 use Rattle.histar_flat.specs.declared.calls.User.{User}
 use Rattle.histar_flat.specs.declared.calls.UnixCall.{UnixCall}
-use Rattle.histar_flat.specs.declared.calls.UnixCall.TheVariants.{Create, Mkdir, Write, Append, Read, List as ListCall, Stat, Unlink, Rmdir, Rmtree, Rename, Login}
-use Rattle.histar_flat.specs.Words.{Name, Path, name_of, user_name_of, password_of, path_of, process_of}
+use Rattle.histar_flat.specs.declared.calls.UnixCall.TheVariants.{Create, Mkdir, Write, Append, Read, List as ListCall, Stat, Unlink, Rmdir, Rmtree, Rename, Spawn, Exit, Status, Kill, Whoami, Login}
+use Rattle.histar_flat.specs.Words.{Name, Path, name_of, user_name_of, password_of, path_of, process_of, status_of}
 use Rattle.histar_flat.specs.Modes.{mode_of}
 use Rattle.histar_script.specs.declared.fault.Fault.{Fault}
 use Rattle.histar_script.specs.declared.fault.Fault.TheVariants.{BadScript, TooLong}
@@ -70,6 +70,13 @@ call_on word path =
     else (if bytes_eq word (codes "rmtree") then Some (Rmtree path)
     else None)))))
 
+-- the call of this word, which stands alone
+abbrev pub call_alone : List ℕ → Option UnixCall
+call_alone word =
+    if bytes_eq word (codes "spawn") then Some Spawn
+    else (if bytes_eq word (codes "whoami") then Some Whoami
+    else None)
+
 -- the call of this word, with what follows the word
 abbrev pub call_named : List ℕ → List ℕ → Option UnixCall
 call_named word rest =
@@ -79,13 +86,14 @@ call_named word rest =
     else (if bytes_eq word (codes "append") then option_map (λ w. Append w.0 w.1) (path_bytes_of rest)
     else (if bytes_eq word (codes "rename") then rename_of rest
     else (if bytes_eq word (codes "login") then login_of rest
-    else path_of rest >>= call_on word)))))
+    else (if bytes_eq word (codes "exit") then option_map (λ status. Exit status) (status_of rest)
+    else (if bytes_eq word (codes "status") then option_map (λ process. Status process) (process_of rest)
+    else (if bytes_eq word (codes "kill") then option_map (λ process. Kill process) (process_of rest)
+    else path_of rest >>= call_on word))))))))
 
--- a call: its word, and what follows it
+-- a call: its word, and what follows it, if anything does
 unfoldable pub call_of : List ℕ → Option UnixCall
-call_of text = do
-  rest ← (split_word text).1
-  call_named (split_word text).0 rest
+call_of text = elim (split_word text).1 [ None ↦ call_alone (split_word text).0 | Some rest ↦ call_named (split_word text).0 rest ]
 
 -- a user, as what a line says
 abbrev pub user_item : List ℕ → Option Item

@@ -1,13 +1,13 @@
 //! Reading what a line says. `Ok(None)` is a bad line; the bytes of a `write` or an `append` are copied, so memory may run out.
 ghost use Rattle.std.specs.Prelude.{◌≡◌, IfOk};
-ghost use Rattle.histar_script.specs.Reading.{user_of, path_mode_of, path_bytes_of, rename_of, login_of, call_on, call_of, words_item, item_of};
+ghost use Rattle.histar_script.specs.Reading.{user_of, path_mode_of, path_bytes_of, rename_of, login_of, call_on, call_alone, call_named, call_of, words_item, item_of};
 
 use crate::items::Item;
 use crate::lines::{is_plain, split_word};
 use histar_base::Bytes;
 use histar_flat::{
     Mode, Path, UnixCall, User, read_mode, read_name, read_password, read_path, read_process,
-    read_user_name,
+    read_status, read_user_name,
 };
 use std::alloc::{AllocError, Global};
 
@@ -92,15 +92,23 @@ fn call_on(word: &[u8], path: Path) -> Option<UnixCall>
     }
 }
 
-/// A call: its word, and what follows it.
-#[tactic(auto, unfolding(crate::specs::Reading::call_of))]
-fn read_call(alloc: Global, text: &[u8]) -> Result<Option<UnixCall>, AllocError>
-    ensures { IfOk result (λ call. call ≡ call_of text.now) }
+/// The call of this word, which stands alone.
+fn call_alone(word: &[u8]) -> Option<UnixCall>
+    ensures { result ≡ call_alone word.now }
 {
-    let (word, rest) = split_word(text);
-    let Some(rest) = rest else {
-        return Ok(None);
-    };
+    if word == b"spawn".as_slice() {
+        Some(UnixCall::Spawn)
+    } else if word == b"whoami".as_slice() {
+        Some(UnixCall::Whoami)
+    } else {
+        None
+    }
+}
+
+/// The call of this word, with what follows the word.
+fn call_named(alloc: Global, word: &[u8], rest: &[u8]) -> Result<Option<UnixCall>, AllocError>
+    ensures { IfOk result (λ call. call ≡ call_named word.now rest.now) }
+{
     if word == b"create".as_slice() {
         Ok(read_path_and_mode(rest).map(|(path, mode)| UnixCall::Create(path, mode)))
     } else if word == b"mkdir".as_slice() {
@@ -115,8 +123,26 @@ fn read_call(alloc: Global, text: &[u8]) -> Result<Option<UnixCall>, AllocError>
         Ok(read_rename(rest))
     } else if word == b"login".as_slice() {
         Ok(read_login(rest))
+    } else if word == b"exit".as_slice() {
+        Ok(read_status(rest).map(UnixCall::Exit))
+    } else if word == b"status".as_slice() {
+        Ok(read_process(rest).map(UnixCall::Status))
+    } else if word == b"kill".as_slice() {
+        Ok(read_process(rest).map(UnixCall::Kill))
     } else {
         Ok(read_path(rest).and_then(|path| call_on(word, path)))
+    }
+}
+
+/// A call: its word, and what follows it, if anything does.
+#[tactic(auto, unfolding(crate::specs::Reading::call_of))]
+fn read_call(alloc: Global, text: &[u8]) -> Result<Option<UnixCall>, AllocError>
+    ensures { IfOk result (λ call. call ≡ call_of text.now) }
+{
+    let (word, rest) = split_word(text);
+    match rest {
+        None => Ok(call_alone(word)),
+        Some(rest) => call_named(alloc, word, rest),
     }
 }
 

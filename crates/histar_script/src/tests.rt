@@ -1,6 +1,6 @@
 //! Worked scripts: what is read, which line is bad, and what is too long.
 use crate::{Fault, read_script};
-use histar_flat::{CallLine, Mode, Path, UnixCall};
+use histar_flat::{CallLine, Mode, Path, ProcName, UnixCall};
 use std::alloc::{AllocError, Global};
 use std::test::Fail;
 
@@ -89,7 +89,7 @@ fn says_what_the_lines_say(rt: HostRuntime) -> Result<(), Fail> {
     assert_eq!(rt; calls.len(), wanted.len());
     for (call, (number, words)) in calls.iter().zip(wanted.iter()) {
         assert_eq!(rt; call.line, *number);
-        assert!(rt; call.process.is_zero());
+        assert_eq!(rt; call.process.numbers(), b"".as_slice());
         assert_eq!(rt; told(rt.alloc(), call)?.as_slice(), *words);
     }
     Ok(())
@@ -150,11 +150,27 @@ fn finds_the_first_bad_line(rt: HostRuntime) {
     }
 }
 
-/// The fault of a script with a user and this call line.
-fn call_fault(alloc: Global, line: &[u8]) -> Result<Option<Fault>, AllocError> {
-    let mut text = Vec::from_slice(alloc, b"user root rr\n0 ".as_slice())?;
+/// The fault of a script with a user and this line.
+fn line_fault(alloc: Global, line: &[u8]) -> Result<Option<Fault>, AllocError> {
+    let mut text = Vec::from_slice(alloc, b"user root rr\n".as_slice())?;
     text.extend_from_slice(line)?;
     Ok(read_script(alloc, text.as_slice()).err())
+}
+
+/// The fault of a script with a user and this call of process 0.
+fn call_fault(alloc: Global, call: &[u8]) -> Result<Option<Fault>, AllocError> {
+    let mut line = Vec::from_slice(alloc, b"0 ".as_slice())?;
+    line.extend_from_slice(call)?;
+    line_fault(alloc, line.as_slice())
+}
+
+/// The fault of a script whose second line is right or bad.
+fn second_line_fault(is_right: bool) -> Option<Fault> {
+    if is_right {
+        None
+    } else {
+        Some(Fault::BadScript(2))
+    }
 }
 
 #[test]
@@ -182,7 +198,7 @@ fn reads_paths_of_any_depth(rt: HostRuntime) -> Result<(), Fail> {
     ];
     for (line, is_right) in lines {
         let fault = call_fault(rt.alloc(), line)?;
-        assert_eq!(rt; fault.is_none(), is_right, "at {line:?}");
+        assert_eq!(rt; fault, second_line_fault(is_right), "at {line:?}");
     }
     Ok(())
 }
@@ -227,11 +243,112 @@ fn reads_each_call_in_its_form(rt: HostRuntime) -> Result<(), Fail> {
         (b"rename /a /b".as_slice(), false),
         (b"rename /a b c".as_slice(), false),
         (b"rename /a .".as_slice(), false),
-        (b"spawn".as_slice(), false),
+        (b"spawn".as_slice(), true),
+        (b"spawn x".as_slice(), false),
+        (b"spawn /a".as_slice(), false),
+        (b"spawn ".as_slice(), false),
+        (b"whoami".as_slice(), true),
+        (b"whoami ".as_slice(), false),
+        (b"whoami 0".as_slice(), false),
+        (b" whoami".as_slice(), false),
+        (b"exit 0".as_slice(), true),
+        (b"exit 255".as_slice(), true),
+        (b"exit 256".as_slice(), false),
+        (b"exit 07".as_slice(), false),
+        (b"exit 1000".as_slice(), false),
+        (b"exit +1".as_slice(), false),
+        (b"exit 1 ".as_slice(), false),
+        (b"exit ".as_slice(), false),
+        (b"exit".as_slice(), false),
+        (b"status 0".as_slice(), true),
+        (b"status 0.64".as_slice(), true),
+        (b"status 0.".as_slice(), false),
+        (b"status".as_slice(), false),
+        (b"kill 0.2.1".as_slice(), true),
+        (b"kill 0.2.01".as_slice(), false),
+        (b"kill".as_slice(), false),
+        (b"wrap /a".as_slice(), false),
     ];
     for (line, is_right) in lines {
         let fault = call_fault(rt.alloc(), line)?;
-        assert_eq!(rt; fault.is_none(), is_right, "at {line:?}");
+        assert_eq!(rt; fault, second_line_fault(is_right), "at {line:?}");
+    }
+    Ok(())
+}
+
+#[test]
+fn reads_names_of_processes(rt: HostRuntime) -> Result<(), Fail> {
+    let lines = [
+        (b"0 whoami".as_slice(), true),
+        (b"0.1 whoami".as_slice(), true),
+        (b"0.64 whoami".as_slice(), true),
+        (b"0.1.1.1.1.1.1.1 whoami".as_slice(), true),
+        (b"0.1.1.1.1.1.1.1.1 whoami".as_slice(), false),
+        (b"00 whoami".as_slice(), false),
+        (b"1 whoami".as_slice(), false),
+        (b"0.0 whoami".as_slice(), false),
+        (b"0.65 whoami".as_slice(), false),
+        (b"0.01 whoami".as_slice(), false),
+        (b"0.100 whoami".as_slice(), false),
+        (b"0. whoami".as_slice(), false),
+        (b"0..1 whoami".as_slice(), false),
+        (b"0.1. whoami".as_slice(), false),
+        (b"0.+1 whoami".as_slice(), false),
+        (b"0.a whoami".as_slice(), false),
+        (b"0/1 whoami".as_slice(), false),
+        (b".1 whoami".as_slice(), false),
+    ];
+    for (line, is_right) in lines {
+        let fault = line_fault(rt.alloc(), line)?;
+        assert_eq!(rt; fault, second_line_fault(is_right), "at {line:?}");
+    }
+    Ok(())
+}
+
+/// The word of a call on processes, the process that it names, and the status that it gives.
+fn process_words(call: &UnixCall) -> (&str, Option<&ProcName>, Option<u8>) {
+    match call {
+        UnixCall::Spawn => ("spawn", None, None),
+        UnixCall::Whoami => ("whoami", None, None),
+        UnixCall::Exit(status) => ("exit", None, Some(*status)),
+        UnixCall::Status(process) => ("status", Some(process), None),
+        UnixCall::Kill(process) => ("kill", Some(process), None),
+        _ => ("another call", None, None),
+    }
+}
+
+#[test]
+fn says_what_calls_on_processes_say(rt: HostRuntime) -> Result<(), Fail> {
+    let text =
+        b"user root rr\n0.1.2.3.4.5.6.7 whoami\n0.64 spawn\n0 exit 255\n0 exit 0\n0 exit 10\n0 status 0\n0.2 kill 0.2.1".as_slice();
+    let (_, calls) = read_script(rt.alloc(), text)?.into_parts();
+    let zero = b"".as_slice();
+    let wanted = [
+        (
+            b"\x07\x06\x05\x04\x03\x02\x01".as_slice(),
+            "whoami",
+            None,
+            None,
+        ),
+        (b"\x40".as_slice(), "spawn", None, None),
+        (zero, "exit", None, Some(255)),
+        (zero, "exit", None, Some(0)),
+        (zero, "exit", None, Some(10)),
+        (zero, "status", Some(zero), None),
+        (
+            b"\x02".as_slice(),
+            "kill",
+            Some(b"\x01\x02".as_slice()),
+            None,
+        ),
+    ];
+    assert_eq!(rt; calls.len(), wanted.len());
+    for (call, (caller, word, named, status)) in calls.iter().zip(wanted.iter()) {
+        let words = process_words(&call.call);
+        assert_eq!(rt; call.process.numbers(), *caller);
+        assert_eq!(rt; words.0, *word);
+        assert_eq!(rt; words.1.map(|process| process.numbers()), *named);
+        assert_eq!(rt; words.2, *status);
     }
     Ok(())
 }
