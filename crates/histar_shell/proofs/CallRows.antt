@@ -13,11 +13,18 @@ use Rattle.histar_move_rows.proofs.UnlinkCall.{unlinks_are_rows}
 use Rattle.histar_move_rows.proofs.RmdirCall.{rmdirs_are_rows}
 use Rattle.histar_move_rows.proofs.RmtreeCall.{rmtrees_are_rows}
 use Rattle.histar_move_rows.proofs.RenameCall.{renames_are_rows}
+use Rattle.histar_process_rows.specs.Laws.{ProcessCallsAreRows}
+use Rattle.histar_process_rows.proofs.SpawnCall.{spawns_are_rows}
+use Rattle.histar_process_rows.proofs.ExitCall.{exits_are_rows}
+use Rattle.histar_process_rows.proofs.StatusCall.{statuses_are_rows}
+use Rattle.histar_process_rows.proofs.KillCall.{kills_are_rows}
+use Rattle.histar_process_rows.proofs.Whoami.{whoamis_are_rows}
 
 -- each call that a line can make is a row
 pub record LinesAreRows : Type 0 where
   pub calls : CallsAreRows
   pub moves : MovesAreRows
+  pub processes : ProcessCallsAreRows
 
 pub lines_are_rows : LinesAreRows
 lines_are_rows = record {
@@ -36,5 +43,12 @@ lines_are_rows = record {
     rmdir = rmdirs_are_rows;
     rmtree = rmtrees_are_rows;
     rename = renames_are_rows;
+  };
+  processes = record {
+    spawn = spawns_are_rows;
+    exit = exits_are_rows;
+    status = statuses_are_rows;
+    kill = kills_are_rows;
+    whoami = whoamis_are_rows;
   };
 }

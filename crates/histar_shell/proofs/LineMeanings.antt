@@ -1,89 +1,148 @@
 -- A line ends as the flat state says that the machine lays out before it.
-use Rattle.std.proofs.Common.{◌≡◌, ℕ, Bool, true, false, List, [], ◌∷◌, length, Option, None, Result, Ok, Err, refl, sym, ap, ◌∙◌, subst, append-nil}
+use Rattle.std.proofs.Common.{◌≡◌, ℕ, Bool, true, false, List, [], ◌∷◌, length, Option, None, Some, Result, Ok, Err, refl, sym, ap, ◌∙◌, subst, append-nil}
+use Rattle.std.specs.Prelude.{is_some}
+use Rattle.std.specs.List.{AllByRecursion}
+use mathlib.Core.Bool.{true≢false}
 use Rattle.histar_flat.specs.declared.calls.User.{User}
 use Rattle.histar_flat.specs.declared.calls.UnixCall.{UnixCall}
-use Rattle.histar_flat.specs.declared.calls.UnixCall.TheVariants.{Create, Mkdir, Write, Append, Read, List as ListCall, Stat, Unlink, Rmdir, Rmtree, Rename, Login}
+use Rattle.histar_flat.specs.declared.calls.UnixCall.TheVariants.{Create, Mkdir, Write, Append, Read, List as ListCall, Stat, Unlink, Rmdir, Rmtree, Rename, Spawn, Exit, Status, Kill, Whoami, Login, Wrap}
 use Rattle.histar_flat.specs.declared.replies.Reply.{Reply}
 use Rattle.histar_flat.specs.declared.replies.Reply.TheVariants.{Gone}
 use Rattle.histar_flat.specs.Words.{ProcName}
-use Rattle.histar_flat.specs.Sessions.{session_of}
+use Rattle.histar_flat.specs.Sessions.{Session, session_of}
 use Rattle.histar_flat.specs.Classes.{Process}
 use Rattle.histar_flat.specs.FlatState.{Flat}
-use Rattle.histar_flat.specs.FlatCalls.{if_running, running, reply_to, flat_after}
+use Rattle.histar_flat.specs.FlatCalls.{running, reply_to, flat_after}
 use Rattle.histar_flat.proofs.Laws.{not_running_is_gone}
 use Rattle.histar_script.specs.Script.{IsUserList}
+use Rattle.histar_object.specs.State.{State}
+use Rattle.histar_syscall.specs.declared.trace.TraceEntry.{TraceEntry}
 use Rattle.histar_syscall.specs.KernelModel.{KernelModel, state}
+use Rattle.histar_syscall.specs.Runs.{IsBy}
 use Rattle.histar_calls.specs.declared.places.Places.{Places}
 use Rattle.histar_calls.specs.declared.ending.Stopped.{Stopped}
+use Rattle.histar_process.specs.declared.caller.Caller.{Caller}
+use Rattle.histar_process.specs.Caller.{caller_at}
 use Rattle.histar_login.specs.Start.{places_of}
 use Rattle.histar_refinement.specs.LaysOut.{LaysOut}
-use Rattle.histar_shell.proofs.CallRows.{LinesAreRows}
+use Rattle.histar_refinement.specs.Laws.{IsCallerOf}
+use Rattle.histar_refinement.specs.Lines.{IsThreadOf}
+use Rattle.histar_refinement.specs.Sessions.{IsSession}
+use Rattle.histar_refinement.proofs.CallerFound.{caller_found, caller_there}
 use Rattle.histar_refinement.proofs.Renaming.{nothing_under}
-use Rattle.histar_rows.specs.Rows.{IsScriptable, IsLine, IsReady, HasReadsOf, DoesItsRow}
-use Rattle.histar_shell.specs.Machine.{MachineModel, on_line, Makes, HasMade, AnswersRunning, AnswersIf, AnswersLine}
-use Rattle.histar_shell.specs.Meaning.{Shows, EndsAsMeant, FollowsMeaning}
+use Rattle.histar_refinement.proofs.StatusFound.{thread_led}
+use Rattle.histar_rows.specs.Rows.{IsScriptable, IsLine, IsReady, HasReadsOf, DoesItsRow, AreFilesSmall}
+use Rattle.histar_shell.specs.Machine.{MachineModel, on_line, Makes, HasMade, AnswersFound, AnswersRunning, AnswersIf, AnswersLine}
+use Rattle.histar_shell.specs.Meaning.{AreJobless, Shows, EndsAsMeant, FollowsMeaning}
+use Rattle.histar_shell.proofs.CallRows.{LinesAreRows}
+use Rattle.histar_shell.proofs.Jobless.{jobless_after}
 use Rattle.histar_shell.proofs.SmallFiles.{small_after}
-use Rattle.histar_shell.proofs.FirstAlone.{first_after}
 use Rattle.histar_shell.proofs.Users.{is_session}
 
+-- what is not there is nothing
+none_of : {A : Type 0} (o : Option A) → is_some o ≡ false → o ≡ None
+none_of None e = refl
+none_of (Some x) e = absurd (true≢false e)
+
 module _ (rows : LinesAreRows) (old new : MachineModel) (f : Flat) (shows : Shows old f) where
-  -- a call of process 0 is its row
-  made_row : (k : KernelModel) → IsReady (session_of old.users) (state k) f old.thread → (call : UnixCall) (result : Result Reply Stopped) → IsScriptable call
-      → Makes old.users (places_of (length old.users)) k new.kernel old.thread call result → DoesItsRow (session_of old.users) f call k new.kernel old.thread result
-  made_row k ready (Create path mode) result can made = rows.calls.create (session_of old.users) (is_session old.users shows.users) path mode can.0 can.1 k new.kernel f old.thread result ready made
-  made_row k ready (Write path bytes) result can made = rows.calls.write (session_of old.users) (is_session old.users shows.users) path bytes k new.kernel f old.thread result ready made
-  made_row k ready (Mkdir path mode) result can made = rows.calls.mkdir (session_of old.users) (is_session old.users shows.users) path mode can.0 can.1 k new.kernel f old.thread result ready made
-  made_row k ready (Append path bytes) result can made = rows.calls.append (session_of old.users) (is_session old.users shows.users) path bytes k new.kernel f old.thread result ready made
-  made_row k ready (ListCall path) result can made = rows.calls.list (session_of old.users) (is_session old.users shows.users) path k new.kernel f old.thread result ready made
-  made_row k ready (Read path) result can made = rows.calls.read (session_of old.users) (is_session old.users shows.users) path k new.kernel f old.thread result ready made
-  made_row k ready (Stat path) result can made = rows.calls.stat old.users (is_session old.users shows.users) path k new.kernel f old.thread result ready made
-  made_row k ready (Unlink path) result can made = rows.moves.unlink (session_of old.users) (is_session old.users shows.users) path k new.kernel f old.thread result ready made
-  made_row k ready (Rmdir path) result can made = rows.moves.rmdir (session_of old.users) (is_session old.users shows.users) path k new.kernel f old.thread result ready made
-  made_row k ready (Rmtree path) result can made = rows.moves.rmtree (session_of old.users) (is_session old.users shows.users) path k new.kernel f old.thread result ready made
-  made_row k ready (Rename path name) result can made = rows.moves.rename (session_of old.users) (is_session old.users shows.users) path name can.1 k new.kernel f old.thread result ready made
-  made_row k ready (Login name password) result can made = rows.calls.login old.users (is_session old.users shows.users) name password k new.kernel f old.thread result ready made
-  made_row k ready _ result can made = absurd can
+  abbrev session : Session
+  session = session_of old.users
 
-  -- at the places that boot told the machine
-  row_of_made : (line : ℕ) (call : UnixCall) (result : Result Reply Stopped) → IsScriptable call → HasMade old new line call result
-      → DoesItsRow (session_of old.users) f call (on_line line old.kernel) new.kernel old.thread result
-  row_of_made line call result can h =
-      made_row (on_line line old.kernel) shows.ready call result can
-      (subst (λ (places : Places). Makes old.users places (on_line line old.kernel) new.kernel old.thread call result) shows.places h.made)
+  ok : IsSession (session_of old.users)
+  ok = is_session old.users shows.users
 
-  -- the machine after it shows what its kernel lays out
-  still_shows : (line : ℕ) (call : UnixCall) (result : Result Reply Stopped) (g : Flat) → HasMade old new line call result → IsReady (session_of old.users) (state new.kernel) g old.thread → Shows new g
-  still_shows line call result g h ready = record {
-    users = subst IsUserList (sym h.users) shows.users;
-    places = h.places ∙ shows.places ∙ ap (λ (us : List User). places_of (length us)) (sym h.users);
+  module _ (me : ProcName) (caller : Caller) (found : caller_at (state old.kernel) (places_of (length old.users)).home me ≡ Some caller) where
+    -- the process is found where it runs
+    running_as : (p : Process) × IsCallerOf (session_of old.users) (state old.kernel) f shows.lays_out.laid me p caller
+    running_as = caller_found (session_of old.users) (state old.kernel) f shows.lays_out.laid me caller found
+
+    ready : IsReady (session_of old.users) (state old.kernel) f me caller.thread
     ready =
-        subst (λ (us : List User). IsReady (session_of us) (state new.kernel) g new.thread) (sym h.users)
-        (subst (λ (t : ℕ). IsReady (session_of old.users) (state new.kernel) g t) (sym h.thread) ready);
-  }
+        let p = running_as.0 in
+        let as = running_as.1 in
+        let none = shows.jobless me p as.runs.0 in
+        record {
+          lays_out = shows.lays_out;
+          caller = record { process = p; stands = as.runs.0; runs = as.runs.1; free = none.in_none; holds_none = none.holds_none };
+          small = shows.small;
+          thread = thread_led (session_of old.users) (state old.kernel) f shows.lays_out.laid me p caller.thread as.runs.0 as.runs.1 as.runs.2;
+        }
 
-  -- a call of process 0 ends as is meant
-  made_ends : (line : ℕ) (call : UnixCall) (result : Result Reply Stopped) → IsScriptable call → HasMade old new line call result → EndsAsMeant old new f (record { line = line; process = []; call = call }) result
-  made_ends line call (Ok reply) can h =
-      let row = row_of_made line call (Ok reply) can h in
-      record {
-        told = row.0;
-        entries = row.1.entries;
-        trace = row.1.trace;
-        row = row.1.row;
-        shows = still_shows line call (Ok reply) (flat_after (session_of old.users) f [] call) h
-            (record { lays_out = row.1.row.lays_out; alone = first_after (session_of old.users) f shows.ready.alone call can; small = small_after f shows.ready.small (session_of old.users) shows.ready.alone (nothing_under (session_of old.users) (state old.kernel) f shows.ready.lays_out.laid) call can; thread = row.1.thread });
-      }
-  made_ends line call (Err stopped) can h =
-      let out = row_of_made line call (Err stopped) can h in
-      record { entries = out.entries; trace = out.trace; run = out.run; own = out.own }
+    -- a call of the process is its row
+    made_row : (k : KernelModel) → state k ≡ state old.kernel → (call : UnixCall) (result : Result Reply Stopped) → IsScriptable call
+        → Makes old.users (places_of (length old.users)) me caller k new.kernel call result → DoesItsRow (session_of old.users) f me call k new.kernel caller.thread result
+    made_row k same call result can made = by call can made
+      where
+        there : IsReady (session_of old.users) (state k) f me caller.thread
+        there = subst (λ (s : State). IsReady (session_of old.users) s f me caller.thread) (sym same) ready
 
-  -- a line of a process that was never born is answered `gone`, and makes no raw call
-  gone_ends : (line n : ℕ) (p : ProcName) (call : UnixCall) → EndsAsMeant old old f (record { line = line; process = n ∷ p; call = call }) (Ok Gone)
-  gone_ends line n p call =
-      let session = session_of old.users in
-      let none : running f (n ∷ p) ≡ None = ap if_running (shows.ready.alone.others n p) in
-      let still = not_running_is_gone session f (n ∷ p) call none in
-      let is_line : IsLine session (state old.kernel) line (n ∷ p) Gone [] (state old.kernel) = record {
+        at : caller_at (state k) (places_of (length old.users)).home me ≡ Some caller
+        at = ap (λ (s : State). caller_at s (places_of (length old.users)).home me) same ∙ found
+
+        by : (c : UnixCall) → IsScriptable c → Makes old.users (places_of (length old.users)) me caller k new.kernel c result → DoesItsRow (session_of old.users) f me c k new.kernel caller.thread result
+        by (Create path mode) can made = rows.calls.create session ok path mode can.0 can.1 me k new.kernel f caller.thread result there made
+        by (Write path bytes) can made = rows.calls.write session ok path bytes me k new.kernel f caller.thread result there made
+        by (Mkdir path mode) can made = rows.calls.mkdir session ok path mode can.0 can.1 me k new.kernel f caller.thread result there made
+        by (Append path bytes) can made = rows.calls.append session ok path bytes me k new.kernel f caller.thread result there made
+        by (ListCall path) can made = rows.calls.list session ok path me k new.kernel f caller.thread result there made
+        by (Read path) can made = rows.calls.read session ok path me k new.kernel f caller.thread result there made
+        by (Stat path) can made = rows.calls.stat old.users ok path me k new.kernel f caller.thread result there made
+        by (Unlink path) can made = rows.moves.unlink session ok path me k new.kernel f caller.thread result there made
+        by (Rmdir path) can made = rows.moves.rmdir session ok path me k new.kernel f caller.thread result there made
+        by (Rmtree path) can made = rows.moves.rmtree session ok path me k new.kernel f caller.thread result there made
+        by (Rename path name) can made = rows.moves.rename session ok path name can.1 me k new.kernel f caller.thread result there made
+        by Spawn can made = rows.processes.spawn old.users ok me caller k new.kernel f result there at made
+        by (Exit number) can made = rows.processes.exit session ok number can me caller k new.kernel f result there at made
+        by (Status name) can made = rows.processes.status session ok name me k new.kernel f caller.thread result there made
+        by (Kill name) can made = rows.processes.kill session ok name me k new.kernel f caller.thread result there made
+        by Whoami can made = rows.processes.whoami old.users ok me k new.kernel f caller.thread result there made
+        by (Login name password) can made = rows.calls.login old.users ok name password me caller k new.kernel f result there at made
+        by (Wrap path) can made = absurd can
+
+    -- at the places that boot told the machine
+    row_of_made : (line : ℕ) (call : UnixCall) (result : Result Reply Stopped) → IsScriptable call → HasMade old new line me caller call result
+        → DoesItsRow (session_of old.users) f me call (on_line line old.kernel) new.kernel caller.thread result
+    row_of_made line call result can h =
+        made_row (on_line line old.kernel) refl call result can
+        (subst (λ (places : Places). Makes old.users places me caller (on_line line old.kernel) new.kernel call result) shows.places h.made)
+
+    -- the machine after it shows what its kernel lays out
+    still_shows : (line : ℕ) (call : UnixCall) (result : Result Reply Stopped) (g : Flat) → HasMade old new line me caller call result → LaysOut (session_of old.users) (state new.kernel) g → AreJobless g → AreFilesSmall g → Shows new g
+    still_shows line call result g h lays jobless small = record {
+      users = subst IsUserList (sym h.users) shows.users;
+      places = h.places ∙ shows.places ∙ ap (λ (us : List User). places_of (length us)) (sym h.users);
+      lays_out = subst (λ (us : List User). LaysOut (session_of us) (state new.kernel) g) (sym h.users) lays;
+      jobless = jobless;
+      small = small;
+    }
+
+    -- each raw call is by the process's thread
+    own_thread : (line : ℕ) (entries : List TraceEntry) → AllByRecursion (IsBy line caller.thread) entries → AllByRecursion (λ (e : TraceEntry). (e.line ≡ line) × IsThreadOf (session_of old.users) (state old.kernel) me e.thread) entries
+    own_thread line [] own = tt
+    own_thread line (e ∷ entries) own = ((own.0.0, subst (IsThreadOf (session_of old.users) (state old.kernel) me) (sym own.0.1) ready.thread), own_thread line entries own.1)
+
+    -- the call ends as is meant
+    made_ends : (line : ℕ) (call : UnixCall) (result : Result Reply Stopped) → IsScriptable call → HasMade old new line me caller call result → EndsAsMeant old new f (record { line = line; process = me; call = call }) result
+    made_ends line call (Ok reply) can h =
+        let row = row_of_made line call (Ok reply) can h in
+        record {
+          told = row.0;
+          entries = row.1.entries;
+          trace = row.1.trace;
+          row = row.1.row;
+          shows = still_shows line call (Ok reply) (flat_after (session_of old.users) f me call) h row.1.row.lays_out
+              (jobless_after (session_of old.users) f shows.jobless me call can)
+              (small_after f shows.small (session_of old.users) me (nothing_under (session_of old.users) (state old.kernel) f shows.lays_out.laid) call can);
+        }
+    made_ends line call (Err stopped) can h =
+        let out = row_of_made line call (Err stopped) can h in
+        record { entries = out.entries; trace = out.trace; run = out.run; own = own_thread line out.entries out.own }
+
+  -- a line of a process that doesn't run is answered `gone`, and makes no raw call
+  gone_ends : (line : ℕ) (me : ProcName) (call : UnixCall) → running f me ≡ None → EndsAsMeant old old f (record { line = line; process = me; call = call }) (Ok Gone)
+  gone_ends line me call none =
+      let still = not_running_is_gone session f me call none in
+      let is_line : IsLine session (state old.kernel) line me Gone [] (state old.kernel) = record {
         run = refl;
         own = tt;
         access = refl;
@@ -98,18 +157,26 @@ module _ (rows : LinesAreRows) (old new : MachineModel) (f : Flat) (shows : Show
         entries = [];
         trace = sym (append-nil old.kernel.trace);
         row = record {
-          line = subst (λ (r : Reply). IsLine session (state old.kernel) line (n ∷ p) r [] (state old.kernel)) (sym still.0) is_line;
-          reads = subst (λ (o : Option Process). HasReadsOf session (state old.kernel) f o call (reply_to session f (n ∷ p) call) []) (sym none) tt;
-          lays_out = subst (LaysOut session (state old.kernel)) (sym still.1) shows.ready.lays_out;
+          line = subst (λ (r : Reply). IsLine session (state old.kernel) line me r [] (state old.kernel)) (sym still.0) is_line;
+          reads = subst (λ (o : Option Process). HasReadsOf session (state old.kernel) f o call (reply_to session f me call) []) (sym none) tt;
+          lays_out = subst (LaysOut session (state old.kernel)) (sym still.1) shows.lays_out;
         };
         shows = subst (Shows old) (sym still.1) shows;
       }
 
-  runs_end : (line : ℕ) (process : ProcName) (call : UnixCall) (result : Result Reply Stopped) → IsScriptable call → AnswersRunning old new line process call result → EndsAsMeant old new f (record { line = line; process = process; call = call }) result
-  runs_end line [] call result can h = made_ends line call result can h
-  runs_end line (n ∷ p) call result can h =
-      subst (λ (m : MachineModel). EndsAsMeant old m f (record { line = line; process = n ∷ p; call = call }) result) (sym h.1)
-      (subst (EndsAsMeant old old f (record { line = line; process = n ∷ p; call = call })) (sym h.0) (gone_ends line n p call))
+  -- who is not found doesn't run
+  lost_is_gone : (me : ProcName) → caller_at (state old.kernel) (places_of (length old.users)).home me ≡ None → running f me ≡ None
+  lost_is_gone me lost = none_of (running f me) (sym (caller_there (session_of old.users) (state old.kernel) f shows.lays_out.laid me) ∙ ap is_some lost)
+
+  runs_end : (line : ℕ) (me : ProcName) (call : UnixCall) (result : Result Reply Stopped) → IsScriptable call → AnswersRunning old new line me call result → EndsAsMeant old new f (record { line = line; process = me; call = call }) result
+  runs_end line me call result can h = by (caller_at (state old.kernel) (places_of (length old.users)).home me) refl
+      (subst (λ (places : Places). AnswersFound (caller_at (state old.kernel) places.home me) old new line me call result) shows.places h)
+    where
+      by : (o : Option Caller) → caller_at (state old.kernel) (places_of (length old.users)).home me ≡ o → AnswersFound o old new line me call result → EndsAsMeant old new f (record { line = line; process = me; call = call }) result
+      by None lost k =
+          subst (λ (m : MachineModel). EndsAsMeant old m f (record { line = line; process = me; call = call }) result) (sym k.1)
+          (subst (EndsAsMeant old old f (record { line = line; process = me; call = call })) (sym k.0) (gone_ends line me call (lost_is_gone me lost)))
+      by (Some caller) found made = made_ends me caller found line call result can made
 
   -- a machine that had stopped makes no raw call
   stopped_ends : (line : ℕ) (process : ProcName) (call : UnixCall) (result : Result Reply Stopped) → AnswersIf true old new line process call result → EndsAsMeant old new f (record { line = line; process = process; call = call }) result
@@ -136,10 +203,10 @@ line_follows rows old new line process call result h f shows can = line_ends row
 pub users_stay : (old new : MachineModel) (line : ℕ) (process : ProcName) (call : UnixCall) (result : Result Reply Stopped) → AnswersLine old new line process call result → new.users ≡ old.users
 users_stay old new line process call result h = by old.is_stopped h
   where
-    runs : (p : ProcName) → AnswersRunning old new line p call result → new.users ≡ old.users
-    runs [] k = k.users
-    runs (n ∷ p) k = ap (λ (m : MachineModel). m.users) k.1
+    runs : (o : Option Caller) → AnswersFound o old new line process call result → new.users ≡ old.users
+    runs None k = ap (λ (m : MachineModel). m.users) k.1
+    runs (Some caller) k = k.users
 
     by : (b : Bool) → AnswersIf b old new line process call result → new.users ≡ old.users
     by true k = ap (λ (m : MachineModel). m.users) k.1
-    by false k = runs process k
+    by false k = runs (caller_at (state old.kernel) old.places.home process) k

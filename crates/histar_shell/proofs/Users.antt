@@ -9,7 +9,7 @@ use Rattle.std.proofs.lemmas.Option.{none-some}
 use mathlib.Core.Bool.{true≢false}
 use Rattle.histar_flat.specs.declared.calls.User.{User}
 use Rattle.histar_flat.specs.declared.calls.UnixCall.{UnixCall}
-use Rattle.histar_flat.specs.declared.calls.UnixCall.TheVariants.{Create, Mkdir, Write, Append, Read, List as ListCall, Stat, Unlink, Rmdir, Rmtree, Rename, Login}
+use Rattle.histar_flat.specs.declared.calls.UnixCall.TheVariants.{Create, Mkdir, Write, Append, Read, List as ListCall, Stat, Unlink, Rmdir, Rmtree, Rename, Spawn, Exit, Status, Kill, Whoami, Login, Wrap}
 use Rattle.histar_flat.specs.Words.{is_name, is_user_name, begins_with_letter}
 use Rattle.histar_flat.specs.Sessions.{session_of, user_number}
 use Rattle.histar_flat.specs.Classes.{nobody}
@@ -88,8 +88,13 @@ spelled_scriptable text (Unlink path) h = h.1
 spelled_scriptable text (Rmdir path) h = h.1
 spelled_scriptable text (Rmtree path) h = h.1
 spelled_scriptable text (Rename path name) h = (h.1, h.2)
+spelled_scriptable text Spawn h = tt
+spelled_scriptable text (Exit status) h = h.1
+spelled_scriptable text (Status name) h = tt
+spelled_scriptable text (Kill name) h = tt
+spelled_scriptable text Whoami h = tt
 spelled_scriptable text (Login name password) h = tt
-spelled_scriptable text _ h = absurd h
+spelled_scriptable text (Wrap path) h = absurd h
 
 -- a call line says a call that a line can make
 said_scriptable : (line process : List ℕ) (c : UnixCall) → Says line (items.Call process c) → IsScriptable c

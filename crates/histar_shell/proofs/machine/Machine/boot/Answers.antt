@@ -2,7 +2,7 @@ use Rattle.std.proofs.Common.{◌≡◌, ◌≤◌, List, length, refl, sym, ap,
 use Rattle.histar_flat.specs.declared.calls.User.{User}
 use Rattle.histar_flat.specs.Sessions.{session_of}
 use Rattle.histar_login.specs.Boot.{IsBooted}
-use Rattle.histar_login.specs.Start.{places_of, thread_number, start_state}
+use Rattle.histar_login.specs.Start.{places_of, start_state}
 use Rattle.histar_login.proofs.LastStage.{booted_line}
 use Rattle.histar_script.specs.Script.{most_users}
 use Rattle.histar_shell.proofs.Starts.{start_shows}
@@ -23,7 +23,6 @@ returns-clause-starts g c =
     record {
       users = c.in_ok-users.ensures.items;
       places = c.in_ok-kernel.ensures.places ∙ ap (λ (l : List User). places_of (length l)) same;
-      thread = c.in_ok-kernel.ensures.thread ∙ ap (λ (l : List User). thread_number (length l)) same;
       state = c.in_ok-kernel.ensures.state ∙ ap (λ (l : List User). start_state (session_of l)) same;
       booted = booted;
       line = booted_line (session_of c.args.users.now) c.in_ok-kernel.kernel booted;

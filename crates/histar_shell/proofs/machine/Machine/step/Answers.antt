@@ -1,10 +1,10 @@
-use Rattle.std.proofs.Common.{◌≡◌, true, false, List, Ok, rules, refl, sym, ◌∙◌, subst}
-use Rattle.std.proofs.lemmas.Bool.{true≢false}
+use Rattle.std.proofs.Common.{◌≡◌, List, None, Some, Ok, refl, sym, ap, ◌∙◌, subst}
 use Rattle.histar_flat.specs.declared.replies.Reply.TheVariants.{Gone}
-use Rattle.histar_shell.specs.Meaning.{FollowsMeaning}
 use Rattle.histar_flat.specs.declared.calls.User.{User}
+use Rattle.histar_process.specs.Caller.{caller_at}
+use Rattle.histar_shell.specs.Meaning.{FollowsMeaning}
 use Rattle.histar_shell.specs.Machine.{MachineModel, on_line, Makes, AnswersLine}
-use Rattle.histar_syscall.specs.KernelModel.{KernelModel}
+use Rattle.histar_syscall.specs.KernelModel.{KernelModel, state}
 use Rattle.histar_shell.proofs.Lines.{had_made, gone_line}
 use Rattle.histar_shell.proofs.CallRows.{lines_are_rows}
 use Rattle.histar_shell.proofs.LineMeanings.{line_follows}
@@ -14,26 +14,5 @@ use Rattle.histar_shell.proofs.machine.Machine.step.Goals as goal
 -- the trace stays a run from the empty kernel
 pub invariant_of-self : goal.invariant_of-self
 invariant_of-self g c =
-    let made = subst (λ (k : KernelModel). Makes c.as_slice-users.result.now c.self.inside.places k c.make-result.new.kernel c.self.inside.thread c.args.call c.make-result.result) c.begin.ensures c.make-result.ensures in
-    (c.self.invariant.0, traced_on c.as_slice-users.result.now c.self.inside.places (on_line c.args.line c.self.inside.kernel) c.make-result.new.kernel c.self.inside.thread c.args.call c.make-result.result c.self.invariant.1 made)
-
-pub returns-clause-answers : goal.returns-clause-answers
-returns-clause-answers g c =
-    let before : MachineModel = record { kernel = c.self.inside.kernel; places = c.self.inside.places; thread = c.self.inside.thread; users = c.self.inside.users.items; is_stopped = c.self.inside.is_stopped } in
-    let left : MachineModel = record { kernel = c.make-result.new.kernel; places = c.self.inside.places; thread = c.self.inside.thread; users = c.self.inside.users.items; is_stopped = c.is_err-self-inside.result } in
-    let is_zero : c.is_zero.result ≡ true = search rules in
-    let made = subst (λ (users : List User). Makes users c.self.inside.places c.begin.new.self c.make-result.new.kernel c.self.inside.thread c.args.call c.make-result.result) c.as_slice-users.ensures.value c.make-result.ensures in
-    let makes = subst (λ (k : KernelModel). Makes c.self.inside.users.items c.self.inside.places k c.make-result.new.kernel c.self.inside.thread c.args.call c.make-result.result) c.begin.ensures made in
-    subst (λ (m : MachineModel). AnswersLine m left c.args.line c.args.process.now c.args.call c.make-result.result) c.self.view_is
-    (had_made before left c.args.line c.args.process.now c.args.call c.make-result.result c.if-self.false (c.is_zero.ensures.0 is_zero)
-    (record { made = makes; places = refl; thread = refl; users = refl; stops = c.is_err-self-inside.ensures.value }))
-
-pub returns-clause-means : goal.returns-clause-means
-returns-clause-means g c = line_follows lines_are_rows _ _ c.args.line c.args.process.now c.args.call _ (returns-clause-answers g c)
-
-pub returns-then-not-is_zero-clause-means : goal.returns-then-not-is_zero-clause-means
-returns-then-not-is_zero-clause-means g c =
-    let before : MachineModel = record { kernel = c.self.inside.kernel; places = c.self.inside.places; thread = c.self.inside.thread; users = c.self.inside.users.items; is_stopped = c.self.inside.is_stopped } in
-    let not_zero : c.is_zero.result ≡ false = search rules in
-    subst (λ (m : MachineModel). FollowsMeaning m m c.args.line c.args.process.now c.args.call (Ok Gone)) c.self.view_is
-    (line_follows lines_are_rows before before c.args.line c.args.process.now c.args.call (Ok Gone) (gone_line before c.args.line c.args.process.now c.args.call c.if-self.false (λ e. true≢false (sym (c.is_zero.ensures.1 e) ∙ not_zero))))
+    let made = subst (λ (k : KernelModel). Makes c.as_slice-users.result.now c.self.inside.places c.args.process.now c.in-Some.caller k c.make-result.new.kernel c.args.call c.make-result.result) c.begin.ensures c.make-result.ensures in
+    (c.self.invariant.0, traced_on c.as_slice-users.result.now c.self.inside.places c.args.process.now c.in-Some.caller (on_line c.args.line c.self.inside.kernel) c.make-result.new.kernel c.args.call c.make-result.result c.self.invariant.1 made)
