@@ -1,5 +1,5 @@
 -- The labels that calls hand in by the numbers of users are those of names: what is private or readable, and a thread as a user's.
-use Rattle.std.proofs.Common.{◌≡◌, ℕ, zero, suc, ◌+◌, ◌<◌, ◌≤◌, ◌==◌, Bool, true, false, ◌||◌, cond, List, [], ◌∷◌, ◌++◌, length, Option, None, Some, arith, refl, sym, ap, ◌∙◌}
+use Rattle.std.proofs.Common.{◌≡◌, ℕ, zero, suc, ◌+◌, ◌*◌, ◌<◌, ◌≤◌, ◌==◌, Bool, true, false, ◌||◌, cond, List, [], ◌∷◌, ◌++◌, length, Option, None, Some, arith, refl, sym, ap, ◌∙◌}
 use Rattle.std.specs.Prelude.{map, position, nat_eq, nat_le, option_map}
 use Rattle.std.specs.Str.{bytes_eq}
 use Rattle.std.proofs.lemmas.Bool.Decides.{nat_tests}
@@ -116,18 +116,18 @@ module _ (users : List User) (s : State) (f : Flat) (l : Laid (record { users = 
   high : i ≤ length users
   high = (user_range session name i numbered).1
 
-  owns : owned_by i true ≡ read_category i ∷ write_category i ∷ []
-  owns = owned_as_one i (user_range session name i numbered).0
+  owns_both : owned_by i true ≡ read_category i ∷ write_category i ∷ []
+  owns_both = owned_as_one i (user_range session name i numbered).0
 
   -- Without groups the label and the clearance that a login gives a process are those of the user.
   pub user_label_is : rights_label l.category (thread_rights (record { users = users; groups = [] }) me as_user) ≡ user_label caller i
   user_label_is =
       ap (λ (x : Option ℕ). rights_label l.category (record { owned = ReadsProcess me ∷ WritesProcess me ∷ owned_as session as_user x ++ []; tainted = [] })) numbered
       ∙ (λ k. owning (own_reads k ∷ own_writes k ∷ reads_numbered session s f l i high k ∷ writes_numbered session s f l i high k ∷ []) [])
-      ∙ ap (λ (o : List ℕ). owning (caller.read ∷ caller.write ∷ o) []) (sym owns)
+      ∙ ap (λ (o : List ℕ). owning (caller.read ∷ caller.write ∷ o) []) (sym owns_both)
 
   pub user_clearance_is : rights_clearance l.category (thread_rights (record { users = users; groups = [] }) me as_user) ≡ user_clearance caller i
   user_clearance_is =
       ap (λ (x : Option ℕ). rights_clearance l.category (record { owned = ReadsProcess me ∷ WritesProcess me ∷ owned_as session as_user x ++ []; tainted = [] })) numbered
       ∙ (λ k. cleared_at (own_reads k ∷ own_writes k ∷ reads_numbered session s f l i high k ∷ writes_numbered session s f l i high k ∷ []))
-      ∙ ap (λ (o : List ℕ). cleared_at (caller.read ∷ caller.write ∷ o)) (sym owns)
+      ∙ ap (λ (o : List ℕ). cleared_at (caller.read ∷ caller.write ∷ o)) (sym owns_both)

@@ -250,10 +250,15 @@ DoesItsRow session f me call old new t (Err stopped) = IsUnanswered old new t
 abbrev pub AreFilesSmall : Flat → Type 0
 AreFilesSmall f = (q : Path) (class : Class) (bytes : List ℕ) → get f.files q ≡ Some (record { class = class; content = File bytes }) → length bytes ≤ most_bytes
 
--- Where a call of a process is made: the state lays out this flat state, in which the process runs, in no job, and files are small
--- enough, and the thread is the process's own.
+-- process 0 is in no job
+abbrev pub IsFirstFree : Flat → Type 0
+IsFirstFree f = (p : Process) → f.processes [] ≡ Some p → p.chain ≡ []
+
+-- Where a call of a process is made: the state lays out this flat state, in which the process runs, in no job, process 0 is in none
+-- either, and files are small enough, and the thread is the process's own.
 pub record IsReady (session : Session) (s : State) (f : Flat) (me : ProcName) (t : ℕ) : Type 0 where
   pub lays_out : LaysOut session s f
   pub caller : RunsFree f me
+  pub first : IsFirstFree f
   pub small : AreFilesSmall f
   pub thread : IsThreadOf session s me t

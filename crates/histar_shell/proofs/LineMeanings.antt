@@ -64,6 +64,7 @@ module _ (rows : LinesAreRows) (old new : MachineModel) (f : Flat) (shows : Show
         record {
           lays_out = shows.lays_out;
           caller = record { process = p; stands = as.runs.0; runs = as.runs.1; free = none.in_none; holds_none = none.holds_none };
+          first = λ q at. (shows.jobless [] q at).in_none;
           small = shows.small;
           thread = thread_led (session_of old.users) (state old.kernel) f shows.lays_out.laid me p caller.thread as.runs.0 as.runs.1 as.runs.2;
         }
