@@ -2,6 +2,7 @@ pub mod PaddingLemmas
 pub mod WordLemmas
 pub mod SplitLemmas
 pub mod PathLemmas
+pub mod ProcessLemmas
 pub mod Refusals
 pub mod Finding
 pub mod FileLemmas
@@ -22,6 +23,7 @@ pub mod ListingLaws
 pub mod Unread
 pub mod GivenNames
 pub mod Jobs
+pub mod ProcessLaws
 pub mod FirstProcess
 pub mod WorkedScripts
 pub mod Worked

@@ -1,5 +1,5 @@
 //! Names of processes.
-ghost use Rattle.std.specs.Prelude.{◌≡◌, ◌↔◌, ◌≤◌, [], length, IsTrue};
+ghost use Rattle.std.specs.Prelude.{◌≡◌, ◌↔◌, ◌<◌, ◌≤◌, [], ◌∷◌, length, IsTrue};
 ghost use Rattle.histar_flat.specs.Words.{most_numbers};
 
 use std::marker::Model;
@@ -42,6 +42,20 @@ impl ProcName {
         ProcName {
             numbers: [0; MOST_NUMBERS],
             len: 0,
+        }
+    }
+
+    /// The child of this process that has the number.
+    pub fn child(self, number: u8) -> ProcName
+        requires { length self < most_numbers }
+        ensures { result ≡ number ∷ self }
+    {
+        let mut numbers = self.numbers;
+        numbers.rotate_right(1);
+        numbers[0] = number;
+        ProcName {
+            numbers,
+            len: self.len + 1,
         }
     }
 

@@ -1,16 +1,22 @@
 //! Readers of single words.
-ghost use Rattle.std.specs.Prelude.{◌≡◌, [], IsTrue};
+ghost use Rattle.std.specs.Prelude.{◌≡◌, ◌<◌, [], IsTrue};
 ghost use Rattle.std.specs.List.{list_all};
 ghost use Rattle.std.specs.Option.{option_copied};
 ghost use Rattle.histar_flat.specs.Modes.{mode_of};
-ghost use Rattle.histar_flat.specs.Words.{most_names, path_from, split_at_first as split, name_of, user_name_of, password_of, path_of, process_of, is_name_byte as name_byte, is_dots as dots, is_letter as letter, begins_with_letter as letter_first, is_name as name, is_user_name as user_name, is_password_byte as password_byte, is_password as password};
+ghost use Rattle.histar_flat.specs.Words.{most_names, path_from, split_at_first as split, name_of, user_name_of, password_of, path_of, number_of, status_of, child_number_of, most_numbers, process_from, process_of, digit_count as count, is_digit as digit, is_first_digit as first_digit, is_child_number as child_number, is_name_byte as name_byte, is_dots as dots, is_letter as letter, begins_with_letter as letter_first, is_name as name, is_user_name as user_name, is_password_byte as password_byte, is_password as password};
 
 use crate::calls::Mode;
 use crate::names::{Name, Password};
 use crate::paths::{MOST_NAMES, Path};
-use crate::processes::ProcName;
+use crate::processes::{MOST_NUMBERS, ProcName};
 use crate::words::MOST_WORD_BYTES;
 use memchr::memchr;
+
+/// How many children may be born to a process.
+const MOST_CHILDREN: u16 = 64;
+
+/// The greatest number that a process can exit with.
+const GREATEST_STATUS: u16 = 255;
 
 /// The name that the bytes are.
 pub fn read_name(text: &[u8]) -> Option<Name>
@@ -81,14 +87,72 @@ pub fn split_at_first(text: &[u8], separator: u8) -> (&[u8], Option<&[u8]>)
     }
 }
 
-/// The process that the bytes name, which is `0` as yet.
+/// The process that the bytes name: `0`, and up to seven numbers of children with a dot before each.
 pub fn read_process(text: &[u8]) -> Option<ProcName>
     ensures { result ≡ process_of text.now }
 {
-    if text == b"0".as_slice() {
-        Some(ProcName::zero())
-    } else {
-        None
+    match text {
+        [b'0'] => Some(ProcName::zero()),
+        [b'0', b'.', numbers @ ..] => read_numbers(numbers),
+        _ => None,
+    }
+}
+
+/// The process that numbers with dots between them lead to from process 0.
+fn read_numbers(text: &[u8]) -> Option<ProcName>
+    ensures { result ≡ process_from most_numbers [] text.now }
+{
+    let mut process = ProcName::zero();
+    let mut rest = text;
+    for _ in 0..MOST_NUMBERS {
+        let (word, after) = split_at_first(rest, b'.');
+        process = process.child(read_child_number(word)?);
+        match after {
+            None => return Some(process),
+            Some(numbers) => rest = numbers,
+        }
+    }
+    None
+}
+
+/// The exit status that the bytes are: 0 to 255 in decimal.
+#[tactic(auto, unfolding(crate::specs::Words::status_of))]
+pub fn read_status(text: &[u8]) -> Option<u8>
+    ensures { result ≡ status_of text.now }
+{
+    let number = read_number(text)?;
+    if number > GREATEST_STATUS {
+        return None;
+    }
+    Some(number as u8)
+}
+
+/// The number of a child that the bytes are: 1 to 64 in decimal.
+#[tactic(auto, unfolding(crate::specs::Words::child_number_of))]
+fn read_child_number(text: &[u8]) -> Option<u8>
+    ensures { result ≡ child_number_of text.now }
+{
+    let number = read_number(text)?;
+    if !is_child_number(number) {
+        return None;
+    }
+    Some(number as u8)
+}
+
+/// The number that the bytes are in decimal: up to three digits, of which several don't begin with 0.
+#[tactic(auto, unfolding(crate::specs::Words::number_of))]
+fn read_number(text: &[u8]) -> Option<u16>
+    ensures { result ≡ number_of text.now }
+{
+    match text {
+        [a] if is_digit(*a) => Some(digit_count(*a)),
+        [a, b] if is_first_digit(*a) && is_digit(*b) => {
+            Some(10 * digit_count(*a) + digit_count(*b))
+        }
+        [a, b, c] if is_first_digit(*a) && is_digit(*b) && is_digit(*c) => {
+            Some(100 * digit_count(*a) + 10 * digit_count(*b) + digit_count(*c))
+        }
+        _ => None,
     }
 }
 
@@ -164,6 +228,32 @@ fn is_letter(b: u8) -> bool
     ensures { result ≡ letter b }
 {
     matches!(b, b'a'..=b'z')
+}
+
+fn is_child_number(number: u16) -> bool
+    ensures { result ≡ child_number number }
+{
+    1 <= number && number <= MOST_CHILDREN
+}
+
+fn is_digit(b: u8) -> bool
+    ensures { result ≡ digit b }
+{
+    matches!(b, b'0'..=b'9')
+}
+
+fn is_first_digit(b: u8) -> bool
+    ensures { result ≡ first_digit b }
+{
+    matches!(b, b'1'..=b'9')
+}
+
+/// What a digit counts.
+fn digit_count(b: u8) -> u16
+    ensures value { result ≡ count b }
+    ensures small { result < 256 }
+{
+    u16::from(b.saturating_sub(b'0'))
 }
 
 fn is_name_byte(b: u8) -> bool

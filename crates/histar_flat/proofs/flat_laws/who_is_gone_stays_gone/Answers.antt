@@ -1,0 +1,5 @@
+use Rattle.histar_flat.proofs.ProcessLaws.{gone_stay_gone}
+use Rattle.histar_flat.proofs.flat_laws.who_is_gone_stays_gone.Goals as goal
+
+pub returns : goal.returns
+returns c = gone_stay_gone
