@@ -15,12 +15,12 @@ use Rattle.histar_layout.specs.Reading.{◌>>=◌, front_at, number_at, target_o
 -- ---- steps
 
 -- the value of a step that gave one
-bind_some : {A B : Type 0} (o : Option A) (f : A → Option B) (y : B) → (o >>= f) ≡ Some y → (x : A) × (o ≡ Some x) × (f x ≡ Some y)
+pub bind_some : {A B : Type 0} (o : Option A) (f : A → Option B) (y : B) → (o >>= f) ≡ Some y → (x : A) × (o ≡ Some x) × (f x ≡ Some y)
 bind_some None f y e = absurd cc
 bind_some (Some x) f y e = (x, refl, e)
 
 -- a step that gives a value goes on with it
-bind_at : {A B : Type 0} (o : Option A) (f : A → Option B) (x : A) → o ≡ Some x → (o >>= f) ≡ f x
+pub bind_at : {A B : Type 0} (o : Option A) (f : A → Option B) (x : A) → o ≡ Some x → (o >>= f) ≡ f x
 bind_at o f x e = ap (λ p. p >>= f) e
 
 -- which way a test went
@@ -47,7 +47,7 @@ IsBytes-take n bytes h i =
     ]
 
 -- behind the first
-IsBytes-rest : (b : ℕ) (bytes : List ℕ) → IsBytes (b ∷ bytes) → IsBytes bytes
+pub IsBytes-rest : (b : ℕ) (bytes : List ℕ) → IsBytes (b ∷ bytes) → IsBytes bytes
 IsBytes-rest b bytes h i = h (suc i)
 
 -- the bytes are the first n and the rest
@@ -78,14 +78,14 @@ front_again n front rest len =
     rw (long, take_at front rest n len, drop_at front rest n len) refl
 
 -- what a reader took from the front
-record Takes (bytes text rest : List ℕ) : Type 0 where
-  parts : bytes ≡ text ++ rest
-  rest_fits : IsBytes rest
+pub record Takes (bytes text rest : List ℕ) : Type 0 where
+  pub parts : bytes ≡ text ++ rest
+  pub rest_fits : IsBytes rest
 
 -- ---- numbers
 
 -- a number that is read was written so, and has 64 bits
-number_takes : (bytes : List ℕ) (x : ℕ × List ℕ) → IsBytes bytes → number_at bytes ≡ Some x → Takes bytes (to_be_bytes w64 x.0) x.1 × (x.0 < 2 ^ 64)
+pub number_takes : (bytes : List ℕ) (x : ℕ × List ℕ) → IsBytes bytes → number_at bytes ≡ Some x → Takes bytes (to_be_bytes w64 x.0) x.1 × (x.0 < 2 ^ 64)
 unfolding number_at
 number_takes bytes x fits e =
     let a = bind_some (front_at 8 bytes) (λ front. Some (from_be_bytes w64 front.0, front.1)) x e in
@@ -98,7 +98,7 @@ number_takes bytes x fits e =
     (record { parts = f.parts ∙ ap (λ (t : List ℕ). t ++ a.0.1) (sym text); rest_fits = f.rest_fits }, below)
 
 -- a number that was written is read again
-number_again : (n : ℕ) (rest : List ℕ) → n < 2 ^ 64 → number_at (to_be_bytes w64 n ++ rest) ≡ Some (n, rest)
+pub number_again : (n : ℕ) (rest : List ℕ) → n < 2 ^ 64 → number_at (to_be_bytes w64 n ++ rest) ≡ Some (n, rest)
 unfolding number_at
 number_again n rest lt =
     bind_at (front_at 8 (to_be_bytes w64 n ++ rest)) (λ front. Some (from_be_bytes w64 front.0, front.1)) (to_be_bytes w64 n, rest) (front_again 8 (to_be_bytes w64 n) rest refl)

@@ -5,3 +5,4 @@ pub mod Writing
 pub mod Listing
 pub mod Found
 pub mod Status
+pub mod StatusParts

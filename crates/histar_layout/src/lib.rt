@@ -5,11 +5,16 @@ mod directory;
 mod entry;
 mod lookup;
 mod reading;
+mod status;
 mod writing;
 
 pub use directory::{Dir, MOST_ENTRIES, list_dir, one_directory, read_dir, write_dir};
 pub use entry::Target;
 pub use lookup::{NotADirectory, look_up};
+pub use status::{
+    Child, NotAStatus, StatusHead, add_child, exit_status, find_child, first_status, read_status,
+    remove_child, statuses_are_spelled,
+};
 
 #[cfg(test)]
 mod tests;

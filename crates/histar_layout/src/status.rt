@@ -1,8 +1,10 @@
 //! The bytes of process segments.
-ghost use Rattle.std.specs.Prelude.{◌≡◌, ◌++◌, ◌<◌, IfOk, OnOk, option_map};
+ghost use Rattle.std.specs.Prelude.{◌≡◌, ◌++◌, ◌<◌, List, Some, None, IfOk, OnOk, MatchOption, option_map, is_some};
+ghost use Rattle.std.specs.List.{flat_map};
 ghost use Rattle.histar_flat.specs.Words.{most_children};
 ghost use Rattle.histar_layout.specs.Reading.{Gives};
-ghost use Rattle.histar_layout.specs.Status.{IsChanged, child_bytes, child_in, head_in, head_of, look_for, once_exited, started, status_bytes, status_in, with_child, without_child};
+ghost use Rattle.histar_layout.specs.Status.{ProcessStatus, IsChanged, child_bytes, child_in, children_in, head_in, head_of, life_in, look_for, once_exited, started, status_bytes, status_in, with_child, without_child};
+ghost use Rattle.histar_layout.specs.StatusParts.{IsSplit, StatusesAreSpelled, head_bytes, others};
 
 use crate::reading::read_number;
 use histar_base::Bytes;
@@ -36,3 +38,254 @@ pub struct StatusHead {
 /// Bytes are no process segment's.
 #[derive(Clone, Copy, Debug, PartialEq, Eq)]
 pub struct NotAStatus;
+
+/// The most children that a process segment lists.
+const MOST_CHILDREN: usize = 64;
+
+/// How many bytes a child has in a process segment.
+const CHILD_LEN: usize = 17;
+
+/// The head of a process segment; or none, where the bytes are no process segment's. It goes over the bytes
+/// once, and takes no memory.
+pub fn read_status(bytes: &[u8]) -> Option<StatusHead>
+    ensures { result ≡ option_map head_of (status_in bytes.now) }
+{
+    let Some((head, _)) = split_status(bytes) else {
+        return None;
+    };
+    Some(head)
+}
+
+/// The child of this number that a process segment lists. It goes over the bytes once, and takes no memory.
+pub fn find_child(bytes: &[u8], number: u8) -> Result<Option<Child>, NotAStatus>
+    ensures { result ≡ look_for (status_in bytes.now) number }
+{
+    let Some((_, children)) = read_head(bytes) else {
+        return Err(NotAStatus);
+    };
+    let mut found = None;
+    let mut left = MOST_CHILDREN;
+    let mut rest = children;
+    'children: while !rest.is_empty() {
+        let Some((child, after)) = read_child(rest) else {
+            return Err(NotAStatus);
+        };
+        if left == 0 {
+            return Err(NotAStatus);
+        }
+        if found.is_none() && child.number == number {
+            found = Some(child);
+        }
+        left -= 1;
+        rest = after;
+    }
+    Ok(found)
+}
+
+/// The bytes of the segment of a process that has just started.
+pub fn first_status(alloc: Global, internal: ObjId, thread: ObjId) -> Result<Bytes, AllocError>
+    ensures { IfOk result (λ bytes. bytes ≡ status_bytes (started internal thread)) }
+{
+    let head = StatusHead {
+        exited: None,
+        born: 0,
+        internal,
+        thread,
+    };
+    let mut out = Vec::new(alloc);
+    push_head(&mut out, head)?;
+    Ok(Bytes::from_vec(out))
+}
+
+/// The bytes of a process segment once the process has exited with this number. Where they are no process
+/// segment's, there are none.
+pub fn exit_status(alloc: Global, bytes: &[u8], number: u8) -> Result<Bytes, AllocError>
+    ensures { IfOk result (IsChanged (once_exited number) bytes.now) }
+{
+    let Some((head, children)) = split_status(bytes) else {
+        return Ok(Bytes::new(alloc));
+    };
+    let head = StatusHead {
+        exited: Some(number),
+        born: head.born,
+        internal: ObjId::new(0),
+        thread: ObjId::new(0),
+    };
+    let mut out = Vec::new(alloc);
+    push_head(&mut out, head)?;
+    out.extend_from_slice(children)?;
+    Ok(Bytes::from_vec(out))
+}
+
+/// The bytes of a process segment once one child more was born, with these objects. Where they are no
+/// process segment's, there are none.
+pub fn add_child(
+    alloc: Global,
+    bytes: &[u8],
+    container: ObjId,
+    segment: ObjId,
+) -> Result<Bytes, AllocError>
+    requires { (status : ProcessStatus) → status_in bytes.now ≡ Some status → status.born < most_children }
+    ensures { IfOk result (IsChanged (with_child container segment) bytes.now) }
+{
+    let Some((head, children)) = split_status(bytes) else {
+        return Ok(Bytes::new(alloc));
+    };
+    let number = head.born + 1;
+    let mut out = Vec::new(alloc);
+    push_head(
+        &mut out,
+        StatusHead {
+            born: number,
+            ..head
+        },
+    )?;
+    out.extend_from_slice(children)?;
+    push_child(
+        &mut out,
+        Child {
+            number,
+            container,
+            segment,
+        },
+    )?;
+    Ok(Bytes::from_vec(out))
+}
+
+/// The bytes of a process segment once the child of this number was killed. Where they are no process
+/// segment's, there are none.
+pub fn remove_child(alloc: Global, bytes: &[u8], number: u8) -> Result<Bytes, AllocError>
+    ensures { IfOk result (IsChanged (without_child number) bytes.now) }
+{
+    let Some((head, children)) = split_status(bytes) else {
+        return Ok(Bytes::new(alloc));
+    };
+    let mut out = Vec::new(alloc);
+    push_head(&mut out, head)?;
+    push_others(&mut out, children, number)?;
+    Ok(Bytes::from_vec(out))
+}
+
+/// What is told is spelled, and what is spelled is told.
+pub fn statuses_are_spelled()
+    ensures { StatusesAreSpelled }
+{}
+
+// The head of a process segment and the bytes of its children, all of which are looked at.
+fn split_status(bytes: &[u8]) -> Option<(StatusHead, &[u8])>
+    ensures { MatchOption result (status_in bytes.now ≡ None) (λ found. IsSplit bytes.now found.0 found.1.now) }
+{
+    let Some((head, children)) = read_head(bytes) else {
+        return None;
+    };
+    if !are_children(children) {
+        return None;
+    }
+    Some((head, children))
+}
+
+// Whether bytes list children, no more than a process can have.
+fn are_children(bytes: &[u8]) -> bool
+    ensures { result ≡ is_some (children_in most_children bytes.now) }
+{
+    let mut left = MOST_CHILDREN;
+    let mut rest = bytes;
+    'children: while !rest.is_empty() {
+        let Some((_, after)) = read_child(rest) else {
+            return false;
+        };
+        if left == 0 {
+            return false;
+        }
+        left -= 1;
+        rest = after;
+    }
+    true
+}
+
+#[tactic(auto, unfolding(crate::specs::Status::head_in))]
+fn read_head(bytes: &[u8]) -> Option<(StatusHead, &[u8])>
+    ensures { Gives (λ found. (found.0, found.1.now)) result (head_in bytes.now) }
+{
+    let [letter, number, born, rest @ ..] = bytes else {
+        return None;
+    };
+    let exited = read_life(*letter, *number)?;
+    let (internal, rest) = read_number(rest)?;
+    let (thread, rest) = read_number(rest)?;
+    let head = StatusHead {
+        exited,
+        born: *born,
+        internal: ObjId::new(internal),
+        thread: ObjId::new(thread),
+    };
+    Some((head, rest))
+}
+
+// Whether a process runs, or what it has exited with.
+fn read_life(letter: u8, number: u8) -> Option<Option<u8>>
+    ensures { result ≡ life_in letter number }
+{
+    match letter {
+        b'r' if number == 0 => Some(None),
+        b'x' => Some(Some(number)),
+        _ => None,
+    }
+}
+
+#[tactic(auto, unfolding(crate::specs::Status::child_in))]
+fn read_child(bytes: &[u8]) -> Option<(Child, &[u8])>
+    ensures { Gives (λ found. (found.0, found.1.now)) result (child_in bytes.now) }
+{
+    let [number, rest @ ..] = bytes else {
+        return None;
+    };
+    let (container, rest) = read_number(rest)?;
+    let (segment, rest) = read_number(rest)?;
+    let child = Child {
+        number: *number,
+        container: ObjId::new(container),
+        segment: ObjId::new(segment),
+    };
+    Some((child, rest))
+}
+
+// Writes what stands at the head of a process segment at the end.
+fn push_head(out: &mut Vec<u8>, head: StatusHead) -> Result<(), AllocError>
+    ensures { OnOk result (out.new.items ≡ out.old.items ++ head_bytes head) }
+{
+    let (letter, number) = match head.exited {
+        None => (b'r', 0),
+        Some(number) => (b'x', number),
+    };
+    out.push(letter)?;
+    out.push(number)?;
+    out.push(head.born)?;
+    out.extend_from_slice(&head.internal.number().to_be_bytes())?;
+    out.extend_from_slice(&head.thread.number().to_be_bytes())?;
+    Ok(())
+}
+
+// Writes a child at the end.
+fn push_child(out: &mut Vec<u8>, child: Child) -> Result<(), AllocError>
+    ensures { OnOk result (out.new.items ≡ out.old.items ++ child_bytes child) }
+{
+    out.push(child.number)?;
+    out.extend_from_slice(&child.container.number().to_be_bytes())?;
+    out.extend_from_slice(&child.segment.number().to_be_bytes())?;
+    Ok(())
+}
+
+// Writes the children of other numbers at the end, as they stand in the bytes.
+fn push_others(out: &mut Vec<u8>, children: &[u8], number: u8) -> Result<(), AllocError>
+    ensures { (those : List Child) → children.now ≡ flat_map child_bytes those → OnOk result (out.new.items ≡ out.old.items ++ flat_map child_bytes (others number those)) }
+{
+    let mut rest = children;
+    'children: while let Some((child, after)) = rest.split_first_chunk::<CHILD_LEN>() {
+        if child[0] != number {
+            out.extend_from_slice(child)?;
+        }
+        rest = after;
+    }
+    Ok(())
+}

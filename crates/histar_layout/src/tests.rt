@@ -1,4 +1,5 @@
 use super::*;
+use histar_base::Bytes;
 use histar_flat::read_name;
 use histar_object::ObjId;
 use std::alloc::{AllocError, Global};
@@ -124,5 +125,98 @@ fn a_name_is_looked_up(rt: HostRuntime) -> Result<(), Fail> {
     );
     assert_eq!(rt; look_up(b"".as_slice(), &a), Ok(None));
     assert_eq!(rt; look_up(b"ab".as_slice(), &ab), Err(NotADirectory));
+    Ok(())
+}
+
+/// The segment of process 0 at the start, with internal container 20 and thread 21.
+const STARTED: &[u8] = b"r\0\0\0\0\0\0\0\0\0\x14\0\0\0\0\0\0\0\x15";
+
+/// The same with two children, of containers 30 and 40 and segments 31 and 41.
+const TWO_CHILDREN: &[u8] =
+    b"r\0\x02\0\0\0\0\0\0\0\x14\0\0\0\0\0\0\0\x15\x01\0\0\0\0\0\0\0\x1e\0\0\0\0\0\0\0\x1f\x02\0\0\0\0\0\0\0\x28\0\0\0\0\0\0\0\x29";
+
+/// Without the first of them.
+const SECOND_CHILD: &[u8] =
+    b"r\0\x02\0\0\0\0\0\0\0\x14\0\0\0\0\0\0\0\x15\x02\0\0\0\0\0\0\0\x28\0\0\0\0\0\0\0\x29";
+
+/// And once it has exited with 7.
+const HAS_EXITED: &[u8] =
+    b"x\x07\x02\0\0\0\0\0\0\0\0\0\0\0\0\0\0\0\0\x02\0\0\0\0\0\0\0\x28\0\0\0\0\0\0\0\x29";
+
+/// A process segment once a child was born, if one more may be.
+fn after_birth(
+    alloc: Global,
+    bytes: &[u8],
+    container: u64,
+    segment: u64,
+) -> Result<Bytes, AllocError> {
+    let Some(head) = read_status(bytes) else {
+        return Ok(Bytes::new(alloc));
+    };
+    if head.born >= 64 {
+        return Ok(Bytes::new(alloc));
+    }
+    add_child(alloc, bytes, ObjId::new(container), ObjId::new(segment))
+}
+
+#[test]
+fn a_process_segment_changes(rt: HostRuntime) -> Result<(), Fail> {
+    let alloc = rt.alloc();
+    let started = first_status(alloc, ObjId::new(20), ObjId::new(21))?;
+    assert_eq!(rt; started.as_slice(), STARTED);
+    let one = after_birth(alloc, STARTED, 30, 31)?;
+    let two = after_birth(alloc, one.as_slice(), 40, 41)?;
+    assert_eq!(rt; two.as_slice(), TWO_CHILDREN);
+    let second = remove_child(alloc, TWO_CHILDREN, 1)?;
+    assert_eq!(rt; second.as_slice(), SECOND_CHILD);
+    let unchanged = remove_child(alloc, SECOND_CHILD, 1)?;
+    assert_eq!(rt; unchanged.as_slice(), SECOND_CHILD);
+    let exited = exit_status(alloc, SECOND_CHILD, 7)?;
+    assert_eq!(rt; exited.as_slice(), HAS_EXITED);
+    statuses_are_spelled();
+    Ok(())
+}
+
+#[test]
+fn a_process_segment_is_read(rt: HostRuntime) -> Result<(), Fail> {
+    let head = StatusHead {
+        exited: None,
+        born: 2,
+        internal: ObjId::new(20),
+        thread: ObjId::new(21),
+    };
+    assert_eq!(rt; read_status(TWO_CHILDREN), Some(head));
+    let exited = read_status(HAS_EXITED).ok_or("this is a process segment")?;
+    assert_eq!(rt; exited.exited, Some(7));
+    let second = Child {
+        number: 2,
+        container: ObjId::new(40),
+        segment: ObjId::new(41),
+    };
+    assert_eq!(rt; find_child(TWO_CHILDREN, 2), Ok(Some(second)));
+    assert_eq!(rt; find_child(SECOND_CHILD, 1), Ok(None));
+    let none: [(&[u8], &str); 5] = [
+        (b"", "nothing"),
+        (
+            b"r\x01\0\0\0\0\0\0\0\0\x14\0\0\0\0\0\0\0\x15",
+            "it runs, with a number",
+        ),
+        (
+            b"y\0\0\0\0\0\0\0\0\0\x14\0\0\0\0\0\0\0\x15",
+            "another letter",
+        ),
+        (
+            b"r\0\0\0\0\0\0\0\0\0\x14\0\0\0\0\0\0\0",
+            "a number is cut off",
+        ),
+        (
+            b"r\0\x01\0\0\0\0\0\0\0\x14\0\0\0\0\0\0\0\x15\x01",
+            "a child is cut off",
+        ),
+    ];
+    for (bytes, why) in none {
+        assert!(rt; read_status(bytes).is_none(), "{why}");
+        assert!(rt; find_child(bytes, 1).is_err(), "{why}");
+    }
     Ok(())
 }

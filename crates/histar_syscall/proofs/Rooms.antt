@@ -20,7 +20,7 @@ use Rattle.histar_rules.proofs.Passing.{unless_none, first, rest}
 use Rattle.histar_rules.specs.Sound.{IsSound}
 use Rattle.histar_rules.proofs.Sound.{sound_decided}
 use Rattle.histar_syscall.specs.declared.trace.TraceEntry.{TraceEntry}
-use Rattle.histar_syscall.specs.KernelModel.{KernelModel, state, IsUnchanged, Answered, logged}
+use Rattle.histar_syscall.specs.KernelModel.{KernelModel, IsUnchanged, Answered, logged}
 
 -- at want of memory nothing has changed
 pub exits : {A : Type 0} (old new : KernelModel) (t : ℕ) (call : RawCall) (r : Result A Refusal) (P : A → Type 0) → IsErrAnd r (λ e. e ≡ refusals.OutOfMemory) → IsUnchanged old new → Answered old new t call r P

@@ -1,0 +1,28 @@
+-- The parts of a process segment's bytes, and the law of its spelling.
+use Rattle.std.specs.Prelude.{◌≡◌, ℕ, ◌<◌, ◌≤◌, not, ◌==◌, List, ◌∷◌, ◌++◌, length, Some, slice_index}
+use Rattle.std.specs.Int.{w64, to_be_bytes}
+use Rattle.std.specs.List.{flat_map, filter}
+use Rattle.histar_flat.specs.Words.{most_children}
+use Rattle.histar_layout.specs.Status.{ProcessStatus, IsStatus, child_bytes, head_of, life_bytes, status_in}
+use Rattle.histar_layout.specs.declared.status.Child.{Child}
+use Rattle.histar_layout.specs.declared.status.StatusHead.{StatusHead}
+
+-- the bytes at the head of a process segment
+abbrev pub head_bytes : StatusHead → List ℕ
+head_bytes head = life_bytes head.exited ++ (head.born ∷ to_be_bytes w64 head.internal) ++ to_be_bytes w64 head.thread
+
+-- the bytes tell something, this at the head, and list its children in these bytes
+pub record IsSplit (bytes : List ℕ) (head : StatusHead) (children : List ℕ) : Type 0 where
+  pub status : ProcessStatus
+  pub told : status_in bytes ≡ Some status
+  pub head_is : head ≡ head_of status
+  pub children_are : children ≡ flat_map child_bytes status.children
+
+-- the children that have other numbers
+abbrev pub others : ℕ → List Child → List Child
+others number children = filter (λ (child : Child). not (child.number == number)) children
+
+-- What bytes tell of a process is spelled by them; and what is spelled, with no more children than a process can have, is told.
+pub record StatusesAreSpelled : Type 0 where
+  pub told : (bytes : List ℕ) (status : ProcessStatus) → ((i : ℕ) → slice_index bytes i < 256) → status_in bytes ≡ Some status → IsStatus bytes status
+  pub spelled : (bytes : List ℕ) (status : ProcessStatus) → IsStatus bytes status → length status.children ≤ most_children → status_in bytes ≡ Some status
