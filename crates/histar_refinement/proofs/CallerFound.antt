@@ -75,17 +75,12 @@ module _ (session : Session) (s : State) (f : Flat) (l : Laid session s f) where
       → child_at (map (listed_by l.naming.number me) (children f.processes me p.born)) n ≡ option_map (λ (q : Process). listed_by l.naming.number me n) (f.processes (n ∷ me))
   child_is n me p here = by (f.processes (n ∷ me)) refl
     where
-      listed : Option Listed
-      listed = child_at (map (listed_by l.naming.number me) (children f.processes me p.born)) n
-
-      no_other : f.processes (n ∷ me) ≡ None → (o : Option Listed) → listed ≡ o → o ≡ None
-      unfolding listed
+      no_other : f.processes (n ∷ me) ≡ None → (o : Option Listed) → child_at (map (listed_by l.naming.number me) (children f.processes me p.born)) n ≡ o → o ≡ None
       no_other none None is = refl
       no_other none (Some x) is = absurd (true≢false (sym (listed_back l.naming.number me (λ k. is_some (f.processes (k ∷ me))) n x 1 p.born is).0 ∙ ap is_some none))
 
       by : (o : Option Process) → f.processes (n ∷ me) ≡ o → child_at (map (listed_by l.naming.number me) (children f.processes me p.born)) n ≡ option_map (λ (q : Process). listed_by l.naming.number me n) o
-      unfolding listed
-      by None is = no_other is listed refl
+      by None is = no_other is (child_at (map (listed_by l.naming.number me) (children f.processes me p.born)) n) refl
       by (Some q) is =
           let range = child_range session s f l n me p here (ap is_some is) in
           listed_there l.naming.number me (λ k. is_some (f.processes (k ∷ me))) n (ap is_some is) 1 p.born range.0 range.1
@@ -101,29 +96,30 @@ module _ (session : Session) (s : State) (f : Flat) (l : Laid session s f) where
           let above = l.stands.tree.held (Child n) (home_of me) numbered in
           absurd (true≢false (sym (sym (numbered_home session s f l me) ∙ above) ∙ ap is_some none))
 
+  -- from the process above on to a child
+  abbrev below : ℕ → Option Where → Option Where
+  below n o = option_and_then (λ (home : Where). option_and_then (λ (status : ProcessStatus). option_and_then (λ (child : Listed). Some (record { container = child.container; segment = child.segment })) (child_at status.children n)) (status_at s home.segment)) o
+
+  listed_is : (n : ℕ) (me : ProcName) (o : Option Process)
+      → option_and_then (λ (child : Listed). Some (record { container = child.container; segment = child.segment })) (option_map (λ (q : Process). listed_by l.naming.number me n) o) ≡ option_map (λ (q : Process). where_is (n ∷ me)) o
+  listed_is n me None = refl
+  listed_is n me (Some q) = refl
+
+  home_below : (n : ℕ) (me : ProcName) (o : Option Process) → f.processes me ≡ o → home_at s first me ≡ option_map (λ (p : Process). where_is me) o → home_at s first (n ∷ me) ≡ option_map (λ (p : Process). where_is (n ∷ me)) (f.processes (n ∷ me))
+  home_below n me None is above = ap (below n) above ∙ sym (ap (option_map (λ (p : Process). where_is (n ∷ me))) (parent_there n me is))
+  home_below n me (Some p) is above =
+      ap (below n) above
+      ∙ ap (option_and_then (λ (status : ProcessStatus). option_and_then (λ (child : Listed). Some (record { container = child.container; segment = child.segment })) (child_at status.children n))) (status_is me p is)
+      ∙ ap (option_and_then (λ (child : Listed). Some (record { container = child.container; segment = child.segment }))) (child_is n me p is)
+      ∙ listed_is n me (f.processes (n ∷ me))
+
   -- Each process that is there is found, and no other.
   pub home_is : (me : ProcName) → home_at s first me ≡ option_map (λ (p : Process). where_is me) (f.processes me)
   home_is [] =
       let there = some_of (f.processes []) l.first in
       (λ i. Some (record { container = or_zero (sym (l.as_booted (Home ∷ []) _ refl) i); segment = or_zero (sym (l.as_booted (Status ∷ Home ∷ []) _ refl) i) }))
       ∙ sym (ap (option_map (λ (p : Process). where_is [])) there.1)
-  home_is (n ∷ me) = by (f.processes me) refl
-    where
-      -- from the process above on
-      abbrev below : Option Where → Option Where
-      below o = option_and_then (λ (home : Where). option_and_then (λ (status : ProcessStatus). option_and_then (λ (child : Listed). Some (record { container = child.container; segment = child.segment })) (child_at status.children n)) (status_at s home.segment)) o
-
-      by : (o : Option Process) → f.processes me ≡ o → home_at s first (n ∷ me) ≡ option_map (λ (p : Process). where_is (n ∷ me)) (f.processes (n ∷ me))
-      by None is = ap below (home_is me ∙ ap (option_map (λ (p : Process). where_is me)) is) ∙ sym (ap (option_map (λ (p : Process). where_is (n ∷ me))) (parent_there n me is))
-      by (Some p) is =
-          ap below (home_is me ∙ ap (option_map (λ (q : Process). where_is me)) is)
-          ∙ ap (option_and_then (λ (status : ProcessStatus). option_and_then (λ (child : Listed). Some (record { container = child.container; segment = child.segment })) (child_at status.children n))) (status_is me p is)
-          ∙ ap (option_and_then (λ (child : Listed). Some (record { container = child.container; segment = child.segment }))) (child_is n me p is)
-          ∙ listed (f.processes (n ∷ me))
-        where
-          listed : (o : Option Process) → option_and_then (λ (child : Listed). Some (record { container = child.container; segment = child.segment })) (option_map (λ (q : Process). listed_by l.naming.number me n) o) ≡ option_map (λ (q : Process). where_is (n ∷ me)) o
-          listed None = refl
-          listed (Some q) = refl
+  home_is (n ∷ me) = home_below n me (f.processes me) refl (home_is me)
 
   -- the caller that a process is that runs
   abbrev pub caller_is : ProcName → Caller
