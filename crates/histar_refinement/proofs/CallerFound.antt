@@ -42,7 +42,7 @@ use Rattle.histar_refinement.proofs.StatusLaid.{holds_status}
 use Rattle.histar_refinement.proofs.Steps.{step_tells}
 
 -- a number that is there
-is_or_zero : (o : Option ℕ) → is_some o ≡ true → o ≡ Some (or_zero o)
+pub is_or_zero : (o : Option ℕ) → is_some o ≡ true → o ≡ Some (or_zero o)
 is_or_zero None e = absurd (true≢false (sym e))
 is_or_zero (Some q) e = refl
 
@@ -71,7 +71,7 @@ module _ (session : Session) (s : State) (f : Flat) (l : Laid session s f) where
           omega (arith, mapped, filtered, counted, ranged, most)
 
   -- a child is listed where it is there
-  child_is : (n : ℕ) (me : ProcName) (p : Process) → f.processes me ≡ Some p
+  pub child_is : (n : ℕ) (me : ProcName) (p : Process) → f.processes me ≡ Some p
       → child_at (map (listed_by l.naming.number me) (children f.processes me p.born)) n ≡ option_map (λ (q : Process). listed_by l.naming.number me n) (f.processes (n ∷ me))
   child_is n me p here = by (f.processes (n ∷ me)) refl
     where

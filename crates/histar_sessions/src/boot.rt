@@ -3,14 +3,13 @@
 ghost use Rattle.std.specs.Prelude.{◌≡◌, ◌≤◌, All, length, IfOk};
 ghost use Rattle.histar_login.specs.Start.{IsSmall};
 
-use histar_base::Bytes;
+use crate::texts::call_text;
 use histar_flat::{Group, Name, User, read_password, read_user_name};
-use histar_label::{Label, Level, PlainStore};
+use histar_label::PlainStore;
 use histar_login::boot;
-use histar_object::Entry;
 use histar_shell::{Counted, Options, run};
-use histar_syscall::{RawCall, TraceEntry};
-use std::alloc::{AllocError, Global};
+use histar_syscall::TraceEntry;
+use std::alloc::Global;
 use std::process::Abort;
 use std::test::Fail;
 
@@ -77,81 +76,6 @@ const CALLS_WITH_GROUPS: [&str; 24] = [
     "unlink 1 2",
 ];
 
-/// A level as a label is written with it.
-fn level_text(level: Level) -> &'static str {
-    match level {
-        Level::Star => "*",
-        Level::L0 => "0",
-        Level::L1 => "1",
-        Level::L2 => "2",
-        Level::L3 => "3",
-    }
-}
-
-/// A label: its exceptions, and then the level of all other categories.
-fn label_text(alloc: Global, label: &Label) -> Result<String, AllocError> {
-    let mut text = String::from_str(alloc, "{")?;
-    for &(category, level) in label.exceptions() {
-        let exception = format!(in alloc; "{}:{},", category.number(), level_text(level))?;
-        text.push_str(exception.as_str())?;
-    }
-    text.push_str(level_text(label.default_level()))?;
-    text.push_str("}")?;
-    Ok(text)
-}
-
-/// Two hexadecimal digits for each byte.
-fn bytes_text(alloc: Global, bytes: &Bytes) -> Result<String, AllocError> {
-    let mut text = String::new(alloc);
-    for byte in bytes.as_slice() {
-        let digits = format!(in alloc; "{:02x}", *byte)?;
-        text.push_str(digits.as_str())?;
-    }
-    Ok(text)
-}
-
-/// What a gate gives to those who enter it.
-fn entry_text(alloc: Global, entry: Entry) -> Result<String, AllocError> {
-    match entry {
-        Entry::Login(user) => format!(in alloc; "login {user}"),
-        Entry::Mark(mark) => format!(in alloc; "mark {mark}"),
-    }
-}
-
-/// A raw call of boot; of any other only that it is one.
-fn call_text(alloc: Global, call: &RawCall) -> Result<String, AllocError> {
-    match call {
-        RawCall::MakeCategory => String::from_str(alloc, "make category"),
-        RawCall::MakeSegment(container, label, bytes) => {
-            let label = label_text(alloc, label)?;
-            let bytes = bytes_text(alloc, bytes)?;
-            format!(in alloc; "make segment {} {label} {bytes}", container.number())
-        }
-        RawCall::MakeContainer(container, label) => {
-            let label = label_text(alloc, label)?;
-            format!(in alloc; "make container {} {label}", container.number())
-        }
-        RawCall::MakeThread(container, label, clearance) => {
-            let label = label_text(alloc, label)?;
-            let clearance = label_text(alloc, clearance)?;
-            format!(in alloc; "make thread {} {label} {clearance}", container.number())
-        }
-        RawCall::MakeGate(container, label, clearance, entry) => {
-            let label = label_text(alloc, label)?;
-            let clearance = label_text(alloc, clearance)?;
-            let entry = entry_text(alloc, *entry)?;
-            format!(in alloc;
-                "make gate {} {label} {clearance} {entry}",
-                container.number()
-            )
-        }
-        RawCall::Unlink(container, object) => {
-            format!(in alloc; "unlink {} {}", container.number(), object.number())
-        }
-        _ => String::from_str(alloc, "another call"),
-    }
-}
-
 /// Compares the raw calls of boot with those that are expected: each made by the boot thread on no line
 /// of a script, and granted.
 fn compare(
@@ -200,9 +124,10 @@ fn boots_with_groups(rt: HostRuntime) -> Result<(), Fail> {
         Group::new(name(b"crew")?, Vec::from_slice(alloc, &[bob])?),
         Group::new(name(b"all")?, Vec::from_slice(alloc, &[ann, bob])?),
     ];
-    let (kernel, _, thread) = boot(alloc, PlainStore::new(alloc), &users, &groups)?;
+    let (kernel, places) = boot(alloc, PlainStore::new(alloc), &users, &groups)?;
     compare(&rt, alloc, kernel.trace(), CALLS_WITH_GROUPS.as_slice())?;
-    assert_eq!(rt; thread.number(), 12);
+    assert_eq!(rt; places.home.container.number(), 10);
+    assert_eq!(rt; places.home.segment.number(), 13);
     Ok(())
 }
 
@@ -248,8 +173,8 @@ fn boots_at_its_limits(rt: HostRuntime) -> Result<(), Fail> {
     let users = most_users(alloc)?;
     let groups = most_groups(alloc, users.as_slice())?;
     let store = PlainStore::new(alloc);
-    let (kernel, _, thread) = boot(alloc, store, users.as_slice(), groups.as_slice())?;
+    let (kernel, places) = boot(alloc, store, users.as_slice(), groups.as_slice())?;
     assert_eq!(rt; kernel.trace().len(), 2 * (1 + 16 + 8) + 2 * 16 + 3 + 6 + 1);
-    assert_eq!(rt; thread.number(), 40);
+    assert_eq!(rt; places.home.container.number(), 38);
     Ok(())
 }

@@ -1,10 +1,7 @@
 //! Sessions on files and directories: the reply to each line of a script.
-use histar_shell::{Counted, Options, run};
+use crate::session::{Line, Session};
 use std::alloc::{AllocError, Global};
 use std::test::Fail;
-
-/// A line of a script, and its reply, or nothing where the line is a user's.
-type Line = (&'static str, &'static str);
 
 /// The users of each session.
 const USERS: [Line; 3] = [
@@ -101,76 +98,13 @@ const DEEP: [Line; 16] = [
     ("0 list /abcdefghijklmnopqrstuvwxyz-12345", "ok"),
 ];
 
-/// A script that grows by a line a time, and what it is to be answered.
-#[derive(Drop)]
-struct Session {
-    script: Vec<u8>,
-    replies: Vec<u8>,
-    lines: usize,
-}
-
-impl Session {
-    /// A session with the users.
-    fn new(alloc: Global) -> Result<Session, AllocError> {
-        let mut session = Session {
-            script: Vec::new(alloc),
-            replies: Vec::new(alloc),
-            lines: 0,
-        };
-        session.extend(&USERS)?;
-        Ok(session)
-    }
-
-    /// One line more.
-    fn push(&mut self, call: &[u8], reply: &[u8]) -> Result<(), AllocError> {
-        self.lines = self.lines.saturating_add(1);
-        self.script.extend_from_slice(call)?;
-        self.script.push(b'\n')?;
-        if reply.is_empty() {
-            return Ok(());
-        }
-        push_number(&mut self.replies, self.lines)?;
-        self.replies.push(b' ')?;
-        self.replies.extend_from_slice(reply)?;
-        self.replies.push(b'\n')?;
-        Ok(())
-    }
-
-    /// These lines more.
-    fn extend(&mut self, lines: &[Line]) -> Result<(), AllocError> {
-        for (call, reply) in lines {
-            self.push(call.as_bytes(), reply.as_bytes())?;
-        }
-        Ok(())
-    }
-}
-
-/// Puts the digits of a number below 1,000 behind a text.
-fn push_number(text: &mut Vec<u8>, number: usize) -> Result<(), AllocError> {
-    for unit in [100, 10, 1] {
-        if number >= unit {
-            text.push(b"0123456789"[number / unit % 10])?;
-        }
-    }
-    Ok(())
-}
-
-/// What a run of the text writes.
-fn written(alloc: Global, text: &[u8]) -> Result<Vec<u8>, Fail> {
-    let mut reader = Counted::new(text);
-    let mut writer = Counted::new(Vec::new(alloc));
-    let _trace = run(alloc, &mut reader, &mut writer, Options {})?;
-    Ok(writer.into_inner())
-}
-
 #[test]
 fn each_line_has_its_reply(rt: HostRuntime) -> Result<(), Fail> {
     let sessions: [&[Line]; 4] = [&A_DIRECTORY_OF_ANOTHER, &REFUSALS, &OWNERS, &DEEP];
     for lines in sessions {
-        let mut session = Session::new(rt.alloc())?;
+        let mut session = Session::new(rt.alloc(), &USERS)?;
         session.extend(lines)?;
-        let text = written(rt.alloc(), session.script.as_slice())?;
-        assert_eq!(rt; text.as_slice(), session.replies.as_slice());
+        session.check(&rt, rt.alloc())?;
     }
     Ok(())
 }
@@ -191,7 +125,7 @@ fn call_on_file(
 
 #[test]
 fn a_full_directory_takes_no_entry(rt: HostRuntime) -> Result<(), Fail> {
-    let mut session = Session::new(rt.alloc())?;
+    let mut session = Session::new(rt.alloc(), &USERS)?;
     session.extend(&[
         ("0 login root rr", "ok"),
         ("0 mkdir /tmp open", "ok"),
@@ -211,9 +145,7 @@ fn a_full_directory_takes_no_entry(rt: HostRuntime) -> Result<(), Fail> {
         ("0 login bob bb", "ok"),
         ("0 create /tmp/d/z open", "EACCES"),
     ])?;
-    let text = written(rt.alloc(), session.script.as_slice())?;
-    assert_eq!(rt; text.as_slice(), session.replies.as_slice());
-    Ok(())
+    session.check(&rt, rt.alloc())
 }
 
 /// `0 append /tmp/b` and so many letters.
@@ -227,7 +159,7 @@ fn append_of(alloc: Global, letters: usize) -> Result<Vec<u8>, AllocError> {
 
 #[test]
 fn a_full_file_takes_no_byte(rt: HostRuntime) -> Result<(), Fail> {
-    let mut session = Session::new(rt.alloc())?;
+    let mut session = Session::new(rt.alloc(), &USERS)?;
     session.extend(&[
         ("0 login root rr", "ok"),
         ("0 mkdir /tmp open", "ok"),
@@ -250,7 +182,5 @@ fn a_full_file_takes_no_byte(rt: HostRuntime) -> Result<(), Fail> {
         session.push(call.as_slice(), reply)?;
     }
     session.extend(&[("0 login bob bb", "ok"), ("0 append /tmp/b a", "EACCES")])?;
-    let text = written(rt.alloc(), session.script.as_slice())?;
-    assert_eq!(rt; text.as_slice(), session.replies.as_slice());
-    Ok(())
+    session.check(&rt, rt.alloc())
 }

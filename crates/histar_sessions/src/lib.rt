@@ -7,6 +7,8 @@ mod boot;
 #[cfg(test)]
 mod files;
 #[cfg(test)]
+mod processes;
+#[cfg(test)]
 mod raw_confined;
 #[cfg(test)]
 mod raw_gates;
@@ -20,3 +22,7 @@ mod raw_segments;
 mod raw_sessions;
 #[cfg(test)]
 mod runs;
+#[cfg(test)]
+mod session;
+#[cfg(test)]
+mod texts;
