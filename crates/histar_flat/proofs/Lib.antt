@@ -2,6 +2,7 @@ pub mod PaddingLemmas
 pub mod WordLemmas
 pub mod SplitLemmas
 pub mod PathLemmas
+pub mod Numbers
 pub mod ProcessLemmas
 pub mod Refusals
 pub mod Finding

@@ -1,7 +1,9 @@
 -- Names, passwords, paths and processes: what they are, and which bytes are read as one.
-use Rattle.std.specs.Prelude.{ℕ, zero, suc, ◌+◌, ◌-◌, ◌*◌, Bool, false, not, ◌&&◌, ◌||◌, ◌==◌, nat_le, nat_lt, List, [], ◌∷◌, length, codes, Option, Some, None, if◌then◌else◌}
+use Rattle.std.specs.Prelude.{ℕ, zero, suc, Bool, false, not, ◌&&◌, ◌||◌, ◌==◌, nat_le, nat_lt, List, [], ◌∷◌, length, codes, Option, Some, None, if◌then◌else◌}
 use Rattle.std.specs.List.{list_all}
 use Rattle.std.specs.Str.{bytes_eq}
+use Rattle.std.specs.Str.Parse.{digits_value}
+use Rattle.std.specs.Fmt.{decimal}
 
 -- a name is its bytes
 abbrev pub Name : Type 0
@@ -126,62 +128,25 @@ abbrev pub path_of : List ℕ → Option Path
 path_of [] = None
 path_of (b ∷ bs) = if b == slash then path_from_root bs else None
 
+-- the number that the bytes spell in decimal, with no leading zero, if it passes the test
+unfoldable pub number_of : (ℕ → Bool) → List ℕ → Option ℕ
+number_of test bs = let n = digits_value 10 bs in if test n && bytes_eq bs (decimal n) then Some n else None
+
+-- the exit status that the bytes are, if they are one: 0 to 255
+abbrev pub status_of : List ℕ → Option ℕ
+status_of = number_of (λ n. nat_le n greatest_status)
+
 -- what stands before each number of a process's name, a dot
 abbrev pub dot : ℕ
 dot = 46
 
--- the digit 0
-abbrev pub digit_zero : ℕ
-digit_zero = 48
-
--- a digit: 0 to 9
-abbrev pub is_digit : ℕ → Bool
-is_digit b = nat_le digit_zero b && nat_le b 57
-
--- a digit that a number of several digits begins with: 1 to 9
-abbrev pub is_first_digit : ℕ → Bool
-is_first_digit b = nat_le 49 b && nat_le b 57
-
--- what a digit counts
-abbrev pub digit_count : ℕ → ℕ
-digit_count b = b - digit_zero
-
--- the number that the bytes are in decimal, if they are one: up to three digits, of which several don't begin with 0
-unfoldable pub number_of : List ℕ → Option ℕ
-number_of [] = None
-number_of (a ∷ []) = if is_digit a then Some (digit_count a) else None
-number_of (a ∷ b ∷ []) = if is_first_digit a && is_digit b then Some (10 * digit_count a + digit_count b) else None
-number_of (a ∷ b ∷ c ∷ []) = if is_first_digit a && is_digit b && is_digit c then Some (100 * digit_count a + 10 * digit_count b + digit_count c) else None
-number_of (a ∷ b ∷ c ∷ d ∷ bs) = None
-
--- the number, if it passes the test
-abbrev pub if_passes : (ℕ → Bool) → Option ℕ → Option ℕ
-if_passes test None = None
-if_passes test (Some n) = if test n then Some n else None
-
--- the exit status that the bytes are, if they are one: 0 to 255
-unfoldable pub status_of : List ℕ → Option ℕ
-status_of bs = if_passes (λ n. nat_le n greatest_status) (number_of bs)
-
--- the number of a child that the bytes are, if they are one: 1 to 64
-unfoldable pub child_number_of : List ℕ → Option ℕ
-child_number_of bs = if_passes is_child_number (number_of bs)
-
--- the process that numbers with dots between them lead to from another one, if they are at most so many
-unfoldable pub process_from : ℕ → ProcName → List ℕ → Option ProcName
-process_from zero above bs = None
-process_from (suc most) above bs =
-    elim (child_number_of (split_at_first dot bs).0) [
-      | None ↦ None
-      | Some n ↦ elim (split_at_first dot bs).1 [ None ↦ Some (n ∷ above) | Some rest ↦ process_from most (n ∷ above) rest ]
-    ]
-
--- the process that stands after its 0: nothing is process 0
-abbrev pub process_from_zero : List ℕ → Option ProcName
-process_from_zero [] = Some []
-process_from_zero (b ∷ bs) = if b == dot then process_from most_numbers [] bs else None
+-- the process that numbers with dots between them, if there are any, lead to from another one, if they are at most so many
+unfoldable pub process_from : ℕ → ProcName → Option (List ℕ) → Option ProcName
+process_from most above None = Some above
+process_from zero above (Some bs) = None
+process_from (suc most) above (Some bs) =
+    elim (number_of is_child_number (split_at_first dot bs).0) [ None ↦ None | Some n ↦ process_from most (n ∷ above) (split_at_first dot bs).1 ]
 
 -- the process that the bytes name, if they name one: `0`, `0.NUMBER`, `0.NUMBER.NUMBER` ..
 abbrev pub process_of : List ℕ → Option ProcName
-process_of [] = None
-process_of (b ∷ bs) = if b == digit_zero then process_from_zero bs else None
+process_of bs = if bytes_eq (split_at_first dot bs).0 (codes "0") then process_from most_numbers [] (split_at_first dot bs).1 else None

@@ -2,8 +2,9 @@
 ghost use Rattle.std.specs.Prelude.{◌≡◌, ◌<◌, [], IsTrue};
 ghost use Rattle.std.specs.List.{list_all};
 ghost use Rattle.std.specs.Option.{option_copied};
+ghost use Rattle.histar_flat.specs.Digits.{number_by_digits, digit_count as count, is_digit as digit, is_first_digit as first_digit};
 ghost use Rattle.histar_flat.specs.Modes.{mode_of};
-ghost use Rattle.histar_flat.specs.Words.{most_names, path_from, split_at_first as split, name_of, user_name_of, password_of, path_of, number_of, status_of, child_number_of, most_numbers, process_from, process_of, digit_count as count, is_digit as digit, is_first_digit as first_digit, is_child_number as child_number, is_name_byte as name_byte, is_dots as dots, is_letter as letter, begins_with_letter as letter_first, is_name as name, is_user_name as user_name, is_password_byte as password_byte, is_password as password};
+ghost use Rattle.histar_flat.specs.Words.{most_names, path_from, split_at_first as split, name_of, user_name_of, password_of, path_of, number_of, status_of, most_numbers, process_from, process_of, is_child_number as child_number, is_name_byte as name_byte, is_dots as dots, is_letter as letter, begins_with_letter as letter_first, is_name as name, is_user_name as user_name, is_password_byte as password_byte, is_password as password};
 
 use crate::calls::Mode;
 use crate::names::{Name, Password};
@@ -91,32 +92,35 @@ pub fn split_at_first(text: &[u8], separator: u8) -> (&[u8], Option<&[u8]>)
 pub fn read_process(text: &[u8]) -> Option<ProcName>
     ensures { result ≡ process_of text.now }
 {
-    match text {
-        [b'0'] => Some(ProcName::zero()),
-        [b'0', b'.', numbers @ ..] => read_numbers(numbers),
-        _ => None,
+    let (first, numbers) = split_at_first(text, b'.');
+    if first != b"0".as_slice() {
+        return None;
     }
+    read_numbers(numbers)
 }
 
-/// The process that numbers with dots between them lead to from process 0.
-fn read_numbers(text: &[u8]) -> Option<ProcName>
-    ensures { result ≡ process_from most_numbers [] text.now }
+/// The process that numbers with dots between them, if there are any, lead to from process 0.
+fn read_numbers(numbers: Option<&[u8]>) -> Option<ProcName>
+    ensures { result ≡ process_from most_numbers [] (option_copied numbers.entry) }
 {
     let mut process = ProcName::zero();
-    let mut rest = text;
+    let mut rest = numbers;
     for _ in 0..MOST_NUMBERS {
-        let (word, after) = split_at_first(rest, b'.');
+        let Some(text) = rest else {
+            return Some(process);
+        };
+        let (word, after) = split_at_first(text, b'.');
         process = process.child(read_child_number(word)?);
-        match after {
-            None => return Some(process),
-            Some(numbers) => rest = numbers,
-        }
+        rest = after;
     }
-    None
+    match rest {
+        None => Some(process),
+        Some(_) => None,
+    }
 }
 
 /// The exit status that the bytes are: 0 to 255 in decimal.
-#[tactic(auto, unfolding(crate::specs::Words::status_of))]
+#[tactic(auto, using(crate::proofs::Numbers::status_by_digits))]
 pub fn read_status(text: &[u8]) -> Option<u8>
     ensures { result ≡ status_of text.now }
 {
@@ -128,9 +132,9 @@ pub fn read_status(text: &[u8]) -> Option<u8>
 }
 
 /// The number of a child that the bytes are: 1 to 64 in decimal.
-#[tactic(auto, unfolding(crate::specs::Words::child_number_of))]
+#[tactic(auto, using(crate::proofs::Numbers::child_number_by_digits))]
 fn read_child_number(text: &[u8]) -> Option<u8>
-    ensures { result ≡ child_number_of text.now }
+    ensures { result ≡ number_of child_number text.now }
 {
     let number = read_number(text)?;
     if !is_child_number(number) {
@@ -140,9 +144,9 @@ fn read_child_number(text: &[u8]) -> Option<u8>
 }
 
 /// The number that the bytes are in decimal: up to three digits, of which several don't begin with 0.
-#[tactic(auto, unfolding(crate::specs::Words::number_of))]
+#[tactic(auto, unfolding(crate::specs::Digits::number_by_digits))]
 fn read_number(text: &[u8]) -> Option<u16>
-    ensures { result ≡ number_of text.now }
+    ensures { result ≡ number_by_digits text.now }
 {
     match text {
         [a] if is_digit(*a) => Some(digit_count(*a)),

@@ -16,7 +16,7 @@ use Rattle.histar_script.specs.Grammar.{SpellsMode, SpellsBytes, SpellsPath, Spe
 use Rattle.histar_script.proofs.Chains.{bind_some, mapped, chosen}
 use Rattle.histar_script.proofs.Parting.{parted, split_part}
 use Rattle.histar_script.proofs.PathsBack.{split_path, path_takes, path_again}
-use Rattle.histar_script.proofs.NumbersBack.{status_takes, status_again}
+use Rattle.histar_flat.proofs.Numbers.{status_takes, status_again}
 use Rattle.histar_script.proofs.ProcessesBack.{process_takes, process_again}
 use Rattle.histar_script.proofs.WordsBack.{split_name, user_name_is_name, same_bytes, mode_takes, mode_again}
 

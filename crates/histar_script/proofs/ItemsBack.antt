@@ -1,9 +1,9 @@
 -- Lines say by reading what they say by the grammar.
-use Rattle.std.proofs.Common.{◌≡◌, ℕ, true, false, cond, eqb, List, [], ◌∷◌, Option, Some, None, codes, refl, sym, ap, subst, ◌∙◌, inl, inr}
+use Rattle.std.proofs.Common.{◌≡◌, ℕ, true, false, cond, eqb, List, [], ◌∷◌, ◌++◌, Option, Some, None, codes, refl, sym, ap, subst, ◌∙◌, inl, inr}
 use Rattle.std.specs.Str.{bytes_eq}
 use Rattle.std.proofs.lemmas.Bool.{eqb-true}
 use Rattle.histar_flat.specs.declared.calls.UnixCall.{UnixCall}
-use Rattle.histar_flat.specs.Words.{ProcName, digit_zero, split_at_first, is_process, process_of}
+use Rattle.histar_flat.specs.Words.{ProcName, split_at_first, is_process, process_of}
 use Rattle.histar_flat.specs.Texts.{process_text}
 use Rattle.histar_script.specs.declared.items.Item.{Item}
 use Rattle.histar_script.specs.declared.items.Item.TheVariants as items
@@ -62,7 +62,7 @@ item_takes (b ∷ bs) i e =
     ]
 
 -- a line that begins with a 0 is read word by word
-zero_item : (line rest : List ℕ) → line ≡ digit_zero ∷ rest → is_plain line ≡ true → item_of line ≡ words_item line
+zero_item : (line rest : List ℕ) → line ≡ codes "0" ++ rest → is_plain line ≡ true → item_of line ≡ words_item line
 unfolding item_of
 zero_item line rest begins plain = ap item_of begins ∙ rw (ap is_plain (sym begins) ∙ plain) (ap words_item (sym begins))
 

@@ -4,7 +4,6 @@ pub mod ReadingLemmas
 pub mod Parting
 pub mod WordsBack
 pub mod PathsBack
-pub mod NumbersBack
 pub mod ProcessesBack
 pub mod CallsBack
 pub mod ItemsBack

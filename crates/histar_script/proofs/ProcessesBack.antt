@@ -1,142 +1,144 @@
 -- Names of processes are read from the texts that spell them, and from no others.
-use Rattle.std.proofs.Common.{◌≡◌, ℕ, zero, suc, ◌+◌, ◌-◌, ◌≤◌, true, not, eqb, leb, List, [], ◌∷◌, ◌++◌, length, Option, Some, None, codes, refl, sym, ap, subst, ◌∙◌, inl, inr, arith, append_assoc}
+use Rattle.std.proofs.Common.{◌≡◌, ℕ, zero, suc, ◌+◌, ◌-◌, ◌≤◌, true, not, cond, eqb, leb, List, [], ◌∷◌, ◌++◌, length, Option, Some, None, codes, refl, sym, ap, subst, ◌∙◌, inl, inr, arith, append_assoc, append-nil}
 use Rattle.std.specs.List.{list_all}
+use Rattle.std.specs.Str.{bytes_eq}
 use Rattle.std.specs.Fmt.{decimal}
 use Rattle.std.proofs.lemmas.List.Folds.{list_all-append}
-use Rattle.std.proofs.lemmas.Bool.{eqb-true, and_parts, leb-true, le-leb}
-use Rattle.histar_flat.specs.Words.{ProcName, dot, digit_zero, is_digit, is_child_number, is_process, most_numbers, split_at_first, child_number_of, process_from, process_from_zero, process_of}
+use Rattle.std.proofs.lemmas.Bool.{and_parts, leb-true, le-leb}
+use Rattle.histar_flat.specs.Words.{ProcName, dot, number_of, is_child_number, is_process, most_numbers, split_at_first, process_from, process_of}
+use Rattle.histar_flat.specs.Digits.{is_digit}
 use Rattle.histar_flat.specs.Texts.{process_text}
-use Rattle.histar_flat.proofs.ProcessLemmas.{next_from, from_first, last_number, next_number}
+use Rattle.histar_flat.proofs.Numbers.{decimal_digits, number_takes, number_again, child_number_small}
+use Rattle.histar_flat.proofs.ProcessLemmas.{next_from, from_first, next_number, no_more, too_many}
 use Rattle.histar_script.specs.Lines.{split_word, ◌space◌}
 use Rattle.histar_script.proofs.Chains.{chosen}
 use Rattle.histar_script.proofs.Parting.{lacks, split_before, split_alone, split_parts, split_part}
-use Rattle.histar_script.proofs.WordsBack.{bytes_lack}
-use Rattle.histar_script.proofs.NumbersBack.{decimal_digits, child_number_takes, child_number_small, child_number_again}
+use Rattle.histar_script.proofs.WordsBack.{bytes_lack, same_bytes}
 
--- ---- what is read is spelled so
+-- ---- texts of processes
 
--- a process that is found below another one
-abbrev IsFound : ProcName → ℕ → List ℕ → ProcName → Type 0
-IsFound above most bs process = (process_text above ++ dot ∷ bs ≡ process_text process) × (list_all is_child_number process ≡ true) × (length process ≤ length above + most)
+-- a dot and what follows it, if anything does
+abbrev after_dot : Option (List ℕ) → List ℕ
+after_dot None = []
+after_dot (Some rest) = dot ∷ rest
 
 -- the text of a child is that of the process, a dot and its number
 child_text : (above : ProcName) (n : ℕ) → process_text (n ∷ above) ≡ process_text above ++ dot ∷ decimal n
 child_text above n = append_assoc (process_text above) (codes ".") (decimal n)
 
 -- a number with a dot before it, behind a process
-with_number : (above : ProcName) (n : ℕ) (rest : List ℕ) → process_text above ++ dot ∷ (decimal n ++ dot ∷ rest) ≡ process_text (n ∷ above) ++ dot ∷ rest
-with_number above n rest = sym (ap (λ (l : List ℕ). l ++ dot ∷ rest) (child_text above n) ∙ append_assoc (process_text above) (dot ∷ decimal n) (dot ∷ rest))
+with_number : (above : ProcName) (n : ℕ) (rest : List ℕ) → process_text above ++ dot ∷ (decimal n ++ rest) ≡ process_text (n ∷ above) ++ rest
+with_number above n rest = sym (ap (λ (l : List ℕ). l ++ rest) (child_text above n) ∙ append_assoc (process_text above) (dot ∷ decimal n) rest)
 
--- what stands before the first dot
-abbrev first_word : List ℕ → List ℕ
-first_word bs = (split_at_first dot bs).0
+-- a text is what stands before its first dot, and what follows it
+parts_make : (bs : List ℕ) (after : Option (List ℕ)) → (split_at_first dot bs).1 ≡ after → bs ≡ (split_at_first dot bs).0 ++ after_dot after
+parts_make bs None end = split_part dot bs end ∙ sym (append-nil (split_at_first dot bs).0)
+parts_make bs (Some rest) on = split_parts dot bs rest on
+
+-- what has no dot ends at the dot after it, if there is one
+split_dot : (word : List ℕ) (after : Option (List ℕ)) → lacks dot word ≡ true → split_at_first dot (word ++ after_dot after) ≡ (word, after)
+split_dot word None h = ap (split_at_first dot) (append-nil word) ∙ split_alone dot word h
+split_dot word (Some rest) h = split_before dot word rest h refl
+
+-- ---- what is read is spelled so
+
+-- a process that is found below another one
+abbrev IsFound : ProcName → ℕ → Option (List ℕ) → ProcName → Type 0
+IsFound above most after process = (process_text above ++ after_dot after ≡ process_text process) × (list_all is_child_number process ≡ true) × (length process ≤ length above + most)
+
+-- where nothing follows, the process itself is found
+found_itself : (most : ℕ) (above process : ProcName) → list_all is_child_number above ≡ true → process_from most above None ≡ Some process → IsFound above most None process
+found_itself most above process right e =
+    let made : Some above ≡ Some process = sym (no_more most above) ∙ e in
+    let same : above ≡ process = cc in
+    subst (IsFound above most None) same (append-nil (process_text above), right, omega arith)
 
 -- a number, and what follows it
-found_step : (most : ℕ) (above : ProcName) (bs : List ℕ) (process : ProcName) (number : Option ℕ) (after : Option (List ℕ)) → list_all is_child_number above ≡ true → child_number_of (first_word bs) ≡ number → (split_at_first dot bs).1 ≡ after
-    → ((n : ℕ) (rest : List ℕ) → list_all is_child_number (n ∷ above) ≡ true → process_from most (n ∷ above) rest ≡ Some process → IsFound (n ∷ above) most rest process)
-    → next_from most above number after ≡ Some process → IsFound above (suc most) bs process
-found_step most above bs process None after right is split later e = absurd cc
-found_step most above bs process (Some n) None right is end later e =
-    let same : n ∷ above ≡ process = cc in
-    let taken = child_number_takes (first_word bs) n is in
-    let spelled : process_text above ++ dot ∷ bs ≡ process_text above ++ dot ∷ decimal n = ap (λ l. process_text above ++ dot ∷ l) (split_part dot bs end ∙ taken.0) in
+found_step : (most : ℕ) (above : ProcName) (bs : List ℕ) (process : ProcName) (number : Option ℕ) → list_all is_child_number above ≡ true → number_of is_child_number (split_at_first dot bs).0 ≡ number
+    → ((n : ℕ) → list_all is_child_number (n ∷ above) ≡ true → process_from most (n ∷ above) (split_at_first dot bs).1 ≡ Some process → IsFound (n ∷ above) most (split_at_first dot bs).1 process)
+    → next_from most above number (split_at_first dot bs).1 ≡ Some process → IsFound above (suc most) (Some bs) process
+found_step most above bs process None right is later e = absurd cc
+found_step most above bs process (Some n) right is later e =
+    let rest = after_dot (split_at_first dot bs).1 in
+    let taken = number_takes is_child_number (split_at_first dot bs).0 n is in
     let named : list_all is_child_number (n ∷ above) ≡ true = rw (taken.1, right) refl in
-    subst (IsFound above (suc most) bs) same (spelled ∙ sym (child_text above n), named, omega arith)
-found_step most above bs process (Some n) (Some rest) right is on later e =
-    let taken = child_number_takes (first_word bs) n is in
-    let named : list_all is_child_number (n ∷ above) ≡ true = rw (taken.1, right) refl in
-    let below = later n rest named e in
-    let parts : bs ≡ decimal n ++ dot ∷ rest = split_parts dot bs rest on ∙ ap (λ (l : List ℕ). l ++ dot ∷ rest) taken.0 in
+    let below = later n named e in
+    let parts : bs ≡ decimal n ++ rest = parts_make bs (split_at_first dot bs).1 refl ∙ ap (λ (l : List ℕ). l ++ rest) taken.0 in
     let spelled = ap (λ l. process_text above ++ dot ∷ l) parts ∙ with_number above n rest in
     (spelled ∙ below.0, below.1, omega (arith, below.2))
 
 -- numbers that are read are spelled so
-found : (most : ℕ) (above : ProcName) (bs : List ℕ) (process : ProcName) → list_all is_child_number above ≡ true → process_from most above bs ≡ Some process → IsFound above most bs process
-unfolding process_from
-found zero above bs process right e = absurd cc
-found (suc most) above bs process right e =
-    found_step most above bs process (child_number_of (first_word bs)) (split_at_first dot bs).1 right refl refl (λ n rest. found most (n ∷ above) rest process) (sym (from_first most above bs) ∙ e)
-
--- what stands behind the 0 of a process is spelled so
-zero_takes : (bs : List ℕ) (process : ProcName) → process_from_zero bs ≡ Some process → (digit_zero ∷ bs ≡ process_text process) × (is_process process ≡ true)
-zero_takes [] process e = let same : [] ≡ process = cc in subst (λ (p : ProcName). (digit_zero ∷ [] ≡ process_text p) × (is_process p ≡ true)) same (refl, refl)
-zero_takes (b ∷ bs) process e =
-    elim (chosen (eqb b dot) (process_from most_numbers [] bs) None (Some process) e) [
-      | inl h ↦
-          let f = found most_numbers [] bs process refl h.1 in
-          (ap (λ (x : ℕ). digit_zero ∷ x ∷ bs) (eqb-true b dot h.0) ∙ f.0, rw (le-leb (length process) most_numbers f.2, f.1) refl)
-      | inr h ↦ absurd cc
-    ]
+found : (most : ℕ) (above : ProcName) (after : Option (List ℕ)) (process : ProcName) → list_all is_child_number above ≡ true → process_from most above after ≡ Some process → IsFound above most after process
+found zero above None process right e = found_itself zero above process right e
+found zero above (Some bs) process right e = let none : None ≡ Some process = sym (too_many above bs) ∙ e in absurd cc
+found (suc most) above None process right e = found_itself (suc most) above process right e
+found (suc most) above (Some bs) process right e =
+    found_step most above bs process (number_of is_child_number (split_at_first dot bs).0) right refl (λ n. found most (n ∷ above) (split_at_first dot bs).1 process) (sym (from_first most above bs) ∙ e)
 
 -- a process that is read is spelled so
 pub process_takes : (text : List ℕ) (process : ProcName) → process_of text ≡ Some process → (text ≡ process_text process) × (is_process process ≡ true)
-process_takes [] process e = absurd cc
-process_takes (b ∷ bs) process e =
-    elim (chosen (eqb b digit_zero) (process_from_zero bs) None (Some process) e) [
-      | inl h ↦ let is = zero_takes bs process h.1 in (ap (λ (x : ℕ). x ∷ bs) (eqb-true b digit_zero h.0) ∙ is.0, is.1)
+process_takes text process e =
+    let w = split_at_first dot text in
+    elim (chosen (bytes_eq w.0 (codes "0")) (process_from most_numbers [] w.1) None (Some process) e) [
+      | inl h ↦
+          let f = found most_numbers [] w.1 process refl h.1 in
+          let zero : w.0 ≡ codes "0" = same_bytes w.0 (codes "0") h.0 in
+          (parts_make text w.1 refl ∙ ap (λ (l : List ℕ). l ++ after_dot w.1) zero ∙ f.0, rw (le-leb (length process) most_numbers f.2, f.1) refl)
       | inr h ↦ absurd cc
     ]
 
 -- ---- what is spelled is read
 
 -- the numbers of a process with dots between them, before more
-abbrev joined : ProcName → List ℕ → List ℕ
-joined [] rest = rest
-joined (n ∷ p) rest = joined p (decimal n ++ dot ∷ rest)
+abbrev joined : ProcName → Option (List ℕ) → Option (List ℕ)
+joined [] after = after
+joined (n ∷ p) after = joined p (Some (decimal n ++ after_dot after))
 
--- with 0 and a dot before them they are its text
-joined_text : (process : ProcName) (rest : List ℕ) → digit_zero ∷ dot ∷ joined process rest ≡ process_text process ++ dot ∷ rest
-joined_text [] rest = refl
-joined_text (n ∷ p) rest = joined_text p (decimal n ++ dot ∷ rest) ∙ with_number p n rest
+-- with 0 before them they are its text
+joined_text : (process : ProcName) (after : Option (List ℕ)) → process_text process ++ after_dot after ≡ codes "0" ++ after_dot (joined process after)
+joined_text [] after = refl
+joined_text (n ∷ p) after = sym (with_number p n (after_dot after)) ∙ joined_text p (Some (decimal n ++ after_dot after))
 
 -- a child's number has only digits
 number_digits : (n : ℕ) → is_child_number n ≡ true → list_all is_digit (decimal n) ≡ true
 number_digits n h = decimal_digits n (child_number_small n h)
 
 -- numbers are read up to the last of a process
-read_on : (process : ProcName) (most : ℕ) (rest : List ℕ) → list_all is_child_number process ≡ true → process_from (length process + most) [] (joined process rest) ≡ process_from most process rest
-read_on [] most rest right = let all : length {A = ℕ} [] + most ≡ most = omega arith in ap (λ k. process_from k [] rest) all
-read_on (n ∷ p) most rest right =
+read_on : (process : ProcName) (most : ℕ) (after : Option (List ℕ)) → list_all is_child_number process ≡ true → process_from (length process + most) [] (joined process after) ≡ process_from most process after
+read_on [] most after right = let all : length {A = ℕ} [] + most ≡ most = omega arith in ap (λ k. process_from k [] after) all
+read_on (n ∷ p) most after right =
     let h = and_parts (is_child_number n) (list_all is_child_number p) right in
+    let text = decimal n ++ after_dot after in
     let left : length (n ∷ p) + most ≡ length p + suc most = omega arith in
     let less : suc most - 1 ≡ most = omega arith in
-    let split = split_before dot (decimal n) rest (bytes_lack is_digit dot (decimal n) refl (number_digits n h.0)) refl in
-    let is : child_number_of (first_word (decimal n ++ dot ∷ rest)) ≡ Some n = ap (λ w. child_number_of w.0) split ∙ child_number_again n h.0 in
-    ap (λ k. process_from k [] (joined p (decimal n ++ dot ∷ rest))) left
-    ∙ read_on p (suc most) (decimal n ++ dot ∷ rest) h.1
-    ∙ next_number (suc most) p (decimal n ++ dot ∷ rest) rest n (omega arith) is (ap (λ w. w.1) split)
-    ∙ ap (λ k. process_from k (n ∷ p) rest) less
+    let split = split_dot (decimal n) after (bytes_lack is_digit dot (decimal n) refl (number_digits n h.0)) in
+    let is : number_of is_child_number (split_at_first dot text).0 ≡ Some n = ap (λ w. number_of is_child_number w.0) split ∙ number_again is_child_number n (child_number_small n h.0) h.0 in
+    ap (λ k. process_from k [] (joined p (Some text))) left
+    ∙ read_on p (suc most) (Some text) h.1
+    ∙ next_number (suc most) p text n (omega arith) is
+    ∙ (λ i. process_from (less i) (n ∷ p) (split i).1)
 
--- the last number is read
-read_last : (most : ℕ) (above : ProcName) (n : ℕ) → is_child_number n ≡ true → process_from (suc most) above (decimal n) ≡ Some (n ∷ above)
-read_last most above n h =
-    let split = split_alone dot (decimal n) (bytes_lack is_digit dot (decimal n) refl (number_digits n h)) in
-    last_number (suc most) above (decimal n) n (omega arith) (ap (λ w. child_number_of w.0) split ∙ child_number_again n h) (ap (λ w. w.1) split)
-
--- a process of numbers that is spelled is read
-numbers_again : (n : ℕ) (above : ProcName) → is_process (n ∷ above) ≡ true → process_of (process_text (n ∷ above)) ≡ Some (n ∷ above)
-numbers_again n above h =
-    let parts = and_parts (leb (length (n ∷ above)) most_numbers) (list_all is_child_number (n ∷ above)) h in
-    let numbers = and_parts (is_child_number n) (list_all is_child_number above) parts.1 in
-    let short : length (n ∷ above) ≤ 7 = leb-true (length (n ∷ above)) most_numbers parts.0 in
-    let text : digit_zero ∷ dot ∷ joined above (decimal n) ≡ process_text (n ∷ above) = joined_text above (decimal n) ∙ sym (child_text above n) in
-    let most : 7 ≡ length above + suc (6 - length above) = omega (arith, short) in
-    ap process_of (sym text)
-    ∙ ap (λ k. process_from k [] (joined above (decimal n))) most
-    ∙ read_on above (suc (6 - length above)) (decimal n) numbers.1
-    ∙ read_last (6 - length above) above n numbers.0
+-- behind the 0 numbers are read
+behind_zero : (after : Option (List ℕ)) → process_of (codes "0" ++ after_dot after) ≡ process_from most_numbers [] after
+behind_zero after = ap (λ w. cond (bytes_eq w.0 (codes "0")) (process_from most_numbers [] w.1) None) (split_dot (codes "0") after refl)
 
 -- and a process that is spelled is read
 pub process_again : (process : ProcName) → is_process process ≡ true → process_of (process_text process) ≡ Some process
-process_again [] h = refl
-process_again (n ∷ p) h = numbers_again n p h
+process_again process h =
+    let parts = and_parts (leb (length process) most_numbers) (list_all is_child_number process) h in
+    let short : length process ≤ 7 = leb-true (length process) most_numbers parts.0 in
+    let most : 7 ≡ length process + (7 - length process) = omega (arith, short) in
+    ap process_of (sym (append-nil (process_text process)) ∙ joined_text process None)
+    ∙ behind_zero (joined process None)
+    ∙ ap (λ k. process_from k [] (joined process None)) most
+    ∙ read_on process (7 - length process) None parts.1
+    ∙ no_more (7 - length process) process
 
 -- ---- a process before a space
 
 -- a process begins with its 0
-pub process_begins : (process : ProcName) → (rest : List ℕ) × (process_text process ≡ digit_zero ∷ rest)
-process_begins [] = ([], refl)
-process_begins (n ∷ p) = let before = process_begins p in (before.0 ++ dot ∷ decimal n, child_text p n ∙ ap (λ (l : List ℕ). l ++ dot ∷ decimal n) before.1)
+pub process_begins : (process : ProcName) → (rest : List ℕ) × (process_text process ≡ codes "0" ++ rest)
+process_begins process = (after_dot (joined process None), sym (append-nil (process_text process)) ∙ joined_text process None)
 
 -- numbers with dots have no space
 process_lacks_space : (process : ProcName) → list_all is_child_number process ≡ true → lacks 32 (process_text process) ≡ true

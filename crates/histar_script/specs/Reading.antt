@@ -72,10 +72,7 @@ call_on word path =
 
 -- the call of this word, which stands alone
 abbrev pub call_alone : List ℕ → Option UnixCall
-call_alone word =
-    if bytes_eq word (codes "spawn") then Some Spawn
-    else (if bytes_eq word (codes "whoami") then Some Whoami
-    else None)
+call_alone word = if bytes_eq word (codes "spawn") then Some Spawn else (if bytes_eq word (codes "whoami") then Some Whoami else None)
 
 -- the call of this word, with what follows the word
 abbrev pub call_named : List ℕ → List ℕ → Option UnixCall

@@ -1,12 +1,16 @@
--- Numbers are read from the texts that spell them, and from no others.
-use Rattle.std.proofs.Common.{◌≡◌, ℕ, ◌+◌, ◌-◌, ◌*◌, ◌/◌, ◌%◌, ◌<◌, ◌≤◌, Bool, true, cond, leb, ◌&&◌, List, [], ◌∷◌, ◌++◌, Option, Some, None, refl, sym, ap, subst, ◌∙◌, inl, inr, arith}
+-- Numbers are read from the texts that they are written as, and from no others.
+use Rattle.std.proofs.Common.{◌≡◌, ℕ, ◌+◌, ◌-◌, ◌*◌, ◌/◌, ◌%◌, ◌<◌, ◌≤◌, Bool, true, false, cond, leb, ◌&&◌, List, [], ◌∷◌, ◌++◌, Option, Some, None, refl, sym, ap, subst, ◌∙◌, inl, inr, arith}
 use Rattle.std.specs.List.{list_all}
 use Rattle.std.specs.Fmt.{decimal}
-use Rattle.std.proofs.lemmas.Fmt.{decimal_digit, decimal_step, decimal_by_steps}
+use Rattle.std.specs.Str.{bytes_eq}
+use Rattle.std.specs.Str.Parse.{digits_value}
+use Rattle.std.proofs.lemmas.Slice.Eq.{bytes_eq-Decides}
+use Rattle.std.proofs.lemmas.Fmt.{decimal_is_IsNumeral, decimal_digit, decimal_step, decimal_by_steps}
 use Rattle.std.proofs.lemmas.Bool.{cases_lt, and_parts, leb-true, le-leb}
 use Rattle.std.proofs.lemmas.List.Folds.{list_all-append}
 use Rattle.std.proofs.lemmas.Option.{cond_some}
-use Rattle.histar_flat.specs.Words.{is_digit, is_first_digit, digit_count, number_of, if_passes, greatest_status, status_of, is_child_number, child_number_of}
+use Rattle.histar_flat.specs.Words.{number_of, greatest_status, status_of, is_child_number}
+use Rattle.histar_flat.specs.Digits.{is_digit, is_first_digit, digit_count, number_by_digits, if_passes}
 
 -- ---- digits
 
@@ -86,35 +90,35 @@ passed_test : (text : List ℕ) (t : Bool) (made n : ℕ) → (t ≡ true → Is
 passed_test text t made n is e = let g = cond_some t made n e in subst (IsNumber text) g.1 (is g.0)
 
 -- a number that is read is spelled so
-number_takes : (text : List ℕ) (n : ℕ) → number_of text ≡ Some n → IsNumber text n
-unfolding number_of
-number_takes [] n e = absurd cc
-number_takes (a ∷ []) n e = passed_test (a ∷ []) (is_digit a) (digit_count a) n (one_takes a) e
-number_takes (a ∷ b ∷ []) n e = passed_test (a ∷ b ∷ []) (is_first_digit a && is_digit b) (10 * digit_count a + digit_count b) n (two_take a b) e
-number_takes (a ∷ b ∷ c ∷ []) n e = passed_test (a ∷ b ∷ c ∷ []) (is_first_digit a && is_digit b && is_digit c) (100 * digit_count a + 10 * digit_count b + digit_count c) n (three_take a b c) e
-number_takes (a ∷ b ∷ c ∷ d ∷ bs) n e = absurd cc
+digits_take : (text : List ℕ) (n : ℕ) → number_by_digits text ≡ Some n → IsNumber text n
+unfolding number_by_digits
+digits_take [] n e = absurd cc
+digits_take (a ∷ []) n e = passed_test (a ∷ []) (is_digit a) (digit_count a) n (one_takes a) e
+digits_take (a ∷ b ∷ []) n e = passed_test (a ∷ b ∷ []) (is_first_digit a && is_digit b) (10 * digit_count a + digit_count b) n (two_take a b) e
+digits_take (a ∷ b ∷ c ∷ []) n e = passed_test (a ∷ b ∷ c ∷ []) (is_first_digit a && is_digit b && is_digit c) (100 * digit_count a + 10 * digit_count b + digit_count c) n (three_take a b c) e
+digits_take (a ∷ b ∷ c ∷ d ∷ bs) n e = absurd cc
 
 -- one digit is read
-one_again : (n : ℕ) → n < 10 → number_of (decimal n) ≡ Some n
-unfolding number_of
+one_again : (n : ℕ) → n < 10 → number_by_digits (decimal n) ≡ Some n
+unfolding number_by_digits
 one_again n small =
     let back : 48 + n - 48 ≡ n = omega arith in
-    ap number_of (decimal_digit n small) ∙ rw (is_a_digit (48 + n) (omega arith) (omega arith)) (ap (λ (x : ℕ). Some x) back)
+    ap number_by_digits (decimal_digit n small) ∙ rw (is_a_digit (48 + n) (omega arith) (omega arith)) (ap (λ (x : ℕ). Some x) back)
 
 -- and so are two
-two_again : (n : ℕ) → 10 ≤ n → n < 100 → number_of (decimal n) ≡ Some n
-unfolding number_of
+two_again : (n : ℕ) → 10 ≤ n → n < 100 → number_by_digits (decimal n) ≡ Some n
+unfolding number_by_digits
 two_again n large small =
     let back : 10 * (48 + n / 10 - 48) + (48 + n % 10 - 48) ≡ n = omega arith in
-    ap number_of (two_digits n large small)
+    ap number_by_digits (two_digits n large small)
     ∙ rw (is_a_first_digit (48 + n / 10) (omega arith) (omega arith), is_a_digit (48 + n % 10) (omega arith) (omega arith)) (ap (λ (x : ℕ). Some x) back)
 
 -- and three
-three_again : (n : ℕ) → 100 ≤ n → n < 1000 → number_of (decimal n) ≡ Some n
-unfolding number_of
+three_again : (n : ℕ) → 100 ≤ n → n < 1000 → number_by_digits (decimal n) ≡ Some n
+unfolding number_by_digits
 three_again n large small =
     let back : 100 * (48 + n / 10 / 10 - 48) + 10 * (48 + n / 10 % 10 - 48) + (48 + n % 10 - 48) ≡ n = omega arith in
-    ap number_of (three_digits n large small)
+    ap number_by_digits (three_digits n large small)
     ∙ rw (
       is_a_first_digit (48 + n / 10 / 10) (omega arith) (omega arith),
       is_a_digit (48 + n / 10 % 10) (omega arith) (omega arith),
@@ -122,8 +126,8 @@ three_again n large small =
     ) (ap (λ (x : ℕ). Some x) back)
 
 -- a number that is spelled is read
-number_again : (n : ℕ) → n < 1000 → number_of (decimal n) ≡ Some n
-number_again n small =
+digits_again : (n : ℕ) → n < 1000 → number_by_digits (decimal n) ≡ Some n
+digits_again n small =
     elim (cases_lt n 10) [
       | inl one ↦ one_again n one
       | inr large ↦ elim (cases_lt n 100) [
@@ -134,35 +138,69 @@ number_again n small =
 
 -- ---- numbers that pass a test
 
--- a number that was read and passed
-tested : (test : ℕ → Bool) (o : Option ℕ) (n : ℕ) → if_passes test o ≡ Some n → (o ≡ Some n) × (test n ≡ true)
-tested test None n e = absurd cc
-tested test (Some m) n e =
-    let g = cond_some (test m) m n e in
-    (ap (λ (x : ℕ). Some x) g.1, ap test (sym g.1) ∙ g.0)
+-- a number that is read is written so, and passes
+pub number_takes : (test : ℕ → Bool) (text : List ℕ) (n : ℕ) → number_of test text ≡ Some n → (text ≡ decimal n) × (test n ≡ true)
+unfolding number_of
+number_takes test text n e =
+    let m : ℕ = digits_value 10 text in
+    let g = cond_some (test m && bytes_eq text (decimal m)) m n e in
+    let p = and_parts (test m) (bytes_eq text (decimal m)) g.0 in
+    ((bytes_eq-Decides text (decimal m)).0 p.1 ∙ ap decimal g.1, ap test (sym g.1) ∙ p.0)
 
--- a status that is read is spelled so
-pub status_takes : (text : List ℕ) (n : ℕ) → status_of text ≡ Some n → (text ≡ decimal n) × (n ≤ greatest_status)
-unfolding status_of
-status_takes text n e =
-    let is = tested (λ m. leb m greatest_status) (number_of text) n e in
-    ((number_takes text n is.0).0, leb-true n greatest_status is.1)
+-- a number that is written so is read where it passes
+number_written : (test : ℕ → Bool) (n : ℕ) → n < 1000 → number_of test (decimal n) ≡ if_passes test (Some n)
+unfolding number_of
+number_written test n small =
+    let same : digits_value 10 (decimal n) ≡ n = (decimal_is_IsNumeral n (omega arith)).1 in
+    ap (λ m. cond (test m && bytes_eq (decimal n) (decimal m)) (Some m) None) same
+    ∙ ap (λ b. cond (test n && b) (Some n) None) ((bytes_eq-Decides (decimal n) (decimal n)).1 refl)
+    ∙ ap (λ b. cond b (Some n) None) (and_right (test n))
+  where
+    and_right : (b : Bool) → (b && true) ≡ b
+    and_right true = refl
+    and_right false = refl
 
--- and a status that is spelled is read
-pub status_again : (n : ℕ) → n ≤ greatest_status → status_of (decimal n) ≡ Some n
-unfolding status_of
-status_again n most = ap (if_passes (λ m. leb m greatest_status)) (number_again n (omega arith)) ∙ rw (le-leb n greatest_status most) refl
+-- and the other way
+pub number_again : (test : ℕ → Bool) (n : ℕ) → n < 1000 → test n ≡ true → number_of test (decimal n) ≡ Some n
+number_again test n small passes = number_written test n small ∙ ap (λ b. cond b (Some n) None) passes
 
--- a child's number that is read is spelled so
-pub child_number_takes : (text : List ℕ) (n : ℕ) → child_number_of text ≡ Some n → (text ≡ decimal n) × (is_child_number n ≡ true)
-unfolding child_number_of
-child_number_takes text n e = let is = tested is_child_number (number_of text) n e in ((number_takes text n is.0).0, is.1)
+-- where the test lets small numbers through alone, a number is read digit by digit
+pub by_digits : (test : ℕ → Bool) (text : List ℕ) → ((n : ℕ) → test n ≡ true → n < 1000) → number_of test text ≡ if_passes test (number_by_digits text)
+by_digits test text small = by (number_by_digits text) refl
+  where
+    none : number_by_digits text ≡ None → (o : Option ℕ) → number_of test text ≡ o → number_of test text ≡ None
+    none e None f = f
+    none e (Some n) f =
+        let is = number_takes test text n f in
+        let both : None ≡ Some n = sym e ∙ ap number_by_digits is.0 ∙ digits_again n (small n is.1) in
+        absurd cc
+
+    by : (o : Option ℕ) → number_by_digits text ≡ o → number_of test text ≡ if_passes test o
+    by None e = none e (number_of test text) refl
+    by (Some n) e = let is = digits_take text n e in ap (number_of test) is.0 ∙ number_written test n is.1
+
+-- ---- statuses and numbers of children
+
+-- a status is small
+status_small : (n : ℕ) → leb n greatest_status ≡ true → n < 1000
+status_small n h = let most = leb-true n greatest_status h in omega (arith, most)
 
 -- a child's number is small
 pub child_number_small : (n : ℕ) → is_child_number n ≡ true → n < 1000
 child_number_small n h = let most = leb-true n 64 (and_parts (leb 1 n) (leb n 64) h).1 in omega (arith, most)
 
--- and a child's number that is spelled is read
-pub child_number_again : (n : ℕ) → is_child_number n ≡ true → child_number_of (decimal n) ≡ Some n
-unfolding child_number_of
-child_number_again n h = ap (if_passes is_child_number) (number_again n (child_number_small n h)) ∙ rw h refl
+-- a status is read digit by digit
+pub status_by_digits : (text : List ℕ) → status_of text ≡ if_passes (λ n. leb n greatest_status) (number_by_digits text)
+status_by_digits text = by_digits (λ n. leb n greatest_status) text status_small
+
+-- and so is the number of a child
+pub child_number_by_digits : (text : List ℕ) → number_of is_child_number text ≡ if_passes is_child_number (number_by_digits text)
+child_number_by_digits text = by_digits is_child_number text child_number_small
+
+-- a status that is read is written so
+pub status_takes : (text : List ℕ) (n : ℕ) → status_of text ≡ Some n → (text ≡ decimal n) × (n ≤ greatest_status)
+status_takes text n e = let is = number_takes (λ m. leb m greatest_status) text n e in (is.0, leb-true n greatest_status is.1)
+
+-- and a status that is written so is read
+pub status_again : (n : ℕ) → n ≤ greatest_status → status_of (decimal n) ≡ Some n
+status_again n most = number_again (λ m. leb m greatest_status) n (omega arith) (le-leb n greatest_status most)
