@@ -3,12 +3,12 @@ ghost use Rattle.std.specs.Prelude.{◌≡◌};
 ghost use Rattle.histar_calls.specs.Refusals.{errno_of, write_errno_of, or_ending, settled, ending_of, ending_with};
 
 use histar_flat::{Errno, Reply};
-use histar_layout::NotADirectory;
+use histar_layout::{NotADirectory, NotAStatus};
 use histar_syscall::{Denied, Refusal};
 use std::alloc::{AllocError, AllocFailed};
 
 /// A call ends without a reply: memory ran out, the kernel denied what no errno tells, or a segment
-/// that should hold a directory holds none. The machine makes no more calls then. On a machine that
+/// that should hold a directory, or tell of a process, does not. The machine makes no more calls then. On a machine that
 /// lays out a flat state only memory and a counter at its greatest value end a call so.
 #[derive(Clone, Copy, Debug, PartialEq, Eq)]
 pub struct Stopped;
@@ -80,6 +80,18 @@ impl From<NotADirectory> for Ending {
     ghost from_gives = { λ _ e. e ≡ Stopped };
 
     fn from(_error: NotADirectory) -> Self {
+        Ending::Stopped
+    }
+}
+
+/// A process segment whose bytes tell nothing. No such segment is on a machine that lays out a flat state.
+impl From<NotAStatus> for Ending {
+    ghost use Rattle.std.specs.Prelude.{◌≡◌};
+    ghost use Rattle.histar_calls.specs.declared.ending.Ending.TheVariants.{Stopped};
+
+    ghost from_gives = { λ _ e. e ≡ Stopped };
+
+    fn from(_error: NotAStatus) -> Self {
         Ending::Stopped
     }
 }

@@ -1,7 +1,7 @@
 //! Labels by their exceptions, and the labels of files.
 ghost use Rattle.std.specs.Prelude.{◌≡◌, ℕ, IfOk};
 ghost use Rattle.histar_calls.specs.Categories.{IsUserOf, label_made};
-ghost use Rattle.histar_calls.specs.Labelling.{labelled};
+ghost use Rattle.histar_calls.specs.Labelling.{cleared_at, each_at, guarded_by, labelled, owning, with_levels};
 
 use crate::places::{read_category, write_category};
 use histar_flat::Mode;
@@ -26,9 +26,47 @@ pub fn label_of(
     Ok(label)
 }
 
+/// The label of what has secrets of the first categories, and is written by the owners of the others.
+pub fn guarded_by(
+    alloc: Global,
+    secret: &[Category],
+    written: &[Category],
+) -> Result<Label, AllocError>
+    ensures { IfOk result (λ label. label ≡ guarded_by secret.now written.now) }
+{
+    let label = with_each(Label::new(alloc, Level::L1), Level::L3, secret)?;
+    with_each(label, Level::L0, written)
+}
+
+/// The label of a thread that owns the first categories, and has the secrets of the others.
+pub fn owning(alloc: Global, owned: &[Category], tainted: &[Category]) -> Result<Label, AllocError>
+    ensures { IfOk result (λ label. label ≡ owning owned.now tainted.now) }
+{
+    let label = with_each(Label::new(alloc, Level::L1), Level::Star, owned)?;
+    with_each(label, Level::L3, tainted)
+}
+
+/// The clearance of a thread that may have the secrets of these categories.
+pub fn cleared_at(alloc: Global, categories: &[Category]) -> Result<Label, AllocError>
+    ensures { IfOk result (λ label. label ≡ cleared_at categories.now) }
+{
+    with_each(Label::new(alloc, Level::L2), Level::L3, categories)
+}
+
+// A label with one level at each of these categories, and at all others as before.
+fn with_each(label: Label, level: Level, categories: &[Category]) -> Result<Label, AllocError>
+    ensures { IfOk result (λ made. made ≡ with_levels label (each_at level categories.now)) }
+{
+    let mut label = label;
+    for &category in categories {
+        label = label.with(category, level)?;
+    }
+    Ok(label)
+}
+
 /// The number of the user whose read category a thread owns by its label: 0, nobody's, where it owns
 /// none. That it is the thread's user is read off its label alone, as the kernel does.
-fn user_of(own: &Label, users: u8) -> u8
+pub fn user_of(own: &Label, users: u8) -> u8
     ensures { IsUserOf own.now users result }
 {
     for before in 0..users {
