@@ -1,5 +1,5 @@
 //! Names of processes.
-ghost use Rattle.std.specs.Prelude.{◌≡◌, ◌↔◌, ◌<◌, ◌≤◌, [], ◌∷◌, length, IsTrue};
+ghost use Rattle.std.specs.Prelude.{◌≡◌, ◌<◌, ◌≤◌, [], ◌∷◌, length};
 ghost use Rattle.histar_flat.specs.Words.{most_numbers};
 
 use std::marker::Model;
@@ -57,13 +57,6 @@ impl ProcName {
             numbers,
             len: self.len + 1,
         }
-    }
-
-    /// Whether this is the first process.
-    pub fn is_zero(&self) -> bool
-        ensures { IsTrue result ↔ (self.now ≡ []) }
-    {
-        self.numbers().is_empty()
     }
 
     /// The numbers after the leading 0, the last one first.
