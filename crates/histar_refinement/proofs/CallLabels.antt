@@ -1,5 +1,5 @@
 -- The labels that calls hand in by the numbers of users are those of names: what is private or readable, and a thread as a user's.
-use Rattle.std.proofs.Common.{◌≡◌, ℕ, zero, suc, ◌+◌, ◌*◌, ◌<◌, ◌≤◌, ◌==◌, Bool, true, false, ◌||◌, cond, List, [], ◌∷◌, ◌++◌, length, Option, None, Some, arith, refl, sym, ap, ◌∙◌}
+use Rattle.std.proofs.Common.{◌≡◌, ℕ, zero, suc, ◌+◌, ◌*◌, ◌<◌, ◌≤◌, Bool, true, false, cond, List, [], ◌∷◌, ◌++◌, length, Option, None, Some, arith, refl, sym, ap, ◌∙◌}
 use Rattle.std.specs.Prelude.{map, position, nat_eq, nat_le, option_map}
 use Rattle.std.specs.Str.{bytes_eq}
 use Rattle.std.proofs.lemmas.Bool.Decides.{nat_tests}
@@ -24,8 +24,8 @@ use Rattle.histar_refinement.specs.Processes.{or_zero}
 use Rattle.histar_refinement.specs.Guards.{guard_label, rights_label, rights_clearance}
 use Rattle.histar_refinement.specs.Labels.{private_guard, readable_guard, owned_as, thread_rights}
 use Rattle.histar_refinement.specs.LaysOut.{Laid}
-use Rattle.histar_refinement.proofs.Members.{is_in, same_truth}
-use Rattle.histar_refinement.proofs.Levelled.{owning_level, at_owning, same_owning, same_cleared}
+use Rattle.histar_refinement.proofs.Members.{same_truth}
+use Rattle.histar_refinement.proofs.Levelled.{owning_level, at_owning}
 use Rattle.histar_refinement.proofs.CategoryTests.{among_none, is_in_names}
 use Rattle.histar_refinement.proofs.ClassTests.{owns_read_of}
 use Rattle.histar_refinement.proofs.SessionLemmas.{is_number, equal_names, equal_tested, user_range}

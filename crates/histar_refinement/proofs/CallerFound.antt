@@ -1,7 +1,7 @@
 -- In a state that is laid out exactly the processes that run are found, each with its thread and its own two categories.
-use Rattle.std.proofs.Common.{◌≡◌, ◌≢◌, ℕ, ◌+◌, ◌≤◌, ◌<◌, inl, inr, Bool, true, false, List, [], ◌∷◌, length, map, Option, None, Some, refl, sym, ap, ◌∙◌, subst, arith}
+use Rattle.std.proofs.Common.{◌≡◌, ℕ, ◌≤◌, true, [], ◌∷◌, length, map, Option, None, Some, refl, sym, ap, ◌∙◌, arith}
 use Rattle.std.specs.Prelude.{is_some, option_map, option_and_then}
-use Rattle.std.specs.List.{filter, range_with_len}
+use Rattle.std.specs.List.{range_with_len}
 use Rattle.std.proofs.lemmas.List.{length-map}
 use Rattle.std.proofs.lemmas.List.FromFn.{length-range_with_len}
 use Rattle.std.proofs.lemmas.List.Sums.{length-filter, count_by-le-length}
@@ -14,7 +14,7 @@ use Rattle.histar_flat.specs.FlatState.{Flat}
 use Rattle.histar_flat.specs.FlatCalls.{if_running, running}
 use Rattle.histar_label.specs.Levels.{Levels}
 use Rattle.histar_object.specs.Objects.{label_there}
-use Rattle.histar_object.specs.State.{State, Found}
+use Rattle.histar_object.specs.State.{State}
 use Rattle.histar_layout.specs.declared.status.Child.{Child as Listed}
 use Rattle.histar_layout.specs.Status.{ProcessStatus, child_at}
 use Rattle.histar_layout.proofs.Statuses.{status_again}
@@ -28,7 +28,6 @@ use Rattle.histar_refinement.specs.Labels.{process_guard, inside_guard}
 use Rattle.histar_refinement.specs.Addresses.{same_step, home_of}
 use Rattle.histar_refinement.specs.Addresses.Step.{Home, Status, Inside, Runner, Child}
 use Rattle.histar_refinement.specs.Expected.{home_object, inside_object, expected}
-use Rattle.histar_refinement.specs.Stands.{bare}
 use Rattle.histar_refinement.specs.Processes.{or_zero, children, listed_by, status_by}
 use Rattle.histar_refinement.specs.LaysOut.{Laid}
 use Rattle.histar_refinement.specs.Laws.{IsCallerOf, CallersAreFound, CallersAreThere}

@@ -1,20 +1,20 @@
 -- A process's own two categories are told by the labels of its container and its internal container.
-use Rattle.std.proofs.Common.{◌≡◌, ◌≢◌, ℕ, ◌==◌, Bool, true, false, ◌&&◌, ◌||◌, List, [], ◌∷◌, ◌++◌, Option, Some, arith, refl, sym, ap, ◌∙◌, subst, if◌then◌else◌}
+use Rattle.std.proofs.Common.{◌≡◌, ◌≢◌, ℕ, ◌==◌, Bool, true, false, ◌&&◌, ◌||◌, List, [], ◌∷◌, ◌++◌, Some, arith, refl, sym, ap, ◌∙◌}
 use Rattle.std.specs.Prelude.{map, not}
 use Rattle.std.proofs.lemmas.Bool.Decides.{nat_tests}
 use mathlib.Core.Bool.{true≢false}
 use Rattle.histar_flat.specs.Words.{ProcName}
 use Rattle.histar_flat.specs.Classes.{Process}
 use Rattle.histar_label.specs.declared.levels.Level.{Level}
-use Rattle.histar_label.specs.declared.levels.Level.TheVariants.{Star, L0, L1, L2, L3}
+use Rattle.histar_label.specs.declared.levels.Level.TheVariants.{L0, L1, L3}
 use Rattle.histar_label.specs.Levels.{Levels, level_of, default_of, default_of-constant, default_of-with_level, with_level, constant}
 use Rattle.histar_calls.specs.Labelling.{with_levels, each_at, guarded_by}
 use Rattle.histar_process.specs.Caller.{is_zero, is_three, write_category_in, read_category_in}
-use Rattle.histar_refinement.specs.Categories.{Categories, AreDifferent, among}
+use Rattle.histar_refinement.specs.Categories.{Categories, AreDifferent}
 use Rattle.histar_refinement.specs.Categories.CategoryName.{ReadsProcess, WritesProcess, OfJob}
 use Rattle.histar_refinement.specs.Guards.{guard_label}
 use Rattle.histar_refinement.specs.Labels.{process_guard, inside_guard}
-use Rattle.histar_refinement.proofs.Members.{is_in, or_false, first_of, second_of, and_both}
+use Rattle.histar_refinement.proofs.Members.{is_in, or_false, first_of, second_of}
 use Rattle.histar_refinement.proofs.Levelled.{guarded_level, at_guarded}
 use Rattle.histar_refinement.proofs.CategoryTests.{among_none, is_in_names}
 use Rattle.histar_refinement.proofs.FoundCategories.{found_in_label}
