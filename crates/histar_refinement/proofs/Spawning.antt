@@ -125,22 +125,22 @@ module _ (session : Session) (s : State) (f : Flat) (l : Laid session s f) (me :
   abbrev next : ℕ
   next = s.next_category
 
-  abbrev reads : CategoryName
+  abbrev pub reads : CategoryName
   reads = ReadsProcess child
 
-  abbrev writes : CategoryName
+  abbrev pub writes : CategoryName
   writes = WritesProcess child
 
-  abbrev with_reads : Categories
+  abbrev pub with_reads : Categories
   with_reads = naming_next l.category next reads
 
   abbrev pub category : Categories
   category = naming_next with_reads (next + 1) writes
 
-  different_reads : AreDifferent with_reads
+  pub different_reads : AreDifferent with_reads
   different_reads = still_different l.category l.different next reads
 
-  different : AreDifferent category
+  pub different : AreDifferent category
   different = still_different with_reads different_reads (next + 1) writes
 
   not_reads : (c : CategoryName) → IsUsed session f c → c ≢ reads
@@ -149,7 +149,7 @@ module _ (session : Session) (s : State) (f : Flat) (l : Laid session s f) (me :
   not_writes : (c : CategoryName) → IsUsed session f c → c ≢ writes
   not_writes c used e = let k : is_some (f.processes child) ≡ true = subst (IsUsed session f) e used in true≢false (sym k ∙ ap is_some no_child)
 
-  keeps_first : (c : CategoryName) → IsUsed session f c → with_reads c ≡ l.category c
+  pub keeps_first : (c : CategoryName) → IsUsed session f c → with_reads c ≡ l.category c
   keeps_first c used = old_number l.category l.different next reads c (not_reads c used) (l.made c used).1
 
   pub keeps : (c : CategoryName) → IsUsed session f c → category c ≡ l.category c
@@ -158,12 +158,12 @@ module _ (session : Session) (s : State) (f : Flat) (l : Laid session s f) (me :
       let below = (l.made c used).1 in
       old_number with_reads different_reads (next + 1) writes c (not_writes c used) (omega (arith, first, below)) ∙ first
 
-  reads_number : category reads ≡ next
+  pub reads_number : category reads ≡ next
   reads_number =
       let first = new_number l.category l.different next reads in
       old_number with_reads different_reads (next + 1) writes reads (λ e. let k : 5 ≡ 6 = ap (λ (c : CategoryName). (split_category c).0) e in absurd (omega (arith, k))) (omega (arith, first)) ∙ first
 
-  writes_number : category writes ≡ next + 1
+  pub writes_number : category writes ≡ next + 1
   writes_number = new_number with_reads different_reads (next + 1) writes
 
   -- the labels of what is made for the child
@@ -253,7 +253,7 @@ module _ (session : Session) (s : State) (f : Flat) (l : Laid session s f) (me :
   unfolding kind_of above
   kept_status q other = sym (kept (Status ∷ home_of q) (unlike _ _ (λ k. absurd (omega (arith, k)))) (unlike _ _ (λ k. absurd (omega (arith, k)))) (unlike _ _ (λ k. absurd (omega (arith, k)))) (λ e. home_apart q other (ap above e)))
 
-  kept_inside : (q : ProcName) → q ≢ child → l.naming.number (Inside ∷ home_of q) ≡ naming.number (Inside ∷ home_of q)
+  pub kept_inside : (q : ProcName) → q ≢ child → l.naming.number (Inside ∷ home_of q) ≡ naming.number (Inside ∷ home_of q)
   unfolding kind_of above
   kept_inside q other = sym (kept (Inside ∷ home_of q) (unlike _ _ (λ k. absurd (omega (arith, k)))) (λ e. home_apart q other (ap above e)) (unlike _ _ (λ k. absurd (omega (arith, k)))) (unlike _ _ (λ k. absurd (omega (arith, k)))))
 
@@ -262,7 +262,7 @@ module _ (session : Session) (s : State) (f : Flat) (l : Laid session s f) (me :
   kept_runner q other = sym (kept (Runner ∷ Inside ∷ home_of q) (unlike _ _ (λ k. absurd (omega (arith, k)))) (unlike _ _ (λ k. absurd (omega (arith, k)))) (λ e. home_apart q other (ap (λ (a : Address Step). above (above a)) e)) (unlike _ _ (λ k. absurd (omega (arith, k)))))
 
   -- whether another process is there hasn't changed
-  there_alike : (x : ProcName) → x ≢ child → is_some (f.processes x) ≡ is_some (after.processes x)
+  pub there_alike : (x : ProcName) → x ≢ child → is_some (f.processes x) ≡ is_some (after.processes x)
   there_alike x not_child = elim (which x) [
     | inl e ↦ absurd (not_child e)
     | inr (inl e) ↦ ap (λ (y : ProcName). is_some (f.processes y)) e ∙ ap is_some here ∙ sym (ap is_some at_me) ∙ ap (λ (y : ProcName). is_some (after.processes y)) (sym e)
@@ -358,7 +358,7 @@ module _ (session : Session) (s : State) (f : Flat) (l : Laid session s f) (me :
     | inr (inr e) ↦ inl (ap is_some (sym (at_other x e.0 e.1)) ∙ u)
   ]
 
-  used_then : (c : CategoryName) → IsUsed session after c → IsUsed session f c ⊎ ((c ≡ reads) ⊎ (c ≡ writes))
+  pub used_then : (c : CategoryName) → IsUsed session after c → IsUsed session f c ⊎ ((c ≡ reads) ⊎ (c ≡ writes))
   used_then OfBoot u = inl u
   used_then (ReadsUser i) u = inl u
   used_then (WritesUser i) u = inl u
@@ -368,7 +368,7 @@ module _ (session : Session) (s : State) (f : Flat) (l : Laid session s f) (me :
   used_then (WritesProcess x) u = elim (used_process x u) [ inl old ↦ inl old | inr e ↦ inr (inr (ap WritesProcess e)) ]
   used_then (OfJob job) u = inl (job_used job u)
 
-  made_then : (c : CategoryName) → IsUsed session after c → IsMade (s.next_category + 2) (category c)
+  pub made_then : (c : CategoryName) → IsUsed session after c → IsMade (s.next_category + 2) (category c)
   made_then c u = elim (used_then c u) [
     | inl old ↦ let m = l.made c old in let k = keeps c old in (omega (arith, m.0, k), omega (arith, m.1, k))
     | inr (inl e) ↦ let k : category c ≡ next = ap category e ∙ reads_number in let m = l.made OfBoot tt in (omega (arith, m.0, m.1, k), omega (arith, k))

@@ -43,14 +43,15 @@ chain_unanswered old new t steps chain run =
       own = chain_own t old.line steps;
     }
 
--- what a reply needs where no raw call was refused: bytes were read last, and an errno is neither EACCES nor EPERM
+-- what a reply needs where no raw call was refused: bytes were read last, an errno is neither EACCES nor EPERM, and it is not `gone`
 abbrev pub IsBacked : State → List TraceEntry → Reply → Type 0
 IsBacked s entries Done = Unit {0}
 IsBacked s entries (Data bytes) = EndsWithRead s entries bytes
 IsBacked s entries (Entries listing) = Unit {0}
 IsBacked s entries (Stats stat) = Unit {0}
 IsBacked s entries (Refused errno) = (is_access errno ≡ false) × (is_permission errno ≡ false)
-IsBacked s entries _ = ⊥
+IsBacked s entries Gone = ⊥
+IsBacked s entries _ = Unit {0}
 
 module _ (s : State) (entries : List TraceEntry) where
   backed_plain : (r : Reply) → IsBacked s entries r → (is_no_access r ≡ false) × (is_no_permission r ≡ false)
