@@ -3,6 +3,7 @@ use crate::session::{Line, Session};
 use crate::texts::call_text;
 use histar_shell::{Counted, Options, run};
 use std::alloc::{AllocError, Global};
+use std::process::Abort;
 use std::test::Fail;
 
 /// One user.
@@ -162,18 +163,40 @@ const A_CHAIN: [Line; 9] = [
 ];
 
 /// The raw calls of the first birth, in a session of one user.
-const A_BIRTH: [&str; 11] = [
-    "read 8 11",
-    "self",
-    "make category",
-    "make category",
-    "make container 8 {9:0,1}",
-    "make container 12 {8:3,9:0,1}",
-    "make thread 13 {8:*,9:*,1} {8:3,9:3,2}",
-    "make segment 12 {9:0,1} 720000000000000000000d000000000000000e",
-    "write 8 11 0 7200010000000000000009000000000000000a01000000000000000c000000000000000f",
-    "set label {6:*,7:*,1}",
-    "set clearance {6:3,7:3,2}",
+const A_BIRTH: [(u32, &str); 11] = [
+    (2, "read 8 11"),
+    (2, "self"),
+    (2, "make category"),
+    (2, "make category"),
+    (2, "make container 8 {9:0,1}"),
+    (2, "make container 12 {8:3,9:0,1}"),
+    (2, "make thread 13 {8:*,9:*,1} {8:3,9:3,2}"),
+    (2, "make segment 12 {9:0,1} 720000000000000000000d000000000000000e"),
+    (
+        2,
+        "write 8 11 0 7200010000000000000009000000000000000a01000000000000000c000000000000000f",
+    ),
+    (2, "set label {6:*,7:*,1}"),
+    (2, "set clearance {6:3,7:3,2}"),
+];
+
+/// The raw calls of a session of one user, who may make a file only once he is logged in.
+const A_LOGIN: [(u32, &str); 12] = [
+    (2, "read 6 7"),
+    (2, "self"),
+    (2, "make segment 6 {1} "),
+    (3, "self"),
+    (
+        3,
+        "enter 1 4 {4:*,5:*,6:*,7:*,1} {4:3,5:3,6:3,7:3,2} {6:*,7:*,1}",
+    ),
+    (3, "read 1 3"),
+    (3, "set label {4:*,5:*,6:*,7:*,1}"),
+    (3, "set clearance {4:3,5:3,6:3,7:3,2}"),
+    (4, "read 6 7"),
+    (4, "self"),
+    (4, "make segment 6 {5:0,1} "),
+    (4, "write 6 7 0 016166000000000000000c0000000000000000"),
 ];
 
 #[test]
@@ -238,21 +261,38 @@ fn a_process_has_sixty_four_children(rt: HostRuntime) -> Result<(), Fail> {
     session.check(&rt, rt.alloc())
 }
 
+/// What the lines of a script have for raw calls, behind those of boot, each with its line.
+fn check_trace(
+    rt: &impl Abort,
+    alloc: Global,
+    script: &[u8],
+    calls: &[(u32, &'static str)],
+) -> Result<(), Fail> {
+    let mut reader = Counted::new(script);
+    let mut writer = Counted::new(Vec::new(alloc));
+    let trace = run(alloc, &mut reader, &mut writer, Options {})?;
+    let mut entries = trace.entries().iter().filter(|entry| entry.line > 0);
+    for &(line, call) in calls {
+        let entry = entries.next().ok_or("a raw call more")?;
+        assert_eq!(rt; call_text(alloc, &entry.call)?.as_str(), call);
+        assert_eq!(rt; entry.line, line);
+        assert_eq!(rt; entry.thread.number(), 10);
+    }
+    assert!(rt; entries.next().is_none());
+    Ok(())
+}
+
 #[test]
 fn a_birth_has_its_raw_calls(rt: HostRuntime) -> Result<(), Fail> {
-    let mut reader = Counted::new(b"user root rr\n0 spawn\n".as_slice());
-    let mut writer = Counted::new(Vec::new(rt.alloc()));
-    let trace = run(rt.alloc(), &mut reader, &mut writer, Options {})?;
-    assert_eq!(rt; writer.into_inner().as_slice(), b"2 ok 0.1\n".as_slice());
-    let births = trace.entries().iter().filter(|entry| entry.line == 2);
-    let mut count = 0;
-    for (entry, call) in births.zip(A_BIRTH.iter()) {
-        assert_eq!(rt; call_text(rt.alloc(), &entry.call)?.as_str(), *call);
-        assert_eq!(rt; entry.thread.number(), 10);
-        assert!(rt; entry.denied.is_none());
-        count += 1;
-    }
-    assert_eq!(rt; count, A_BIRTH.len());
-    assert_eq!(rt; trace.entries().len(), 16 + A_BIRTH.len());
-    Ok(())
+    let script = b"user root rr\n0 spawn\n".as_slice();
+    check_trace(&rt, rt.alloc(), script, A_BIRTH.as_slice())
+}
+
+#[test]
+fn a_login_has_its_raw_calls(rt: HostRuntime) -> Result<(), Fail> {
+    let script = b"user root rr\n\
+        0 create /a open\n\
+        0 login root rr\n\
+        0 create /a readable\n";
+    check_trace(&rt, rt.alloc(), script.as_slice(), A_LOGIN.as_slice())
 }

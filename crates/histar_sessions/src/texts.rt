@@ -46,7 +46,7 @@ fn entry_text(alloc: Global, entry: Entry) -> Result<String, AllocError> {
     }
 }
 
-/// A raw call of boot, of a birth or of a login; of any other only that it is one.
+/// A raw call; of one that asks for a label only that it is another.
 pub fn call_text(alloc: Global, call: &RawCall) -> Result<String, AllocError> {
     match call {
         RawCall::MakeCategory => String::from_str(alloc, "make category"),
@@ -71,6 +71,16 @@ pub fn call_text(alloc: Global, call: &RawCall) -> Result<String, AllocError> {
             format!(in alloc;
                 "make gate {} {label} {clearance} {entry}",
                 container.number()
+            )
+        }
+        RawCall::Enter(container, gate, wanted, clearance, shown) => {
+            let wanted = label_text(alloc, wanted)?;
+            let clearance = label_text(alloc, clearance)?;
+            let shown = label_text(alloc, shown)?;
+            format!(in alloc;
+                "enter {} {} {wanted} {clearance} {shown}",
+                container.number(),
+                gate.number()
             )
         }
         RawCall::Unlink(container, object) => {
