@@ -1,0 +1,9 @@
+pub mod FoundProcesses
+pub mod Searches
+pub mod StatusCall
+pub mod OwnLabels
+pub mod Whoami
+pub mod OwnSegment
+pub mod ExitCall
+pub mod KilledChild
+pub mod KillCall
