@@ -1,5 +1,5 @@
 -- Where processes are found in a state, by the bytes of process segments and the labels of containers alone.
-use Rattle.std.specs.Prelude.{ℕ, Bool, true, false, not, ◌&&◌, List, [], ◌∷◌, Option, None, Some, option_map}
+use Rattle.std.specs.Prelude.{ℕ, Bool, true, false, not, ◌&&◌, [], ◌∷◌, Option, None, Some, option_map}
 use Rattle.std.specs.List.{find}
 use Rattle.histar_flat.specs.Words.{ProcName}
 use Rattle.histar_label.specs.declared.levels.Level.{Level}

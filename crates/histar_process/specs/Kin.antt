@@ -1,5 +1,5 @@
 -- What a thread's own label tells of its process: whose it is, and which jobs it is in.
-use Rattle.std.specs.Prelude.{ℕ, zero, suc, Bool, true, false, not, List, [], ◌∷◌, length, map, if◌then◌else◌}
+use Rattle.std.specs.Prelude.{ℕ, zero, suc, Bool, true, false, List, [], ◌∷◌, map, if◌then◌else◌}
 use Rattle.std.specs.List.{filter}
 use Rattle.histar_flat.specs.Words.{Name}
 use Rattle.histar_flat.specs.declared.calls.User.{User}

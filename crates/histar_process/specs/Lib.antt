@@ -8,3 +8,5 @@ pub mod KillCall
 pub mod ExitCall
 pub mod SpawnCall
 pub mod Laws
+pub mod Reading
+pub mod Births

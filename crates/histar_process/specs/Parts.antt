@@ -1,5 +1,5 @@
 -- The parts that the programs of calls on processes are made of.
-use Rattle.std.specs.Prelude.{ℕ, [], ◌∷◌, Option, None, Some, Result, Ok, Err}
+use Rattle.std.specs.Prelude.{[], ◌∷◌, Option, None, Some, Result, Ok, Err}
 use Rattle.histar_flat.specs.Words.{ProcName}
 use Rattle.histar_flat.specs.declared.replies.Errno.{Errno}
 use Rattle.histar_flat.specs.declared.replies.Errno.TheVariants.{ESRCH}

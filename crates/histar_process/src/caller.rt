@@ -1,11 +1,15 @@
 //! The process that makes a call, found in the kernel's own table.
-ghost use Rattle.std.specs.Prelude.{◌≡◌};
+ghost use Rattle.std.specs.Prelude.{◌≡◌, ◌&&◌, not, option_and_then};
+ghost use Rattle.histar_label.specs.Levels.{level_of};
 ghost use Rattle.histar_syscall.specs.KernelModel.{state};
-ghost use Rattle.histar_process.specs.Caller.{caller_at};
+ghost use Rattle.histar_process.specs.Caller.{caller_at, caller_by, home_at, is_three, is_zero, read_category_in, status_at, write_category_in};
 
+use crate::find::home_of;
+use crate::kin::is_three;
 use histar_calls::Home;
 use histar_flat::ProcName;
-use histar_label::{Category, LabelStore};
+use histar_label::{Category, Label, LabelStore, Level};
+use histar_layout::{find_child, read_status};
 use histar_object::ObjId;
 use histar_syscall::Kernel;
 
@@ -31,5 +35,81 @@ pub fn find_caller<S: LabelStore + Drop>(
 ) -> Option<Caller>
     ensures { result ≡ caller_at (state kernel.now) first name.now }
 {
-    todo!()
+    let home = home_at(kernel, first, name.numbers())?;
+    caller_in(kernel, home)
+}
+
+// Where the process of these numbers is found, of which the last stands first.
+fn home_at<S: LabelStore + Drop>(kernel: &Kernel<S>, first: Home, numbers: &[u8]) -> Option<Home>
+    ensures { result ≡ home_at (state kernel.now) first numbers.now }
+{
+    let [number, above @ ..] = numbers else {
+        return Some(first);
+    };
+    let home = home_at(kernel, first, above)?;
+    let Ok(Some(child)) = find_child(kernel.bytes(home.segment), *number) else {
+        return None;
+    };
+    Some(home_of(child))
+}
+
+// The process that is found there, if it runs.
+fn caller_in<S: LabelStore + Drop>(kernel: &Kernel<S>, home: Home) -> Option<Caller>
+    ensures { result ≡ option_and_then (caller_by (state kernel.now) home) (status_at (state kernel.now) home.segment) }
+{
+    let head = read_status(kernel.bytes(home.segment))?;
+    if head.exited.is_some() {
+        return None;
+    }
+    let outer = kernel.label(home.container)?;
+    let inner = kernel.label(head.internal)?;
+    let write = write_category_in(outer)?;
+    let read = read_category_in(outer, inner)?;
+    Some(Caller {
+        home,
+        thread: head.thread,
+        read,
+        write,
+    })
+}
+
+// The category by which a process writes, as the label of its container tells.
+fn write_category_in(outer: &Label) -> Option<Category>
+    ensures { result ≡ write_category_in outer.now }
+{
+    let exceptions = outer.exceptions();
+    for &(category, level) in exceptions {
+        if is_zero(level) {
+            return Some(category);
+        }
+    }
+    None
+}
+
+// The category by which a process keeps its secrets, as the labels of its container and of its internal
+// container tell.
+fn read_category_in(outer: &Label, inner: &Label) -> Option<Category>
+    ensures { result ≡ read_category_in outer.now inner.now }
+{
+    let exceptions = inner.exceptions();
+    for &(category, level) in exceptions {
+        if is_own_secret(outer, category, level) {
+            return Some(category);
+        }
+    }
+    None
+}
+
+// Whether it is level 0.
+fn is_zero(level: Level) -> bool
+    ensures { result ≡ is_zero level }
+{
+    matches!(level, Level::L0)
+}
+
+// Whether a category has level 3, and not in the label of the container outside.
+fn is_own_secret(outer: &Label, category: Category, level: Level) -> bool
+    ensures { result ≡ (is_three level && not (is_three (level_of outer.now category))) }
+{
+    is_three(level) && !is_three(outer.get(category))
 }

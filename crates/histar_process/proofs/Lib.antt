@@ -1,0 +1,5 @@
+pub mod Segments
+pub mod Scanning
+pub mod ProcessTelling
+pub mod Births
+pub mod Calling

@@ -1,0 +1,201 @@
+-- How the code that reads process segments, and finds processes by them, runs its parts.
+use Rattle.std.proofs.Common.{◌≡◌, ℕ, ◌≤◌, List, [], ◌∷◌, length, get_or, take, drop, ◌-◌, Option, None, Some, Result, Ok, Err, refl, sym, ap, ◌∙◌, subst, arith}
+use Rattle.std.specs.Prelude.{option_map}
+use Rattle.std.specs.Result.{IsErrAnd}
+use Rattle.std.proofs.lemmas.Option.{same_Some}
+use Rattle.std.proofs.lemmas.Result.{err_from_is_err_and}
+use Rattle.histar_flat.specs.Words.{ProcName}
+use Rattle.histar_flat.specs.declared.replies.Errno.{Errno}
+use Rattle.histar_rules.specs.declared.raw.RawCall.TheVariants.{Read}
+use Rattle.histar_syscall.specs.KernelModel.{KernelModel}
+use Rattle.histar_syscall.proofs.Runs.{same_kernel}
+use Rattle.histar_layout.specs.Status.{ProcessStatus, child_at, head_of, look_for, status_in}
+use Rattle.histar_layout.specs.declared.status.Child.{Child}
+use Rattle.histar_layout.specs.declared.status.NotAStatus.{NotAStatus}
+use Rattle.histar_layout.specs.declared.status.StatusHead.{StatusHead}
+use Rattle.histar_calls.specs.declared.ending.Ending.{Ending}
+use Rattle.histar_calls.specs.declared.ending.Ending.TheVariants.{Refused, Stopped}
+use Rattle.histar_calls.specs.declared.places.Home.{Home}
+use Rattle.histar_calls.specs.Programs.{Program, Part, RunsPart}
+use Rattle.histar_calls.specs.Parts.{ask, given, if_there}
+use Rattle.histar_calls.proofs.Running.{gives, gives_not, hands, refuses_at_once, then_part, part_fails}
+use Rattle.histar_process.specs.declared.find.Segment.{Segment}
+use Rattle.histar_process.specs.Parts.{find_home, home_of, must_be_there, read_status}
+use Rattle.histar_process.specs.Reading.{RunsReading, read_head, look_up}
+
+-- ---- what readers answer of bytes
+
+-- no head is told where nothing is
+nothing_told : (o : Option ProcessStatus) → None ≡ option_map head_of o → o ≡ None
+nothing_told None e = refl
+nothing_told (Some status) e = absurd cc
+
+-- a head is that of what is told
+head_told : (o : Option ProcessStatus) (head : StatusHead) → Some head ≡ option_map head_of o → (status : ProcessStatus) × (o ≡ Some status) × (head ≡ head_of status)
+head_told None head e = absurd cc
+head_told (Some status) head e = (status, refl, same_Some head (head_of status) e)
+
+-- no child is looked for where nothing is told
+nothing_looked : (o : Option ProcessStatus) (number : ℕ) (fault : NotAStatus) → Err fault ≡ look_for o number → o ≡ None
+nothing_looked None number fault e = refl
+nothing_looked (Some status) number fault e = absurd cc
+
+-- a child is looked for in what is told
+pub child_looked : (o : Option ProcessStatus) (number : ℕ) (found : Option Child) → Ok found ≡ look_for o number → (status : ProcessStatus) × (o ≡ Some status) × (found ≡ child_at status.children number)
+child_looked None number found e = absurd cc
+child_looked (Some status) number found e = (status, refl, ap of_ok e)
+  where
+    of_ok : Result (Option Child) NotAStatus → Option Child
+    of_ok (Ok child) = child
+    of_ok (Err fault) = None
+
+-- ---- a process segment is read
+
+-- what comes after the bytes of a process segment
+abbrev after_bytes : List ℕ → Part ProcessStatus
+after_bytes bytes rest = if_there rest (status_in bytes)
+
+module _ (t : ℕ) (old new : KernelModel) (home : Home) where
+  -- it was not read
+  pub read_fails : (ending : Ending) → RunsPart (ask (Read home.container home.segment)) old new t (Err ending) → RunsPart (read_status home) old new t (Err ending)
+  unfolding read_status
+  read_fails ending first = part_fails t (ask (Read home.container home.segment)) old new after_bytes ending first
+
+  -- its head was not
+  pub head_fails : (ending : Ending) → RunsPart (ask (Read home.container home.segment)) old new t (Err ending) → RunsPart (read_head home) old new t (Err ending)
+  unfolding read_head
+  head_fails ending first = part_fails t (read_status home) old new (λ (status : ProcessStatus) (rest : StatusHead → Program). rest (head_of status)) ending (read_fails ending first)
+
+  -- no child was looked up
+  pub look_fails : (ending : Ending) (number : ℕ) → RunsPart (ask (Read home.container home.segment)) old new t (Err ending) → RunsPart (look_up home number) old new t (Err ending)
+  unfolding look_up
+  look_fails ending number first = part_fails t (read_status home) old new (λ (status : ProcessStatus) (rest : Option Child → Program). rest (child_at status.children number)) ending (read_fails ending first)
+
+  module _ (bytes : List ℕ) (first : RunsPart (ask (Read home.container home.segment)) old new t (Ok bytes)) where
+    -- its bytes tell nothing
+    reads_none : status_in bytes ≡ None → RunsPart (read_status home) old new t (Err Stopped)
+    unfolding read_status RunsPart
+    reads_none none =
+        then_part t (ask (Read home.container home.segment)) old new after_bytes new bytes first (Err Stopped)
+        (subst (λ (o : Option ProcessStatus). RunsPart {A = ProcessStatus} (λ rest. if_there rest o) new new t (Err Stopped)) (sym none) (λ rest. same_kernel new))
+
+    -- its bytes tell this
+    reads : (status : ProcessStatus) → status_in bytes ≡ Some status → RunsPart (read_status home) old new t (Ok status)
+    unfolding read_status
+    reads status is =
+        then_part t (ask (Read home.container home.segment)) old new after_bytes new bytes first (Ok status)
+        (subst (λ (o : Option ProcessStatus). RunsPart {A = ProcessStatus} (λ rest. if_there rest o) new new t (Ok status)) (sym is) (hands t new status))
+
+    -- no head is told
+    pub segment_none : None ≡ option_map head_of (status_in bytes) → RunsPart (read_status home) old new t (Err Stopped)
+    segment_none none = reads_none (nothing_told (status_in bytes) none)
+
+    pub head_none : None ≡ option_map head_of (status_in bytes) → RunsPart (read_head home) old new t (Err Stopped)
+    unfolding read_head
+    head_none none = part_fails t (read_status home) old new (λ (status : ProcessStatus) (rest : StatusHead → Program). rest (head_of status)) Stopped (segment_none none)
+
+    -- this head is told
+    pub segment_read : (head : StatusHead) → Some head ≡ option_map head_of (status_in bytes) → RunsReading home old new t (Ok (record { head = head; bytes = bytes }))
+    segment_read head is =
+        let told = head_told (status_in bytes) head is in
+        (told.0, record { told = told.1; head = told.2 }, reads told.0 told.1)
+
+    pub head_read : (head : StatusHead) → Some head ≡ option_map head_of (status_in bytes) → RunsPart (read_head home) old new t (Ok head)
+    unfolding read_head
+    head_read head is =
+        let told = head_told (status_in bytes) head is in
+        subst (λ (h : StatusHead). RunsPart (read_head home) old new t (Ok h)) (sym told.2)
+        (then_part t (read_status home) old new (λ (status : ProcessStatus) (rest : StatusHead → Program). rest (head_of status)) new told.0 (reads told.0 told.1) (Ok (head_of told.0)) (hands t new (head_of told.0)))
+
+    -- no child is looked for
+    pub look_none : (number : ℕ) (fault : NotAStatus) → Err fault ≡ look_for (status_in bytes) number → RunsPart (look_up home number) old new t (Err Stopped)
+    unfolding look_up
+    look_none number fault is =
+        part_fails t (read_status home) old new (λ (status : ProcessStatus) (rest : Option Child → Program). rest (child_at status.children number)) Stopped (reads_none (nothing_looked (status_in bytes) number fault is))
+
+    -- this child is looked for
+    pub looks : (number : ℕ) (found : Option Child) → Ok found ≡ look_for (status_in bytes) number → RunsPart (look_up home number) old new t (Ok found)
+    unfolding look_up
+    looks number found is =
+        let told = child_looked (status_in bytes) number found is in
+        subst (λ (o : Option Child). RunsPart (look_up home number) old new t (Ok o)) (sym told.2)
+        (then_part t (read_status home) old new (λ (status : ProcessStatus) (rest : Option Child → Program). rest (child_at status.children number)) new told.0 (reads told.0 told.1) (Ok (child_at told.0.children number)) (hands t new (child_at told.0.children number)))
+
+-- an error that came by `?` from a process segment
+pub reading_fails : (t : ℕ) (home : Home) (old new : KernelModel) (ending : Ending) (result : Result Segment Ending) → IsErrAnd result (λ e. e ≡ ending) → RunsPart (read_status home) old new t (Err ending) → RunsReading home old new t result
+reading_fails t home old new ending result gave fails =
+    let error = err_from_is_err_and result gave in
+    subst (RunsReading home old new t) (sym (error.1 ∙ ap Err error.2)) fails
+
+-- ---- what was decided
+
+module _ {A : Type 0} (t : ℕ) (k : KernelModel) (due : Result A Errno) where
+  -- the part hands on what was decided
+  pub decided : (x : A) → Ok x ≡ due → RunsPart (given due) k k t (Ok x)
+  decided x is = subst (λ (d : Result A Errno). RunsPart (given d) k k t (Ok x)) is (gives t k x)
+
+  -- or the call is refused
+  pub decided_not : (errno : Errno) → Err errno ≡ due → RunsPart (given due) k k t (Err (Refused errno))
+  decided_not errno is = subst (λ (d : Result A Errno). RunsPart (given d) k k t (Err (Refused errno))) is (gives_not t A k errno)
+
+-- ---- a process is found
+
+take_all : (xs : List ℕ) → take (length xs) xs ≡ xs
+take_all [] = refl
+take_all (x ∷ xs) = ap (λ ys. x ∷ ys) (take_all xs)
+
+-- numbers that are at least one are a first number and the others
+pub first_of_numbers : (numbers : List ℕ) (d : ℕ) → 1 ≤ length numbers → numbers ≡ get_or numbers 0 d ∷ take (length numbers - 1) (drop 1 numbers)
+first_of_numbers [] d some = absurd (omega arith)
+first_of_numbers (x ∷ xs) d some =
+    let count : length (x ∷ xs) - 1 ≡ length xs = omega arith in
+    ap (λ ys. x ∷ ys) (sym (ap (λ (n : ℕ). take n xs) count ∙ take_all xs))
+
+-- numbers that are not one are none
+pub no_numbers : (numbers : List ℕ) → length numbers ≤ 0 → numbers ≡ []
+no_numbers [] none = refl
+no_numbers (x ∷ xs) none = absurd (omega arith)
+
+-- what comes after the process above
+abbrev pub into : ℕ → Home → Part Home
+into number home rest = look_up home number (λ found. given (must_be_there found) (λ child. rest (home_of child)))
+
+abbrev then_there : Option Child → Part Home
+then_there found rest = given (must_be_there found) (λ child. rest (home_of child))
+
+module _ (t : ℕ) (old new : KernelModel) (number : ℕ) (home : Home) where
+  -- the number was not looked up
+  pub into_fails : (ending : Ending) → RunsPart (look_up home number) old new t (Err ending) → RunsPart (into number home) old new t (Err ending)
+  into_fails ending first = part_fails t (look_up home number) old new then_there ending first
+
+  module _ (found : Option Child) (first : RunsPart (look_up home number) old new t (Ok found)) where
+    -- a child has it
+    pub into_child : (child : Child) → Ok child ≡ must_be_there found → RunsPart (into number home) old new t (Ok (home_of child))
+    into_child child is =
+        then_part t (look_up home number) old new then_there new found first (Ok (home_of child))
+        (subst (λ (r : Result Child Errno). RunsPart {A = Home} (λ rest. given r (λ child. rest (home_of child))) new new t (Ok (home_of child))) is (hands t new (home_of child)))
+
+    -- none has
+    pub into_none : (errno : Errno) → Err errno ≡ must_be_there found → RunsPart (into number home) old new t (Err (Refused errno))
+    into_none errno is =
+        then_part t (look_up home number) old new then_there new found first (Err (Refused errno))
+        (subst (λ (r : Result Child Errno). RunsPart {A = Home} (λ rest. given r (λ child. rest (home_of child))) new new t (Err (Refused errno))) is (refuses_at_once t Home new errno))
+
+module _ (t : ℕ) (first : Home) (old new : KernelModel) (numbers : List ℕ) where
+  -- process 0 is found there
+  pub finds_first : numbers ≡ [] → RunsPart (find_home first numbers) old old t (Ok first)
+  unfolding find_home
+  finds_first none = subst (λ (n : List ℕ). RunsPart (find_home first n) old old t (Ok first)) (sym none) (hands t old first)
+
+  module _ (number : ℕ) (above : ProcName) (split : numbers ≡ number ∷ above) where
+    here : (result : Result Home Ending) → RunsPart (λ rest. find_home first above (λ home. into number home rest)) old new t result → RunsPart (find_home first numbers) old new t result
+    unfolding find_home look_up
+    here result runs = subst (λ (n : List ℕ). RunsPart (find_home first n) old new t result) (sym split) runs
+
+    -- the process above was not found
+    pub find_fails : (ending : Ending) → RunsPart (find_home first above) old new t (Err ending) → RunsPart (find_home first numbers) old new t (Err ending)
+    find_fails ending before = here (Err ending) (part_fails t (find_home first above) old new (into number) ending before)
+
+    -- it was found, and the number is looked up in its segment
+    pub finds_on : (mid : KernelModel) (home : Home) → RunsPart (find_home first above) old mid t (Ok home) → (result : Result Home Ending) → RunsPart (into number home) mid new t result → RunsPart (find_home first numbers) old new t result
+    finds_on mid home before result then = here result (then_part t (find_home first above) old new (into number) mid home before result then)

@@ -1,0 +1,40 @@
+use Rattle.std.proofs.Common.{Result, subst}
+use Rattle.histar_rules.specs.declared.raw.RawCall.TheVariants.{Read}
+use Rattle.histar_syscall.specs.KernelModel.{ReadsLent}
+use Rattle.histar_calls.specs.declared.ending.Ending.TheVariants.{Stopped}
+use Rattle.histar_calls.proofs.Running.{grants, refuses, fails_so}
+use Rattle.histar_process.specs.Reading.{look_up}
+use Rattle.histar_process.proofs.Segments.{look_fails, look_none, looks}
+use Rattle.histar_process.proofs.find.look_up.Goals as goal
+
+pub returns-in_err-bytes : goal.returns-in_err-bytes
+returns-in_err-bytes g c =
+    let t = c.args.thread in
+    let old = c.args.kernel.now in
+    let end = c.read.follows.lender-at-none in
+    let home = c.args.home.now in
+    let call = Read home.container home.segment in
+    let left = subst (λ (r : Result _ _). ReadsLent old t home.container home.segment r end) c.in_err-bytes.was c.read.follows.holds-at-none in
+    fails_so t (look_up home c.args.number) old end _ _ c.from_residual.ensures.1
+    (look_fails t old end home _ c.args.number (refuses t call old end _ c.in_err-bytes.field-0.0 left))
+
+pub returns-in_err-child : goal.returns-in_err-child
+returns-in_err-child g c =
+    let t = c.args.thread in
+    let old = c.args.kernel.now in
+    let end = c.read.follows.lender-at-none in
+    let home = c.args.home.now in
+    let call = Read home.container home.segment in
+    let left = subst (λ (r : Result _ _). ReadsLent old t home.container home.segment r end) c.in_ok-bytes.was c.read.follows.holds-at-none in
+    fails_so t (look_up home c.args.number) old end Stopped _ c.from_residual-in_err-child.ensures.1
+    (look_none t old end home c.in_ok-bytes.bytes.now (grants t call old end c.in_ok-bytes.bytes.now left.0 left.1) c.args.number c.in_err-child.field-0.0 c.in_err-child.ensures)
+
+pub returns : goal.returns
+returns g c =
+    let t = c.args.thread in
+    let old = c.args.kernel.now in
+    let end = c.read.follows.lender-at-none in
+    let home = c.args.home.now in
+    let call = Read home.container home.segment in
+    let left = subst (λ (r : Result _ _). ReadsLent old t home.container home.segment r end) c.in_ok-bytes.was c.read.follows.holds-at-none in
+    looks t old end home c.in_ok-bytes.bytes.now (grants t call old end c.in_ok-bytes.bytes.now left.0 left.1) c.args.number c.in_ok-child.child c.in_ok-child.ensures

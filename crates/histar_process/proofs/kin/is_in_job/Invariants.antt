@@ -1,0 +1,8 @@
+use Rattle.std.proofs.Common.{◌≡◌, not, drop}
+use Rattle.histar_process.specs.Caller.{is_three}
+use Rattle.histar_process.specs.Kin.{is_empty, jobs_in}
+use Rattle.histar_process.proofs.Scanning.{passed}
+use Rattle.histar_process.proofs.kin.is_in_job.Given as goal
+
+abbrev pub invariant-loop-level : goal.invariant-loop-level
+invariant-loop-level l = not (is_empty (jobs_in l.own)) ≡ not (is_empty (passed (λ e. is_three e.1) (drop l.level-index l.exceptions)))

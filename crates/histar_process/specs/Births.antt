@@ -1,0 +1,37 @@
+-- The birth of a child, in the steps of its code.
+use Rattle.std.specs.Prelude.{ℕ, List, [], ◌∷◌, ◌++◌, Result}
+use Rattle.histar_rules.specs.declared.raw.RawCall.TheVariants.{MakeCategory, MakeSegment, MakeContainer, MakeThread}
+use Rattle.histar_syscall.specs.KernelModel.{KernelModel}
+use Rattle.histar_layout.specs.Status.{ProcessStatus, started, status_bytes}
+use Rattle.histar_calls.specs.declared.ending.Ending.{Ending}
+use Rattle.histar_calls.specs.declared.places.Home.{Home}
+use Rattle.histar_calls.specs.Labelling.{guarded_by, owning, cleared_at}
+use Rattle.histar_calls.specs.Programs.{Part, RunsPart}
+use Rattle.histar_calls.specs.Parts.{◌>>=◌, ask}
+use Rattle.histar_process.specs.Birth.{birth}
+
+-- the two categories of the child
+unfoldable pub make_categories : Part (ℕ × ℕ)
+make_categories rest = do
+  read ← ask MakeCategory
+  write ← ask MakeCategory
+  rest (read, write)
+
+-- its container and its internal container
+unfoldable pub make_containers : ℕ → List ℕ → ℕ → ℕ → Part (ℕ × ℕ)
+make_containers parent jobs read write rest = do
+  container ← ask (MakeContainer parent (guarded_by jobs (write ∷ [])))
+  internal ← ask (MakeContainer container (guarded_by (read ∷ jobs) (write ∷ [])))
+  rest (container, internal)
+
+-- its thread
+abbrev pub make_thread : ℕ → List ℕ → List ℕ → ℕ → ℕ → Part ℕ
+make_thread internal owned jobs read write = ask (MakeThread internal (owning (read ∷ write ∷ owned) jobs) (cleared_at ((read ∷ write ∷ owned) ++ jobs)))
+
+-- and its process segment
+abbrev pub make_segment : ℕ → List ℕ → ℕ → ℕ → ℕ → Part ℕ
+make_segment container jobs write internal thread = ask (MakeSegment container (guarded_by jobs (write ∷ [])) (status_bytes (started internal thread)))
+
+-- a child is born that owns these categories, and is in the jobs of those
+abbrev pub RunsBirth : Home → ProcessStatus → List ℕ → List ℕ → KernelModel → KernelModel → ℕ → Result (Unit {0}) Ending → Type 0
+RunsBirth parent status owned jobs old new thread result = RunsPart (birth parent status (record { owned = owned; jobs = jobs })) old new thread result

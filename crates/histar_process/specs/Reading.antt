@@ -1,0 +1,39 @@
+-- What the code that reads and writes process segments does of a program.
+use Rattle.std.specs.Prelude.{◌≡◌, ℕ, List, Option, Some, Result, Ok, Err}
+use Rattle.histar_syscall.specs.KernelModel.{KernelModel}
+use Rattle.histar_rules.specs.declared.raw.RawCall.TheVariants.{Write}
+use Rattle.histar_layout.specs.Status.{ProcessStatus, child_at, head_of, status_in}
+use Rattle.histar_layout.specs.declared.status.Child.{Child}
+use Rattle.histar_layout.specs.declared.status.StatusHead.{StatusHead}
+use Rattle.histar_calls.specs.declared.ending.Ending.{Ending}
+use Rattle.histar_calls.specs.declared.places.Home.{Home}
+use Rattle.histar_calls.specs.Programs.{Part, RunsPart}
+use Rattle.histar_calls.specs.Parts.{◌>>=◌, ask}
+use Rattle.histar_process.specs.Parts.{read_status}
+use Rattle.histar_process.specs.declared.find.Segment.{Segment}
+
+-- a process segment is read, and its head is handed on
+unfoldable pub read_head : Home → Part StatusHead
+read_head home rest = do
+  status ← read_status home
+  rest (head_of status)
+
+-- a process segment is read, and the child of this number is looked up in it
+unfoldable pub look_up : Home → ℕ → Part (Option Child)
+look_up home number rest = do
+  status ← read_status home
+  rest (child_at status.children number)
+
+-- a segment that was read has the bytes that tell this
+pub record IsSegment (segment : Segment) (status : ProcessStatus) : Type 0 where
+  pub told : status_in segment.bytes ≡ Some status
+  pub head : segment.head ≡ head_of status
+
+-- a process segment is read, and the code has what it tells
+abbrev pub RunsReading : Home → KernelModel → KernelModel → ℕ → Result Segment Ending → Type 0
+RunsReading home old new thread (Ok segment) = (status : ProcessStatus) × IsSegment segment status × RunsPart (read_status home) old new thread (Ok status)
+RunsReading home old new thread (Err ending) = RunsPart (read_status home) old new thread (Err ending)
+
+-- these bytes are written in a process segment
+abbrev pub IsRewritten : Home → List ℕ → KernelModel → KernelModel → ℕ → Result (Unit {0}) Ending → Type 0
+IsRewritten home bytes old new thread result = RunsPart (ask (Write home.container home.segment 0 bytes)) old new thread result

@@ -1,0 +1,149 @@
+//! The objects of a child.
+ghost use Rattle.std.specs.Prelude.{◌≡◌, [], ◌∷◌, ◌++◌, ◌<◌, Some, IfOk};
+ghost use Rattle.histar_rules.specs.declared.raw.RawCall.TheVariants as calls;
+ghost use Rattle.histar_layout.specs.Status.{ProcessStatus, started, status_bytes, status_in, with_child};
+ghost use Rattle.histar_flat.specs.Words.{most_children};
+ghost use Rattle.histar_calls.specs.Labelling.{guarded_by, owning, cleared_at};
+ghost use Rattle.histar_calls.specs.Parts.{ask};
+ghost use Rattle.histar_calls.specs.Programs.{RunsPart};
+ghost use Rattle.histar_process.specs.Births.{RunsBirth, make_categories, make_containers, make_thread, make_segment};
+
+use crate::find::write_segment;
+use histar_calls::{Ending, Home, cleared_at, guarded_by, owning};
+use histar_label::{Category, LabelStore};
+use histar_layout::{add_child, first_status};
+use histar_object::ObjId;
+use histar_syscall::Kernel;
+use std::alloc::{AllocError, Global};
+
+/// A child is born to the process that is found there, whose segment has these bytes: it owns its own two
+/// categories and these, and is in the jobs of these. Its objects are made, and it is added to the
+/// segment of its parent.
+pub fn give_birth<S: LabelStore + Drop>(
+    kernel: &mut Kernel<S>,
+    alloc: Global,
+    thread: ObjId,
+    parent: &Home,
+    bytes: &[u8],
+    owned: &[Category],
+    jobs: &[Category],
+) -> Result<(), Ending>
+    requires { (status : ProcessStatus) → status_in bytes.now ≡ Some status → status.born < most_children }
+    ensures { (status : ProcessStatus) → status_in bytes.now ≡ Some status → RunsBirth parent.now status owned.now jobs.now kernel.old kernel.new thread result }
+{
+    let (read, write) = make_categories(kernel, thread)?;
+    let (container, internal) = make_containers(
+        kernel,
+        alloc,
+        thread,
+        parent.container,
+        jobs,
+        read,
+        write,
+    )?;
+    let child = make_thread(kernel, alloc, thread, internal, owned, jobs, read, write)?;
+    let its = make_segment(
+        kernel, alloc, thread, container, jobs, write, internal, child,
+    )?;
+    let grown = add_child(alloc, bytes, container, its)?;
+    write_segment(kernel, alloc, thread, parent, grown)
+}
+
+/// Makes the two categories of a child.
+fn make_categories<S: LabelStore + Drop>(
+    kernel: &mut Kernel<S>,
+    thread: ObjId,
+) -> Result<(Category, Category), Ending>
+    ensures { RunsPart make_categories kernel.old kernel.new thread result }
+{
+    let read = kernel.make_category(thread)?;
+    let write = kernel.make_category(thread)?;
+    Ok((read, write))
+}
+
+/// Makes the container of a child in that of its parent, and the child's internal container in it.
+fn make_containers<S: LabelStore + Drop>(
+    kernel: &mut Kernel<S>,
+    alloc: Global,
+    thread: ObjId,
+    parent: ObjId,
+    jobs: &[Category],
+    read: Category,
+    write: Category,
+) -> Result<(ObjId, ObjId), Ending>
+    ensures { RunsPart (make_containers parent jobs.now read write) kernel.old kernel.new thread result }
+{
+    let container = make_guarded(kernel, alloc, thread, parent, jobs, write)?;
+    let secret = joined(alloc, &[read], jobs)?;
+    let internal = make_guarded(kernel, alloc, thread, container, secret.as_slice(), write)?;
+    Ok((container, internal))
+}
+
+/// Makes a container with secrets of these categories, which the owner of another writes.
+fn make_guarded<S: LabelStore + Drop>(
+    kernel: &mut Kernel<S>,
+    alloc: Global,
+    thread: ObjId,
+    container: ObjId,
+    secret: &[Category],
+    write: Category,
+) -> Result<ObjId, Ending>
+    ensures { RunsPart (ask (calls.MakeContainer container (guarded_by secret.now (write ∷ [])))) kernel.old kernel.new thread result }
+{
+    let label = guarded_by(alloc, secret, &[write])?;
+    let made = kernel.make_container(alloc, thread, container, label)?;
+    Ok(made)
+}
+
+/// Makes the thread of a child in its internal container.
+fn make_thread<S: LabelStore + Drop>(
+    kernel: &mut Kernel<S>,
+    alloc: Global,
+    thread: ObjId,
+    internal: ObjId,
+    owned: &[Category],
+    jobs: &[Category],
+    read: Category,
+    write: Category,
+) -> Result<ObjId, Ending>
+    ensures { RunsPart (make_thread internal owned.now jobs.now read write) kernel.old kernel.new thread result }
+{
+    let all = joined(alloc, &[read, write], owned)?;
+    let label = owning(alloc, all.as_slice(), jobs)?;
+    let known = joined(alloc, all.as_slice(), jobs)?;
+    let clearance = cleared_at(alloc, known.as_slice())?;
+    let made = kernel.make_thread(thread, internal, label, clearance)?;
+    Ok(made)
+}
+
+/// Makes the process segment of a child in its container.
+fn make_segment<S: LabelStore + Drop>(
+    kernel: &mut Kernel<S>,
+    alloc: Global,
+    thread: ObjId,
+    container: ObjId,
+    jobs: &[Category],
+    write: Category,
+    internal: ObjId,
+    child: ObjId,
+) -> Result<ObjId, Ending>
+    ensures { RunsPart (make_segment container jobs.now write internal child) kernel.old kernel.new thread result }
+{
+    let label = guarded_by(alloc, jobs, &[write])?;
+    let bytes = first_status(alloc, internal, child)?;
+    let made = kernel.make_segment(alloc, thread, container, label, bytes)?;
+    Ok(made)
+}
+
+/// The categories of both lists.
+fn joined(
+    alloc: Global,
+    first: &[Category],
+    second: &[Category],
+) -> Result<Vec<Category>, AllocError>
+    ensures { IfOk result (λ all. all.items ≡ first.now ++ second.now) }
+{
+    let mut all = Vec::from_slice(alloc, first)?;
+    all.extend_from_slice(second)?;
+    Ok(all)
+}

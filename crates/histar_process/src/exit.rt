@@ -1,0 +1,42 @@
+//! Exiting.
+ghost use Rattle.histar_calls.specs.Programs.{Runs};
+ghost use Rattle.histar_calls.specs.Refusals.{settled};
+ghost use Rattle.histar_process.specs.ExitCall.{exit_program};
+
+use crate::caller::Caller;
+use crate::find::{Segment, read_segment, write_segment};
+use histar_calls::{Ending, Stopped, settle};
+use histar_flat::Reply;
+use histar_label::LabelStore;
+use histar_layout::exit_status;
+use histar_syscall::Kernel;
+use std::alloc::Global;
+
+/// The process exits with this number: its segment tells so from then on, and its internal container is
+/// taken away with its thread. EACCES where the kernel doesn't let the thread modify these.
+pub fn exit<S: LabelStore + Drop>(
+    kernel: &mut Kernel<S>,
+    alloc: Global,
+    caller: &Caller,
+    number: u8,
+) -> Result<Reply, Stopped>
+    ensures { Runs (exit_program caller.now.home number) kernel.old kernel.new caller.now.thread result }
+{
+    settle(exit_process(kernel, alloc, caller, number))
+}
+
+fn exit_process<S: LabelStore + Drop>(
+    kernel: &mut Kernel<S>,
+    alloc: Global,
+    caller: &Caller,
+    number: u8,
+) -> Result<Reply, Ending>
+    ensures { Runs (exit_program caller.now.home number) kernel.old kernel.new caller.now.thread (settled result) }
+{
+    let (home, thread) = (&caller.home, caller.thread);
+    let Segment { head, bytes: old } = read_segment(kernel, alloc, thread, home)?;
+    let bytes = exit_status(alloc, old.as_slice(), number)?;
+    write_segment(kernel, alloc, thread, home, bytes)?;
+    kernel.unlink(alloc, thread, home.container, head.internal)?;
+    Ok(Reply::Done)
+}

@@ -1,0 +1,124 @@
+//! Reading process segments, and finding where processes are, by raw calls.
+ghost use Rattle.std.specs.Prelude.{◌≡◌};
+ghost use Rattle.histar_calls.specs.Programs.{RunsPart};
+ghost use Rattle.histar_process.specs.Parts.{find_home, home_of, must_be_there};
+ghost use Rattle.histar_process.specs.Reading.{IsRewritten, RunsReading, read_head, look_up};
+
+use histar_base::Bytes;
+use histar_calls::{Ending, Home, written};
+use histar_flat::Errno;
+use histar_label::LabelStore;
+use histar_layout::{Child, StatusHead, find_child, read_status};
+use histar_object::ObjId;
+use histar_syscall::Kernel;
+use std::alloc::Global;
+
+/// A process segment that was read.
+#[derive(Drop)]
+pub struct Segment {
+    /// What stands at its head.
+    pub head: StatusHead,
+    /// All its bytes.
+    pub bytes: Bytes,
+}
+
+/// Where a child is found.
+pub fn home_of(child: Child) -> Home
+    ensures { result ≡ home_of child }
+{
+    Home {
+        container: child.container,
+        segment: child.segment,
+    }
+}
+
+/// The child that was looked up. ESRCH where there is none.
+pub fn must_be_there(child: Option<Child>) -> Result<Child, Errno>
+    ensures { result ≡ must_be_there child }
+{
+    match child {
+        None => Err(Errno::ESRCH),
+        Some(child) => Ok(child),
+    }
+}
+
+/// Reads the head of a process segment in place: EACCES where the kernel doesn't let the thread observe
+/// it.
+pub fn read_head<S: LabelStore + Drop>(
+    kernel: &mut Kernel<S>,
+    thread: ObjId,
+    home: &Home,
+) -> Result<StatusHead, Ending>
+    ensures { RunsPart (read_head home.now) kernel.old kernel.new thread result }
+{
+    let bytes = kernel.read(thread, home.container, home.segment)?;
+    let Some(head) = read_status(bytes) else {
+        return Err(Ending::Stopped);
+    };
+    Ok(head)
+}
+
+/// Reads a process segment that is going to be written again: EACCES where the kernel doesn't let the
+/// thread observe it.
+pub fn read_segment<S: LabelStore + Drop>(
+    kernel: &mut Kernel<S>,
+    alloc: Global,
+    thread: ObjId,
+    home: &Home,
+) -> Result<Segment, Ending>
+    ensures { RunsReading home.now kernel.old kernel.new thread result }
+{
+    let bytes = kernel.read_copy(alloc, thread, home.container, home.segment)?;
+    let Some(head) = read_status(bytes.as_slice()) else {
+        return Err(Ending::Stopped);
+    };
+    Ok(Segment { head, bytes })
+}
+
+/// Writes a process segment: EACCES where the kernel doesn't let the thread modify it.
+pub fn write_segment<S: LabelStore + Drop>(
+    kernel: &mut Kernel<S>,
+    alloc: Global,
+    thread: ObjId,
+    home: &Home,
+    bytes: Bytes,
+) -> Result<(), Ending>
+    ensures { IsRewritten home.now bytes kernel.old kernel.new thread result }
+{
+    written(kernel.write(alloc, thread, home.container, home.segment, 0, bytes))
+}
+
+/// The child of this number that a process segment lists, which is read in place: EACCES where the kernel
+/// doesn't let the thread observe it.
+fn look_up<S: LabelStore + Drop>(
+    kernel: &mut Kernel<S>,
+    thread: ObjId,
+    home: &Home,
+    number: u8,
+) -> Result<Option<Child>, Ending>
+    ensures { RunsPart (look_up home.now number) kernel.old kernel.new thread result }
+{
+    let bytes = kernel.read(thread, home.container, home.segment)?;
+    let child = find_child(bytes, number)?;
+    Ok(child)
+}
+
+/// Where the process of these numbers is found, of which the last stands first. The segment of each
+/// process above it is read in place. EACCES where one may not be observed, ESRCH where it doesn't list
+/// the next number.
+pub fn find_home<S: LabelStore + Drop>(
+    kernel: &mut Kernel<S>,
+    first: Home,
+    thread: ObjId,
+    numbers: &[u8],
+) -> Result<Home, Ending>
+    ensures { RunsPart (find_home first numbers.now) kernel.old kernel.new thread result }
+{
+    let [number, above @ ..] = numbers else {
+        return Ok(first);
+    };
+    let home = find_home(kernel, first, thread, above)?;
+    let found = look_up(kernel, thread, &home, *number)?;
+    let child = must_be_there(found)?;
+    Ok(home_of(child))
+}

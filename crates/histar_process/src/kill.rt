@@ -1,0 +1,86 @@
+//! Killing a process.
+ghost use Rattle.std.specs.Prelude.{[], ◌∷◌};
+ghost use Rattle.histar_calls.specs.Programs.{Runs};
+ghost use Rattle.histar_calls.specs.Refusals.{settled};
+ghost use Rattle.histar_process.specs.KillCall.{kill_program};
+
+use crate::find::{
+    Segment, find_home, home_of, must_be_there, read_head, read_segment, write_segment,
+};
+use histar_calls::{Ending, Places, Stopped, settle};
+use histar_flat::{ProcName, Reply};
+use histar_label::LabelStore;
+use histar_layout::{find_child, remove_child};
+use histar_object::ObjId;
+use histar_syscall::Kernel;
+use std::alloc::Global;
+
+/// The root container, which links the container of process 0.
+const ROOT: u64 = 1;
+
+/// Kills a process with all its children. EACCES where the kernel doesn't let the thread observe its
+/// segment or one above it, ESRCH where it was not born or was killed, EACCES where the kernel doesn't let
+/// the thread modify the container above it or the segment of the process above it.
+pub fn kill<S: LabelStore + Drop>(
+    kernel: &mut Kernel<S>,
+    alloc: Global,
+    places: &Places,
+    thread: ObjId,
+    name: &ProcName,
+) -> Result<Reply, Stopped>
+    ensures { Runs (kill_program places.now name.now) kernel.old kernel.new thread result }
+{
+    settle(kill_process(kernel, alloc, places, thread, name))
+}
+
+fn kill_process<S: LabelStore + Drop>(
+    kernel: &mut Kernel<S>,
+    alloc: Global,
+    places: &Places,
+    thread: ObjId,
+    name: &ProcName,
+) -> Result<Reply, Ending>
+    ensures { Runs (kill_program places.now name.now) kernel.old kernel.new thread (settled result) }
+{
+    let [number, above @ ..] = name.numbers() else {
+        return kill_first(kernel, alloc, places, thread);
+    };
+    kill_child(kernel, alloc, places, thread, *number, above)
+}
+
+/// Kills process 0.
+fn kill_first<S: LabelStore + Drop>(
+    kernel: &mut Kernel<S>,
+    alloc: Global,
+    places: &Places,
+    thread: ObjId,
+) -> Result<Reply, Ending>
+    ensures { Runs (kill_program places.now []) kernel.old kernel.new thread (settled result) }
+{
+    read_head(kernel, thread, &places.home)?;
+    kernel.unlink(alloc, thread, ObjId::new(ROOT), places.home.container)?;
+    Ok(Reply::Done)
+}
+
+/// Kills the child of this number of the process of these numbers, of which the last stands first.
+fn kill_child<S: LabelStore + Drop>(
+    kernel: &mut Kernel<S>,
+    alloc: Global,
+    places: &Places,
+    thread: ObjId,
+    number: u8,
+    above: &[u8],
+) -> Result<Reply, Ending>
+    ensures { Runs (kill_program places.now (number ∷ above.now)) kernel.old kernel.new thread (settled result) }
+{
+    let home = find_home(kernel, places.home, thread, above)?;
+    let Segment { bytes: old, .. } = read_segment(kernel, alloc, thread, &home)?;
+    let found = find_child(old.as_slice(), number)?;
+    let child = must_be_there(found)?;
+    let its = home_of(child);
+    read_head(kernel, thread, &its)?;
+    let bytes = remove_child(alloc, old.as_slice(), number)?;
+    kernel.unlink(alloc, thread, home.container, its.container)?;
+    write_segment(kernel, alloc, thread, &home, bytes)?;
+    Ok(Reply::Done)
+}

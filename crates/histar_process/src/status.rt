@@ -1,0 +1,48 @@
+//! Asking whether a process runs, or what it has exited with.
+ghost use Rattle.std.specs.Prelude.{◌≡◌};
+ghost use Rattle.histar_calls.specs.Programs.{Runs};
+ghost use Rattle.histar_calls.specs.Refusals.{settled};
+ghost use Rattle.histar_process.specs.StatusCall.{life_told, status_program};
+
+use crate::find::{find_home, read_head};
+use histar_calls::{Ending, Places, Stopped, settle};
+use histar_flat::{ProcName, Reply};
+use histar_label::LabelStore;
+use histar_object::ObjId;
+use histar_syscall::Kernel;
+
+/// Whether a process runs, or what it has exited with. EACCES where the kernel doesn't let the thread
+/// observe its segment or one above it, ESRCH where it was not born or was killed.
+pub fn status<S: LabelStore + Drop>(
+    kernel: &mut Kernel<S>,
+    places: &Places,
+    thread: ObjId,
+    name: &ProcName,
+) -> Result<Reply, Stopped>
+    ensures { Runs (status_program places.now name.now) kernel.old kernel.new thread result }
+{
+    settle(tell_status(kernel, places, thread, name))
+}
+
+fn tell_status<S: LabelStore + Drop>(
+    kernel: &mut Kernel<S>,
+    places: &Places,
+    thread: ObjId,
+    name: &ProcName,
+) -> Result<Reply, Ending>
+    ensures { Runs (status_program places.now name.now) kernel.old kernel.new thread (settled result) }
+{
+    let home = find_home(kernel, places.home, thread, name.numbers())?;
+    let head = read_head(kernel, thread, &home)?;
+    Ok(life_told(head.exited))
+}
+
+/// What is told of a process that has exited with this number, or runs.
+fn life_told(exited: Option<u8>) -> Reply
+    ensures { result ≡ life_told exited }
+{
+    match exited {
+        None => Reply::Running,
+        Some(number) => Reply::Exited(number),
+    }
+}

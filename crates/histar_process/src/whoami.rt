@@ -1,0 +1,38 @@
+//! Asking whose a process is, and whether it is in a job.
+ghost use Rattle.std.specs.Prelude.{◌≤◌, length};
+ghost use Rattle.histar_calls.specs.Programs.{Runs};
+ghost use Rattle.histar_calls.specs.Refusals.{settled};
+ghost use Rattle.histar_process.specs.Whoami.{whoami_program};
+
+use crate::kin::{is_in_job, user_name};
+use histar_calls::{Ending, Stopped, settle, user_of};
+use histar_flat::{Reply, User};
+use histar_label::LabelStore;
+use histar_object::ObjId;
+use histar_syscall::Kernel;
+
+/// The user of the process that the thread belongs to, and whether the process is in a job, as the thread's
+/// own label tells.
+pub fn whoami<S: LabelStore + Drop>(
+    kernel: &mut Kernel<S>,
+    users: &[User],
+    thread: ObjId,
+) -> Result<Reply, Stopped>
+    requires { length users.now ≤ 16 }
+    ensures { Runs (whoami_program users.now) kernel.old kernel.new thread result }
+{
+    settle(tell_user(kernel, users, thread))
+}
+
+fn tell_user<S: LabelStore + Drop>(
+    kernel: &mut Kernel<S>,
+    users: &[User],
+    thread: ObjId,
+) -> Result<Reply, Ending>
+    requires { length users.now ≤ 16 }
+    ensures { Runs (whoami_program users.now) kernel.old kernel.new thread (settled result) }
+{
+    let (own, _most) = kernel.own_label(thread)?;
+    let number = user_of(&own, users.len() as u8);
+    Ok(Reply::User(user_name(users, number), is_in_job(&own)))
+}
