@@ -7,3 +7,12 @@ pub mod OwnSegment
 pub mod ExitCall
 pub mod KilledChild
 pub mod KillCall
+pub mod BirthObjects
+pub mod BirthChecks
+pub mod BirthSteps
+pub mod BirthRun
+pub mod ChildBytes
+pub mod ChildLabels
+pub mod BirthRights
+pub mod BirthFit
+pub mod SpawnCall

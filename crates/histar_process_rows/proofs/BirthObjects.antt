@@ -1,0 +1,116 @@
+-- What stands around a birth: the parent's thread, its container with its process segment in it. Each raw call of a birth leaves them.
+use Rattle.std.proofs.Common.{◌≡◌, ◌≢◌, ℕ, ◌<◌, ◌==◌, Bool, true, false, List, if◌then◌else◌, arith, sym, ap, ◌∙◌, subst}
+use Rattle.std.specs.Prelude.{option_map}
+use Rattle.std.specs.FinSet as set
+use Rattle.std.specs.Cmp.{nat_cmp_total}
+use Rattle.std.specs.Ordering.{nat_cmp, eq_by_cmp}
+use mathlib.Core.Bool.{true≢false}
+use Rattle.histar_label.specs.declared.levels.Level.TheVariants.{Star, L3}
+use Rattle.histar_label.specs.Levels.{Levels, with_level}
+use Rattle.histar_object.specs.declared.objects.Kind.TheVariants.{Segment, Container, Thread}
+use Rattle.histar_object.specs.declared.objects.Object.{Object}
+use Rattle.histar_object.specs.Objects.{Numbers as Links, put, linking, holding, is_thread}
+use Rattle.histar_object.specs.Rights.{owning, relabelled, with_changed, with_category}
+use Rattle.histar_object.specs.State.{State, Found, added, with_bytes}
+use Rattle.histar_container.proofs.TableMoves.{put_here, put_other, changed_here, changed_other}
+use Rattle.histar_refinement.proofs.Members.{or_second}
+use Rattle.histar_refinement.proofs.RawChecks.{object}
+
+-- a container with this label
+abbrev pub IsHolder : Levels → Found → Type 0
+IsHolder label x = (links : Links) × (x ≡ object label (Container links))
+
+-- a container with this label that links this number
+abbrev pub LinksTo : Levels → ℕ → Found → Type 0
+LinksTo label q x = (links : Links) × (x ≡ object label (Container links)) × (set.contains links q ≡ true)
+
+-- a link more changes no thread and no segment, and takes no link away
+linked_thread : (b : Bool) (n : ℕ) (x : Found) (label clearance : Levels) → x ≡ object label (Thread clearance) → (if b then option_map (linking n) x else x) ≡ object label (Thread clearance)
+linked_thread true n x label clearance is = ap (option_map (linking n)) is
+linked_thread false n x label clearance is = is
+
+linked_segment : (b : Bool) (n : ℕ) (x : Found) (label : Levels) (bytes : List ℕ) → x ≡ object label (Segment bytes) → (if b then option_map (linking n) x else x) ≡ object label (Segment bytes)
+linked_segment true n x label bytes is = ap (option_map (linking n)) is
+linked_segment false n x label bytes is = is
+
+linked_holder : (b : Bool) (n : ℕ) (x : Found) (label : Levels) → IsHolder label x → IsHolder label (if b then option_map (linking n) x else x)
+linked_holder true n x label is = (set.insert is.0 n, ap (option_map (linking n)) is.1)
+linked_holder false n x label is = is
+
+linked_links : (b : Bool) (n : ℕ) (x : Found) (label : Levels) (q : ℕ) → LinksTo label q x → LinksTo label q (if b then option_map (linking n) x else x)
+linked_links true n x label q is = (set.insert is.0 n, ap (option_map (linking n)) is.1, set.contains-insert nat_cmp_total is.0 n q ∙ or_second (eq_by_cmp nat_cmp q n) (set.contains is.0 q) is.2)
+linked_links false n x label q is = is
+
+-- other bytes change no thread
+held_thread : (b : Bool) (bytes : List ℕ) (x : Found) (label clearance : Levels) → x ≡ object label (Thread clearance) → (if b then option_map (holding bytes) x else x) ≡ object label (Thread clearance)
+held_thread true bytes x label clearance is = ap (option_map (holding bytes)) is
+held_thread false bytes x label clearance is = is
+
+module _ (s : State) (d : ℕ) (o : Object Levels) where
+  old_object : (q : ℕ) → q < s.next_object → s.objects q ≡ put s.objects s.next_object o q
+  old_object q below = sym (put_other s.objects s.next_object o q (λ e. absurd (omega (arith, below, e))))
+
+  pub thread_stays : (q : ℕ) (label clearance : Levels) → q < s.next_object → s.objects q ≡ object label (Thread clearance) → (added s d o).objects q ≡ object label (Thread clearance)
+  thread_stays q label clearance below is = linked_thread (q == d) s.next_object (put s.objects s.next_object o q) label clearance (sym (old_object q below) ∙ is)
+
+  pub segment_stays : (q : ℕ) (label : Levels) (bytes : List ℕ) → q < s.next_object → s.objects q ≡ object label (Segment bytes) → (added s d o).objects q ≡ object label (Segment bytes)
+  segment_stays q label bytes below is = linked_segment (q == d) s.next_object (put s.objects s.next_object o q) label bytes (sym (old_object q below) ∙ is)
+
+  pub holder_stays : (q : ℕ) (label : Levels) → q < s.next_object → IsHolder label (s.objects q) → IsHolder label ((added s d o).objects q)
+  holder_stays q label below is = linked_holder (q == d) s.next_object (put s.objects s.next_object o q) label (subst (IsHolder label) (old_object q below) is)
+
+  pub links_stay : (q : ℕ) (label : Levels) (k : ℕ) → q < s.next_object → LinksTo label k (s.objects q) → LinksTo label k ((added s d o).objects q)
+  links_stay q label k below is = linked_links (q == d) s.next_object (put s.objects s.next_object o q) label k (subst (LinksTo label k) (old_object q below) is)
+
+-- a new container stands under the next number
+pub holder_made : (s : State) (d : ℕ) (label : Levels) → IsHolder label ((added s d (record { label = label; kind = Container set.empty })).objects s.next_object)
+holder_made s d label =
+    let o : Object Levels = record { label = label; kind = Container set.empty } in
+    linked_holder (s.next_object == d) s.next_object (put s.objects s.next_object o s.next_object) label (set.empty, put_here s.objects s.next_object o)
+
+-- the thread T with its label and its clearance, the container C with its label, and the process segment S in it with the same label
+pub record Around (T C S : ℕ) (own most label : Levels) (held : List ℕ) (s : State) : Type 0 where
+  pub thread : s.objects T ≡ object own (Thread most)
+  pub home : LinksTo label S (s.objects C)
+  pub segment : s.objects S ≡ object label (Segment held)
+  pub thread_below : T < s.next_object
+  pub home_below : C < s.next_object
+  pub segment_below : S < s.next_object
+
+module _ (T C S : ℕ) (own most label : Levels) (held : List ℕ) (s : State) (a : Around T C S own most label held s) where
+  -- they stay where an object is made
+  pub around_added : (d : ℕ) (o : Object Levels) → Around T C S own most label held (added s d o)
+  around_added d o = record {
+    thread = thread_stays s d o T own most a.thread_below a.thread;
+    home = links_stay s d o C label S a.home_below a.home;
+    segment = segment_stays s d o S label held a.segment_below a.segment;
+    thread_below = let low = a.thread_below in omega (arith, low);
+    home_below = let low = a.home_below in omega (arith, low);
+    segment_below = let low = a.segment_below in omega (arith, low);
+  }
+
+  -- neither of them is the thread
+  home_apart : C ≢ T
+  home_apart e = true≢false (sym (ap (λ (q : ℕ). is_thread (s.objects q)) e ∙ ap is_thread a.thread) ∙ ap is_thread a.home.1)
+
+  segment_apart : S ≢ T
+  segment_apart e = true≢false (sym (ap (λ (q : ℕ). is_thread (s.objects q)) e ∙ ap is_thread a.thread) ∙ ap is_thread a.segment)
+
+  -- where the thread makes a category it owns that too
+  pub around_category : Around T C S (with_level own s.next_category Star) (with_level most s.next_category L3) label held (with_category s T)
+  around_category = record {
+    thread = changed_here s.objects T (owning s.next_category) ∙ ap (option_map (owning s.next_category)) a.thread;
+    home = subst (LinksTo label S) (sym (changed_other s.objects T (owning s.next_category) C home_apart)) a.home;
+    segment = changed_other s.objects T (owning s.next_category) S segment_apart ∙ a.segment;
+    thread_below = a.thread_below;
+    home_below = a.home_below;
+    segment_below = a.segment_below;
+  }
+
+  -- the thread stays where the segment is written
+  pub thread_written : (bytes : List ℕ) → (with_bytes s S bytes).objects T ≡ object own (Thread most)
+  thread_written bytes = held_thread (T == S) bytes (s.objects T) own most a.thread
+
+-- a thread that takes a label has it
+pub thread_relabelled : (s : State) (T : ℕ) (own most label : Levels) → s.objects T ≡ object own (Thread most) → (with_changed s T (relabelled label)).objects T ≡ object label (Thread most)
+thread_relabelled s T own most label is = changed_here s.objects T (relabelled label) ∙ ap (option_map (relabelled label)) is
