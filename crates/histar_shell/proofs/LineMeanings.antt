@@ -59,14 +59,14 @@ module _ (rows : LinesAreRows) (old new : MachineModel) (f : Flat) (shows : Show
     ready : IsReady (session_of old.users) (state old.kernel) f me caller.thread
     ready =
         let p = running_as.0 in
-        let as = running_as.1 in
-        let none = shows.jobless me p as.runs.0 in
+        let runs = running_as.1 in
+        let none = shows.jobless me p runs.runs.0 in
         record {
           lays_out = shows.lays_out;
-          caller = record { process = p; stands = as.runs.0; runs = as.runs.1; free = none.in_none; holds_none = none.holds_none };
+          caller = record { process = p; stands = runs.runs.0; runs = runs.runs.1; free = none.in_none; holds_none = none.holds_none };
           first = λ q at. (shows.jobless [] q at).in_none;
           small = shows.small;
-          thread = thread_led (session_of old.users) (state old.kernel) f shows.lays_out.laid me p caller.thread as.runs.0 as.runs.1 as.runs.2;
+          thread = thread_led (session_of old.users) (state old.kernel) f shows.lays_out.laid me p caller.thread runs.runs.0 runs.runs.1 runs.runs.2;
         }
 
     -- a call of the process is its row
