@@ -91,7 +91,11 @@ pub fn call_text(alloc: Global, call: &RawCall) -> Result<String, AllocError> {
         }
         RawCall::Write(container, segment, keep, bytes) => {
             let bytes = bytes_text(alloc, bytes)?;
-            format!(in alloc; "write {} {} {keep} {bytes}", container.number(), segment.number())
+            format!(in alloc;
+                "write {} {} {keep} {bytes}",
+                container.number(),
+                segment.number()
+            )
         }
         RawCall::OwnLabel => String::from_str(alloc, "self"),
         RawCall::SetLabel(label) => {
