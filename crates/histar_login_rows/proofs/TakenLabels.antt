@@ -1,8 +1,7 @@
 -- A thread takes labels: the state after it, and what it leaves as it was.
-use Rattle.std.proofs.Common.{◌≡◌, ℕ, ◌==◌, Bool, true, false, List, [], Some, inl, inr, refl, sym, ap, ◌∙◌, subst, if◌then◌else◌}
+use Rattle.std.proofs.Common.{◌≡◌, ℕ, ◌==◌, Bool, true, false, Some, inl, inr, refl, sym, ap, ◌∙◌, if◌then◌else◌}
 use Rattle.std.specs.Prelude.{option_map}
 use Rattle.std.proofs.lemmas.Bool.Decides.{eqb_tells}
-use Rattle.histar_flat.specs.Sessions.{Session}
 use Rattle.histar_label.specs.Levels.{Levels}
 use Rattle.histar_object.specs.declared.objects.Object.{Object}
 use Rattle.histar_object.specs.Objects.{Objects, thread_of, bytes_in}
@@ -10,8 +9,6 @@ use Rattle.histar_object.specs.Rights.{relabelled, clearing, with_changed}
 use Rattle.histar_object.specs.State.{State, Found, with_own}
 use Rattle.histar_object.proofs.Changes.{put_back}
 use Rattle.histar_container.proofs.TableMoves.{put_here, put_other}
-use Rattle.histar_layout.specs.Status.{IsStatus}
-use Rattle.histar_refinement.specs.Lines.{IsThreadOf}
 
 -- a thread that takes labels twice has the last ones
 abbrev changed_if : Bool → (Object Levels → Object Levels) → Found → Found

@@ -1,5 +1,5 @@
 -- A raw call that is granted unless a counter has its greatest value: the call goes on after it, or ends without a reply.
-use Rattle.std.proofs.Common.{◌≡◌, ℕ, ◌+◌, Bool, true, false, List, [], ◌∷◌, ◌++◌, None, Result, refl, ap, ◌∙◌}
+use Rattle.std.proofs.Common.{◌≡◌, ℕ, Bool, true, false, List, [], ◌∷◌, ◌++◌, None, Result, refl, ap, ◌∙◌}
 use Rattle.histar_base.specs.Refusals.{unless}
 use Rattle.histar_flat.specs.declared.calls.UnixCall.{UnixCall}
 use Rattle.histar_flat.specs.declared.replies.Reply.{Reply}

@@ -29,7 +29,7 @@ use Rattle.histar_refinement.specs.Guards.{guard_label, rights_label, rights_cle
 use Rattle.histar_refinement.specs.Labels.{process_guard, thread_rights}
 use Rattle.histar_refinement.specs.LaysOut.{Laid}
 use Rattle.histar_refinement.specs.Laws.{RunsAs}
-use Rattle.histar_refinement.specs.Processes.{or_zero, children, listed_by, status_by, process_bytes}
+use Rattle.histar_refinement.specs.Processes.{or_zero, listed_by, status_by, process_bytes}
 use Rattle.histar_refinement.proofs.CallerFound.{where_is}
 use Rattle.histar_refinement.proofs.Moving.{one_address}
 use Rattle.histar_refinement.proofs.Places.{same_home}

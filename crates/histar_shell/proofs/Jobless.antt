@@ -1,5 +1,5 @@
 -- While no line starts a job, no process is in a job and none holds one.
-use Rattle.std.proofs.Common.{◌≡◌, ◌≢◌, ℕ, ◌+◌, Bool, true, false, cond, None, Some, Option, List, [], ◌∷◌, inl, inr, refl, sym, ap, ◌∙◌, subst}
+use Rattle.std.proofs.Common.{◌≡◌, ℕ, ◌+◌, Bool, true, false, cond, None, Some, Option, [], refl, subst}
 use Rattle.std.proofs.lemmas.Option.{none-some, same_Some}
 use Rattle.histar_flat.specs.declared.calls.UnixCall.{UnixCall}
 use Rattle.histar_flat.specs.declared.calls.UnixCall.TheVariants.{Create, Mkdir, Write, Append, Read, List as ListCall, Stat, Unlink, Rmdir, Rmtree, Rename, Spawn, Exit, Status, Kill, Whoami, Login, Wrap}
@@ -9,7 +9,7 @@ use Rattle.histar_flat.specs.PathOrder.{same, under_process}
 use Rattle.histar_flat.specs.Sessions.{Session}
 use Rattle.histar_flat.specs.Classes.{Process}
 use Rattle.histar_flat.specs.FlatState.{Flat, with_process, without_process}
-use Rattle.histar_flat.specs.FlatCalls.{if_running, running, next_child, refused, changed, flat_or, flat_by, flat_after}
+use Rattle.histar_flat.specs.FlatCalls.{if_running, next_child, refused, changed, flat_or, flat_by, flat_after}
 use Rattle.histar_flat.specs.Meaning.{boot, first_process}
 use Rattle.histar_flat.specs.Laws.{HasNoJob}
 use Rattle.histar_rows.specs.Rows.{IsScriptable}

@@ -12,7 +12,7 @@ use Rattle.histar_calls.specs.Programs.{Program, Runs}
 use Rattle.histar_calls.specs.Programs.Program.{Stops}
 use Rattle.histar_process.specs.declared.caller.Caller.{Caller}
 use Rattle.histar_process.specs.Caller.{caller_at}
-use Rattle.histar_shell.specs.Machine.{MachineModel, program_of, Makes, HasMade, AnswersFound, AnswersRunning, AnswersIf, AnswersLine}
+use Rattle.histar_shell.specs.Machine.{MachineModel, program_of, Makes, HasMade, AnswersFound, AnswersIf, AnswersLine}
 
 -- a process that was found had its call made
 pub had_made : (old new : MachineModel) (line : ℕ) (me : ProcName) (caller : Caller) (call : UnixCall) (result : Result Reply Stopped) → old.is_stopped ≡ false

@@ -2,7 +2,6 @@ use Rattle.std.proofs.Common.{◌≡◌, List, None, Some, Ok, refl, sym, ◌∙
 use Rattle.histar_flat.specs.declared.replies.Reply.TheVariants.{Gone}
 use Rattle.histar_flat.specs.declared.calls.User.{User}
 use Rattle.histar_process.specs.Caller.{caller_at}
-use Rattle.histar_shell.specs.Meaning.{FollowsMeaning}
 use Rattle.histar_shell.specs.Machine.{MachineModel, on_line, Makes, AnswersLine}
 use Rattle.histar_syscall.specs.KernelModel.{KernelModel, state}
 use Rattle.histar_shell.proofs.Lines.{had_made, gone_line}
