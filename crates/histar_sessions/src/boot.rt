@@ -126,8 +126,9 @@ fn boots_with_groups(rt: HostRuntime) -> Result<(), Fail> {
     ];
     let (kernel, places) = boot(alloc, PlainStore::new(alloc), &users, &groups)?;
     compare(&rt, alloc, kernel.trace(), CALLS_WITH_GROUPS.as_slice())?;
-    assert_eq!(rt; places.home.container.number(), 10);
-    assert_eq!(rt; places.home.segment.number(), 13);
+    let home = places.home;
+    assert_eq!(rt; home.container.number(), 10);
+    assert_eq!(rt; home.segment.number(), 13);
     Ok(())
 }
 
@@ -175,6 +176,7 @@ fn boots_at_its_limits(rt: HostRuntime) -> Result<(), Fail> {
     let store = PlainStore::new(alloc);
     let (kernel, places) = boot(alloc, store, users.as_slice(), groups.as_slice())?;
     assert_eq!(rt; kernel.trace().len(), 2 * (1 + 16 + 8) + 2 * 16 + 3 + 6 + 1);
-    assert_eq!(rt; places.home.container.number(), 38);
+    let home = places.home;
+    assert_eq!(rt; home.container.number(), 38);
     Ok(())
 }
