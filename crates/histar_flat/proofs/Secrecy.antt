@@ -1,4 +1,4 @@
--- No reply to others tells what a private file holds: a whole run.
+-- No reply to others tells what a file holds that is its owner's alone, or a group's: one call, and a whole run.
 use Rattle.std.specs.Prelude.{◌≡◌, ◌+◌, ℕ, Bool, true, false, not, cond, List, [], ◌∷◌, ◌++◌, map, length, nat_le, Option, Some, None, option_map, refl}
 use Rattle.std.proofs.Common.{ap, sym, ◌∙◌, subst, inl, inr}
 use Rattle.std.proofs.lemmas.Bool.{true≢false, and_parts, not-true}
@@ -11,82 +11,62 @@ use Rattle.histar_flat.specs.declared.replies.Errno.TheVariants.{EACCES, EFBIG}
 use Rattle.histar_flat.specs.declared.replies.Reply.TheVariants.{Refused}
 use Rattle.histar_flat.specs.Words.{Name, Path, ProcName}
 use Rattle.histar_flat.specs.PathOrder.{path_cmp, same, same_path, under_path, under_process, parent}
-use Rattle.histar_flat.specs.Sessions.{Session}
+use Rattle.histar_flat.specs.Sessions.{Session, is_member}
 use Rattle.histar_flat.specs.Files.{get, insert, from_list}
 use Rattle.histar_flat.specs.Classes.{Class, Process, is_free, may_read, may_write, class_made}
 use Rattle.histar_flat.specs.Classes.Class.{Private, Readable, Open, Scratch, Grouped}
 use Rattle.histar_flat.specs.FlatState.{Flat, Node, Content, is_some_and, reads, writes, bytes_of, bytes_at, class_of, with_bytes, with_process, with_child, without_below, with_renamed, moved}
 use Rattle.histar_flat.specs.FlatState.Content.{Dir, File}
 use Rattle.histar_flat.specs.FlatCalls.{most_bytes, no_file, refused, class_or_open, inner_chain, next_child, changed, answer, reply_or, flat_or, if_running, running, reply_by, flat_by, reply_to, flat_after}
-use Rattle.histar_flat.specs.Meaning.{boot, answered_from, flat_end, meaning}
-use Rattle.histar_flat.specs.Laws.{private_file, is_login_as, has_no_login_as, IsAway}
+use Rattle.histar_flat.specs.Meaning.{answered_from}
+use Rattle.histar_flat.specs.Laws.{is_login_of, has_no_login_of, AreAway, PrivateBytesAreUntold, GroupBytesAreUntold, GroupBytesStayUntold}
 use Rattle.histar_flat.proofs.FileLemmas.{same_name_found, same_path_found, get-insert, get-keep}
 use Rattle.histar_flat.proofs.Refusals.{two_pass}
 use Rattle.histar_flat.proofs.Entries.{shown, all_told, find_told, same_told}
 use Rattle.histar_flat.proofs.Renaming.{get-from_list}
-use Rattle.histar_flat.proofs.Laws.{replies_go_on}
 use Rattle.histar_flat.proofs.Changes.{EachChange, by_line}
 use Rattle.histar_flat.proofs.Alike.{ShowAlike, refused_alike, answer_alike}
 
--- the class is for this owner alone
-abbrev is_private_of : Name → Class → Bool
-is_private_of owner (Private o) = same o owner
-is_private_of owner _ = false
-
--- a file or a directory without the bytes that are for this owner alone
+-- a file or a directory without the bytes that are secret
 abbrev veiled_content : Bool → Content → Content
 veiled_content hides Dir = Dir
 veiled_content hides (File bytes) = File (cond hides [] bytes)
 
-abbrev veiled : Name → Node → Node
-veiled owner n = record { class = n.class; content = veiled_content (is_private_of owner n.class) n.content }
+abbrev veiled : (Class → Bool) → Node → Node
+veiled secret n = record { class = n.class; content = veiled_content (secret n.class) n.content }
 
--- two states that differ in bytes that are for this owner alone
-record IsAlikeBut (owner : Name) (f g : Flat) : Type 0 where
-  files : (r : Path) → option_map (veiled owner) (get f.files r) ≡ option_map (veiled owner) (get g.files r)
+-- two states that differ in secret bytes alone
+record IsAlikeBut (secret : Class → Bool) (f g : Flat) : Type 0 where
+  files : (r : Path) → option_map (veiled secret) (get f.files r) ≡ option_map (veiled secret) (get g.files r)
   processes : f.processes ≡ g.processes
 
-module _ (owner : Name) where
+-- who is none of these users may read nothing that is secret, and write nothing
+record AreKept (session : Session) (secret : Class → Bool) (users : Name → Bool) : Type 0 where
+  unread : (p : Process) (class : Class) → users p.user ≡ false → may_read session p class ≡ true → not (secret class) ≡ true
+  unwritten : (p : Process) (class : Class) → users p.user ≡ false → may_write session p class ≡ true → not (secret class) ≡ true
+
+module _ (session : Session) (secret : Class → Bool) (users : Name → Bool) (kept : AreKept session secret users) where
   -- the veil leaves the class and the kind
-  shown_through : (n : Node) → shown (veiled owner n) ≡ shown n
+  shown_through : (n : Node) → shown (veiled secret n) ≡ shown n
   shown_through n = by n.content
     where
-      by : (content : Content) → shown (veiled owner (record { class = n.class; content = content })) ≡ shown (record { class = n.class; content = content })
+      by : (content : Content) → shown (veiled secret (record { class = n.class; content = content })) ≡ shown (record { class = n.class; content = content })
       by Dir = refl
       by (File bytes) = refl
 
   -- what stands there shows as much through the veil
-  option_shown_through : (o : Option Node) → option_map shown (option_map (veiled owner) o) ≡ option_map shown o
+  option_shown_through : (o : Option Node) → option_map shown (option_map (veiled secret) o) ≡ option_map shown o
   option_shown_through None = refl
   option_shown_through (Some n) = ap Some (shown_through n)
 
-  -- the veil leaves bytes that are not the owner's alone
-  bytes_through : (o : Option Node) → is_some_and o (λ n. not (is_private_of owner n.class)) ≡ true → bytes_of (option_map (veiled owner) o) ≡ bytes_of o
+  -- the veil leaves bytes that are not secret
+  bytes_through : (o : Option Node) → is_some_and o (λ n. not (secret n.class)) ≡ true → bytes_of (option_map (veiled secret) o) ≡ bytes_of o
   bytes_through None h = refl
   bytes_through (Some n) h = by n.content
     where
-      by : (content : Content) → bytes_of (Some (veiled owner (record { class = n.class; content = content }))) ≡ bytes_of (Some (record { class = n.class; content = content }))
+      by : (content : Content) → bytes_of (Some (veiled secret (record { class = n.class; content = content }))) ≡ bytes_of (Some (record { class = n.class; content = content }))
       by Dir = refl
-      by (File bytes) = ap (λ b. cond b [] bytes) (not-true (is_private_of owner n.class) h)
-
-  -- what another user's process may read is not the owner's alone
-  read_is_unveiled : (session : Session) (p : Process) (class : Class) → same p.user owner ≡ false → may_read session p class ≡ true → not (is_private_of owner class) ≡ true
-  read_is_unveiled session p (Private o) other h = elim (same_name_found o owner) [
-    | inl e ↦ absurd (true≢false (sym h ∙ ap (same p.user) e.1 ∙ other))
-    | inr e ↦ ap not e.0
-  ]
-  read_is_unveiled session p (Readable o) other h = refl
-  read_is_unveiled session p Open other h = refl
-  read_is_unveiled session p (Scratch o jobs) other h = refl
-  read_is_unveiled session p (Grouped group) other h = refl
-
-  -- nor is what it may write
-  written_is_unveiled : (session : Session) (p : Process) (class : Class) → same p.user owner ≡ false → may_write session p class ≡ true → not (is_private_of owner class) ≡ true
-  written_is_unveiled session p (Private o) other h = read_is_unveiled session p (Private o) other (and_parts (same p.user o) (is_free p) h).0
-  written_is_unveiled session p (Readable o) other h = refl
-  written_is_unveiled session p Open other h = refl
-  written_is_unveiled session p (Scratch o jobs) other h = refl
-  written_is_unveiled session p (Grouped group) other h = refl
+      by (File bytes) = ap (λ b. cond b [] bytes) (not-true (secret n.class) h)
 
   -- a test that follows from another
   test_follows : (test later : Node → Bool) → ((n : Node) → test n ≡ true → later n ≡ true) → (o : Option Node) → is_some_and o test ≡ true → is_some_and o later ≡ true
@@ -94,79 +74,79 @@ module _ (owner : Name) where
   test_follows test later follows (Some n) h = follows n h
 
   -- the same class
-  class_alike : (a b : Option Node) → option_map (veiled owner) a ≡ option_map (veiled owner) b → class_of a ≡ class_of b
+  class_alike : (a b : Option Node) → option_map (veiled secret) a ≡ option_map (veiled secret) b → class_of a ≡ class_of b
   class_alike None None h = refl
   class_alike None (Some n) h = absurd (cc)
   class_alike (Some m) None h = absurd (cc)
-  class_alike (Some m) (Some n) h = let e : veiled owner m ≡ veiled owner n = cc in ap (λ x. x.class) e
+  class_alike (Some m) (Some n) h = let e : veiled secret m ≡ veiled secret n = cc in ap (λ x. x.class) e
 
   -- what a test leaves is told alike
   chosen_alike : {X : Type 0} (told : X → Node) (b : Bool) (x y u v : Option X) → option_map told x ≡ option_map told u → option_map told y ≡ option_map told v → option_map told (cond b x y) ≡ option_map told (cond b u v)
   chosen_alike told true x y u v d e = d
   chosen_alike told false x y u v d e = e
 
-  module _ (f g : Flat) (alike : IsAlikeBut owner f g) where
+  module _ (f g : Flat) (alike : IsAlikeBut secret f g) where
     shown_alike : ShowAlike f g
     shown_alike r = sym (option_shown_through (get f.files r)) ∙ ap (option_map shown) (alike.files r) ∙ option_shown_through (get g.files r)
 
-    -- bytes that are not the owner's alone are the same
-    unveiled_alike : (r : Path) → is_some_and (get f.files r) (λ n. not (is_private_of owner n.class)) ≡ true → bytes_at f r ≡ bytes_at g r
+    -- bytes that are not secret are the same
+    unveiled_alike : (r : Path) → is_some_and (get f.files r) (λ n. not (secret n.class)) ≡ true → bytes_at f r ≡ bytes_at g r
     unveiled_alike r h =
         sym (bytes_through (get f.files r) h) ∙ ap bytes_of (alike.files r) ∙ bytes_through (get g.files r) (sym (test (get f.files r) (get g.files r) (alike.files r)) ∙ h)
       where
-        test : (a b : Option Node) → option_map (veiled owner) a ≡ option_map (veiled owner) b → is_some_and a (λ n. not (is_private_of owner n.class)) ≡ is_some_and b (λ n. not (is_private_of owner n.class))
+        test : (a b : Option Node) → option_map (veiled secret) a ≡ option_map (veiled secret) b → is_some_and a (λ n. not (secret n.class)) ≡ is_some_and b (λ n. not (secret n.class))
         test None None e = refl
         test None (Some n) e = absurd (cc)
         test (Some m) None e = absurd (cc)
-        test (Some m) (Some n) e = let v : veiled owner m ≡ veiled owner n = cc in ap (λ x. not (is_private_of owner x.class)) v
+        test (Some m) (Some n) e = let v : veiled secret m ≡ veiled secret n = cc in ap (λ x. not (secret x.class)) v
 
     -- the same, or as much the same, at a path
-    put_alike : (r : Path) (x y : Node) → x ≡ y → (q : Path) → option_map (veiled owner) (get (insert f.files r x) q) ≡ option_map (veiled owner) (get (insert g.files r y) q)
+    put_alike : (r : Path) (x y : Node) → x ≡ y → (q : Path) → option_map (veiled secret) (get (insert f.files r x) q) ≡ option_map (veiled secret) (get (insert g.files r y) q)
     put_alike r x y e q =
-        ap (option_map (veiled owner)) (get-insert f.files r x q)
-        ∙ chosen_alike (veiled owner) (same_path q r) (Some x) (get f.files q) (Some y) (get g.files q) (ap (λ z. Some (veiled owner z)) e) (alike.files q)
-        ∙ ap (option_map (veiled owner)) (sym (get-insert g.files r y q))
+        ap (option_map (veiled secret)) (get-insert f.files r x q)
+        ∙ chosen_alike (veiled secret) (same_path q r) (Some x) (get f.files q) (Some y) (get g.files q) (ap (λ z. Some (veiled secret z)) e) (alike.files q)
+        ∙ ap (option_map (veiled secret)) (sym (get-insert g.files r y q))
 
-    cut_alike : (r q : Path) → option_map (veiled owner) (get (without_below f r).files q) ≡ option_map (veiled owner) (get (without_below g r).files q)
+    cut_alike : (r q : Path) → option_map (veiled secret) (get (without_below f r).files q) ≡ option_map (veiled secret) (get (without_below g r).files q)
     cut_alike r q =
-        ap (option_map (veiled owner)) (get-keep f.files (λ t. not (under_path r t)) q)
-        ∙ chosen_alike (veiled owner) (not (under_path r q)) (get f.files q) None (get g.files q) None (alike.files q) refl
-        ∙ ap (option_map (veiled owner)) (sym (get-keep g.files (λ t. not (under_path r t)) q))
+        ap (option_map (veiled secret)) (get-keep f.files (λ t. not (under_path r t)) q)
+        ∙ chosen_alike (veiled secret) (not (under_path r q)) (get f.files q) None (get g.files q) None (alike.files q) refl
+        ∙ ap (option_map (veiled secret)) (sym (get-keep g.files (λ t. not (under_path r t)) q))
 
     -- a rename moves both alike
-    renamed_alike : (old new q : Path) → option_map (veiled owner) (get (with_renamed f old new).files q) ≡ option_map (veiled owner) (get (with_renamed g old new).files q)
+    renamed_alike : (old new q : Path) → option_map (veiled secret) (get (with_renamed f old new).files q) ≡ option_map (veiled secret) (get (with_renamed g old new).files q)
     renamed_alike old new q =
         told f.files.entries
-        ∙ ap (λ (l : List (Path × Node)). find path_cmp q (map (λ e. (moved old new e.0, e.1)) l)) (same_told (veiled owner) f.files g.files alike.files)
+        ∙ ap (λ (l : List (Path × Node)). find path_cmp q (map (λ e. (moved old new e.0, e.1)) l)) (same_told (veiled secret) f.files g.files alike.files)
         ∙ sym (told g.files.entries)
       where
-        both : (es : List (Path × Node)) → all_told (veiled owner) (map (λ e. (moved old new e.0, e.1)) es) ≡ map (λ e. (moved old new e.0, e.1)) (all_told (veiled owner) es)
+        both : (es : List (Path × Node)) → all_told (veiled secret) (map (λ e. (moved old new e.0, e.1)) es) ≡ map (λ e. (moved old new e.0, e.1)) (all_told (veiled secret) es)
         both [] = refl
-        both (e ∷ es) = ap (λ (l : List (Path × Node)). (moved old new e.0, veiled owner e.1) ∷ l) (both es)
+        both (e ∷ es) = ap (λ (l : List (Path × Node)). (moved old new e.0, veiled secret e.1) ∷ l) (both es)
 
-        told : (es : List (Path × Node)) → option_map (veiled owner) (get (from_list (map (λ e. (moved old new e.0, e.1)) es)) q) ≡ find path_cmp q (map (λ e. (moved old new e.0, e.1)) (all_told (veiled owner) es))
+        told : (es : List (Path × Node)) → option_map (veiled secret) (get (from_list (map (λ e. (moved old new e.0, e.1)) es)) q) ≡ find path_cmp q (map (λ e. (moved old new e.0, e.1)) (all_told (veiled secret) es))
         told es =
-            ap (option_map (veiled owner)) (get-from_list (map (λ e. (moved old new e.0, e.1)) es) q)
-            ∙ sym (find_told (veiled owner) q (map (λ e. (moved old new e.0, e.1)) es)) ∙ ap (find path_cmp q) (both es)
+            ap (option_map (veiled secret)) (get-from_list (map (λ e. (moved old new e.0, e.1)) es) q)
+            ∙ sym (find_told (veiled secret) q (map (λ e. (moved old new e.0, e.1)) es)) ∙ ap (find path_cmp q) (both es)
 
-    module _ (session : Session) (me : ProcName) (p : Process) (other : same p.user owner ≡ false) where
+    module _ (me : ProcName) (p : Process) (other : users p.user ≡ false) where
       read_alike : (r : Path) → reads session f p r ≡ true → bytes_at f r ≡ bytes_at g r
-      read_alike r h = unveiled_alike r (test_follows (λ n. may_read session p n.class) (λ n. not (is_private_of owner n.class)) (λ n. read_is_unveiled session p n.class other) (get f.files r) h)
+      read_alike r h = unveiled_alike r (test_follows (λ n. may_read session p n.class) (λ n. not (secret n.class)) (λ n. kept.unread p n.class other) (get f.files r) h)
 
       written_alike : (r : Path) → writes session f p r ≡ true → bytes_at f r ≡ bytes_at g r
-      written_alike r h = unveiled_alike r (test_follows (λ n. may_write session p n.class) (λ n. not (is_private_of owner n.class)) (λ n. written_is_unveiled session p n.class other) (get f.files r) h)
+      written_alike r h = unveiled_alike r (test_follows (λ n. may_write session p n.class) (λ n. not (secret n.class)) (λ n. kept.unwritten p n.class other) (get f.files r) h)
 
       refusals_alike : (call : UnixCall) → refused session f me p call ≡ refused session g me p call
       refusals_alike call = refused_alike session f g shown_alike alike.processes me p written_alike call
 
-      overwritten_alike : (r : Path) (b c : List ℕ) → b ≡ c → IsAlikeBut owner (with_bytes f r b) (with_bytes g r c)
+      overwritten_alike : (r : Path) (b c : List ℕ) → b ≡ c → IsAlikeBut secret (with_bytes f r b) (with_bytes g r c)
       overwritten_alike r b c e = record {
         files = put_alike r (record { class = class_of (get f.files r); content = File b }) (record { class = class_of (get g.files r); content = File c }) (λ i. record { class = class_alike (get f.files r) (get g.files r) (alike.files r) i; content = File (e i) });
         processes = alike.processes;
       }
 
       -- a call of another user's process leaves them alike
-      changed_alike : (call : UnixCall) → refused session f me p call ≡ None → IsAlikeBut owner (changed session f me p call) (changed session g me p call)
+      changed_alike : (call : UnixCall) → refused session f me p call ≡ None → IsAlikeBut secret (changed session f me p call) (changed session g me p call)
       changed_alike (Create r mode) h = record { files = put_alike r (record { class = class_or_open (class_made session p mode); content = File [] }) (record { class = class_or_open (class_made session p mode); content = File [] }) refl; processes = alike.processes }
       changed_alike (Mkdir r mode) h = record { files = put_alike r (record { class = class_or_open (class_made session p mode); content = Dir }) (record { class = class_or_open (class_made session p mode); content = Dir }) refl; processes = alike.processes }
       changed_alike (Read r) h = alike
@@ -197,55 +177,55 @@ module _ (owner : Name) where
       replies_alike call (Some x) None h k = absurd (cc)
       replies_alike call (Some x) (Some y) h k = let t : x ≡ y = cc in ap Refused t
 
-      states_alike : (call : UnixCall) (d e : Option Errno) → refused session f me p call ≡ d → d ≡ e → IsAlikeBut owner (flat_or d f (changed session f me p call)) (flat_or e g (changed session g me p call))
+      states_alike : (call : UnixCall) (d e : Option Errno) → refused session f me p call ≡ d → d ≡ e → IsAlikeBut secret (flat_or d f (changed session f me p call)) (flat_or e g (changed session g me p call))
       states_alike call None None h k = changed_alike call h
       states_alike call None (Some x) h k = absurd (cc)
       states_alike call (Some x) None h k = absurd (cc)
       states_alike call (Some x) (Some y) h k = alike
 
-    module _ (session : Session) (away : IsAway owner f) (me : ProcName) (call : UnixCall) where
-      -- One call has the same reply in both, while no process is the owner's.
+    module _ (me : ProcName) (call : UnixCall) (other : is_some_and (running f me) (λ p. users p.user) ≡ false) where
+      -- One call of another user's process has the same reply in both.
       reply_to_alike : reply_to session f me call ≡ reply_to session g me call
-      reply_to_alike = by (running f me) (away me) ∙ ap (λ o. reply_by session g me (if_running (o me)) call) alike.processes
+      reply_to_alike = by (running f me) other ∙ ap (λ o. reply_by session g me (if_running (o me)) call) alike.processes
         where
-          by : (r : Option Process) → is_some_and r (λ p. same p.user owner) ≡ false → reply_by session f me r call ≡ reply_by session g me r call
+          by : (r : Option Process) → is_some_and r (λ p. users p.user) ≡ false → reply_by session f me r call ≡ reply_by session g me r call
           by None i = refl
-          by (Some p) i = replies_alike session me p i call (refused session f me p call) (refused session g me p call) refl (refusals_alike session me p i call)
+          by (Some p) i = replies_alike me p i call (refused session f me p call) (refused session g me p call) refl (refusals_alike me p i call)
 
       -- It leaves states that differ in these bytes alone.
-      flat_after_alike : IsAlikeBut owner (flat_after session f me call) (flat_after session g me call)
-      flat_after_alike = subst (λ o. IsAlikeBut owner (flat_after session f me call) (flat_by session g me (if_running (o me)) call)) alike.processes (by (running f me) (away me))
+      flat_after_alike : IsAlikeBut secret (flat_after session f me call) (flat_after session g me call)
+      flat_after_alike = subst (λ o. IsAlikeBut secret (flat_after session f me call) (flat_by session g me (if_running (o me)) call)) alike.processes (by (running f me) other)
         where
-          by : (r : Option Process) → is_some_and r (λ p. same p.user owner) ≡ false → IsAlikeBut owner (flat_by session f me r call) (flat_by session g me r call)
+          by : (r : Option Process) → is_some_and r (λ p. users p.user) ≡ false → IsAlikeBut secret (flat_by session f me r call) (flat_by session g me r call)
           by None i = alike
-          by (Some p) i = states_alike session me p i call (refused session f me p call) (refused session g me p call) refl (refusals_alike session me p i call)
+          by (Some p) i = states_alike me p i call (refused session f me p call) (refused session g me p call) refl (refusals_alike me p i call)
 
-  -- a process of another user is not the owner's, whether it runs or not
-  other_is_away : (p : Process) → same p.user owner ≡ false → is_some_and (if_running (Some p)) (λ r. same r.user owner) ≡ false
+  -- a process of another user is of none of these, whether it runs or not
+  other_is_away : (p : Process) → users p.user ≡ false → is_some_and (if_running (Some p)) (λ r. users r.user) ≡ false
   other_is_away p h = by p.exited
     where
-      by : (x : Option ℕ) → is_some_and (elim x [ None ↦ Some p | Some n ↦ None ]) (λ r. same r.user owner) ≡ false
+      by : (x : Option ℕ) → is_some_and (elim x [ None ↦ Some p | Some n ↦ None ]) (λ r. users r.user) ≡ false
       by None = h
       by (Some n) = refl
 
-  away_with : (f : Flat) (me : ProcName) (p : Process) → IsAway owner f → same p.user owner ≡ false → IsAway owner (with_process f me p)
+  away_with : (f : Flat) (me : ProcName) (p : Process) → AreAway users f → users p.user ≡ false → AreAway users (with_process f me p)
   away_with f me p away h x = by (same me x)
     where
-      by : (b : Bool) → is_some_and (if_running (cond b (Some p) (f.processes x))) (λ r. same r.user owner) ≡ false
+      by : (b : Bool) → is_some_and (if_running (cond b (Some p) (f.processes x))) (λ r. users r.user) ≡ false
       by true = other_is_away p h
       by false = away x
 
-  away_with_child : (f : Flat) (me : ProcName) (p : Process) (chain : List ProcName) → IsAway owner f → same p.user owner ≡ false → IsAway owner (with_child f me p chain)
+  away_with_child : (f : Flat) (me : ProcName) (p : Process) (chain : List ProcName) → AreAway users f → users p.user ≡ false → AreAway users (with_child f me p chain)
   away_with_child f me p chain away h =
       let grown : Process = record p { born = p.born + 1 } in
       away_with (with_process f me grown) ((p.born + 1) ∷ me) (record { user = p.user; chain = chain; held = []; exited = None; born = 0 }) (away_with f me grown away h) h
 
-  away_without : (b : Bool) (o : Option Process) → is_some_and (if_running o) (λ r. same r.user owner) ≡ false → is_some_and (if_running (cond b None o)) (λ r. same r.user owner) ≡ false
+  away_without : (b : Bool) (o : Option Process) → is_some_and (if_running o) (λ r. users r.user) ≡ false → is_some_and (if_running (cond b None o)) (λ r. users r.user) ≡ false
   away_without true o h = refl
   away_without false o h = h
 
-  away_changes : (session : Session) (f : Flat) (me : ProcName) (p : Process) (call : UnixCall) → IsAway owner f → same p.user owner ≡ false → is_login_as owner call ≡ false → EachChange session f me p call (IsAway owner)
-  away_changes session f me p call away other quiet = record {
+  away_changes : (f : Flat) (me : ProcName) (p : Process) (call : UnixCall) → AreAway users f → users p.user ≡ false → is_login_of users call ≡ false → EachChange session f me p call (AreAway users)
+  away_changes f me p call away other quiet = record {
     stays = away;
     makes = λ n d x walked free w own. away;
     overwrites = λ n d bytes file w. away;
@@ -253,54 +233,117 @@ module _ (owner : Name) where
     renames = λ n k d takes apart free w. away;
     spawns = λ is. away_with_child f me p p.chain away other;
     exits = λ n is. away_with f me (record p { exited = Some n }) away other;
-    logs_in = λ name password is known free. away_with f me (record p { user = name; held = [] }) away (sym (ap (is_login_as owner) is) ∙ quiet);
+    logs_in = λ name password is known free. away_with f me (record p { user = name; held = [] }) away (sym (ap (is_login_of users) is) ∙ quiet);
     kills = λ n x. away_without (under_process (n ∷ me) x) (f.processes x) (away x);
     wraps = λ n d is walked free w named. away_with_child f me (record p { held = p.held ++ next_child me p ∷ [] }) (inner_chain me p) away other;
   }
 
-  -- The owner stays away while no process logs in as the owner.
-  pub stays_away : (session : Session) (f : Flat) (me : ProcName) (call : UnixCall) → IsAway owner f → is_login_as owner call ≡ false → IsAway owner (flat_after session f me call)
-  stays_away session f me call away quiet = by_line session f me call (IsAway owner) away (λ p runs. away_changes session f me p call away (sym (ap (λ r. is_some_and r (λ p. same p.user owner)) runs) ∙ away me) quiet)
+  -- these users stay away while no process logs in as one of them
+  stays_away : (f : Flat) (me : ProcName) (call : UnixCall) → AreAway users f → is_login_of users call ≡ false → AreAway users (flat_after session f me call)
+  stays_away f me call away quiet = by_line session f me call (AreAway users) away (λ p runs. away_changes f me p call away (sym (ap (λ r. is_some_and r (λ p. users p.user)) runs) ∙ away me) quiet)
 
-  -- While no process is the owner's, the replies are the same in two states that differ in the owner's private bytes alone.
-  all_replies_alike : (session : Session) (f g : Flat) → IsAlikeBut owner f g → IsAway owner f → (calls : List CallLine) → has_no_login_as owner calls ≡ true → answered_from session f calls ≡ answered_from session g calls
-  all_replies_alike session f g alike away [] h = refl
-  all_replies_alike session f g alike away (c ∷ calls) h =
-      let parts = and_parts (not (is_login_as owner c.call)) (has_no_login_as owner calls) h in
-      let quiet = not-true (is_login_as owner c.call) parts.0 in
-      let here = reply_to_alike f g alike session away c.process c.call in
-      let rest = all_replies_alike session (flat_after session f c.process c.call) (flat_after session g c.process c.call)
-      (flat_after_alike f g alike session away c.process c.call) (stays_away session f c.process c.call away quiet) calls parts.1 in
+  -- while no process is of one of these users, the replies are the same in two states that differ in secret bytes alone
+  all_replies_alike : (f g : Flat) → IsAlikeBut secret f g → AreAway users f → (calls : List CallLine) → has_no_login_of users calls ≡ true → answered_from session f calls ≡ answered_from session g calls
+  all_replies_alike f g alike away [] h = refl
+  all_replies_alike f g alike away (c ∷ calls) h =
+      let parts = and_parts (not (is_login_of users c.call)) (has_no_login_of users calls) h in
+      let quiet = not-true (is_login_of users c.call) parts.0 in
+      let here = reply_to_alike f g alike c.process c.call (away c.process) in
+      let rest = all_replies_alike (flat_after session f c.process c.call) (flat_after session g c.process c.call)
+      (flat_after_alike f g alike c.process c.call (away c.process)) (stays_away f c.process c.call away quiet) calls parts.1 in
       λ i. record { call = c; reply = here i } ∷ rest i
 
-  -- No reply tells others what a private file holds: whatever bytes stand in it, the replies are the same until its owner logs in.
-  pub private_bytes_are_untold : (session : Session) (f : Flat) (q : Path) (bytes other : List ℕ) (calls : List CallLine) → get f.files q ≡ Some (private_file owner bytes) → IsAway owner f → has_no_login_as owner calls ≡ true → answered_from session f calls ≡ answered_from session (with_bytes f q other) calls
-  private_bytes_are_untold session f q bytes other calls h away quiet = all_replies_alike session f (with_bytes f q other) alike away calls quiet
-    where
-      new : Node
-      new = record { class = class_of (get f.files q); content = File other }
+-- whatever bytes stand in a file that is secret, the states differ in secret bytes alone
+other_bytes_alike : (secret : Class → Bool) (f : Flat) (q : Path) (class : Class) (bytes other : List ℕ) → secret class ≡ true → get f.files q ≡ Some (record { class = class; content = File bytes })
+    → IsAlikeBut secret f (with_bytes f q other)
+other_bytes_alike secret f q class bytes other hides h = record {
+  files = λ r. elim (same_path_found r q) [
+    | inl e ↦ ap (option_map (veiled secret)) (ap (get f.files) e.1 ∙ h) ∙ ap Some (is_veiled bytes ∙ sym (is_veiled other))
+        ∙ ap (option_map (veiled secret)) (sym (get-insert f.files q _ r ∙ ap (λ b. cond b (Some new) (get f.files r)) e.0 ∙ ap (λ o. Some (record { class = class_of o; content = File other })) h))
+    | inr e ↦ ap (option_map (veiled secret)) (sym (get-insert f.files q new r ∙ ap (λ b. cond b (Some new) (get f.files r)) e.0))
+  ];
+  processes = refl;
+}
+  where
+    new : Node
+    new = record { class = class_of (get f.files q); content = File other }
 
-      private_is_veiled : (b : List ℕ) → veiled owner (private_file owner b) ≡ private_file owner []
-      private_is_veiled b = elim (same_name_found owner owner) [
-        | inl e ↦ ap (λ t. private_file owner (cond t [] b)) e.0
-        | inr e ↦ absurd (e.1 refl)
-      ]
+    is_veiled : (b : List ℕ) → veiled secret (record { class = class; content = File b }) ≡ record { class = class; content = File [] }
+    is_veiled b = ap (λ t. record { class = class; content = File (cond t [] b) }) hides
 
-      alike : IsAlikeBut owner f (with_bytes f q other)
-      alike = record {
-        files = λ r. elim (same_path_found r q) [
-          | inl e ↦ ap (option_map (veiled owner)) (ap (get f.files) e.1 ∙ h) ∙ ap Some (private_is_veiled bytes ∙ sym (private_is_veiled other))
-              ∙ ap (option_map (veiled owner)) (sym (get-insert f.files q _ r ∙ ap (λ b. cond b (Some new) (get f.files r)) e.0 ∙ ap (λ o. Some (record { class = class_of o; content = File other })) h))
-          | inr e ↦ ap (option_map (veiled owner)) (sym (get-insert f.files q new r ∙ ap (λ b. cond b (Some new) (get f.files r)) e.0))
-        ];
-        processes = refl;
-      }
+-- a name is itself
+same_self : (name : Name) → same name name ≡ true
+same_self name = elim (same_name_found name name) [
+  | inl e ↦ e.0
+  | inr e ↦ absurd (e.1 refl)
+]
 
-  -- In a script: once a private file stands and its owner is away, all that follows is answered as if other bytes stood in the
-  -- file, until its owner logs in.
-  pub private_in_a_script : (session : Session) (before later : List CallLine) (q : Path) (bytes other : List ℕ) → get (flat_end session (boot session) before).files q ≡ Some (private_file owner bytes)
-      → IsAway owner (flat_end session (boot session) before) → has_no_login_as owner later ≡ true
-      → meaning session (before ++ later) ≡ meaning session before ++ answered_from session (with_bytes (flat_end session (boot session) before) q other) later
-  private_in_a_script session before later q bytes other h away quiet =
-      replies_go_on session (boot session) before later
-      ∙ ap (λ l. meaning session before ++ l) (private_bytes_are_untold session (flat_end session (boot session) before) q bytes other later h away quiet)
+-- the class is for this owner alone
+abbrev is_private_of : Name → Class → Bool
+is_private_of owner (Private o) = same o owner
+is_private_of owner _ = false
+
+-- what is for its owner alone is kept from others
+private_is_kept : (session : Session) (owner : Name) → AreKept session (is_private_of owner) (λ name. same name owner)
+private_is_kept session owner = record { unread = unread; unwritten = unwritten }
+  where
+    unread : (p : Process) (class : Class) → same p.user owner ≡ false → may_read session p class ≡ true → not (is_private_of owner class) ≡ true
+    unread p (Private o) other h = elim (same_name_found o owner) [
+      | inl e ↦ absurd (true≢false (sym h ∙ ap (same p.user) e.1 ∙ other))
+      | inr e ↦ ap not e.0
+    ]
+    unread p (Readable o) other h = refl
+    unread p Open other h = refl
+    unread p (Scratch o jobs) other h = refl
+    unread p (Grouped group) other h = refl
+
+    unwritten : (p : Process) (class : Class) → same p.user owner ≡ false → may_write session p class ≡ true → not (is_private_of owner class) ≡ true
+    unwritten p (Private o) other h = unread p (Private o) other (and_parts (same p.user o) (is_free p) h).0
+    unwritten p (Readable o) other h = refl
+    unwritten p Open other h = refl
+    unwritten p (Scratch o jobs) other h = refl
+    unwritten p (Grouped group) other h = refl
+
+-- the class is this group's
+abbrev is_class_of_group : Name → Class → Bool
+is_class_of_group group (Grouped g) = same g group
+is_class_of_group group _ = false
+
+-- what is a group's is kept from who is no member
+group_is_kept : (session : Session) (group : Name) → AreKept session (is_class_of_group group) (λ name. is_member session name group)
+group_is_kept session group = record { unread = unread; unwritten = unwritten }
+  where
+    unread : (p : Process) (class : Class) → is_member session p.user group ≡ false → may_read session p class ≡ true → not (is_class_of_group group class) ≡ true
+    unread p (Private o) other h = refl
+    unread p (Readable o) other h = refl
+    unread p Open other h = refl
+    unread p (Scratch o jobs) other h = refl
+    unread p (Grouped g) other h = elim (same_name_found g group) [
+      | inl e ↦ absurd (true≢false (sym h ∙ ap (is_member session p.user) e.1 ∙ other))
+      | inr e ↦ ap not e.0
+    ]
+
+    unwritten : (p : Process) (class : Class) → is_member session p.user group ≡ false → may_write session p class ≡ true → not (is_class_of_group group class) ≡ true
+    unwritten p (Private o) other h = refl
+    unwritten p (Readable o) other h = refl
+    unwritten p Open other h = refl
+    unwritten p (Scratch o jobs) other h = refl
+    unwritten p (Grouped g) other h = unread p (Grouped g) other (and_parts (is_member session p.user g) (is_free p) h).0
+
+-- no reply tells others what a private file holds, until its owner logs in
+pub private_bytes_are_untold : PrivateBytesAreUntold
+private_bytes_are_untold owner session f q bytes other calls h away quiet =
+    all_replies_alike session (is_private_of owner) (λ name. same name owner) (private_is_kept session owner) f (with_bytes f q other)
+    (other_bytes_alike (is_private_of owner) f q (Private owner) bytes other (same_self owner) h) away calls quiet
+
+-- no reply tells who is no member what a file of a group holds
+pub group_bytes_are_untold : GroupBytesAreUntold
+group_bytes_are_untold group session f q bytes other me call h outside =
+    reply_to_alike session (is_class_of_group group) (λ name. is_member session name group) (group_is_kept session group) f (with_bytes f q other)
+    (other_bytes_alike (is_class_of_group group) f q (Grouped group) bytes other (same_self group) h) me call outside
+
+-- and none does until a member logs in
+pub group_bytes_stay_untold : GroupBytesStayUntold
+group_bytes_stay_untold group session f q bytes other calls h away quiet =
+    all_replies_alike session (is_class_of_group group) (λ name. is_member session name group) (group_is_kept session group) f (with_bytes f q other)
+    (other_bytes_alike (is_class_of_group group) f q (Grouped group) bytes other (same_self group) h) away calls quiet

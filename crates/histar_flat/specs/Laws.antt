@@ -9,10 +9,10 @@ use Rattle.histar_flat.specs.declared.replies.Errno.{Errno}
 use Rattle.histar_flat.specs.declared.replies.Reply.TheVariants.{Done, Data, Refused}
 use Rattle.histar_flat.specs.Words.{Name, Path, ProcName}
 use Rattle.histar_flat.specs.PathOrder.{same, under_path}
-use Rattle.histar_flat.specs.Sessions.{Session, user_named}
+use Rattle.histar_flat.specs.Sessions.{Session, user_named, is_member}
 use Rattle.histar_flat.specs.Files.{get}
 use Rattle.histar_flat.specs.Classes.{Process, nobody, knows, carries}
-use Rattle.histar_flat.specs.Classes.Class.{Private}
+use Rattle.histar_flat.specs.Classes.Class.{Private, Grouped}
 use Rattle.histar_flat.specs.FlatState.{Flat, Node, IsTree, is_some_and, with_bytes, is_given}
 use Rattle.histar_flat.specs.FlatState.Content.{File}
 use Rattle.histar_flat.specs.FlatCalls.{next_child, running, reply_to, flat_after}
@@ -26,18 +26,18 @@ private_file owner bytes = record { class = Private owner; content = File bytes 
 abbrev pub runs_for : Flat → ProcName → Name → Bool
 runs_for f me owner = is_some_and (running f me) (λ p. same p.user owner)
 
--- a login as this user
-abbrev pub is_login_as : Name → UnixCall → Bool
-is_login_as owner (Login name password) = same name owner
-is_login_as owner _ = false
+-- a login as one of these users
+abbrev pub is_login_of : (Name → Bool) → UnixCall → Bool
+is_login_of users (Login name password) = users name
+is_login_of users _ = false
 
--- none of the calls is a login as this user
-abbrev pub has_no_login_as : Name → List CallLine → Bool
-has_no_login_as owner calls = list_all (λ (c : CallLine). not (is_login_as owner c.call)) calls
+-- none of the calls is a login as one of these users
+abbrev pub has_no_login_of : (Name → Bool) → List CallLine → Bool
+has_no_login_of users calls = list_all (λ (c : CallLine). not (is_login_of users c.call)) calls
 
--- no process that runs is the owner's
-abbrev pub IsAway : Name → Flat → Type 0
-IsAway owner f = (me : ProcName) → runs_for f me owner ≡ false
+-- no process that runs is of one of these users
+abbrev pub AreAway : (Name → Bool) → Flat → Type 0
+AreAway users f = (me : ProcName) → is_some_and (running f me) (λ p. users p.user) ≡ false
 
 -- a call that is refused changes nothing
 abbrev pub RefusalsChangeNothing : Type 0
@@ -66,7 +66,21 @@ PrivateFilesAreUntold = (f : Flat) (q : Path) (owner : Name) (bytes : List ℕ) 
 -- while no process is the owner's and no call is a login as the owner, all replies are as if other bytes stood in the private file
 abbrev pub PrivateBytesAreUntold : Type 0
 PrivateBytesAreUntold = (owner : Name) (session : Session) (f : Flat) (q : Path) (bytes other : List ℕ) (calls : List CallLine) → get f.files q ≡ Some (private_file owner bytes)
-    → IsAway owner f → has_no_login_as owner calls ≡ true → answered_from session f calls ≡ answered_from session (with_bytes f q other) calls
+    → AreAway (λ name. same name owner) f → has_no_login_of (λ name. same name owner) calls ≡ true → answered_from session f calls ≡ answered_from session (with_bytes f q other) calls
+
+-- a file of this group with these bytes
+abbrev pub group_file : Name → List ℕ → Node
+group_file group bytes = record { class = Grouped group; content = File bytes }
+
+-- each call of a process that is no member's has the reply that it had if other bytes stood in a file of the group
+abbrev pub GroupBytesAreUntold : Type 0
+GroupBytesAreUntold = (group : Name) (session : Session) (f : Flat) (q : Path) (bytes other : List ℕ) (me : ProcName) (call : UnixCall) → get f.files q ≡ Some (group_file group bytes)
+    → is_some_and (running f me) (λ p. is_member session p.user group) ≡ false → reply_to session f me call ≡ reply_to session (with_bytes f q other) me call
+
+-- while no process is a member's and no call is a login as a member, all replies are as if other bytes stood in the group's file
+abbrev pub GroupBytesStayUntold : Type 0
+GroupBytesStayUntold = (group : Name) (session : Session) (f : Flat) (q : Path) (bytes other : List ℕ) (calls : List CallLine) → get f.files q ≡ Some (group_file group bytes)
+    → AreAway (λ name. is_member session name group) f → has_no_login_of (λ name. is_member session name group) calls ≡ true → answered_from session f calls ≡ answered_from session (with_bytes f q other) calls
 
 -- a process that has written bytes to a file, and reads the file next, is answered these bytes
 abbrev pub WritesAreReadBack : Type 0

@@ -1,7 +1,7 @@
 //! What the meaning of calls amounts to. Each law is the contract of a function that does nothing.
 ghost use Rattle.histar_flat.specs.Laws.{RefusalsChangeNothing, WritesAreReadBack, OneReplyALine};
 ghost use Rattle.histar_flat.specs.Laws.{PrivateFilesStay, PrivateFilesAreUntold};
-ghost use Rattle.histar_flat.specs.Laws.{PrivateBytesAreUntold};
+ghost use Rattle.histar_flat.specs.Laws.{PrivateBytesAreUntold, GroupBytesAreUntold, GroupBytesStayUntold};
 ghost use Rattle.histar_flat.specs.Laws.{PathsAreATree, NamesAreGivenOnce, NobodyHasAJob};
 ghost use Rattle.histar_flat.specs.FileLaws.{ListingsTellWhatStands, RemovalsTakeWhatIsBelow, RenamesKeepWhatStands};
 ghost use Rattle.histar_flat.specs.FileLaws.{WritersTakePrivateFiles, UnreadDirectoriesAreUntold};
@@ -27,6 +27,18 @@ pub fn a_private_file_is_untold_to_others()
 /// a private file.
 pub fn private_bytes_are_untold()
     ensures { PrivateBytesAreUntold }
+{}
+
+/// Each call of a process whose user is no member of a group has the same reply, whatever bytes stand
+/// in a file of the group.
+pub fn group_bytes_are_untold()
+    ensures { GroupBytesAreUntold }
+{}
+
+/// While no process is a member's, and none logs in as a member, no reply depends on the bytes of a file
+/// of the group.
+pub fn group_bytes_stay_untold()
+    ensures { GroupBytesStayUntold }
 {}
 
 /// A process that has written bytes to a file, and reads the file next, is answered these bytes.
