@@ -14,7 +14,7 @@ use histar_label::LabelStore;
 use histar_syscall::Kernel;
 use std::alloc::Global;
 
-/// The most numbers of a process's name.
+/// The most numbers of a process's name behind the 0 of the first process.
 const MOST_NUMBERS: usize = 7;
 
 /// How many children may be born to a process.
