@@ -22,6 +22,14 @@ pub record IsSplit (bytes : List ℕ) (head : StatusHead) (children : List ℕ) 
 abbrev pub others : ℕ → List Child → List Child
 others number children = filter (λ (child : Child). not (child.number == number)) children
 
+-- the children of other numbers than this stand behind the old bytes, as they stood in the listed ones
+abbrev pub AppendsOthers : ℕ → List ℕ → List ℕ → List ℕ → Type 0
+AppendsOthers number listed old new = (children : List Child) → listed ≡ flat_map child_bytes children → new ≡ old ++ flat_map child_bytes (others number children)
+
+-- the process that the bytes tell of can have a child more
+abbrev pub HasRoomForChild : List ℕ → Type 0
+HasRoomForChild bytes = (status : ProcessStatus) → status_in bytes ≡ Some status → status.born < most_children
+
 -- What bytes tell of a process is spelled by them; and what is spelled, with no more children than a process can have, is told.
 pub record StatusesAreSpelled : Type 0 where
   pub told : (bytes : List ℕ) (status : ProcessStatus) → ((i : ℕ) → slice_index bytes i < 256) → status_in bytes ≡ Some status → IsStatus bytes status

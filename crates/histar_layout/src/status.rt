@@ -1,10 +1,9 @@
 //! The bytes of process segments.
 ghost use Rattle.std.specs.Prelude.{◌≡◌, ◌++◌, ◌<◌, List, Some, None, IfOk, OnOk, MatchOption, option_map, is_some};
-ghost use Rattle.std.specs.List.{flat_map};
 ghost use Rattle.histar_flat.specs.Words.{most_children};
 ghost use Rattle.histar_layout.specs.Reading.{Gives};
 ghost use Rattle.histar_layout.specs.Status.{ProcessStatus, IsChanged, child_bytes, child_in, children_in, head_in, head_of, life_in, look_for, once_exited, started, status_bytes, status_in, with_child, without_child};
-ghost use Rattle.histar_layout.specs.StatusParts.{IsSplit, StatusesAreSpelled, head_bytes, others};
+ghost use Rattle.histar_layout.specs.StatusParts.{AppendsOthers, HasRoomForChild, IsSplit, StatusesAreSpelled, head_bytes};
 
 use crate::reading::read_number;
 use histar_base::Bytes;
@@ -125,7 +124,7 @@ pub fn add_child(
     container: ObjId,
     segment: ObjId,
 ) -> Result<Bytes, AllocError>
-    requires { (status : ProcessStatus) → status_in bytes.now ≡ Some status → status.born < most_children }
+    requires { HasRoomForChild bytes.now }
     ensures { IfOk result (IsChanged (with_child container segment) bytes.now) }
 {
     let Some((head, children)) = split_status(bytes) else {
@@ -278,7 +277,7 @@ fn push_child(out: &mut Vec<u8>, child: Child) -> Result<(), AllocError>
 
 // Writes the children of other numbers at the end, as they stand in the bytes.
 fn push_others(out: &mut Vec<u8>, children: &[u8], number: u8) -> Result<(), AllocError>
-    ensures { (those : List Child) → children.now ≡ flat_map child_bytes those → OnOk result (out.new.items ≡ out.old.items ++ flat_map child_bytes (others number those)) }
+    ensures { OnOk result (AppendsOthers number children.now out.old.items out.new.items) }
 {
     let mut rest = children;
     'children: while let Some((child, after)) = rest.split_first_chunk::<CHILD_LEN>() {

@@ -1,8 +1,8 @@
 //! The objects of a child.
 ghost use Rattle.std.specs.Prelude.{◌≡◌, [], ◌∷◌, ◌++◌, ◌<◌, Some, IfOk};
 ghost use Rattle.histar_rules.specs.declared.raw.RawCall.TheVariants as calls;
-ghost use Rattle.histar_layout.specs.Status.{ProcessStatus, started, status_bytes, status_in, with_child};
-ghost use Rattle.histar_flat.specs.Words.{most_children};
+ghost use Rattle.histar_layout.specs.Status.{started, status_bytes};
+ghost use Rattle.histar_layout.specs.StatusParts.{HasRoomForChild};
 ghost use Rattle.histar_calls.specs.Labelling.{guarded_by, owning, cleared_at};
 ghost use Rattle.histar_calls.specs.Parts.{ask};
 ghost use Rattle.histar_calls.specs.Programs.{RunsPart};
@@ -28,8 +28,8 @@ pub fn give_birth<S: LabelStore + Drop>(
     owned: &[Category],
     jobs: &[Category],
 ) -> Result<(), Ending>
-    requires { (status : ProcessStatus) → status_in bytes.now ≡ Some status → status.born < most_children }
-    ensures { (status : ProcessStatus) → status_in bytes.now ≡ Some status → RunsBirth parent.now status owned.now jobs.now kernel.old kernel.new thread result }
+    requires { HasRoomForChild bytes.now }
+    ensures { RunsBirth parent.now bytes.now owned.now jobs.now kernel.old kernel.new thread result }
 {
     let (read, write) = make_categories(kernel, thread)?;
     let (container, internal) = make_containers(
