@@ -1,11 +1,11 @@
 //! Groups of users.
-ghost use Rattle.std.specs.Prelude.{◌≡◌};
-ghost use Rattle.histar_flat.specs.Sessions.{has};
+ghost use Rattle.std.specs.Prelude.{◌≡◌, ◌≤◌, length};
+ghost use Rattle.histar_flat.specs.Sessions.{has, most_members};
 
 use crate::names::Name;
 use std::marker::Model;
 
-/// A group of users. Contracts see it as its name and the list of its members' names.
+/// A group of at most 16 users. Contracts see it as its name and the list of its members' names.
 #[derive(Drop)]
 pub struct Group {
     name: Name,
@@ -13,16 +13,20 @@ pub struct Group {
 }
 
 impl Model for Group {
-    ghost use Rattle.histar_flat.specs.Sessions.{Group};
+    ghost use Rattle.std.specs.Prelude.{◌≤◌, length};
+    ghost use Rattle.histar_flat.specs.Sessions.{Group, most_members};
 
     ghost Value = { Group };
 
     ghost view = { λ g. record { name = g.name; members = g.members.items } };
+
+    ghost invariant = { λ g. length g.members.items ≤ most_members };
 }
 
 impl Group {
     /// The group of this name, which has these members.
     pub fn new(name: Name, members: Vec<Name>) -> Group
+        requires { length members.items ≤ most_members }
         ensures { result ≡ record { name = name; members = members.items } }
     {
         Group { name, members }
@@ -36,7 +40,8 @@ impl Group {
 
     /// The names of the members, in the order in which they were declared.
     pub fn members(&self) -> &[Name]
-        ensures { result.now ≡ self.now.members }
+        ensures members { result.now ≡ self.now.members }
+        ensures few { length self.now.members ≤ most_members }
     {
         self.members.as_slice()
     }

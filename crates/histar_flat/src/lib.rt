@@ -11,6 +11,7 @@ mod paths;
 mod processes;
 mod readers;
 mod replies;
+mod sessions;
 mod words;
 
 pub use calls::{CallLine, Mode, UnixCall, User};
@@ -23,3 +24,4 @@ pub use readers::{
     split_at_first,
 };
 pub use replies::{Errno, FileMode, Listing, Reply, Stat};
+pub use sessions::Session;

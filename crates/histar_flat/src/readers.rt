@@ -3,7 +3,7 @@ ghost use Rattle.std.specs.Prelude.{◌≡◌, ◌<◌, [], IsTrue};
 ghost use Rattle.std.specs.List.{list_all};
 ghost use Rattle.std.specs.Option.{option_copied};
 ghost use Rattle.histar_flat.specs.Digits.{number_by_digits, digit_count as count, is_digit as digit, is_first_digit as first_digit};
-ghost use Rattle.histar_flat.specs.Modes.{mode_of};
+ghost use Rattle.histar_flat.specs.Modes.{group_mode_of, mode_of};
 ghost use Rattle.histar_flat.specs.Words.{most_names, path_from, split_at_first as split, name_of, user_name_of, password_of, path_of, number_of, status_of, most_numbers, process_from, process_of, is_child_number as child_number, is_name_byte as name_byte, is_dots as dots, is_letter as letter, begins_with_letter as letter_first, is_name as name, is_user_name as user_name, is_password_byte as password_byte, is_password as password};
 
 use crate::calls::Mode;
@@ -160,7 +160,7 @@ fn read_number(text: &[u8]) -> Option<u16>
     }
 }
 
-/// The mode that the bytes name: `private`, `readable` or `open`.
+/// The mode that the bytes name: `private`, `readable`, `open`, or `group:NAME`, where the name has the form of a user's.
 pub fn read_mode(text: &[u8]) -> Option<Mode>
     ensures { result ≡ mode_of text.now }
 {
@@ -171,8 +171,20 @@ pub fn read_mode(text: &[u8]) -> Option<Mode>
     } else if text == b"open".as_slice() {
         Some(Mode::Open)
     } else {
-        None
+        read_group_mode(text)
     }
+}
+
+/// The mode of a group that the bytes name.
+#[tactic(auto, unfolding(crate::specs::Modes::group_mode_of))]
+fn read_group_mode(text: &[u8]) -> Option<Mode>
+    ensures { result ≡ group_mode_of text.now }
+{
+    let (word, name) = split_at_first(text, b':');
+    if word != b"group".as_slice() {
+        return None;
+    }
+    Some(Mode::Group(read_user_name(name?)?))
 }
 
 #[tactic(auto, unfolding(crate::specs::Words::is_name))]
