@@ -1,5 +1,6 @@
 pub mod LabellingLemmas
-pub mod Owners
+pub mod OneUser
+pub mod OwnersOf
 pub mod UserOf
 pub mod Running
 pub mod Directories

@@ -4,7 +4,6 @@ use Rattle.std.specs.Prelude.{◌==◌}
 use Rattle.std.specs.FinMap as map
 use Rattle.histar_flat.specs.Words.{Path}
 use Rattle.histar_flat.specs.declared.calls.Mode.{Mode}
-use Rattle.histar_flat.specs.declared.calls.User.{User}
 use Rattle.histar_rules.specs.declared.raw.Denied.{Denied}
 use Rattle.histar_rules.specs.declared.raw.Denied.TheVariants.{Observe, Modify, Range, Gate, NoEntry, NoThread, BadKind, TooBig}
 use Rattle.histar_rules.specs.declared.raw.RawCall.{RawCall}
@@ -14,6 +13,7 @@ use Rattle.histar_layout.specs.Directory.{Entries, most_entries}
 use Rattle.histar_layout.specs.Listing.{is_directory, object_of}
 use Rattle.histar_layout.specs.declared.entry.Target.{Target}
 use Rattle.histar_layout.specs.declared.entry.Target.TheVariants as targets
+use Rattle.histar_flat.specs.Sessions.{Session}
 use Rattle.histar_calls.specs.declared.places.Place.{Place}
 use Rattle.histar_calls.specs.declared.places.Places.{Places}
 use Rattle.histar_calls.specs.declared.directory.Directory.{Directory}
@@ -138,25 +138,25 @@ write_program_tells : (places : Places) (path : Path) (bytes : List ℕ) → Tel
 unfolding write_program
 write_program_tells places path bytes = file_tells places path _ (λ file. ((λ done. (refl, refl)), told_of_write))
 
-create_program_tells : (places : Places) (path : Path) (mode : Mode) → TellsRefusals (create_program places path mode)
+create_program_tells : (session : Session) (places : Places) (path : Path) (mode : Mode) → TellsRefusals (create_program session places path mode)
 unfolding create_program
-create_program_tells places path mode = room_tells places path _ (λ room. ((λ own. ((λ file. ((λ done. (refl, refl)), told_of_write)), told)), told))
+create_program_tells session places path mode = room_tells places path _ (λ room. ((λ own. ((λ file. ((λ done. (refl, refl)), told_of_write)), told)), told))
 
 append_program_tells : (places : Places) (path : Path) (bytes : List ℕ) → TellsRefusals (append_program places path bytes)
 unfolding append_program
 append_program_tells places path bytes = file_tells places path _ (λ file. ((λ done. (refl, refl)), told_of_write))
 
-mkdir_program_tells : (places : Places) (path : Path) (mode : Mode) → TellsRefusals (mkdir_program places path mode)
+mkdir_program_tells : (session : Session) (places : Places) (path : Path) (mode : Mode) → TellsRefusals (mkdir_program session places path mode)
 unfolding mkdir_program
-mkdir_program_tells places path mode = room_tells places path _ (λ room. ((λ own. ((λ container. ((λ listing. ((λ done. (refl, refl)), told_of_write)), told)), told)), told))
+mkdir_program_tells session places path mode = room_tells places path _ (λ room. ((λ own. ((λ container. ((λ listing. ((λ done. (refl, refl)), told_of_write)), told)), told)), told))
 
 list_program_tells : (places : Places) (path : Path) → TellsRefusals (list_program places path)
 unfolding list_program
 list_program_tells places path = walk_tells places path _ (λ directory. (refl, refl))
 
-stat_program_tells : (users : List User) (places : Places) (path : Path) → TellsRefusals (stat_program users places path)
+stat_program_tells : (session : Session) (places : Places) (path : Path) → TellsRefusals (stat_program session places path)
 unfolding stat_program
-stat_program_tells users places path = object_tells places path _ (λ object. ((λ label. class_tells object.is_directory (class_of users label)), told))
+stat_program_tells session places path = object_tells places path _ (λ object. ((λ label. class_tells object.is_directory (class_of session label)), told))
 
 -- the programs of the calls tell their refusals
 pub calls_tell_refusals : CallsTellRefusals

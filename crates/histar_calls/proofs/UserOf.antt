@@ -1,10 +1,11 @@
 -- The user of a label is the first one whose read category it owns.
 use Rattle.std.specs.Prelude.{IfOk}
-use Rattle.std.proofs.Common.{Result, Ok, Err, ◌≡◌, ℕ, zero, suc, ◌+◌, ◌<◌, ◌≤◌, ◌⊎◌, inl, inr, Bool, true, false, refl, sym, ap, ◌∙◌, arith, if◌then◌else◌}
+use Rattle.std.proofs.Common.{Result, Ok, Err, ◌≡◌, ℕ, zero, suc, ◌+◌, ◌<◌, ◌≤◌, ◌⊎◌, inl, inr, Bool, true, false, refl, sym, ap, ◌∙◌, arith, length, if◌then◌else◌}
 use Rattle.std.proofs.lemmas.Bool.{cases_lt}
 use mathlib.Core.Bool.{true≢false}
 use Rattle.histar_label.specs.Levels.{Levels}
 use Rattle.histar_flat.specs.declared.calls.Mode.{Mode}
+use Rattle.histar_flat.specs.Sessions.{Session}
 use Rattle.histar_calls.specs.Categories.{IsUserOf, owns, owner_from, user_of, file_label, label_made}
 
 by_case : (x k user : ℕ) (b c : Bool) → (c ≡ true → k ≡ user) → (c ≡ false → x ≡ user) → c ≡ b → (if b then k else x) ≡ user
@@ -45,6 +46,7 @@ module _ (own : Levels) (users user : ℕ) (is : IsUserOf own users user) where
   user_is = from users 1 (omega arith) (omega arith) (elim (cases_lt 0 user) [ inl less ↦ inr less | inr none ↦ inl (omega arith) ])
 
 -- a label that is that of a file of the thread's user is the one that is made
-pub made_as : {E : Type 0} (result : Result Levels E) (own made : Levels) (users user : ℕ) (mode : Mode) → IsUserOf own users user → made ≡ file_label mode user → IfOk result (λ v. v ≡ made) → IfOk result (λ label. label ≡ label_made users own mode)
-made_as (Ok label) own made users user mode is same right = right ∙ same ∙ ap (file_label mode) (sym (user_is own users user is))
-made_as (Err error) own made users user mode is same right = right
+pub made_as : {E : Type 0} (result : Result Levels E) (own made : Levels) (session : Session) (user : ℕ) (mode : Mode) → IsUserOf own (length session.users) user → made ≡ file_label session mode user
+    → IfOk result (λ v. v ≡ made) → IfOk result (λ label. label ≡ label_made session own mode)
+made_as (Ok label) own made session user mode is same right = right ∙ same ∙ ap (file_label session mode) (sym (user_is own (length session.users) user is))
+made_as (Err error) own made session user mode is same right = right

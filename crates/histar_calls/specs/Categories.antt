@@ -1,19 +1,33 @@
 -- The categories of users, the user of a thread, and the labels of files.
-use Rattle.std.specs.Prelude.{◌≡◌, ℕ, zero, suc, ◌+◌, ◌*◌, ◌<◌, ◌≤◌, Bool, true, false, if◌then◌else◌}
+use Rattle.std.specs.Prelude.{◌≡◌, ℕ, zero, suc, ◌+◌, ◌*◌, ◌<◌, ◌≤◌, Bool, true, false, List, ◌∷◌, length, map, None, Some, if◌then◌else◌}
 use Rattle.histar_flat.specs.declared.calls.Mode.{Mode}
 use Rattle.histar_flat.specs.declared.calls.Mode.TheVariants.{Private, Readable, Open, Group}
+use Rattle.histar_flat.specs.Words.{Name}
+use Rattle.histar_flat.specs.Sessions.{Session, group_number, groups_of}
 use Rattle.histar_label.specs.Level.{is_star}
 use Rattle.histar_label.specs.declared.levels.Level.TheVariants.{L1}
 use Rattle.histar_label.specs.Levels.{Levels, constant, level_of}
 use Rattle.histar_calls.specs.Labelling.{written_by, secret_of}
 
--- boot makes two categories for nobody, who is number 0, and two for each user in turn; this is the first of them
+-- boot makes two categories for nobody, who is number 0, two for each user in turn, and then two for each group; this is the first of them
 abbrev pub read_category : ℕ → ℕ
 read_category user = 2 + 2 * user
 
 -- and this the second
 abbrev pub write_category : ℕ → ℕ
 write_category user = 3 + 2 * user
+
+-- the number by which the categories of group k go, where there are so many users: groups are numbered on behind the users
+abbrev pub group_owner : ℕ → ℕ → ℕ
+group_owner users k = users + k
+
+-- the number by which the categories of the group of this name go; where there is none it is nobody's
+abbrev pub owner_of_group : Session → Name → ℕ
+owner_of_group session group = elim (group_number session group) [ None ↦ 0 | Some k ↦ group_owner (length session.users) k ]
+
+-- the numbers by which the categories go that the user i of this name owns: its own, and those of the groups that it is a member of
+abbrev pub owners_of : Session → ℕ → Name → List ℕ
+owners_of session i name = i ∷ map (group_owner (length session.users)) (groups_of session name)
 
 -- a label owns the read category of a user
 abbrev pub owns : Levels → ℕ → Bool
@@ -27,12 +41,13 @@ pub record IsUserOf (own : Levels) (users user : ℕ) : Type 0 where
   pub known : user ≤ users
 
 -- The label of a file that a user makes: everyone may read a readable one, and its owner alone a private one, and its owner alone
--- writes both; everyone may read and write an open one. No line can name a group yet: a file for one has nobody's categories.
-abbrev pub file_label : Mode → ℕ → Levels
-file_label Readable user = written_by (write_category user)
-file_label Private user = secret_of (read_category user) (write_category user)
-file_label Open user = constant L1
-file_label (Group name) user = secret_of (read_category 0) (write_category 0)
+-- writes both; everyone may read and write an open one, and the members of a group what is the group's. What is for a group that
+-- is not declared has nobody's categories.
+abbrev pub file_label : Session → Mode → ℕ → Levels
+file_label session Readable user = written_by (write_category user)
+file_label session Private user = secret_of (read_category user) (write_category user)
+file_label session Open user = constant L1
+file_label session (Group name) user = secret_of (read_category (owner_of_group session name)) (write_category (owner_of_group session name))
 
 -- the first of n users from k on whose read category the label owns, or nobody
 abbrev pub owner_from : Levels → ℕ → ℕ → ℕ
@@ -43,6 +58,6 @@ owner_from own k (suc n) = if owns own k then k else owner_from own (suc k) n
 unfoldable pub user_of : Levels → ℕ → ℕ
 user_of own users = owner_from own 1 users
 
--- the label of a file that a thread of this label makes, where there are so many users: it is a file of the thread's user
-abbrev pub label_made : ℕ → Levels → Mode → Levels
-label_made users own mode = file_label mode (user_of own users)
+-- the label of a file that a thread of this label makes: it is a file of the thread's user
+abbrev pub label_made : Session → Levels → Mode → Levels
+label_made session own mode = file_label session mode (user_of own (length session.users))

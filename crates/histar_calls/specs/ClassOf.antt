@@ -1,6 +1,7 @@
 -- The class that a label tells.
 use Rattle.std.specs.Prelude.{ℕ, ◌+◌, Bool, true, false, ◌&&◌, List, [], ◌∷◌, Option, None, Some, if◌then◌else◌}
 use Rattle.histar_flat.specs.Words.{Name}
+use Rattle.histar_flat.specs.Sessions.{Group, Session}
 use Rattle.histar_flat.specs.declared.calls.User.{User}
 use Rattle.histar_flat.specs.declared.replies.FileMode.{FileMode}
 use Rattle.histar_flat.specs.declared.replies.FileMode.TheVariants as modes
@@ -10,6 +11,7 @@ use Rattle.histar_label.specs.declared.levels.Level.TheVariants.{L0, L1, L3}
 use Rattle.histar_label.specs.Levels.{Levels, level_of, default_of, exceptions_of}
 use Rattle.histar_calls.specs.Categories.{read_category, write_category}
 use Rattle.histar_calls.specs.declared.class.Class.{Class}
+use Rattle.histar_calls.specs.declared.class.Class.TheVariants as classes
 use Rattle.histar_calls.specs.declared.class.Class.TheVariants.{Private, Readable, Open, Scratch}
 
 -- what the levels at a user's two categories tell
@@ -19,12 +21,17 @@ class_at owner L1 L0 = Some (Readable owner)
 class_at owner L3 L1 = Some (Scratch owner)
 class_at owner read write = None
 
+-- what the levels at a group's two categories tell
+abbrev pub group_class_at : Name → Level → Level → Option Class
+group_class_at group L3 L0 = Some (classes.Group group)
+group_class_at group read write = None
+
 -- the level that labels of files have at the categories that they don't name
 abbrev pub is_plain : Level → Bool
 is_plain L1 = true
 is_plain level = false
 
--- the label names neither category of the user of this number
+-- the label names neither category of the user or the group of this number
 abbrev pub is_unnamed : Levels → ℕ → Bool
 is_unnamed label user = is_plain (level_of label (read_category user)) && is_plain (level_of label (write_category user))
 
@@ -32,17 +39,24 @@ is_unnamed label user = is_plain (level_of label (read_category user)) && is_pla
 abbrev pub is_all_plain : Levels → Bool
 is_all_plain label = elim (exceptions_of label) [ [] ↦ is_plain (default_of label) | e ∷ es ↦ false ]
 
--- The class that a label tells, of the users from number k on: of the first whose categories it names. Where it names none of them
--- it is open if it is `{1}`, and else no class's.
-abbrev pub class_from : Levels → ℕ → List User → Option Class
-class_from label k [] = if is_all_plain label then Some Open else None
-class_from label k (user ∷ users) =
-    if is_unnamed label k then class_from label (k + 1) users
+-- The class that a label tells, of the groups whose categories go by the numbers from k on: of the first whose categories it names.
+-- Where it names none of them it is open if it is `{1}`, and else no class's.
+abbrev pub group_class_from : Levels → ℕ → List Group → Option Class
+group_class_from label k [] = if is_all_plain label then Some Open else None
+group_class_from label k (group ∷ groups) =
+    if is_unnamed label k then group_class_from label (k + 1) groups
+    else group_class_at group.name (level_of label (read_category k)) (level_of label (write_category k))
+
+-- the class that a label tells, of the users from number k on, and of these groups where it names none of them
+abbrev pub class_from : Levels → ℕ → List Group → List User → Option Class
+class_from label k groups [] = group_class_from label k groups
+class_from label k groups (user ∷ users) =
+    if is_unnamed label k then class_from label (k + 1) groups users
     else class_at user.name (level_of label (read_category k)) (level_of label (write_category k))
 
 -- the class that a label tells
-unfoldable pub class_of : List User → Levels → Option Class
-class_of users label = class_from label 1 users
+unfoldable pub class_of : Session → Levels → Option Class
+class_of session label = class_from label 1 session.groups session.users
 
 -- the owner of what is of a class, if it has one
 abbrev pub owner_of : Class → Option Name
@@ -50,6 +64,7 @@ owner_of (Private owner) = Some owner
 owner_of (Readable owner) = Some owner
 owner_of Open = None
 owner_of (Scratch owner) = Some owner
+owner_of (classes.Group group) = None
 
 -- the mode of what is of a class
 abbrev pub mode_of : Class → FileMode
@@ -57,6 +72,7 @@ mode_of (Private owner) = modes.Private
 mode_of (Readable owner) = modes.Readable
 mode_of Open = modes.Open
 mode_of (Scratch owner) = modes.Scratch
+mode_of (classes.Group group) = modes.Group group
 
 -- what is told of what is of a class
 abbrev pub stat_of : Class → Bool → Stat

@@ -2,7 +2,7 @@
 use Rattle.std.specs.Prelude.{◌≡◌, ℕ, true, false, Option, Some, Ok, Err, List}
 use Rattle.histar_flat.specs.Words.{Path}
 use Rattle.histar_flat.specs.declared.calls.Mode.{Mode}
-use Rattle.histar_flat.specs.declared.calls.User.{User}
+use Rattle.histar_flat.specs.Sessions.{Session}
 use Rattle.histar_flat.specs.declared.replies.Reply.{Reply}
 use Rattle.histar_rules.specs.declared.raw.Denied.{Denied}
 use Rattle.histar_layout.specs.Directory.{Entries}
@@ -45,8 +45,8 @@ RefusalsAreTold = (program : Program) → TellsRefusals program → (old new : K
 pub record CallsTellRefusals : Type 0 where
   pub read : (places : Places) (path : Path) → TellsRefusals (read_program places path)
   pub write : (places : Places) (path : Path) (bytes : List ℕ) → TellsRefusals (write_program places path bytes)
-  pub create : (places : Places) (path : Path) (mode : Mode) → TellsRefusals (create_program places path mode)
+  pub create : (session : Session) (places : Places) (path : Path) (mode : Mode) → TellsRefusals (create_program session places path mode)
   pub append : (places : Places) (path : Path) (bytes : List ℕ) → TellsRefusals (append_program places path bytes)
-  pub mkdir : (places : Places) (path : Path) (mode : Mode) → TellsRefusals (mkdir_program places path mode)
+  pub mkdir : (session : Session) (places : Places) (path : Path) (mode : Mode) → TellsRefusals (mkdir_program session places path mode)
   pub list : (places : Places) (path : Path) → TellsRefusals (list_program places path)
-  pub stat : (users : List User) (places : Places) (path : Path) → TellsRefusals (stat_program users places path)
+  pub stat : (session : Session) (places : Places) (path : Path) → TellsRefusals (stat_program session places path)

@@ -1,7 +1,7 @@
 -- The program of `stat PATH`.
-use Rattle.std.specs.Prelude.{Bool, true, List, [], ◌∷◌, Option, None, Some}
+use Rattle.std.specs.Prelude.{Bool, true, [], ◌∷◌, Option, None, Some}
 use Rattle.histar_flat.specs.Words.{Path}
-use Rattle.histar_flat.specs.declared.calls.User.{User}
+use Rattle.histar_flat.specs.Sessions.{Session}
 use Rattle.histar_flat.specs.declared.replies.Reply.TheVariants.{Stats}
 use Rattle.histar_rules.specs.Sound.{root_number}
 use Rattle.histar_rules.specs.declared.raw.RawCall.TheVariants.{LabelOf}
@@ -29,8 +29,8 @@ told is_directory None = Stops
 told is_directory (Some class) = Answers (Stats (stat_of class is_directory))
 
 -- the object is found, and its label is asked for, which tells the class
-unfoldable pub stat_program : List User → Places → Path → Program
-stat_program users places path = do
+unfoldable pub stat_program : Session → Places → Path → Program
+stat_program session places path = do
   object ← find_object places path
   label ← ask (LabelOf object.container object.object)
-  told object.is_directory (class_of users label)
+  told object.is_directory (class_of session label)

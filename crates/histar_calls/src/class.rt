@@ -1,13 +1,13 @@
 //! Whose a file or a directory is, and for whom, as its label tells.
-ghost use Rattle.std.specs.Prelude.{◌≡◌, ◌≤◌, ◌&&◌, length};
-ghost use Rattle.histar_calls.specs.ClassOf.{class_at, class_of, is_all_plain, is_plain, stat_of};
+ghost use Rattle.std.specs.Prelude.{◌≡◌, ◌+◌, ◌&&◌, length};
+ghost use Rattle.histar_calls.specs.ClassOf.{class_at, class_of, group_class_at, group_class_from, is_all_plain, is_plain, stat_of};
 
+use crate::owners::group_owner;
 use crate::places::{read_category, write_category};
-use histar_flat::{FileMode, Name, Stat, User};
+use histar_flat::{FileMode, Name, Session, Stat};
 use histar_label::{Label, Level};
 
-/// Whose a file or a directory is, and for whom, as its label tells. What is a group's is of no class
-/// here, as no script declares a group.
+/// Whose a file or a directory is, and for whom, as its label tells.
 #[derive(Clone, Copy)]
 pub enum Class {
     /// For its owner alone.
@@ -18,6 +18,8 @@ pub enum Class {
     Open,
     /// For its owner in jobs.
     Scratch(Name),
+    /// For the members of a group.
+    Group(Name),
 }
 
 impl Class {
@@ -30,6 +32,7 @@ impl Class {
             Class::Readable(owner) => (Some(owner), FileMode::Readable),
             Class::Open => (None, FileMode::Open),
             Class::Scratch(owner) => (Some(owner), FileMode::Scratch),
+            Class::Group(group) => (None, FileMode::Group(group)),
         };
         Stat {
             is_directory,
@@ -51,6 +54,16 @@ fn class_at(owner: Name, read: Level, write: Level) -> Option<Class>
     }
 }
 
+/// The class that the levels at a group's two categories tell.
+fn group_class_at(group: Name, read: Level, write: Level) -> Option<Class>
+    ensures { result ≡ group_class_at group read write }
+{
+    match (read, write) {
+        (Level::L3, Level::L0) => Some(Class::Group(group)),
+        _ => None,
+    }
+}
+
 /// Whether it is the level that labels of files have at the categories that they don't name.
 fn is_plain(level: Level) -> bool
     ensures { result ≡ is_plain level }
@@ -58,7 +71,7 @@ fn is_plain(level: Level) -> bool
     matches!(level, Level::L1)
 }
 
-/// Whether these are the levels at the two categories of a user whom a label doesn't name.
+/// Whether these are the levels at the two categories of a user or a group that a label doesn't name.
 fn are_plain(read: Level, write: Level) -> bool
     ensures { result ≡ (is_plain read && is_plain write) }
 {
@@ -72,18 +85,34 @@ fn is_all_plain(label: &Label) -> bool
     label.exceptions().is_empty() && is_plain(label.default_level())
 }
 
-/// The class of what has this label: that of the first user whose categories the label names. Where it
-/// names no user's it is open to everyone, if it names no category at all, and else of no class.
-pub fn class_of(label: &Label, users: &[User]) -> Option<Class>
-    requires { length users.now ≤ 16 }
-    ensures { result ≡ class_of users.now label.now }
+/// The class of what has this label: that of the first user or group whose categories the label names.
+/// Where it names none's it is open to everyone, if it names no category at all, and else of no class.
+pub fn class_of(label: &Label, session: &Session) -> Option<Class>
+    ensures { result ≡ class_of session.now label.now }
 {
+    let users = session.users();
     for (place, user) in users.iter().enumerate() {
         let number = place as u8 + 1;
         let read = label.get(read_category(number));
         let write = label.get(write_category(number));
         if !are_plain(read, write) {
             return class_at(user.name, read, write);
+        }
+    }
+    group_class_of(label, session)
+}
+
+/// The class of what has this label, which names no user's category.
+fn group_class_of(label: &Label, session: &Session) -> Option<Class>
+    ensures { result ≡ group_class_from label.now (length session.now.users + 1) session.now.groups }
+{
+    let groups = session.groups();
+    for (place, group) in groups.iter().enumerate() {
+        let number = group_owner(session, place as u8 + 1);
+        let read = label.get(read_category(number));
+        let write = label.get(write_category(number));
+        if !are_plain(read, write) {
+            return group_class_at(group.name(), read, write);
         }
     }
     if is_all_plain(label) {

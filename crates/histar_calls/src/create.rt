@@ -9,7 +9,7 @@ use crate::find::{Room, find_room};
 use crate::labels::label_made;
 use crate::places::Places;
 use histar_base::Bytes;
-use histar_flat::{Mode, Path, Reply};
+use histar_flat::{Mode, Path, Reply, Session};
 use histar_label::LabelStore;
 use histar_layout::Target;
 use histar_object::ObjId;
@@ -19,29 +19,31 @@ use std::alloc::Global;
 /// Makes an empty file. EEXIST where the path is `/`, ENOENT or ENOTDIR where the way to it breaks off,
 /// EEXIST where something stands there, ENOSPC at 64 entries, EACCES where the kernel doesn't let the
 /// thread observe a directory on the way or modify the last one, EPERM where it doesn't let it make a
-/// file of this mode.
+/// file of this mode, as for a group that the process's user is no member of.
 pub fn create<S: LabelStore + Drop>(
     kernel: &mut Kernel<S>,
     alloc: Global,
     places: &Places,
+    session: &Session,
     thread: ObjId,
     path: &Path,
     mode: Mode,
 ) -> Result<Reply, Stopped>
-    ensures { Runs (create_program places.now path.now mode) kernel.old kernel.new thread result }
+    ensures { Runs (create_program session.now places.now path.now mode) kernel.old kernel.new thread result }
 {
-    settle(create_file(kernel, alloc, places, thread, path, mode))
+    settle(create_file(kernel, alloc, places, session, thread, path, mode))
 }
 
 fn create_file<S: LabelStore + Drop>(
     kernel: &mut Kernel<S>,
     alloc: Global,
     places: &Places,
+    session: &Session,
     thread: ObjId,
     path: &Path,
     mode: Mode,
 ) -> Result<Reply, Ending>
-    ensures { Runs (create_program places.now path.now mode) kernel.old kernel.new thread (settled result) }
+    ensures { Runs (create_program session.now places.now path.now mode) kernel.old kernel.new thread (settled result) }
 {
     let Room {
         place,
@@ -49,7 +51,7 @@ fn create_file<S: LabelStore + Drop>(
         name,
     } = find_room(kernel, alloc, places, thread, path)?;
     let (own, _) = kernel.own_label(thread)?;
-    let label = label_made(alloc, &own, places.users, mode)?;
+    let label = label_made(alloc, &own, session, mode)?;
     let empty = Bytes::new(alloc);
     let file = kernel.make_segment(alloc, thread, place.container, label, empty)?;
     entries.insert(name, Target::File(file))?;

@@ -1,15 +1,13 @@
 //! Labels by their exceptions, and the labels of files.
-ghost use Rattle.std.specs.Prelude.{◌≡◌, ℕ, IfOk};
-ghost use Rattle.histar_calls.specs.Categories.{IsUserOf, label_made};
-ghost use Rattle.histar_calls.specs.Labelling.{cleared_at, each_at, guarded_by, labelled, owning, with_levels};
+ghost use Rattle.std.specs.Prelude.{◌≡◌, ℕ, IfOk, length};
+ghost use Rattle.histar_calls.specs.Categories.{IsUserOf, label_made, read_category, write_category};
+ghost use Rattle.histar_calls.specs.Labelling.{cleared_at, each_at, guarded_by, labelled, owning, secret_of, with_levels};
 
+use crate::owners::owner_of_group;
 use crate::places::{read_category, write_category};
-use histar_flat::Mode;
+use histar_flat::{Mode, Session};
 use histar_label::{Category, Label, Level};
 use std::alloc::{AllocError, Global};
-
-/// The number of nobody, whose categories no thread owns.
-const NOBODY: u8 = 0;
 
 /// A label with one level for all categories but for a few.
 pub fn label_of(
@@ -66,9 +64,10 @@ fn with_each(label: Label, level: Level, categories: &[Category]) -> Result<Labe
 
 /// The number of the user whose read category a thread owns by its label: 0, nobody's, where it owns
 /// none. That it is the thread's user is read off its label alone, as the kernel does.
-pub fn user_of(own: &Label, users: u8) -> u8
-    ensures { IsUserOf own.now users result }
+pub fn user_of(own: &Label, session: &Session) -> u8
+    ensures { IsUserOf own.now (length session.now.users) result }
 {
+    let users = session.users().len() as u8;
     for before in 0..users {
         if own.get(read_category(before + 1)).is_star() {
             return before + 1;
@@ -77,24 +76,29 @@ pub fn user_of(own: &Label, users: u8) -> u8
     0
 }
 
-/// The label of a file that a thread of this label makes. Nobody's categories are owned by no
-/// thread, so nobody may make no file with them.
-pub fn label_made(alloc: Global, own: &Label, users: u8, mode: Mode) -> Result<Label, AllocError>
-    ensures { IfOk result (λ label. label ≡ label_made users own.now mode) }
+/// The label of what one user or group alone reads and writes.
+fn secret_of(alloc: Global, owner: u8) -> Result<Label, AllocError>
+    ensures { IfOk result (λ label. label ≡ secret_of (read_category owner) (write_category owner)) }
 {
-    let user = user_of(own, users);
-    let (read, write) = (read_category(user), write_category(user));
+    let (read, write) = (read_category(owner), write_category(owner));
+    label_of(alloc, Level::L1, &[(read, Level::L3), (write, Level::L0)])
+}
+
+/// The label of a file that a thread of this label makes. Nobody's categories are owned by no thread, so
+/// nobody may make no file with them, and nobody makes a file for a group that is not declared.
+pub fn label_made(
+    alloc: Global,
+    own: &Label,
+    session: &Session,
+    mode: Mode,
+) -> Result<Label, AllocError>
+    ensures { IfOk result (λ label. label ≡ label_made session.now own.now mode) }
+{
+    let user = user_of(own, session);
     match mode {
-        Mode::Readable => label_of(alloc, Level::L1, &[(write, Level::L0)]),
-        Mode::Private => label_of(alloc, Level::L1, &[(read, Level::L3), (write, Level::L0)]),
+        Mode::Readable => label_of(alloc, Level::L1, &[(write_category(user), Level::L0)]),
+        Mode::Private => secret_of(alloc, user),
         Mode::Open => label_of(alloc, Level::L1, &[]),
-        Mode::Group(_) => label_of(
-            alloc,
-            Level::L1,
-            &[
-                (read_category(NOBODY), Level::L3),
-                (write_category(NOBODY), Level::L0),
-            ],
-        ),
+        Mode::Group(name) => secret_of(alloc, owner_of_group(session, name)),
     }
 }

@@ -9,7 +9,7 @@ use crate::find::{Room, find_room};
 use crate::labels::label_made;
 use crate::places::Places;
 use histar_base::Bytes;
-use histar_flat::{Mode, Path, Reply};
+use histar_flat::{Mode, Path, Reply, Session};
 use histar_label::LabelStore;
 use histar_layout::Target;
 use histar_object::ObjId;
@@ -22,24 +22,26 @@ pub fn mkdir<S: LabelStore + Drop>(
     kernel: &mut Kernel<S>,
     alloc: Global,
     places: &Places,
+    session: &Session,
     thread: ObjId,
     path: &Path,
     mode: Mode,
 ) -> Result<Reply, Stopped>
-    ensures { Runs (mkdir_program places.now path.now mode) kernel.old kernel.new thread result }
+    ensures { Runs (mkdir_program session.now places.now path.now mode) kernel.old kernel.new thread result }
 {
-    settle(make_directory(kernel, alloc, places, thread, path, mode))
+    settle(make_directory(kernel, alloc, places, session, thread, path, mode))
 }
 
 fn make_directory<S: LabelStore + Drop>(
     kernel: &mut Kernel<S>,
     alloc: Global,
     places: &Places,
+    session: &Session,
     thread: ObjId,
     path: &Path,
     mode: Mode,
 ) -> Result<Reply, Ending>
-    ensures { Runs (mkdir_program places.now path.now mode) kernel.old kernel.new thread (settled result) }
+    ensures { Runs (mkdir_program session.now places.now path.now mode) kernel.old kernel.new thread (settled result) }
 {
     let Room {
         place,
@@ -47,7 +49,7 @@ fn make_directory<S: LabelStore + Drop>(
         name,
     } = find_room(kernel, alloc, places, thread, path)?;
     let (own, _) = kernel.own_label(thread)?;
-    let label = label_made(alloc, &own, places.users, mode)?;
+    let label = label_made(alloc, &own, session, mode)?;
     let same = label.copy()?;
     let container = kernel.make_container(alloc, thread, place.container, label)?;
     let empty = Bytes::new(alloc);

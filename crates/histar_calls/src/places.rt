@@ -24,25 +24,23 @@ pub struct Home {
     pub segment: ObjId,
 }
 
-/// Where the calls of the Unix library find `/` and process 0, and how many users there are.
+/// Where the calls of the Unix library find `/` and process 0.
 #[derive(Clone, Copy, Debug)]
 pub struct Places {
     /// The place of `/`.
     pub slash: Place,
     /// Where process 0 is found.
     pub home: Home,
-    /// How many users the machine has; they are numbered from 1 on, and nobody is number 0.
-    pub users: u8,
 }
 
-/// The category by whose level a user's files are kept from being read.
+/// The category by whose level the files of a user, or of a group, are kept from being read.
 pub fn read_category(user: u8) -> Category
     ensures { result ≡ read_category user }
 {
     Category::new(2 + 2 * u64::from(user))
 }
 
-/// The category by whose level a user's files are kept from being written.
+/// The category by whose level the files of a user, or of a group, are kept from being written.
 pub fn write_category(user: u8) -> Category
     ensures { result ≡ write_category user }
 {

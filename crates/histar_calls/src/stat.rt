@@ -1,5 +1,4 @@
 //! Asking what stands at a path, whose it is and for whom.
-ghost use Rattle.std.specs.Prelude.{◌≤◌, length};
 ghost use Rattle.histar_calls.specs.Programs.{Runs, RunsPart};
 ghost use Rattle.histar_calls.specs.Refusals.{settled};
 ghost use Rattle.histar_calls.specs.StatCall.{find_object, stat_program};
@@ -8,7 +7,7 @@ use crate::class::class_of;
 use crate::directory::{entry_at, find_place, look_in};
 use crate::ending::{Ending, Stopped, settle};
 use crate::places::Places;
-use histar_flat::{Path, Reply, User};
+use histar_flat::{Path, Reply, Session};
 use histar_label::LabelStore;
 use histar_object::ObjId;
 use histar_syscall::Kernel;
@@ -31,29 +30,27 @@ pub struct FoundObject {
 pub fn stat<S: LabelStore + Drop>(
     kernel: &mut Kernel<S>,
     places: &Places,
-    users: &[User],
+    session: &Session,
     thread: ObjId,
     path: &Path,
 ) -> Result<Reply, Stopped>
-    requires { length users.now ≤ 16 }
-    ensures { Runs (stat_program users.now places.now path.now) kernel.old kernel.new thread result }
+    ensures { Runs (stat_program session.now places.now path.now) kernel.old kernel.new thread result }
 {
-    settle(stat_object(kernel, places, users, thread, path))
+    settle(stat_object(kernel, places, session, thread, path))
 }
 
 fn stat_object<S: LabelStore + Drop>(
     kernel: &mut Kernel<S>,
     places: &Places,
-    users: &[User],
+    session: &Session,
     thread: ObjId,
     path: &Path,
 ) -> Result<Reply, Ending>
-    requires { length users.now ≤ 16 }
-    ensures { Runs (stat_program users.now places.now path.now) kernel.old kernel.new thread (settled result) }
+    ensures { Runs (stat_program session.now places.now path.now) kernel.old kernel.new thread (settled result) }
 {
     let found = find_object(kernel, places, thread, path)?;
     let label = kernel.label_of(thread, found.container, found.object)?;
-    let Some(class) = class_of(&label, users) else {
+    let Some(class) = class_of(&label, session) else {
         return Err(Ending::Stopped);
     };
     Ok(Reply::Stats(class.stat(found.is_directory)))

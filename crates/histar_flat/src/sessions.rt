@@ -1,7 +1,7 @@
 //! What a script declares.
-ghost use Rattle.std.specs.Prelude.{◌≡◌, ◌<◌, ◌≤◌, length, position, OnOk};
+ghost use Rattle.std.specs.Prelude.{◌≡◌, ◌<◌, ◌≤◌, length, position, IfSome, OnOk};
 ghost use Rattle.histar_flat.specs.PathOrder.{same};
-ghost use Rattle.histar_flat.specs.Sessions.{IsSmall, is_group, most_users, most_groups, no_session, with_user, with_group};
+ghost use Rattle.histar_flat.specs.Sessions.{IsSmall, group_number, is_group, most_users, most_groups, no_session, with_user, with_group};
 
 use crate::calls::User;
 use crate::groups::Group;
@@ -72,10 +72,29 @@ impl Session {
         Ok(())
     }
 
+    /// The number of the group of this name.
+    pub fn group_number(&self, name: Name) -> Option<u8>
+        ensures number { result ≡ group_number self.now name }
+        ensures small { IfSome result (λ number. number ≤ most_groups) }
+    {
+        match place_of(self.groups.as_slice(), name) {
+            None => None,
+            Some(place) => Some(place as u8 + 1),
+        }
+    }
+
     /// Whether a group has this name.
     pub fn has_group(&self, name: Name) -> bool
         ensures { result ≡ is_group self.now name }
     {
         self.groups.iter().any(|group| group.name() == name)
     }
+}
+
+/// The place of the group of this name.
+fn place_of(groups: &[Group], name: Name) -> Option<usize>
+    ensures place { result ≡ position (λ group. same group.name name) groups.now }
+    ensures within { IfSome result (λ place. place < length groups.now) }
+{
+    groups.iter().position(|group| group.name() == name)
 }

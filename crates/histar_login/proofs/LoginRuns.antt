@@ -7,17 +7,16 @@ use Rattle.histar_rules.specs.declared.raw.RawCall.TheVariants.{Enter, Read, Set
 use Rattle.histar_rules.specs.Sound.{root_number}
 use Rattle.histar_syscall.specs.KernelModel.{KernelModel}
 use Rattle.histar_calls.specs.declared.ending.Ending.{Ending}
-use Rattle.histar_calls.specs.Categories.{read_category, write_category}
-use Rattle.histar_calls.specs.Labelling.{owner_of, cleared_of}
 use Rattle.histar_calls.specs.Programs.{Part, RunsPart}
 use Rattle.histar_calls.specs.Parts.{ask}
+use Rattle.histar_login.specs.Start.{owners_label, owners_clearance}
 use Rattle.histar_login.specs.Login.{password_of, gate_of, entering}
 
 -- a gate that is entered by labels that were made is this one
-pub enters : (t : ℕ) (old new : KernelModel) (result : Result Entry Ending) (d o : ℕ) (wanted clearance shown : Levels) (i : ℕ) (own most given limit : Levels)
-    → d ≡ root_number → o ≡ gate_of i → given ≡ owner_of (read_category i) (write_category i) → limit ≡ cleared_of (read_category i) (write_category i)
-    → wanted ≡ floor_of own given → clearance ≡ join_of most limit → shown ≡ own → RunsPart {A = Entry} (ask (Enter d o wanted clearance shown)) old new t result → RunsPart {A = Entry} (ask (entering i own most)) old new t result
-enters t old new result d o wanted clearance shown i own most given limit root gate g l w c s runs =
+pub enters : (t : ℕ) (old new : KernelModel) (result : Result Entry Ending) (d o : ℕ) (wanted clearance shown : Levels) (owners : List ℕ) (i : ℕ) (own most given limit : Levels)
+    → d ≡ root_number → o ≡ gate_of i → given ≡ owners_label owners → limit ≡ owners_clearance owners
+    → wanted ≡ floor_of own given → clearance ≡ join_of most limit → shown ≡ own → RunsPart {A = Entry} (ask (Enter d o wanted clearance shown)) old new t result → RunsPart {A = Entry} (ask (entering owners i own most)) old new t result
+enters t old new result d o wanted clearance shown owners i own most given limit root gate g l w c s runs =
     subst (λ (p : Part Entry). RunsPart {A = Entry} p old new t result) (λ j. ask (Enter (root j) (gate j) ((w ∙ ap (floor_of own) g) j) ((c ∙ ap (join_of most) l) j) (s j))) runs
 
 -- the password's segment is read

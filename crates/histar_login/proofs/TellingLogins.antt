@@ -3,6 +3,9 @@ use Rattle.std.proofs.Common.{ℕ, ◌+◌, Bool, true, false, List, Option, Non
 use Rattle.std.specs.Str.{bytes_eq}
 use Rattle.histar_rules.specs.declared.raw.RawCall.TheVariants.{OwnLabel, SetLabel, SetClearance, Read}
 use Rattle.histar_rules.specs.Sound.{root_number}
+use Rattle.histar_flat.specs.Sessions.{Session}
+use Rattle.histar_flat.specs.Words.{Name}
+use Rattle.histar_calls.specs.Categories.{owners_of}
 use Rattle.histar_calls.specs.Laws.{TellsRefusals}
 use Rattle.histar_calls.specs.Programs.Program.{Answers}
 use Rattle.histar_calls.proofs.TellingPrograms.{told_for}
@@ -14,25 +17,25 @@ replied : (right : Bool) → TellsRefusals (Answers (reply_if right))
 replied true = (refl, refl)
 replied false = (refl, refl)
 
-as_program : (caller : Caller) (i : ℕ) (password : List ℕ) → TellsRefusals (login_as_program caller i password)
+as_program : (caller : Caller) (i : ℕ) (owners password : List ℕ) → TellsRefusals (login_as_program caller i owners password)
 unfolding login_as_program
-as_program caller i password = (
+as_program caller i owners password = (
   (λ own. (
     (λ entry. (
       (λ kept. (
-        (λ label. ((λ clearance. replied (bytes_eq kept password)), told_for (SetClearance (clearance_if (bytes_eq kept password) caller i own.1)))),
-        told_for (SetLabel (label_if (bytes_eq kept password) caller i own.0)),
+        (λ label. ((λ clearance. replied (bytes_eq kept password)), told_for (SetClearance (clearance_if (bytes_eq kept password) caller owners own.1)))),
+        told_for (SetLabel (label_if (bytes_eq kept password) caller owners own.0)),
       )),
       told_for (Read root_number (password_of i)),
     )),
-    told_for (entering i own.0 own.1),
+    told_for (entering owners i own.0 own.1),
   )),
   told_for OwnLabel,
 )
 
-at_place : (caller : Caller) (password : List ℕ) (place : Option ℕ) → TellsRefusals (login_at caller password place)
-at_place caller password None = (refl, refl)
-at_place caller password (Some place) = as_program caller (place + 1) password
+at_place : (session : Session) (caller : Caller) (name : Name) (password : List ℕ) (place : Option ℕ) → TellsRefusals (login_at session caller name password place)
+at_place session caller name password None = (refl, refl)
+at_place session caller name password (Some place) = as_program caller (place + 1) (owners_of session (place + 1) name) password
 
 pub logins_tell_refusals : LoginsTellRefusals
-logins_tell_refusals users caller name password = at_place caller password (place_of users name)
+logins_tell_refusals session caller name password = at_place session caller name password (place_of session.users name)

@@ -11,9 +11,10 @@ use Rattle.histar_rules.specs.declared.raw.RawCall.{RawCall}
 use Rattle.histar_rules.specs.declared.raw.RawCall.TheVariants.{MakeCategory}
 use Rattle.histar_syscall.specs.KernelModel.{KernelModel, state}
 use Rattle.histar_syscall.specs.Runs.{Granted}
+use Rattle.histar_calls.specs.Categories.{owners_of}
 use Rattle.histar_calls.specs.Labelling.{written_by}
 use Rattle.histar_calls.specs.declared.places.Home.{Home}
-use Rattle.histar_login.specs.Start.{numbered, boot_category, own_read_category, owners_of, container, state_with, places_of, of_user, of_users, of_directory, of_process}
+use Rattle.histar_login.specs.Start.{numbered, boot_category, own_read_category, container, state_with, places_of, of_user, of_users, of_directory, of_process}
 use Rattle.histar_login.specs.Boot.{boot_thread_number, category_calls, user_calls, directory_calls, process_calls}
 
 -- A part of boot: its raw calls, the numbers that the root container links by them, the objects that they make, and how many

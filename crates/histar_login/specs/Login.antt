@@ -1,24 +1,26 @@
 -- Logging in: the program of a login, and the labels that it asks for.
-use Rattle.std.specs.Prelude.{◌≡◌, ℕ, ◌+◌, ◌*◌, Bool, true, false, List, [], ◌∷◌, Option, None, Some, position}
+use Rattle.std.specs.Prelude.{ℕ, ◌+◌, ◌*◌, Bool, true, false, List, [], ◌∷◌, Option, None, Some, position}
 use Rattle.std.specs.Str.{bytes_eq}
 use Rattle.histar_flat.specs.declared.calls.User.{User}
 use Rattle.histar_flat.specs.declared.replies.Errno.TheVariants.{ENOENT, EAUTH}
 use Rattle.histar_flat.specs.declared.replies.Reply.{Reply}
 use Rattle.histar_flat.specs.declared.replies.Reply.TheVariants.{Done, Refused}
+use Rattle.histar_flat.specs.Sessions.{Session}
 use Rattle.histar_flat.specs.Words.{Name}
 use Rattle.histar_label.specs.Levels.{Levels}
 use Rattle.histar_label.specs.Floors.{join_of, floor_of}
 use Rattle.histar_rules.specs.declared.raw.RawCall.{RawCall}
 use Rattle.histar_rules.specs.declared.raw.RawCall.TheVariants.{OwnLabel, SetLabel, SetClearance, Enter, Read}
 use Rattle.histar_rules.specs.Sound.{root_number}
-use Rattle.histar_calls.specs.Categories.{read_category, write_category}
-use Rattle.histar_calls.specs.Labelling.{owner_of, cleared_of, owning, cleared_at}
+use Rattle.histar_calls.specs.Categories.{owners_of}
+use Rattle.histar_calls.specs.Labelling.{owning, cleared_at}
 use Rattle.histar_calls.specs.Laws.{TellsRefusals}
 use Rattle.histar_calls.specs.Programs.{Program}
 use Rattle.histar_calls.specs.Programs.Program.{Answers}
 use Rattle.histar_calls.specs.Parts.{◌>>=◌, ◌>>◌, ask}
 use Rattle.histar_process.specs.declared.caller.Caller.{Caller}
-use Rattle.histar_process.specs.Kin.{owned_by}
+use Rattle.histar_process.specs.Kin.{categories_of}
+use Rattle.histar_login.specs.Start.{owners_label, owners_clearance}
 
 -- the place of the user with this name
 abbrev pub place_of : List User → Name → Option ℕ
@@ -31,64 +33,59 @@ password_of i = 1 + 2 * i
 abbrev pub gate_of : ℕ → ℕ
 gate_of i = 2 + 2 * i
 
--- the label that the gate of user i gives, and its clearance: it owns the user's categories
-abbrev pub IsOfGate : ℕ → Levels × Levels → Type 0
-IsOfGate i given = (given.0 ≡ owner_of (read_category i) (write_category i)) × (given.1 ≡ cleared_of (read_category i) (write_category i))
-
--- what a process owns as user i: its own two categories and what it owns as that user
-abbrev pub owned_as_user : Caller → ℕ → List ℕ
-owned_as_user caller i = caller.read ∷ caller.write ∷ owned_by i true
+-- what a process owns as a user who owns the categories of these users and groups: its own two categories, and those
+abbrev pub owned_as_user : Caller → List ℕ → List ℕ
+owned_as_user caller owners = caller.read ∷ caller.write ∷ categories_of owners true
 
 -- the label of its thread then: it owns these, and holds no job
-abbrev pub user_label : Caller → ℕ → Levels
-user_label caller i = owning (owned_as_user caller i) []
+abbrev pub user_label : Caller → List ℕ → Levels
+user_label caller owners = owning (owned_as_user caller owners) []
 
 -- its clearance then
-abbrev pub user_clearance : Caller → ℕ → Levels
-user_clearance caller i = cleared_at (owned_as_user caller i)
+abbrev pub user_clearance : Caller → List ℕ → Levels
+user_clearance caller owners = cleared_at (owned_as_user caller owners)
 
--- a thread that has this label and this clearance enters the gate of user i, and shows its own label: it wants all that it
--- owns and all that the gate gives
-abbrev pub entering : ℕ → Levels → Levels → RawCall
-entering i own most =
-    Enter root_number (gate_of i) (floor_of own (owner_of (read_category i) (write_category i))) (join_of most (cleared_of (read_category i) (write_category i))) own
+-- a thread that has this label and this clearance enters the gate of user i, who owns the categories of these users and groups, and
+-- shows its own label: it wants all that it owns and all that the gate gives
+abbrev pub entering : List ℕ → ℕ → Levels → Levels → RawCall
+entering owners i own most = Enter root_number (gate_of i) (floor_of own (owners_label owners)) (join_of most (owners_clearance owners)) own
 
 -- the label that the thread takes behind the gate: that of the user where the password is right, and else its own again
-abbrev pub label_if : Bool → Caller → ℕ → Levels → Levels
-label_if true caller i own = user_label caller i
-label_if false caller i own = own
+abbrev pub label_if : Bool → Caller → List ℕ → Levels → Levels
+label_if true caller owners own = user_label caller owners
+label_if false caller owners own = own
 
 -- and the clearance
-abbrev pub clearance_if : Bool → Caller → ℕ → Levels → Levels
-clearance_if true caller i most = user_clearance caller i
-clearance_if false caller i most = most
+abbrev pub clearance_if : Bool → Caller → List ℕ → Levels → Levels
+clearance_if true caller owners most = user_clearance caller owners
+clearance_if false caller owners most = most
 
 -- what is replied behind the gate
 abbrev pub reply_if : Bool → Reply
 reply_if true = Done
 reply_if false = Refused EAUTH
 
--- A login as user i: the thread asks for its own labels, enters the gate of the user, reads the user's password, which the gate lets it
--- read, and takes the labels that are its due.
-unfoldable pub login_as_program : Caller → ℕ → List ℕ → Program
-login_as_program caller i password = do
+-- A login as user i, who owns the categories of these users and groups: the thread asks for its own labels, enters the gate of the
+-- user, reads the user's password, which the gate lets it read, and takes the labels that are its due.
+unfoldable pub login_as_program : Caller → ℕ → List ℕ → List ℕ → Program
+login_as_program caller i owners password = do
   own ← ask OwnLabel
-  entry ← ask (entering i own.0 own.1)
+  entry ← ask (entering owners i own.0 own.1)
   kept ← ask (Read root_number (password_of i))
   let right = bytes_eq kept password in do
-    ask (SetLabel (label_if right caller i own.0))
-    ask (SetClearance (clearance_if right caller i own.1))
+    ask (SetLabel (label_if right caller owners own.0))
+    ask (SetClearance (clearance_if right caller owners own.1))
     Answers (reply_if right)
 
--- a login as the user at a place, if there is one
-abbrev pub login_at : Caller → List ℕ → Option ℕ → Program
-login_at caller password None = Answers (Refused ENOENT)
-login_at caller password (Some place) = login_as_program caller (place + 1) password
+-- a login as the user of this name at a place, if there is one
+abbrev pub login_at : Session → Caller → Name → List ℕ → Option ℕ → Program
+login_at session caller name password None = Answers (Refused ENOENT)
+login_at session caller name password (Some place) = login_as_program caller (place + 1) (owners_of session (place + 1) name) password
 
 -- the program of `login NAME PASSWORD`
-abbrev pub login_program : List User → Caller → Name → List ℕ → Program
-login_program users caller name password = login_at caller password (place_of users name)
+abbrev pub login_program : Session → Caller → Name → List ℕ → Program
+login_program session caller name password = login_at session caller name password (place_of session.users name)
 
 -- the programs of logins tell their refusals
 abbrev pub LoginsTellRefusals : Type 0
-LoginsTellRefusals = (users : List User) (caller : Caller) (name : Name) (password : List ℕ) → TellsRefusals (login_program users caller name password)
+LoginsTellRefusals = (session : Session) (caller : Caller) (name : Name) (password : List ℕ) → TellsRefusals (login_program session caller name password)

@@ -1,11 +1,11 @@
 -- The state in which a machine starts: a table of its objects in the order of their numbers, where the first has the number 1.
 -- The users are numbered from 1 on in the order of the script, and so are the groups; nobody is user number 0.
-use Rattle.std.specs.Prelude.{ℕ, zero, suc, ◌+◌, ◌*◌, ◌≤◌, List, [], ◌∷◌, ◌++◌, length, map, codes, None, Some, slice_index_or}
+use Rattle.std.specs.Prelude.{ℕ, zero, suc, ◌+◌, ◌*◌, List, [], ◌∷◌, ◌++◌, length, codes, None, Some, slice_index_or, if◌then◌else◌}
 use Rattle.std.specs.Int.{w64, to_be_bytes}
-use Rattle.std.specs.List.{filter_map, range_with_len}
+use Rattle.std.specs.List.{range_with_len}
 use Rattle.std.specs.FinSet as set
 use Rattle.histar_flat.specs.declared.calls.User.{User}
-use Rattle.histar_flat.specs.Sessions.{Group, Session, session_of, user_number, groups_of}
+use Rattle.histar_flat.specs.Sessions.{Group, Session, has}
 use Rattle.histar_flat.specs.Words.{Name}
 use Rattle.histar_label.specs.declared.levels.Level.{Level}
 use Rattle.histar_label.specs.declared.levels.Level.TheVariants.{Star, L1, L2, L3}
@@ -15,16 +15,8 @@ use Rattle.histar_object.specs.declared.objects.Kind.TheVariants.{Segment, Conta
 use Rattle.histar_object.specs.Objects.{Objects}
 use Rattle.histar_object.specs.State.{State, Found}
 use Rattle.histar_calls.specs.declared.places.Places.{Places}
-use Rattle.histar_calls.specs.Categories.{read_category, write_category}
+use Rattle.histar_calls.specs.Categories.{read_category, write_category, group_owner, owners_of}
 use Rattle.histar_calls.specs.Labelling.{labelled, written_by, secret_of, owner_of, cleared_of}
-
--- these users and these groups
-abbrev pub session_with : List User → List Group → Session
-session_with users groups = record { users = users; groups = groups }
-
--- a group has no more than 16 members
-abbrev pub IsSmall : Group → Type 0
-IsSmall group = length group.members ≤ 16
 
 -- what f gives for each user, or each group, with its number, one after another, where the first has the number i
 abbrev pub numbered : {A B : Type 0} → (ℕ → B → List A) → ℕ → List B → List A
@@ -39,10 +31,6 @@ boot_category = 1
 abbrev pub declared : Session → ℕ
 declared session = length session.users + length session.groups
 
--- the number by which the categories of group k go, where there are so many users: groups are numbered on behind the users
-abbrev pub group_owner : ℕ → ℕ → ℕ
-group_owner users k = users + k
-
 -- where there are so many users and groups together, the category that process 0 owns to keep its secrets
 abbrev pub own_read_category : ℕ → ℕ
 own_read_category owners = 4 + 2 * owners
@@ -51,22 +39,26 @@ own_read_category owners = 4 + 2 * owners
 abbrev pub own_write_category : ℕ → ℕ
 own_write_category owners = 5 + 2 * owners
 
--- the numbers by which the categories go that user i owns: its own, and those of the groups that it is a member of
-abbrev pub owners_of : Session → ℕ → Name → List ℕ
-owners_of session i name = i ∷ map (group_owner (length session.users)) (groups_of session name)
-
 -- this level at both categories of each of these users and groups
 abbrev pub at_both : Level → List ℕ → List (ℕ × Level)
 at_both level [] = []
 at_both level (i ∷ owners) = (read_category i, level) ∷ (write_category i, level) ∷ at_both level owners
 
+-- the label that owns the categories of these users and groups
+abbrev pub owners_label : List ℕ → Levels
+owners_label owners = labelled (at_both Star owners) L1
+
+-- and the clearance of what owns them
+abbrev pub owners_clearance : List ℕ → Levels
+owners_clearance owners = labelled (at_both L3 owners) L2
+
 -- the label that the gate of the user i of this name gives: it owns the categories of the user and of its groups
 abbrev pub gate_label : Session → ℕ → Name → Levels
-gate_label session i name = labelled (at_both Star (owners_of session i name)) L1
+gate_label session i name = owners_label (owners_of session i name)
 
 -- and the clearance of that gate
 abbrev pub gate_clearance : Session → ℕ → Name → Levels
-gate_clearance session i name = labelled (at_both L3 (owners_of session i name)) L2
+gate_clearance session i name = owners_clearance (owners_of session i name)
 
 -- a segment with these bytes
 abbrev pub segment : Levels → List ℕ → Found
@@ -106,13 +98,18 @@ entry_of i user = user_entry user.name i (2 + 2 * i) (1 + 2 * i)
 abbrev pub user_entries : List User → List ℕ
 user_entries users = user_entry (codes "nobody") 0 0 0 ++ numbered entry_of 1 users
 
+-- the numbers of those of these users that have one of these names, where the first user has the number i
+abbrev pub numbers_among : ℕ → List User → List Name → List ℕ
+numbers_among i [] names = []
+numbers_among i (user ∷ users) names = if has names user.name then i ∷ numbers_among (i + 1) users names else numbers_among (i + 1) users names
+
 -- group k in the user table, beside these users: the length of the name and the name, the group's two categories, how many members
--- it has, and the numbers of these
+-- it has, and the numbers of these, which rise
 unfoldable pub group_entry : List User → ℕ → Group → List ℕ
 group_entry users k group =
     (length group.name ∷ group.name)
     ++ to_be_bytes w64 (read_category (group_owner (length users) k)) ++ to_be_bytes w64 (write_category (group_owner (length users) k))
-    ++ length group.members ∷ filter_map (user_number (session_of users)) group.members
+    ++ length group.members ∷ numbers_among 1 users group.members
 
 -- the groups in the user table, which has them only where a group is: a zero, which is no name's length, and the groups
 abbrev pub group_part : List User → List Group → List ℕ
@@ -166,12 +163,11 @@ state_with objects next_category = record { objects = object_at objects; next_ob
 abbrev pub start_state : Session → State
 start_state session = state_with (start_objects session) (6 + 2 * declared session)
 
--- where `/` and process 0 are found, and how many users there are
+-- where `/` and process 0 are found, where there are so many users
 abbrev pub places_of : ℕ → Places
 places_of users = record {
   slash = record { container = 4 + 2 * users; listing = 5 + 2 * users };
   home = record { container = 6 + 2 * users; segment = 9 + 2 * users };
-  users = users;
 }
 
 -- the thread of process 0

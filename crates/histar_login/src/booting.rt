@@ -1,17 +1,19 @@
 //! Boots a machine by raw calls of its boot thread.
-ghost use Rattle.std.specs.Prelude.{◌≡◌, ℕ, ◌+◌, ◌*◌, ◌≤◌, ◌++◌, All, length, IfOk, OnOk, Ok};
+ghost use Rattle.std.specs.Prelude.{◌≡◌, ℕ, ◌+◌, ◌*◌, ◌≤◌, ◌++◌, length, IfOk, OnOk, Ok};
 ghost use Rattle.histar_rules.specs.Sound.{root_number};
 ghost use Rattle.histar_syscall.specs.KernelModel.{state};
-ghost use Rattle.histar_calls.specs.Labelling.{labelled};
 ghost use Rattle.histar_login.specs.Boot.{IsBooted, boot_thread_number};
 ghost use Rattle.histar_login.specs.Booting.{BootsOn, Tells, IsAnywhere, IsBefore, MakesUser, MakesDirectory, MakesProcess, IsFirstHome, two_categories, categories_part, users_part};
-ghost use Rattle.histar_login.specs.Start.{session_with, IsSmall, own_read_category, own_write_category, owners_of, at_both, process_bytes, start_state, places_of};
+ghost use Rattle.histar_login.specs.Start.{own_read_category, own_write_category, process_bytes, start_state, places_of};
 
-use crate::table::{group_owner, user_table};
+use crate::gates::gate_labels;
+use crate::table::user_table;
 use histar_base::Bytes;
-use histar_calls::{Home, Place, Places, Stopped, label_of, read_category, write_category};
-use histar_flat::{Group, Name, User};
-use histar_label::{Category, Label, LabelStore, Level};
+use histar_calls::{
+    Home, Place, Places, Stopped, label_of, owners_of, read_category, write_category,
+};
+use histar_flat::{Session, User};
+use histar_label::{Category, LabelStore, Level};
 use histar_object::{Entry, ObjId};
 use histar_syscall::{Kernel, Refusal};
 use std::alloc::{AllocError, Global};
@@ -82,46 +84,6 @@ fn make_categories<S: LabelStore + Drop>(
     Ok(())
 }
 
-/// The numbers by which the categories go that a user owns: its own, and those of the groups that it
-/// is a member of, which are numbered on behind the users.
-fn owners_of(
-    alloc: Global,
-    users: &[User],
-    groups: &[Group],
-    number: u8,
-    name: Name,
-) -> Result<Vec<u8>, AllocError>
-    requires users { length users.now ≤ 16 }
-    requires groups { length groups.now ≤ 8 }
-    ensures { IfOk result (λ owners. owners.items ≡ owners_of (session_with users.now groups.now) number name) }
-{
-    let mut owners = Vec::from_slice(alloc, &[number])?;
-    for (k, group) in groups.iter().enumerate() {
-        if group.has(name) {
-            owners.push(group_owner(users, k as u8 + 1))?;
-        }
-    }
-    Ok(owners)
-}
-
-/// The label with one level at both categories of each of these users and groups, and another at all
-/// others.
-fn label_at_both(
-    alloc: Global,
-    default: Level,
-    level: Level,
-    owners: &[u8],
-) -> Result<Label, AllocError>
-    ensures { IfOk result (λ label. label ≡ labelled (at_both level owners.now) default) }
-{
-    let mut label = Label::new(alloc, default);
-    for &owner in owners {
-        label = label.with(read_category(owner), level)?;
-        label = label.with(write_category(owner), level)?;
-    }
-    Ok(label)
-}
-
 /// Makes a segment with a user's password, and the gate that gives the categories of the user and of
 /// its groups.
 fn make_user<S: LabelStore + Drop>(
@@ -138,8 +100,7 @@ fn make_user<S: LabelStore + Drop>(
     let password = Bytes::copy_of(alloc, user.password.as_bytes())?;
     let segment = kernel.make_segment(alloc, boot_thread(), root_container(), secret, password);
     granted(segment)?;
-    let given = label_at_both(alloc, Level::L1, Level::Star, owners)?;
-    let most = label_at_both(alloc, Level::L2, Level::L3, owners)?;
+    let (given, most) = gate_labels(alloc, owners)?;
     let entry = Entry::Login(number);
     let gate = kernel.make_gate(boot_thread(), root_container(), given, most, entry);
     granted(gate)?;
@@ -150,16 +111,14 @@ fn make_user<S: LabelStore + Drop>(
 fn make_users<S: LabelStore + Drop>(
     alloc: Global,
     kernel: &mut Kernel<S>,
-    users: &[User],
-    groups: &[Group],
+    session: &Session,
 ) -> Result<(), Stopped>
-    requires users { length users.now ≤ 16 }
-    requires groups { length groups.now ≤ 8 }
-    ensures { OnOk result (BootsOn kernel.old kernel.new (IsBefore 3) (users_part (session_with users.now groups.now) users.now)) }
+    ensures { OnOk result (BootsOn kernel.old kernel.new (IsBefore 3) (users_part session.now session.now.users)) }
 {
+    let users = session.users();
     for (i, user) in users.iter().enumerate() {
         let number = i as u8 + 1;
-        let owners = owners_of(alloc, users, groups, number, user.name)?;
+        let owners = owners_of(alloc, session, number, user.name)?;
         make_user(alloc, kernel, number, user, owners.as_slice())?;
     }
     Ok(())
@@ -169,17 +128,13 @@ fn make_users<S: LabelStore + Drop>(
 fn make_directory<S: LabelStore + Drop>(
     alloc: Global,
     kernel: &mut Kernel<S>,
-    users: &[User],
-    groups: &[Group],
+    session: &Session,
 ) -> Result<Place, Stopped>
-    requires users { length users.now ≤ 16 }
-    requires groups { length groups.now ≤ 8 }
-    requires members { All IsSmall groups.now }
-    ensures boots { OnOk result (MakesDirectory kernel.old kernel.new (session_with users.now groups.now)) }
-    ensures slash { IfOk result (λ slash. Tells kernel.old (IsBefore (3 + 2 * length users.now)) (slash ≡ (places_of (length users.now)).slash)) }
+    ensures boots { OnOk result (MakesDirectory kernel.old kernel.new session.now) }
+    ensures slash { IfOk result (λ slash. Tells kernel.old (IsBefore (3 + 2 * length session.now.users)) (slash ≡ (places_of (length session.now.users)).slash)) }
 {
     let guarded = label_of(alloc, Level::L1, &[(Category::new(BOOT), Level::L0)])?;
-    let table = user_table(alloc, users, groups)?;
+    let table = user_table(alloc, session)?;
     let segment = kernel.make_segment(alloc, boot_thread(), root_container(), guarded, table);
     granted(segment)?;
     let readable = label_of(alloc, Level::L1, &[(write_category(1), Level::L0)])?;
@@ -242,26 +197,20 @@ fn make_process<S: LabelStore + Drop>(
 pub fn boot<S: LabelStore + Drop>(
     alloc: Global,
     store: S,
-    users: &[User],
-    groups: &[Group],
+    session: &Session,
 ) -> Result<(Kernel<S>, Places), Stopped>
-    requires users { length users.now ≤ 16 }
-    requires groups { length groups.now ≤ 8 }
-    requires members { All IsSmall groups.now }
-    ensures booted { IfOk result (λ r. IsBooted (session_with users.now groups.now) r.0) }
-    ensures state { IfOk result (λ r. state r.0 ≡ start_state (session_with users.now groups.now)) }
-    ensures places { IfOk result (λ r. r.1 ≡ places_of (length users.now)) }
+    ensures booted { IfOk result (λ r. IsBooted session.now r.0) }
+    ensures state { IfOk result (λ r. state r.0 ≡ start_state session.now) }
+    ensures places { IfOk result (λ r. r.1 ≡ places_of (length session.now.users)) }
 {
     let mut kernel = Kernel::new(alloc, store)?;
-    make_categories(&mut kernel, 1 + users.len() + groups.len())?;
-    make_users(alloc, &mut kernel, users, groups)?;
-    let slash = make_directory(alloc, &mut kernel, users, groups)?;
+    make_categories(
+        &mut kernel,
+        1 + session.users().len() + session.groups().len(),
+    )?;
+    make_users(alloc, &mut kernel, session)?;
+    let slash = make_directory(alloc, &mut kernel, session)?;
     let home = make_process(alloc, &mut kernel)?;
     granted(kernel.unlink(alloc, boot_thread(), root_container(), boot_thread()))?;
-    let places = Places {
-        slash,
-        home,
-        users: users.len() as u8,
-    };
-    Ok((kernel, places))
+    Ok((kernel, Places { slash, home }))
 }

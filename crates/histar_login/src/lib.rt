@@ -2,6 +2,7 @@
 #![tactic(auto)]
 
 mod booting;
+mod gates;
 pub mod login;
 pub mod program_laws;
 mod table;

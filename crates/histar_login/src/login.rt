@@ -1,54 +1,37 @@
 //! Logging in, by raw calls of the thread that logs in.
-ghost use Rattle.std.specs.Prelude.{◌≡◌, ◌<◌, ◌≤◌, length, IfOk};
+ghost use Rattle.std.specs.Prelude.{◌≡◌, IfOk};
 ghost use Rattle.std.specs.Str.{bytes_eq};
 ghost use Rattle.histar_rules.specs.Sound.{root_number};
-ghost use Rattle.histar_calls.specs.Categories.{read_category, write_category};
 ghost use Rattle.histar_calls.specs.Parts.{ask};
 ghost use Rattle.histar_calls.specs.Programs.{Runs, RunsPart};
 ghost use Rattle.histar_calls.specs.Refusals.{settled};
-ghost use Rattle.histar_login.specs.Login.{user_label, user_clearance, gate_of, password_of, entering, label_if, clearance_if, reply_if, IsOfGate, login_program, login_as_program};
+ghost use Rattle.histar_login.specs.Login.{user_label, user_clearance, gate_of, password_of, entering, label_if, clearance_if, reply_if, login_program, login_as_program};
 
+use crate::gates::gate_labels;
 use crate::table::{number_of, place_of};
 use histar_base::Bytes;
-use histar_calls::{
-    Ending, Stopped, cleared_at, label_of, owning, read_category, settle, write_category,
-};
-use histar_flat::{Errno, Name, Password, Reply, User};
-use histar_label::{Label, LabelStore, Level};
+use histar_calls::{Ending, Stopped, cleared_at, owners_of, owning, settle};
+use histar_flat::{Errno, Name, Password, Reply, Session};
+use histar_label::{Label, LabelStore};
 use histar_object::{Entry, ObjId};
-use histar_process::Caller;
+use histar_process::{Caller, categories_of, joined};
 use histar_syscall::Kernel;
 use std::alloc::{AllocError, Global};
 
-/// The label and the clearance of a process's thread as this user's: it owns the user's categories and
-/// the process's own.
-fn user_labels(alloc: Global, caller: &Caller, number: u8) -> Result<(Label, Label), AllocError>
-    requires { 0 < number }
-    ensures { IfOk result (λ own. (own.0 ≡ user_label caller.now number) × (own.1 ≡ user_clearance caller.now number)) }
+/// The label and the clearance of a process's thread as a user who owns the categories of these users and
+/// groups: it owns these and the process's own.
+fn user_labels(
+    alloc: Global,
+    caller: &Caller,
+    owners: &[u8],
+) -> Result<(Label, Label), AllocError>
+    ensures { IfOk result (λ own. (own.0 ≡ user_label caller.now owners.now) × (own.1 ≡ user_clearance caller.now owners.now)) }
 {
-    let owned = [
-        caller.read,
-        caller.write,
-        read_category(number),
-        write_category(number),
-    ];
-    let label = owning(alloc, &owned, &[])?;
-    let clearance = cleared_at(alloc, &owned)?;
+    let categories = categories_of(alloc, owners, true)?;
+    let owned = joined(alloc, &[caller.read, caller.write], categories.as_slice())?;
+    let label = owning(alloc, owned.as_slice(), &[])?;
+    let clearance = cleared_at(alloc, owned.as_slice())?;
     Ok((label, clearance))
-}
-
-/// The label that a user's gate gives, and its clearance: it owns the user's categories.
-fn gate_labels(alloc: Global, number: u8) -> Result<(Label, Label), AllocError>
-    ensures { IfOk result (IsOfGate number) }
-{
-    let (read, write) = (read_category(number), write_category(number));
-    let given = label_of(
-        alloc,
-        Level::L1,
-        &[(read, Level::Star), (write, Level::Star)],
-    )?;
-    let most = label_of(alloc, Level::L2, &[(read, Level::L3), (write, Level::L3)])?;
-    Ok((given, most))
 }
 
 /// The segment with a user's password.
@@ -65,12 +48,13 @@ fn enter_gate<S: LabelStore + Drop>(
     alloc: Global,
     thread: ObjId,
     number: u8,
+    owners: &[u8],
     own: &Label,
     most: &Label,
 ) -> Result<Entry, Ending>
-    ensures { RunsPart (ask (entering number own.now most.now)) kernel.old kernel.new thread result }
+    ensures { RunsPart (ask (entering owners.now number own.now most.now)) kernel.old kernel.new thread result }
 {
-    let (given, limit) = gate_labels(alloc, number)?;
+    let (given, limit) = gate_labels(alloc, owners)?;
     let wanted = own.floor(&given)?;
     let clearance = most.join(&limit)?;
     let root = ObjId::new(1);
@@ -85,15 +69,14 @@ fn due_labels(
     alloc: Global,
     right: bool,
     caller: &Caller,
-    number: u8,
+    owners: &[u8],
     own: Label,
     most: Label,
 ) -> Result<(Label, Label), AllocError>
-    requires { 0 < number }
-    ensures { IfOk result (λ due. (due.0 ≡ label_if right caller.now number own) × (due.1 ≡ clearance_if right caller.now number most)) }
+    ensures { IfOk result (λ due. (due.0 ≡ label_if right caller.now owners.now own) × (due.1 ≡ clearance_if right caller.now owners.now most)) }
 {
     if right {
-        return user_labels(alloc, caller, number);
+        return user_labels(alloc, caller, owners);
     }
     Ok((own, most))
 }
@@ -117,41 +100,43 @@ fn is_password(kept: &Bytes, password: Password) -> bool
 
 /// Gives the thread of a process the label and the clearance of a user, by the user's password: ENOENT
 /// where no user has the name, EACCES where the user's gate doesn't let the thread in, EAUTH where the
-/// password is another; the thread has then its own label and clearance again. Who logs in holds no job.
+/// password is another; the thread has then its own label and clearance again. Who logs in owns the
+/// categories of the user and of its groups, those of no other user, and holds no job.
 pub fn login<S: LabelStore + Drop>(
     kernel: &mut Kernel<S>,
     alloc: Global,
-    users: &[User],
+    session: &Session,
     caller: &Caller,
     name: Name,
     password: Password,
 ) -> Result<Reply, Stopped>
-    requires { length users.now ≤ 16 }
-    ensures { Runs (login_program users.now caller.now name password) kernel.old kernel.new caller.now.thread result }
+    ensures { Runs (login_program session.now caller.now name password) kernel.old kernel.new caller.now.thread result }
 {
-    let Some(at) = place_of(users, name) else {
+    let Some(at) = place_of(session.users(), name) else {
         return Ok(Reply::Refused(Errno::ENOENT));
     };
-    settle(login_as(kernel, alloc, caller, number_of(at), password))
+    let number = number_of(at);
+    let owners = owners_of(alloc, session, number, name)?;
+    settle(login_as(kernel, alloc, caller, number, owners.as_slice(), password))
 }
 
-/// Logs in as the user of this number.
+/// Logs in as the user of this number, who owns the categories of these users and groups.
 fn login_as<S: LabelStore + Drop>(
     kernel: &mut Kernel<S>,
     alloc: Global,
     caller: &Caller,
     number: u8,
+    owners: &[u8],
     password: Password,
 ) -> Result<Reply, Ending>
-    requires { 0 < number }
-    ensures { Runs (login_as_program caller.now number password) kernel.old kernel.new caller.now.thread (settled result) }
+    ensures { Runs (login_as_program caller.now number owners.now password) kernel.old kernel.new caller.now.thread (settled result) }
 {
     let thread = caller.thread;
     let (own, most) = kernel.own_label(thread)?;
-    enter_gate(kernel, alloc, thread, number, &own, &most)?;
+    enter_gate(kernel, alloc, thread, number, owners, &own, &most)?;
     let kept = kernel.read_copy(alloc, thread, ObjId::new(1), password_segment(number))?;
     let right = is_password(&kept, password);
-    let (label, clearance) = due_labels(alloc, right, caller, number, own, most)?;
+    let (label, clearance) = due_labels(alloc, right, caller, owners, own, most)?;
     kernel.set_label(thread, label)?;
     kernel.set_clearance(thread, clearance)?;
     Ok(reply_if(right))

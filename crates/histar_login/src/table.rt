@@ -1,14 +1,13 @@
 //! The bytes of the user table: who the users are, which groups they are in, and where boot left what
 //! is theirs.
-ghost use Rattle.std.specs.Prelude.{◌≡◌, ◌+◌, ◌<◌, ◌≤◌, ◌++◌, All, length, IfOk, OnOk};
-ghost use Rattle.std.specs.List.{filter_map};
-ghost use Rattle.histar_flat.specs.Sessions.{session_of, user_number};
+ghost use Rattle.std.specs.Prelude.{◌≡◌, ◌+◌, ◌<◌, ◌≤◌, ◌++◌, length, IfOk, OnOk};
+ghost use Rattle.histar_flat.specs.Sessions.{most_groups, most_users};
 ghost use Rattle.histar_login.specs.Login.{place_of};
-ghost use Rattle.histar_login.specs.Start.{session_with, IsSmall, group_owner, user_entry, group_entry, group_part, user_table};
+ghost use Rattle.histar_login.specs.Start.{numbers_among, user_entry, group_entry, group_part, user_table};
 
 use histar_base::Bytes;
-use histar_calls::{read_category, write_category};
-use histar_flat::{Group, Name, User};
+use histar_calls::{group_owner, read_category, write_category};
+use histar_flat::{Group, Name, Session, User};
 use std::alloc::{AllocError, Global};
 
 /// The place of the user with this name.
@@ -24,15 +23,6 @@ pub(crate) fn number_of(place: usize) -> u8
     ensures { result ≡ place + 1 }
 {
     place as u8 + 1
-}
-
-/// The number by which the categories of a group go: groups are numbered on behind the users.
-pub(crate) fn group_owner(users: &[User], number: u8) -> u8
-    requires users { length users.now ≤ 16 }
-    requires number { number ≤ 8 }
-    ensures { result ≡ group_owner (length users.now) number }
-{
-    users.len() as u8 + number
 }
 
 /// Adds a user to the user table: the length of the name, the name, the user's two categories, its
@@ -56,14 +46,14 @@ fn push_user(
     Ok(())
 }
 
-/// Adds the numbers of those of these names that are users'.
-fn push_members(table: &mut Vec<u8>, users: &[User], members: &[Name]) -> Result<(), AllocError>
-    requires { length users.now ≤ 16 }
-    ensures { OnOk result (table.new.items ≡ table.old.items ++ filter_map (user_number (session_of users.now)) members.now) }
+/// Adds the numbers of the members of a group, which rise.
+fn push_members(table: &mut Vec<u8>, users: &[User], group: &Group) -> Result<(), AllocError>
+    requires { length users.now ≤ most_users }
+    ensures { OnOk result (table.new.items ≡ table.old.items ++ numbers_among 1 users.now group.now.members) }
 {
-    for &member in members {
-        if let Some(at) = place_of(users, member) {
-            table.push(number_of(at))?;
+    for (i, user) in users.iter().enumerate() {
+        if group.has(user.name) {
+            table.push(i as u8 + 1)?;
         }
     }
     Ok(())
@@ -73,55 +63,45 @@ fn push_members(table: &mut Vec<u8>, users: &[User], members: &[Name]) -> Result
 /// many members it has, and the numbers of these.
 fn push_group(
     table: &mut Vec<u8>,
-    users: &[User],
+    session: &Session,
     number: u8,
     group: &Group,
 ) -> Result<(), AllocError>
-    requires users { length users.now ≤ 16 }
-    requires number { number ≤ 8 }
-    requires members { IsSmall group.now }
-    ensures { OnOk result (table.new.items ≡ table.old.items ++ group_entry users.now number group.now) }
+    requires { number ≤ most_groups }
+    ensures { OnOk result (table.new.items ≡ table.old.items ++ group_entry session.now.users number group.now) }
 {
     let name = group.name();
-    let owner = group_owner(users, number);
+    let owner = group_owner(session, number);
     table.push(name.as_bytes().len() as u8)?;
     table.extend_from_slice(name.as_bytes())?;
     table.extend_from_slice(&read_category(owner).number().to_be_bytes())?;
     table.extend_from_slice(&write_category(owner).number().to_be_bytes())?;
     table.push(group.members().len() as u8)?;
-    push_members(table, users, group.members())
+    push_members(table, session.users(), group)
 }
 
 /// Adds the groups to the user table, which has a zero before them where a group is.
-fn push_groups(table: &mut Vec<u8>, users: &[User], groups: &[Group]) -> Result<(), AllocError>
-    requires users { length users.now ≤ 16 }
-    requires groups { length groups.now ≤ 8 }
-    requires members { All IsSmall groups.now }
-    ensures { OnOk result (table.new.items ≡ table.old.items ++ group_part users.now groups.now) }
+fn push_groups(table: &mut Vec<u8>, session: &Session) -> Result<(), AllocError>
+    ensures { OnOk result (table.new.items ≡ table.old.items ++ group_part session.now.users session.now.groups) }
 {
+    let groups = session.groups();
     if groups.is_empty() {
         return Ok(());
     }
     table.push(0)?;
     for (k, group) in groups.iter().enumerate() {
-        push_group(table, users, k as u8 + 1, group)?;
+        push_group(table, session, k as u8 + 1, group)?;
     }
     Ok(())
 }
 
 /// The bytes of the user table: nobody first, then the users in their order, and then the groups.
-pub(crate) fn user_table(
-    alloc: Global,
-    users: &[User],
-    groups: &[Group],
-) -> Result<Bytes, AllocError>
-    requires users { length users.now ≤ 16 }
-    requires groups { length groups.now ≤ 8 }
-    requires members { All IsSmall groups.now }
-    ensures { IfOk result (λ b. b ≡ user_table (session_with users.now groups.now)) }
+pub(crate) fn user_table(alloc: Global, session: &Session) -> Result<Bytes, AllocError>
+    ensures { IfOk result (λ b. b ≡ user_table session.now) }
 {
     let mut table = Vec::new(alloc);
     push_user(&mut table, b"nobody", 0, 0, 0)?;
+    let users = session.users();
     for (i, user) in users.iter().enumerate() {
         let at = i as u64;
         push_user(
@@ -132,6 +112,6 @@ pub(crate) fn user_table(
             2 * at + 3,
         )?;
     }
-    push_groups(&mut table, users, groups)?;
+    push_groups(&mut table, session)?;
     Ok(Bytes::from_vec(table))
 }

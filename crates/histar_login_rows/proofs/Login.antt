@@ -13,7 +13,7 @@ use Rattle.histar_flat.specs.declared.replies.Reply.{Reply}
 use Rattle.histar_flat.specs.declared.replies.Reply.TheVariants.{Done, Refused}
 use Rattle.histar_flat.specs.Words.{Name, Password, ProcName}
 use Rattle.histar_flat.specs.PathOrder.{same}
-use Rattle.histar_flat.specs.Sessions.{Session, session_of, user_named, user_number}
+use Rattle.histar_flat.specs.Sessions.{Session, user_named, user_number}
 use Rattle.histar_flat.specs.Classes.{Process, is_free}
 use Rattle.histar_flat.specs.FlatState.{Flat, is_some_and, with_process}
 use Rattle.histar_flat.specs.FlatCalls.{refused}
@@ -30,14 +30,13 @@ use Rattle.histar_rules.specs.Sound.{root_number}
 use Rattle.histar_syscall.specs.KernelModel.{KernelModel, state}
 use Rattle.histar_syscall.proofs.Runs.{same_kernel}
 use Rattle.histar_calls.specs.declared.ending.Stopped.{Stopped}
-use Rattle.histar_calls.specs.Categories.{read_category, write_category}
-use Rattle.histar_calls.specs.Labelling.{owner_of, cleared_of, owning, cleared_at}
+use Rattle.histar_calls.specs.Categories.{owners_of}
 use Rattle.histar_calls.specs.Programs.{Program, Runs}
 use Rattle.histar_calls.specs.Programs.Program.{Answers}
 use Rattle.histar_calls.specs.Parts.{◌>>=◌, ◌>>◌, ask}
 use Rattle.histar_process.specs.declared.caller.Caller.{Caller}
 use Rattle.histar_process.specs.Caller.{caller_at}
-use Rattle.histar_login.specs.Start.{places_of}
+use Rattle.histar_login.specs.Start.{places_of, owners_label, owners_clearance}
 use Rattle.histar_login.specs.Login.{place_of, password_of, gate_of, user_label, user_clearance, entering, label_if, clearance_if, reply_if, login_at, login_as_program}
 use Rattle.histar_refinement.specs.Categories.{CategoryName, among}
 use Rattle.histar_refinement.specs.Categories.CategoryName.{ReadsProcess, WritesProcess}
@@ -52,7 +51,8 @@ use Rattle.histar_refinement.proofs.LeftObjects.{password_found, unnumbered_user
 use Rattle.histar_refinement.proofs.CallerFound.{caller_found}
 use Rattle.histar_refinement.proofs.LoginChecks.{more, wanted, limit, entered, as_user, enter_said, read_password_said, user_owns_less, own_owns_less, set_label_said, relabelled_state, set_clearance_said}
 use Rattle.histar_refinement.proofs.LoggingIn.{lays_out_login}
-use Rattle.histar_refinement.proofs.CallLabels.{equal_bytes, number_by_place, reads_numbered, writes_numbered, user_label_is, user_clearance_is}
+use Rattle.histar_refinement.proofs.GateLabels.{gate_label_is, gate_clearance_is}
+use Rattle.histar_refinement.proofs.CallLabels.{equal_bytes, number_by_place, user_label_is, user_clearance_is}
 use Rattle.histar_login_rows.proofs.TakenLabels.{labels_taken, labels_back, kept_bytes}
 use Rattle.histar_rows.specs.Laws.{LoginsAreRows}
 use Rattle.histar_rows.specs.Rows.{AreAmong, reads_of_login, IsReady, DoesItsRow}
@@ -63,18 +63,15 @@ use Rattle.histar_rows.proofs.Steps.{granted_step, refused_at_once, answered_ste
 free_in_none : (p : Process) → p.chain ≡ [] → is_free p ≡ true
 free_in_none p e = λ i. elim (e i) as (λ _. Bool) [ [] ↦ true | job ∷ jobs ↦ false ]
 
-module _ (users : List User) (name : Name) (password : Password) (me : ProcName) (caller : Caller) (old new : KernelModel) (f : Flat) (result : Result Reply Stopped)
-    (ready : IsReady (session_of users) (state old) f me caller.thread) (found : caller_at (state old) (places_of (length users)).home me ≡ Some caller) where
+module _ (session : Session) (name : Name) (password : Password) (me : ProcName) (caller : Caller) (old new : KernelModel) (f : Flat) (result : Result Reply Stopped)
+    (ready : IsReady session (state old) f me caller.thread) (found : caller_at (state old) (places_of (length session.users)).home me ≡ Some caller) where
   abbrev t : ℕ
   t = caller.thread
-
-  abbrev session : Session
-  session = record { users = users; groups = [] }
 
   abbrev p : Process
   p = ready.caller.process
 
-  abbrev l : Laid (record { users = users; groups = [] }) (state old) f
+  abbrev l : Laid session (state old) f
   l = ready.lays_out.laid
 
   abbrev call : UnixCall
@@ -100,24 +97,24 @@ module _ (users : List User) (name : Name) (password : Password) (me : ProcName)
   abbrev refusal : Option User → Bool → Option Errno
   refusal found alone = unless (is_some found) ENOENT orelse unless alone EACCES orelse unless (is_some_and found (λ (u : User). same u.password password)) EAUTH
 
-  refused_is : (found : Option User) → user_named users name ≡ found → refused session f me p call ≡ refusal found true
+  refused_is : (found : Option User) → user_named session.users name ≡ found → refused session f me p call ≡ refusal found true
   refused_is found e = λ i. refusal (e i) (is_alone i)
 
   -- no user has the name
-  unknown : place_of users name ≡ None → Runs (Answers (Refused ENOENT)) old new t result → Goal
+  unknown : place_of session.users name ≡ None → Runs (Answers (Refused ENOENT)) old new t result → Goal
   unknown nowhere runs =
       refused_at_once session f me ready.caller call old new t ready.thread result [] old (same_kernel old) refl ready.lays_out ENOENT
       (refused_is None (unnumbered_user session name (number_by_place session name ∙ ap (option_map (λ place. place + 1)) nowhere))) refl refl
       (subst (λ (o : Option ℕ). AreAmong (reads_of_login session o false) []) (sym nowhere) tt) runs
 
-  module _ (place : ℕ) (at_place : place_of users name ≡ Some place) where
+  module _ (place : ℕ) (at_place : place_of session.users name ≡ Some place) where
     numbered : user_number session name ≡ Some (place + 1)
     numbered = number_by_place session name ∙ ap (option_map (λ place. place + 1)) at_place
 
-    high : place + 1 ≤ length users
+    high : place + 1 ≤ length session.users
     high = (user_range session name (place + 1) numbered).1
 
-    user : (u : User) × (user_named users name ≡ Some u) × (bytes_in ((state old).objects (password_of (place + 1))) ≡ u.password)
+    user : (u : User) × (user_named session.users name ≡ Some u) × (bytes_in ((state old).objects (password_of (place + 1))) ≡ u.password)
     user = let found = password_found session (state old) f l name (place + 1) numbered in (found.0, found.1, ap bytes_in found.2)
 
     abbrev own : Levels
@@ -131,11 +128,15 @@ module _ (users : List User) (name : Name) (password : Password) (me : ProcName)
 
     -- ---- the labels that the code hands in are those of names
 
-    gate_label : rights_label l.category (gate_rights session name (place + 1)) ≡ owner_of (read_category (place + 1)) (write_category (place + 1))
-    gate_label = λ k. owning (reads_numbered session (state old) f l (place + 1) high k ∷ writes_numbered session (state old) f l (place + 1) high k ∷ []) []
+    -- whose categories the user owns
+    abbrev owners : List ℕ
+    owners = owners_of session (place + 1) name
 
-    gate_clearance : rights_clearance l.category (gate_rights session name (place + 1)) ≡ cleared_of (read_category (place + 1)) (write_category (place + 1))
-    gate_clearance = λ k. cleared_at (reads_numbered session (state old) f l (place + 1) high k ∷ writes_numbered session (state old) f l (place + 1) high k ∷ [])
+    gate_label : rights_label l.category (gate_rights session name (place + 1)) ≡ owners_label owners
+    gate_label = sym (gate_label_is session l.category l.as_made name (place + 1) high)
+
+    gate_clearance : rights_clearance l.category (gate_rights session name (place + 1)) ≡ owners_clearance owners
+    gate_clearance = sym (gate_clearance_is session l.category l.as_made name (place + 1) high)
 
     abbrev behind : State
     behind = entered session (state old) f l me p t runs_as name (place + 1) numbered
@@ -147,18 +148,18 @@ module _ (users : List User) (name : Name) (password : Password) (me : ProcName)
     abbrev process_then : Process
     process_then = as_user session (state old) f l me p t runs_as name (place + 1) numbered
 
-    user_takes : user_label caller (place + 1) ≡ rights_label l.category (thread_rights session me process_then)
-    user_takes = sym (user_label_is users (state old) f l me caller own_reads own_writes name (place + 1) numbered p.exited p.born)
+    user_takes : user_label caller owners ≡ rights_label l.category (thread_rights session me process_then)
+    user_takes = sym (user_label_is session (state old) f l me caller own_reads own_writes name (place + 1) numbered p.exited p.born)
         ∙ λ k. rights_label l.category (thread_rights session me (record { user = name; chain = sym ready.caller.free k; held = []; exited = p.exited; born = p.born }))
 
-    user_clears : user_clearance caller (place + 1) ≡ rights_clearance l.category (thread_rights session me process_then)
-    user_clears = sym (user_clearance_is users (state old) f l me caller own_reads own_writes name (place + 1) numbered p.exited p.born)
+    user_clears : user_clearance caller owners ≡ rights_clearance l.category (thread_rights session me process_then)
+    user_clears = sym (user_clearance_is session (state old) f l me caller own_reads own_writes name (place + 1) numbered p.exited p.born)
         ∙ λ k. rights_clearance l.category (thread_rights session me (record { user = name; chain = sym ready.caller.free k; held = []; exited = p.exited; born = p.born }))
 
     -- ---- the raw calls
 
     abbrev enters : RawCall
-    enters = entering (place + 1) own most
+    enters = entering owners (place + 1) own most
 
     abbrev reads : RawCall
     reads = Read root_number (password_of (place + 1))
@@ -173,20 +174,20 @@ module _ (users : List User) (name : Name) (password : Password) (me : ProcName)
 
     -- behind it the thread has the labels that the code asks for
     abbrev code_label : Levels
-    code_label = floor_of own (owner_of (read_category (place + 1)) (write_category (place + 1)))
+    code_label = floor_of own (owners_label owners)
 
     abbrev code_clearance : Levels
-    code_clearance = join_of most (cleared_of (read_category (place + 1)) (write_category (place + 1)))
+    code_clearance = join_of most (owners_clearance owners)
 
     entered_is : with_own (state old) t code_label code_clearance ≡ behind
     entered_is = λ k. with_own (state old) t (floor_of own (sym gate_label k)) (join_of most (sym gate_clearance k))
 
     -- the last raw calls, and the reply
     abbrev takes_label : Bool → RawCall
-    takes_label right = SetLabel (label_if right caller (place + 1) own)
+    takes_label right = SetLabel (label_if right caller owners own)
 
     abbrev takes_clearance : Bool → RawCall
-    takes_clearance right = SetClearance (clearance_if right caller (place + 1) most)
+    takes_clearance right = SetClearance (clearance_if right caller owners most)
 
     abbrev taking : Bool → Program
     taking right = ask (takes_label right) (λ _. ask (takes_clearance right) (λ _. Answers (reply_if right)))
@@ -196,13 +197,13 @@ module _ (users : List User) (name : Name) (password : Password) (me : ProcName)
     all_calls right = OwnLabel ∷ enters ∷ reads ∷ takes_label right ∷ takes_clearance right ∷ []
 
     -- the read of the password is among them
-    among_calls : (right : Bool) → AreAmong (reads_of_login session (place_of users name) true) (entries_of old.line t (all_granted (all_calls right)))
+    among_calls : (right : Bool) → AreAmong (reads_of_login session (place_of session.users name) true) (entries_of old.line t (all_granted (all_calls right)))
     among_calls right = subst (λ (o : Option ℕ). AreAmong (reads_of_login session o true) (entries_of old.line t (all_granted (all_calls right)))) (sym at_place) (inr (inr (inl (refl, tt))))
 
     -- labels of rights that are no more than the thread has behind the gate are taken
     module _ (right : Bool) (r : Rights) (owned : (c : CategoryName) → among r.owned c ≡ true → among (more session (state old) f l me p t runs_as name (place + 1) numbered).owned c ≡ true)
         (fewer : (c : CategoryName) → among r.tainted c ≡ true → among (thread_rights session me p).tainted c ≡ true) (as_many : (c : CategoryName) → among (thread_rights session me p).tainted c ≡ true → among r.tainted c ≡ true)
-        (label_is : label_if right caller (place + 1) own ≡ rights_label l.category r) (clearance_is : clearance_if right caller (place + 1) most ≡ rights_clearance l.category r)
+        (label_is : label_if right caller owners own ≡ rights_label l.category r) (clearance_is : clearance_if right caller owners most ≡ rights_clearance l.category r)
         (mid : KernelModel) (so_far : Chain old t (all_granted (OwnLabel ∷ enters ∷ reads ∷ [])) mid) (at : state mid ≡ behind) where
       abbrev with_label : State
       with_label = relabelled_state session (state old) f l me p t runs_as name (place + 1) numbered r owned fewer as_many
@@ -265,14 +266,14 @@ module _ (users : List User) (name : Name) (password : Password) (me : ProcName)
     -- what the program goes on with once it has the thread's own labels
     abbrev with_labels : Levels × Levels → Program
     with_labels own = do
-      entry ← ask (entering (place + 1) own.0 own.1)
+      entry ← ask (entering owners (place + 1) own.0 own.1)
       kept ← ask reads
-      ask (SetLabel (label_if (bytes_eq kept password) caller (place + 1) own.0))
-      ask (SetClearance (clearance_if (bytes_eq kept password) caller (place + 1) own.1))
+      ask (SetLabel (label_if (bytes_eq kept password) caller owners own.0))
+      ask (SetClearance (clearance_if (bytes_eq kept password) caller owners own.1))
       Answers (reply_if (bytes_eq kept password))
 
     -- a user has the name
-    someone : Runs (login_as_program caller (place + 1) password) old new t result → Goal
+    someone : Runs (login_as_program caller (place + 1) owners password) old new t result → Goal
     unfolding login_as_program
     someone runs =
         granted_step session f me ready.caller call old new t ready.thread result [] old (same_kernel old) OwnLabel with_labels asks_said runs
@@ -280,10 +281,10 @@ module _ (users : List User) (name : Name) (password : Password) (me : ProcName)
         let told_is : told ≡ (own, most) = λ k. (same_Some told.0 own (tells.0 ∙ ap label_there thread) k, same_Some told.1 most (tells.1 ∙ ap clearance_there thread) k) in
         to_gate asked chain called.state (subst (λ (x : Levels × Levels). Runs (with_labels x) asked new t result) told_is goes))
 
-  by_place : (o : Option ℕ) → place_of users name ≡ o → Runs (login_at caller password o) old new t result → Goal
+  by_place : (o : Option ℕ) → place_of session.users name ≡ o → Runs (login_at session caller name password o) old new t result → Goal
   by_place None nowhere runs = unknown nowhere runs
   by_place (Some place) at_place runs = someone place at_place runs
 
 -- A login is the row of its call.
 pub logins_are_rows : LoginsAreRows
-logins_are_rows users ok name password me caller old new f result ready found runs = by_place users name password me caller old new f result ready found (place_of users name) refl runs
+logins_are_rows session ok name password me caller old new f result ready found runs = by_place session name password me caller old new f result ready found (place_of session.users name) refl runs

@@ -1,6 +1,7 @@
 -- What the calls on processes have decided, and asked the kernel.
-use Rattle.std.proofs.Common.{◌≡◌, ℕ, List, Bool, true, false, not, Option, Some, Result, Ok, Err, refl, sym, ap, ◌∙◌, subst}
+use Rattle.std.proofs.Common.{◌≡◌, ℕ, List, Bool, true, false, not, Option, Some, Result, Ok, Err, length, refl, sym, ap, ◌∙◌, subst}
 use Rattle.std.proofs.lemmas.Option.{same_Some}
+use Rattle.histar_flat.specs.Sessions.{Session}
 use Rattle.histar_label.specs.Levels.{Levels}
 use Rattle.histar_rules.specs.declared.raw.RawCall.TheVariants.{MakeCategory, Unlink}
 use Rattle.histar_syscall.specs.KernelModel.{KernelModel}
@@ -48,10 +49,10 @@ pub before_birth : (t : ℕ) (parent : Home) (status : ProcessStatus) (kin : Kin
 before_birth t parent status kin k = without_categories t parent status kin k k Stopped (no_read t k k Stopped (before_ask t MakeCategory k))
 
 -- what the child gets is what the label tells
-pub kin_is : (own : Levels) (users user : ℕ) (in_job : Bool) (owned jobs : List ℕ) → IsUserOf own users user → in_job ≡ not (is_empty (jobs_in own)) → owned ≡ owned_by user (not in_job) → jobs ≡ jobs_in own
-    → record { owned = owned; jobs = jobs } ≡ kin_of users own
-kin_is own users user in_job owned jobs is in_job_is owned_is jobs_are = λ i. record {
-  owned = (owned_is ∙ (λ j. owned_by (sym (user_is own users user is) j) (free j))) i;
+pub kin_is : (own : Levels) (session : Session) (user : ℕ) (in_job : Bool) (owned jobs : List ℕ) → IsUserOf own (length session.users) user → in_job ≡ not (is_empty (jobs_in own)) → owned ≡ owned_by session user (not in_job) → jobs ≡ jobs_in own
+    → record { owned = owned; jobs = jobs } ≡ kin_of session own
+kin_is own session user in_job owned jobs is in_job_is owned_is jobs_are = λ i. record {
+  owned = (owned_is ∙ (λ j. owned_by session (sym (user_is own (length session.users) user is) j) (free j))) i;
   jobs = jobs_are i;
 }
   where

@@ -1,8 +1,8 @@
 -- The programs of these calls tell their refusals.
-use Rattle.std.proofs.Common.{ℕ, Bool, true, false, List, [], ◌∷◌, ◌+◌, length, Option, None, Some, refl}
+use Rattle.std.proofs.Common.{ℕ, Bool, true, false, [], ◌∷◌, ◌+◌, length, Option, None, Some, refl}
 use Rattle.std.specs.Prelude.{nat_lt, not}
 use Rattle.histar_flat.specs.Words.{ProcName, most_children, most_numbers}
-use Rattle.histar_flat.specs.declared.calls.User.{User}
+use Rattle.histar_flat.specs.Sessions.{Session}
 use Rattle.histar_flat.specs.declared.replies.Reply.TheVariants as replies
 use Rattle.histar_label.specs.Levels.{Levels}
 use Rattle.histar_rules.specs.Sound.{root_number}
@@ -53,9 +53,9 @@ written_tells home status rest tells = ask_tells (Write home.container home.segm
 unlinked_tells : (container object : ℕ) (rest : Program) → TellsRefusals rest → TellsRefusals (ask (Unlink container object) (λ _. rest))
 unlinked_tells container object rest tells = ask_tells (Unlink container object) (λ _. rest) (λ _. tells)
 
-whoami_tells : (users : List User) → TellsRefusals (whoami_program users)
+whoami_tells : (session : Session) → TellsRefusals (whoami_program session)
 unfolding whoami_program
-whoami_tells users = ask_tells OwnLabel (λ own. Answers (replies.User (user_name users (user_of own.0 (length users))) (not (is_empty (jobs_in own.0))))) (λ own. (refl, refl))
+whoami_tells session = ask_tells OwnLabel (λ own. Answers (replies.User (user_name session.users (user_of own.0 (length session.users))) (not (is_empty (jobs_in own.0))))) (λ own. (refl, refl))
 
 life_tells : (life : Option ℕ) → TellsRefusals (Answers (life_told life))
 life_tells None = (refl, refl)
@@ -112,7 +112,7 @@ module _ (parent : Home) (status : ProcessStatus) (kin : Kin) (rest : Unit {0} �
       ask_tells (MakeSegment container (outer_label kin write) (status_bytes (started internal thread))) (at_segment container) (λ segment.
       written_tells parent (with_child container segment status) (rest tt) tells))))))
 
-module _ (users : ℕ) (name : ProcName) (me : Home) where
+module _ (session : Session) (name : ProcName) (me : Home) where
   -- what comes after the birth
   abbrev restored : ProcessStatus → Levels × Levels → Program
   restored status own = ask (SetLabel own.0) (λ _. ask (SetClearance own.1) (λ _. Answers (replies.Child ((status.born + 1) ∷ name))))
@@ -124,17 +124,17 @@ module _ (users : ℕ) (name : ProcName) (me : Home) where
 
   -- what comes after the thread's own labels
   abbrev born : ProcessStatus → Levels × Levels → Program
-  born status own = birth me status (kin_of users own.0) (λ _. restored status own)
+  born status own = birth me status (kin_of session own.0) (λ _. restored status own)
 
   room_tells : (status : ProcessStatus) (room : Bool) → TellsRefusals (given (must_have_room room) (λ _. ask OwnLabel (born status)))
   room_tells status false = (refl, refl)
-  room_tells status true = ask_tells OwnLabel (born status) (λ own. birth_tells me status (kin_of users own.0) (λ _. restored status own) (restored_tells status own))
+  room_tells status true = ask_tells OwnLabel (born status) (λ own. birth_tells me status (kin_of session own.0) (λ _. restored status own) (restored_tells status own))
 
   depth_tells : (room : Bool) → TellsRefusals (given (must_have_room room) (λ _. read_status me (λ status. given (must_have_room (nat_lt status.born most_children)) (λ _. ask OwnLabel (born status)))))
   depth_tells false = (refl, refl)
   depth_tells true = status_tells me _ (λ status. room_tells status (nat_lt status.born most_children))
 
-  spawn_program_tells : TellsRefusals (spawn_program users name me)
+  spawn_program_tells : TellsRefusals (spawn_program session name me)
   unfolding spawn_program
   spawn_program_tells = depth_tells (nat_lt (length name) most_numbers)
 

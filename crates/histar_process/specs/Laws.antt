@@ -1,6 +1,6 @@
 -- What the kernel's refusals come to in these programs.
-use Rattle.std.specs.Prelude.{ℕ, List}
-use Rattle.histar_flat.specs.declared.calls.User.{User}
+use Rattle.std.specs.Prelude.{ℕ}
+use Rattle.histar_flat.specs.Sessions.{Session}
 use Rattle.histar_flat.specs.Words.{ProcName}
 use Rattle.histar_calls.specs.declared.places.Home.{Home}
 use Rattle.histar_calls.specs.declared.places.Places.{Places}
@@ -13,8 +13,8 @@ use Rattle.histar_process.specs.SpawnCall.{spawn_program}
 
 -- the programs of these calls tell their refusals
 pub record ProcessCallsTellRefusals : Type 0 where
-  pub whoami : (users : List User) → TellsRefusals (whoami_program users)
+  pub whoami : (session : Session) → TellsRefusals (whoami_program session)
   pub status : (places : Places) (name : ProcName) → TellsRefusals (status_program places name)
   pub kill : (places : Places) (name : ProcName) → TellsRefusals (kill_program places name)
   pub exit : (me : Home) (number : ℕ) → TellsRefusals (exit_program me number)
-  pub spawn : (users : ℕ) (name : ProcName) (me : Home) → TellsRefusals (spawn_program users name me)
+  pub spawn : (session : Session) (name : ProcName) (me : Home) → TellsRefusals (spawn_program session name me)

@@ -1,5 +1,6 @@
 -- The program of `spawn`.
-use Rattle.std.specs.Prelude.{ℕ, ◌+◌, Bool, true, false, nat_lt, ◌∷◌, length, Result, Ok, Err}
+use Rattle.std.specs.Prelude.{◌+◌, Bool, true, false, nat_lt, ◌∷◌, length, Result, Ok, Err}
+use Rattle.histar_flat.specs.Sessions.{Session}
 use Rattle.histar_flat.specs.Words.{ProcName, most_children, most_numbers}
 use Rattle.histar_flat.specs.declared.replies.Errno.{Errno}
 use Rattle.histar_flat.specs.declared.replies.Errno.TheVariants.{EAGAIN}
@@ -20,13 +21,13 @@ must_have_room false = Err EAGAIN
 
 -- A name of 8 numbers has no room for one more, which is known without a raw call. The process's own segment is read: fewer than 64
 -- children may have been born. The thread asks for its own labels, the child is born, and the thread takes its own labels again.
-unfoldable pub spawn_program : ℕ → ProcName → Home → Program
-spawn_program users name me = do
+unfoldable pub spawn_program : Session → ProcName → Home → Program
+spawn_program session name me = do
   given (must_have_room (nat_lt (length name) most_numbers))
   status ← read_status me
   given (must_have_room (nat_lt status.born most_children))
   own ← ask OwnLabel
-  birth me status (kin_of users own.0)
+  birth me status (kin_of session own.0)
   ask (SetLabel own.0)
   ask (SetClearance own.1)
   Answers (replies.Child ((status.born + 1) ∷ name))

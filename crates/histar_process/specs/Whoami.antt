@@ -1,6 +1,6 @@
 -- The program of `whoami`.
-use Rattle.std.specs.Prelude.{not, List, length}
-use Rattle.histar_flat.specs.declared.calls.User.{User}
+use Rattle.std.specs.Prelude.{not, length}
+use Rattle.histar_flat.specs.Sessions.{Session}
 use Rattle.histar_flat.specs.declared.replies.Reply.TheVariants as replies
 use Rattle.histar_rules.specs.declared.raw.RawCall.TheVariants.{OwnLabel}
 use Rattle.histar_calls.specs.Categories.{user_of}
@@ -10,7 +10,7 @@ use Rattle.histar_calls.specs.Parts.{◌>>=◌, ask}
 use Rattle.histar_process.specs.Kin.{jobs_in, is_empty, user_name}
 
 -- the thread asks for its own label, which tells the user and whether the process is in a job
-unfoldable pub whoami_program : List User → Program
-whoami_program users = do
+unfoldable pub whoami_program : Session → Program
+whoami_program session = do
   own ← ask OwnLabel
-  Answers (replies.User (user_name users (user_of own.0 (length users))) (not (is_empty (jobs_in own.0))))
+  Answers (replies.User (user_name session.users (user_of own.0 (length session.users))) (not (is_empty (jobs_in own.0))))

@@ -9,12 +9,13 @@ ghost use Rattle.histar_calls.specs.Programs.{RunsPart};
 ghost use Rattle.histar_process.specs.Births.{RunsBirth, make_categories, make_containers, make_thread, make_segment};
 
 use crate::find::write_segment;
+use crate::kin::joined;
 use histar_calls::{Ending, Home, cleared_at, guarded_by, owning};
 use histar_label::{Category, LabelStore};
 use histar_layout::{add_child, first_status};
 use histar_object::ObjId;
 use histar_syscall::Kernel;
-use std::alloc::{AllocError, Global};
+use std::alloc::Global;
 
 /// A child is born to the process that is found there, whose segment has these bytes: it owns its own two
 /// categories and these, and is in the jobs of these. Its objects are made, and it is added to the
@@ -133,17 +134,4 @@ fn make_segment<S: LabelStore + Drop>(
     let bytes = first_status(alloc, internal, child)?;
     let made = kernel.make_segment(alloc, thread, container, label, bytes)?;
     Ok(made)
-}
-
-/// The categories of both lists.
-fn joined(
-    alloc: Global,
-    first: &[Category],
-    second: &[Category],
-) -> Result<Vec<Category>, AllocError>
-    ensures { IfOk result (λ all. all.items ≡ first.now ++ second.now) }
-{
-    let mut all = Vec::from_slice(alloc, first)?;
-    all.extend_from_slice(second)?;
-    Ok(all)
 }

@@ -1,11 +1,12 @@
 //! What a thread's own label tells of its process.
-ghost use Rattle.std.specs.Prelude.{◌≡◌, not, IfOk};
+ghost use Rattle.std.specs.Prelude.{◌≡◌, ◌++◌, map, not, IfOk};
 ghost use Rattle.histar_flat.specs.Classes.{nobody};
 ghost use Rattle.histar_process.specs.Caller.{is_three};
-ghost use Rattle.histar_process.specs.Kin.{is_empty, jobs_in, owned_by, user_name};
+ghost use Rattle.histar_calls.specs.Categories.{read_category, write_category};
+ghost use Rattle.histar_process.specs.Kin.{categories_of, is_empty, jobs_in, owned_by, user_name};
 
-use histar_calls::{read_category, write_category};
-use histar_flat::{Name, User, read_name};
+use histar_calls::{owners_of, read_category, write_category};
+use histar_flat::{Name, Session, User, read_name};
 use histar_label::{Category, Label, Level};
 use std::alloc::{AllocError, Global};
 
@@ -44,17 +45,66 @@ pub fn jobs_in(alloc: Global, own: &Label) -> Result<Vec<Category>, AllocError>
 }
 
 /// The categories that a process owns as the user of this number, if it is free of jobs or not.
-pub fn owned_by(alloc: Global, user: u8, free: bool) -> Result<Vec<Category>, AllocError>
-    ensures { IfOk result (λ owned. owned.items ≡ owned_by user free) }
+pub fn owned_by(
+    alloc: Global,
+    session: &Session,
+    user: u8,
+    free: bool,
+) -> Result<Vec<Category>, AllocError>
+    ensures { IfOk result (λ owned. owned.items ≡ owned_by session.now user free) }
 {
-    let mut owned = Vec::new(alloc);
-    if user > 0 {
-        owned.push(read_category(user))?;
-        if free {
-            owned.push(write_category(user))?;
-        }
+    if user == 0 {
+        return Ok(Vec::new(alloc));
+    }
+    let name = user_name(session.users(), user);
+    let owners = owners_of(alloc, session, user, name)?;
+    categories_of(alloc, owners.as_slice(), free)
+}
+
+/// The categories by which these users and groups read and, in a free process, those by which they write.
+pub fn categories_of(alloc: Global, owners: &[u8], free: bool) -> Result<Vec<Category>, AllocError>
+    ensures { IfOk result (λ owned. owned.items ≡ categories_of owners.now free) }
+{
+    let owned = with_reading(Vec::new(alloc), owners)?;
+    if free {
+        return with_writing(owned, owners);
     }
     Ok(owned)
+}
+
+// These categories, and those by which these users and groups read.
+fn with_reading(categories: Vec<Category>, owners: &[u8]) -> Result<Vec<Category>, AllocError>
+    ensures { IfOk result (λ made. made.items ≡ categories.items ++ map read_category owners.now) }
+{
+    let mut made = categories;
+    for &owner in owners {
+        made.push(read_category(owner))?;
+    }
+    Ok(made)
+}
+
+// These categories, and those by which these users and groups write.
+fn with_writing(categories: Vec<Category>, owners: &[u8]) -> Result<Vec<Category>, AllocError>
+    ensures { IfOk result (λ made. made.items ≡ categories.items ++ map write_category owners.now) }
+{
+    let mut made = categories;
+    for &owner in owners {
+        made.push(write_category(owner))?;
+    }
+    Ok(made)
+}
+
+/// The categories of both lists.
+pub fn joined(
+    alloc: Global,
+    first: &[Category],
+    second: &[Category],
+) -> Result<Vec<Category>, AllocError>
+    ensures { IfOk result (λ all. all.items ≡ first.now ++ second.now) }
+{
+    let mut all = Vec::from_slice(alloc, first)?;
+    all.extend_from_slice(second)?;
+    Ok(all)
 }
 
 /// The name of the user of this number, from 1 on; nobody's is number 0.

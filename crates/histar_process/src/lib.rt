@@ -17,3 +17,4 @@ pub mod status;
 pub mod whoami;
 
 pub use caller::{Caller, find_caller};
+pub use kin::{categories_of, joined};

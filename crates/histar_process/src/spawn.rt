@@ -9,7 +9,7 @@ use crate::caller::Caller;
 use crate::find::{Segment, read_segment};
 use crate::kin::{is_in_job, jobs_in, owned_by};
 use histar_calls::{Ending, Stopped, settle, user_of};
-use histar_flat::{Errno, ProcName, Reply};
+use histar_flat::{Errno, ProcName, Reply, Session};
 use histar_label::LabelStore;
 use histar_syscall::Kernel;
 use std::alloc::Global;
@@ -20,29 +20,29 @@ const MOST_NUMBERS: usize = 7;
 /// How many children may be born to a process.
 const MOST_CHILDREN: u8 = 64;
 
-/// A child is born to the process of this name, which makes the call: its user is the caller's, of so many,
-/// and it is in the same jobs. EAGAIN where the name has no room for one number more or 64 children were
+/// A child is born to the process of this name, which makes the call: its user is the caller's, and it is
+/// in the same jobs. EAGAIN where the name has no room for one number more or 64 children were
 /// born already, EACCES where the kernel doesn't let the thread modify the process's own objects.
 pub fn spawn<S: LabelStore + Drop>(
     kernel: &mut Kernel<S>,
     alloc: Global,
-    users: u8,
+    session: &Session,
     name: &ProcName,
     caller: &Caller,
 ) -> Result<Reply, Stopped>
-    ensures { Runs (spawn_program users name.now caller.now.home) kernel.old kernel.new caller.now.thread result }
+    ensures { Runs (spawn_program session.now name.now caller.now.home) kernel.old kernel.new caller.now.thread result }
 {
-    settle(spawn_child(kernel, alloc, users, name, caller))
+    settle(spawn_child(kernel, alloc, session, name, caller))
 }
 
 fn spawn_child<S: LabelStore + Drop>(
     kernel: &mut Kernel<S>,
     alloc: Global,
-    users: u8,
+    session: &Session,
     name: &ProcName,
     caller: &Caller,
 ) -> Result<Reply, Ending>
-    ensures { Runs (spawn_program users name.now caller.now.home) kernel.old kernel.new caller.now.thread (settled result) }
+    ensures { Runs (spawn_program session.now name.now caller.now.home) kernel.old kernel.new caller.now.thread (settled result) }
 {
     must_have_room(name.numbers().len() < MOST_NUMBERS)?;
     let (home, thread) = (&caller.home, caller.thread);
@@ -50,7 +50,7 @@ fn spawn_child<S: LabelStore + Drop>(
     must_have_room(head.born < MOST_CHILDREN)?;
     let (own, most) = kernel.own_label(thread)?;
     let jobs = jobs_in(alloc, &own)?;
-    let owned = owned_by(alloc, user_of(&own, users), !is_in_job(&own))?;
+    let owned = owned_by(alloc, session, user_of(&own, session), !is_in_job(&own))?;
     give_birth(
         kernel,
         alloc,

@@ -1,12 +1,11 @@
 //! Asking whose a process is, and whether it is in a job.
-ghost use Rattle.std.specs.Prelude.{◌≤◌, length};
 ghost use Rattle.histar_calls.specs.Programs.{Runs};
 ghost use Rattle.histar_calls.specs.Refusals.{settled};
 ghost use Rattle.histar_process.specs.Whoami.{whoami_program};
 
 use crate::kin::{is_in_job, user_name};
 use histar_calls::{Ending, Stopped, settle, user_of};
-use histar_flat::{Reply, User};
+use histar_flat::{Reply, Session};
 use histar_label::LabelStore;
 use histar_object::ObjId;
 use histar_syscall::Kernel;
@@ -15,24 +14,22 @@ use histar_syscall::Kernel;
 /// own label tells.
 pub fn whoami<S: LabelStore + Drop>(
     kernel: &mut Kernel<S>,
-    users: &[User],
+    session: &Session,
     thread: ObjId,
 ) -> Result<Reply, Stopped>
-    requires { length users.now ≤ 16 }
-    ensures { Runs (whoami_program users.now) kernel.old kernel.new thread result }
+    ensures { Runs (whoami_program session.now) kernel.old kernel.new thread result }
 {
-    settle(tell_user(kernel, users, thread))
+    settle(tell_user(kernel, session, thread))
 }
 
 fn tell_user<S: LabelStore + Drop>(
     kernel: &mut Kernel<S>,
-    users: &[User],
+    session: &Session,
     thread: ObjId,
 ) -> Result<Reply, Ending>
-    requires { length users.now ≤ 16 }
-    ensures { Runs (whoami_program users.now) kernel.old kernel.new thread (settled result) }
+    ensures { Runs (whoami_program session.now) kernel.old kernel.new thread (settled result) }
 {
     let (own, _most) = kernel.own_label(thread)?;
-    let number = user_of(&own, users.len() as u8);
-    Ok(Reply::User(user_name(users, number), is_in_job(&own)))
+    let number = user_of(&own, session);
+    Ok(Reply::User(user_name(session.users(), number), is_in_job(&own)))
 }

@@ -2,7 +2,6 @@
 -- lays out the flat state with the child.
 use Rattle.std.proofs.Common.{◌≡◌, ℕ, ◌+◌, ◌<◌, ◌≤◌, List, [], ◌∷◌, length, None, Some, arith, sym, ◌∙◌, subst}
 use Rattle.std.specs.FinSet as set
-use Rattle.histar_flat.specs.declared.calls.User.{User}
 use Rattle.histar_flat.specs.Words.{ProcName}
 use Rattle.histar_flat.specs.Sessions.{Session, user_number}
 use Rattle.histar_flat.specs.Classes.{Process}
@@ -15,12 +14,14 @@ use Rattle.histar_object.specs.Rights.{with_category}
 use Rattle.histar_object.specs.State.{State}
 use Rattle.histar_rules.specs.Rules.{greatest}
 use Rattle.histar_layout.specs.Status.{ProcessStatus}
-use Rattle.histar_calls.specs.Categories.{read_category, write_category, user_of}
+use Rattle.histar_calls.specs.Categories.{user_of}
 use Rattle.histar_calls.specs.declared.places.Home.{Home}
 use Rattle.histar_process.specs.Birth.{outer_label, inner_label, thread_label, thread_clearance}
-use Rattle.histar_process.specs.Kin.{Kin, jobs_in, kin_of}
-use Rattle.histar_refinement.specs.Categories.CategoryName.{ReadsUser, WritesUser, ReadsProcess, WritesProcess}
-use Rattle.histar_refinement.specs.Categories.{Categories}
+use Rattle.histar_process.specs.Kin.{Kin, jobs_in, user_name, kin_of}
+use Rattle.histar_refinement.specs.Sessions.{IsSession}
+use Rattle.histar_refinement.proofs.Counting.{boot_used}
+use Rattle.histar_refinement.specs.Categories.CategoryName.{ReadsProcess, WritesProcess}
+use Rattle.histar_refinement.specs.Categories.{CategoryName, Categories, boot_category}
 use Rattle.histar_refinement.specs.Guards.{guard_label, rights_label, rights_clearance}
 use Rattle.histar_refinement.specs.Labels.{process_guard, inside_guard, thread_rights}
 use Rattle.histar_refinement.specs.Addresses.{home_of}
@@ -31,18 +32,15 @@ use Rattle.histar_refinement.proofs.Beside.{own_set}
 use Rattle.histar_refinement.proofs.CallLabels.{reads_numbered, writes_numbered}
 use Rattle.histar_refinement.proofs.Spawned.{births, state_spawned, lays_out_spawned}
 use Rattle.histar_refinement.proofs.Spawning.{keeps, reads_number, writes_number}
-use Rattle.histar_process_rows.proofs.OwnLabels.{no_jobs_in, own_user_is}
+use Rattle.histar_process_rows.proofs.OwnLabels.{no_jobs_in, own_user_is, name_of_number}
 use Rattle.histar_process_rows.proofs.BirthChecks.{IsModified, IsLesser}
 use Rattle.histar_process_rows.proofs.BirthRights.{chain_used, chain_free, names, owner, owner_most, around_before, around_owner, home_modified, outer_modified, inner_modified, thread_lesser, own_taken}
 use Rattle.histar_process_rows.proofs.BirthRun.{IsFit, spawned}
 use Rattle.histar_process_rows.proofs.ChildBytes.{started_fits, grown_fits, few_listed, child_bytes_are, own_bytes_are}
 use Rattle.histar_process_rows.proofs.ChildLabels.{outer_is, inner_is, label_is, clearance_is}
 
-module _ (users : List User) (s : State) (f : Flat) (lays_out : LaysOut (record { users = users; groups = [] }) s f) (me : ProcName) (p : Process) (here : f.processes me ≡ Some p) (runs : p.exited ≡ None) (room : p.born < 64) (free : p.chain ≡ [])
+module _ (session : Session) (ok : IsSession session) (s : State) (f : Flat) (lays_out : LaysOut session s f) (me : ProcName) (p : Process) (here : f.processes me ≡ Some p) (runs : p.exited ≡ None) (room : p.born < 64) (free : p.chain ≡ [])
     (C S : ℕ) (at_home : lays_out.laid.naming.number (home_of me) ≡ Some C) (at_status : lays_out.laid.naming.number (Status ∷ home_of me) ≡ Some S) (T : ℕ) (at_thread : lays_out.laid.naming.number (Runner ∷ Inside ∷ home_of me) ≡ Some T) where
-  abbrev session : Session
-  session = record { users = users; groups = [] }
-
   abbrev own : Levels
   own = rights_label lays_out.laid.category (thread_rights session me p)
 
@@ -56,30 +54,33 @@ module _ (users : List User) (s : State) (f : Flat) (lays_out : LaysOut (record 
   status = status_by f.processes lays_out.laid.naming.number me p
 
   abbrev kin : Kin
-  kin = kin_of (length users) own
+  kin = kin_of session own
 
   -- what the own label of the thread tells
   alone : jobs_in own ≡ []
   alone = no_jobs_in lays_out.laid.category session me p free
 
-  told : user_of own (length users) ≡ or_zero (user_number session p.user)
+  told : user_of own (length session.users) ≡ or_zero (user_number session p.user)
   told = own_user_is session s f lays_out.laid me p
 
   -- the numbers of categories once the child has its two
   abbrev then_names : Categories
-  then_names = names (record { users = users; groups = [] }) s f lays_out.laid me p here runs room C S at_home at_status
+  then_names = names session s f lays_out.laid me p here runs room C S at_home at_status
 
-  reads_user : (i : ℕ) → i ≤ length users → then_names (ReadsUser i) ≡ read_category i
-  reads_user i high = keeps (record { users = users; groups = [] }) s f lays_out.laid me p here runs room p.chain (chain_used session s f lays_out.laid me p here runs room C S at_home at_status) (lays_out.laid.processes me p here).chain (chain_free session s f lays_out.laid me p here runs room C S at_home at_status) C S at_home at_status (ReadsUser i) high ∙ reads_numbered session s f lays_out.laid i high
+  -- boot's categories have their numbers still
+  as_made : (c : CategoryName) (q : ℕ) → boot_category session c ≡ Some q → then_names c ≡ q
+  as_made c q booted =
+      keeps session s f lays_out.laid me p here runs room p.chain (chain_used session s f lays_out.laid me p here runs room C S at_home at_status) (lays_out.laid.processes me p here).chain (chain_free session s f lays_out.laid me p here runs room C S at_home at_status) C S at_home at_status c
+      (boot_used session f lays_out.laid.first c q booted) ∙ lays_out.laid.as_made c q booted
 
-  writes_user : (i : ℕ) → i ≤ length users → then_names (WritesUser i) ≡ write_category i
-  writes_user i high = keeps (record { users = users; groups = [] }) s f lays_out.laid me p here runs room p.chain (chain_used session s f lays_out.laid me p here runs room C S at_home at_status) (lays_out.laid.processes me p here).chain (chain_free session s f lays_out.laid me p here runs room C S at_home at_status) C S at_home at_status (WritesUser i) high ∙ writes_numbered session s f lays_out.laid i high
+  named : user_name session.users (or_zero (user_number session p.user)) ≡ p.user
+  named = name_of_number session ok p.user ((lays_out.laid.processes me p here).someone runs)
 
   reads_is : then_names (ReadsProcess ((p.born + 1) ∷ me)) ≡ s.next_category
-  reads_is = reads_number (record { users = users; groups = [] }) s f lays_out.laid me p here runs room p.chain (chain_used session s f lays_out.laid me p here runs room C S at_home at_status) (lays_out.laid.processes me p here).chain (chain_free session s f lays_out.laid me p here runs room C S at_home at_status) C S at_home at_status
+  reads_is = reads_number session s f lays_out.laid me p here runs room p.chain (chain_used session s f lays_out.laid me p here runs room C S at_home at_status) (lays_out.laid.processes me p here).chain (chain_free session s f lays_out.laid me p here runs room C S at_home at_status) C S at_home at_status
 
   writes_is : then_names (WritesProcess ((p.born + 1) ∷ me)) ≡ s.next_category + 1
-  writes_is = writes_number (record { users = users; groups = [] }) s f lays_out.laid me p here runs room p.chain (chain_used session s f lays_out.laid me p here runs room C S at_home at_status) (lays_out.laid.processes me p here).chain (chain_free session s f lays_out.laid me p here runs room C S at_home at_status) C S at_home at_status
+  writes_is = writes_number session s f lays_out.laid me p here runs room p.chain (chain_used session s f lays_out.laid me p here runs room C S at_home at_status) (lays_out.laid.processes me p here).chain (chain_free session s f lays_out.laid me p here runs room C S at_home at_status) C S at_home at_status
 
   -- so the labels that are handed in are the child's
   abbrev child : ProcName
@@ -89,39 +90,39 @@ module _ (users : List User) (s : State) (f : Flat) (lays_out : LaysOut (record 
   newborn = record { user = p.user; chain = p.chain; held = []; exited = None; born = 0 }
 
   outer_same : outer_label kin (s.next_category + 1) ≡ guard_label then_names (process_guard child newborn)
-  outer_same = outer_is users then_names p free reads_user writes_user own alone told ((p.born + 1) ∷ me) s.next_category (s.next_category + 1) reads_is writes_is
+  outer_same = outer_is session then_names p free as_made named own alone told ((p.born + 1) ∷ me) s.next_category (s.next_category + 1) reads_is writes_is
 
   inner_same : inner_label kin s.next_category (s.next_category + 1) ≡ guard_label then_names (inside_guard child newborn)
-  inner_same = inner_is users then_names p free reads_user writes_user own alone told ((p.born + 1) ∷ me) s.next_category (s.next_category + 1) reads_is writes_is
+  inner_same = inner_is session then_names p free as_made named own alone told ((p.born + 1) ∷ me) s.next_category (s.next_category + 1) reads_is writes_is
 
   label_same : thread_label kin s.next_category (s.next_category + 1) ≡ rights_label then_names (thread_rights session child newborn)
-  label_same = label_is users then_names p free reads_user writes_user own alone told ((p.born + 1) ∷ me) s.next_category (s.next_category + 1) reads_is writes_is
+  label_same = label_is session then_names p free as_made named own alone told ((p.born + 1) ∷ me) s.next_category (s.next_category + 1) reads_is writes_is
 
   clearance_same : thread_clearance kin s.next_category (s.next_category + 1) ≡ rights_clearance then_names (thread_rights session child newborn)
-  clearance_same = clearance_is users then_names p free reads_user writes_user own alone told ((p.born + 1) ∷ me) s.next_category (s.next_category + 1) reads_is writes_is
+  clearance_same = clearance_is session then_names p free as_made named own alone told ((p.born + 1) ∷ me) s.next_category (s.next_category + 1) reads_is writes_is
 
   abbrev grown : Levels
-  grown = owner (record { users = users; groups = [] }) s f lays_out.laid me p here runs room C S at_home at_status
+  grown = owner session s f lays_out.laid me p here runs room C S at_home at_status
 
   abbrev grown_most : Levels
-  grown_most = owner_most (record { users = users; groups = [] }) s f lays_out.laid me p here runs room C S at_home at_status
+  grown_most = owner_most session s f lays_out.laid me p here runs room C S at_home at_status
 
   -- What the birth needs is there.
-  pub fit : IsFit s T (record { container = C; segment = S }) (status_by f.processes lays_out.laid.naming.number me p) (kin_of (length users) (rights_label lays_out.laid.category (thread_rights (record { users = users; groups = [] }) me p)))
-      (rights_label lays_out.laid.category (thread_rights (record { users = users; groups = [] }) me p)) (rights_clearance lays_out.laid.category (thread_rights (record { users = users; groups = [] }) me p))
+  pub fit : IsFit s T (record { container = C; segment = S }) (status_by f.processes lays_out.laid.naming.number me p) (kin_of session (rights_label lays_out.laid.category (thread_rights session me p)))
+      (rights_label lays_out.laid.category (thread_rights session me p)) (rights_clearance lays_out.laid.category (thread_rights session me p))
   fit = record {
     thread = (around_before session s f lays_out.laid me p here runs C S at_home at_status T at_thread).thread;
     owner = grown;
     owner_most = grown_most;
     label = guard_label then_names (process_guard me p);
     held = process_bytes f.processes lays_out.laid.naming.number me p;
-    around = around_owner (record { users = users; groups = [] }) s f lays_out.laid me p here runs room C S at_home at_status T at_thread;
-    under = (home_modified (record { users = users; groups = [] }) s f lays_out.laid me p here runs room C S at_home at_status).0;
-    seen = (home_modified (record { users = users; groups = [] }) s f lays_out.laid me p here runs room C S at_home at_status).1;
-    outer = subst (λ (x : Levels). IsModified grown grown_most x (s.next_category + 1 + 1)) (sym outer_same) (outer_modified (record { users = users; groups = [] }) s f lays_out.laid me p here runs room C S at_home at_status);
-    inner = subst (λ (x : Levels). IsModified grown grown_most x (s.next_category + 1 + 1)) (sym inner_same) (inner_modified (record { users = users; groups = [] }) s f lays_out.laid me p here runs room C S at_home at_status);
-    lesser = subst (λ (x : Levels × Levels). IsLesser grown grown_most x.0 x.1 (s.next_category + 1 + 1)) (λ i. (sym label_same i, sym clearance_same i)) (thread_lesser (record { users = users; groups = [] }) s f lays_out.laid me p here runs room C S at_home at_status);
-    taken = own_taken (record { users = users; groups = [] }) s f lays_out.laid me p here runs room C S at_home at_status;
+    around = around_owner session s f lays_out.laid me p here runs room C S at_home at_status T at_thread;
+    under = (home_modified session s f lays_out.laid me p here runs room C S at_home at_status).0;
+    seen = (home_modified session s f lays_out.laid me p here runs room C S at_home at_status).1;
+    outer = subst (λ (x : Levels). IsModified grown grown_most x (s.next_category + 1 + 1)) (sym outer_same) (outer_modified session s f lays_out.laid me p here runs room C S at_home at_status);
+    inner = subst (λ (x : Levels). IsModified grown grown_most x (s.next_category + 1 + 1)) (sym inner_same) (inner_modified session s f lays_out.laid me p here runs room C S at_home at_status);
+    lesser = subst (λ (x : Levels × Levels). IsLesser grown grown_most x.0 x.1 (s.next_category + 1 + 1)) (λ i. (sym label_same i, sym clearance_same i)) (thread_lesser session s f lays_out.laid me p here runs room C S at_home at_status);
+    taken = own_taken session s f lays_out.laid me p here runs room C S at_home at_status;
     child_few = started_fits (s.next_object + 1) (s.next_object + 1 + 1);
     own_few = grown_fits (process_bytes f.processes lays_out.laid.naming.number me p) s.next_object (s.next_object + 1 + 1 + 1) status (let listed = few_listed f.processes lays_out.laid.naming.number me p in omega (arith, listed, room));
   }
@@ -136,12 +137,12 @@ module _ (users : List User) (s : State) (f : Flat) (lays_out : LaysOut (record 
         (record { label = outer_same i; kind = Container set.empty })
         (record { label = inner_same i; kind = Container set.empty })
         (thread_of (label_same i) (clearance_same i))
-        (record { label = outer_same i; kind = Segment (child_bytes_are (record { users = users; groups = [] }) s f lays_out.laid me p here runs room p.chain (chain_used session s f lays_out.laid me p here runs room C S at_home at_status) (lays_out.laid.processes me p here).chain (chain_free session s f lays_out.laid me p here runs room C S at_home at_status) C S at_home at_status i) })
-        (own_bytes_are (record { users = users; groups = [] }) s f lays_out.laid me p here runs room p.chain (chain_used session s f lays_out.laid me p here runs room C S at_home at_status) (lays_out.laid.processes me p here).chain (chain_free session s f lays_out.laid me p here runs room C S at_home at_status) C S at_home at_status i)) own most
+        (record { label = outer_same i; kind = Segment (child_bytes_are session s f lays_out.laid me p here runs room p.chain (chain_used session s f lays_out.laid me p here runs room C S at_home at_status) (lays_out.laid.processes me p here).chain (chain_free session s f lays_out.laid me p here runs room C S at_home at_status) C S at_home at_status i) })
+        (own_bytes_are session s f lays_out.laid me p here runs room p.chain (chain_used session s f lays_out.laid me p here runs room C S at_home at_status) (lays_out.laid.processes me p here).chain (chain_free session s f lays_out.laid me p here runs room C S at_home at_status) C S at_home at_status i)) own most
 
     -- The flat state with the child is laid out then.
-    pub spawned_laid : LaysOut (record { users = users; groups = [] })
-        (spawned s T (record { container = C; segment = S }) (status_by f.processes lays_out.laid.naming.number me p) (kin_of (length users) (rights_label lays_out.laid.category (thread_rights (record { users = users; groups = [] }) me p)))
-        (rights_label lays_out.laid.category (thread_rights (record { users = users; groups = [] }) me p)) (rights_clearance lays_out.laid.category (thread_rights (record { users = users; groups = [] }) me p)))
+    pub spawned_laid : LaysOut session
+        (spawned s T (record { container = C; segment = S }) (status_by f.processes lays_out.laid.naming.number me p) (kin_of session (rights_label lays_out.laid.category (thread_rights session me p)))
+        (rights_label lays_out.laid.category (thread_rights session me p)) (rights_clearance lays_out.laid.category (thread_rights session me p)))
         (flat.with_child f me p p.chain)
     spawned_laid = subst (λ (x : State). LaysOut session x (flat.with_child f me p p.chain)) (sym spawned_is) (lays_out_spawned session s f lays_out me p here runs room C S T at_home at_status at_thread few)

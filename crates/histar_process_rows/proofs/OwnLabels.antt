@@ -5,7 +5,7 @@ use Rattle.std.specs.List.{filter}
 use Rattle.std.proofs.lemmas.Option.{none-some, same_Some}
 use Rattle.histar_flat.specs.declared.calls.User.{User}
 use Rattle.histar_flat.specs.Words.{Name, ProcName}
-use Rattle.histar_flat.specs.Sessions.{Session, session_of, user_number}
+use Rattle.histar_flat.specs.Sessions.{Session, user_number}
 use Rattle.histar_flat.specs.Classes.{Process, nobody, is_free}
 use Rattle.histar_flat.specs.FlatState.{Flat}
 use Rattle.histar_label.specs.declared.levels.Level.{Level}
@@ -71,10 +71,10 @@ name_at (v ∷ users) zero u e = ap (λ (x : User). x.name) (same_Some v u e)
 name_at (v ∷ users) (suc k) u e = name_at users k u e
 
 -- A declared user, or nobody, has the name that its number tells.
-pub name_of_number : (users : List User) → IsSession (session_of users) → (name : Name) → (name ≡ nobody) ⊎ (is_some (user_number (session_of users) name) ≡ true) → user_name users (or_zero (user_number (session_of users) name)) ≡ name
-name_of_number users ok name (inl e) = ap (λ (o : Option ℕ). user_name users (or_zero o)) (ap (user_number (session_of users)) e ∙ ok.no_one) ∙ sym e
-name_of_number users ok name (inr declared) =
-    let at = some_of (user_number (session_of users) name) declared in
-    let user = numbered_user (session_of users) name at.0 at.1 in
+pub name_of_number : (session : Session) → IsSession session → (name : Name) → (name ≡ nobody) ⊎ (is_some (user_number session name) ≡ true) → user_name session.users (or_zero (user_number session name)) ≡ name
+name_of_number session ok name (inl e) = ap (λ (o : Option ℕ). user_name session.users (or_zero o)) (ap (user_number session) e ∙ ok.no_one) ∙ sym e
+name_of_number session ok name (inr declared) =
+    let at = some_of (user_number session name) declared in
+    let user = numbered_user session name at.0 at.1 in
     let next : at.0 ≡ suc user.0 = omega (arith, user.2) in
-    ap (λ (o : Option ℕ). user_name users (or_zero o)) at.1 ∙ ap (user_name users) next ∙ name_at users user.0 user.1 user.3 ∙ user.5
+    ap (λ (o : Option ℕ). user_name session.users (or_zero o)) at.1 ∙ ap (user_name session.users) next ∙ name_at session.users user.0 user.1 user.3 ∙ user.5

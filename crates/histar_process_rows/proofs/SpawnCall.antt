@@ -5,13 +5,12 @@ use Rattle.std.specs.List.{list_all}
 use Rattle.std.proofs.lemmas.Bool.{ltb-true}
 use Rattle.std.proofs.lemmas.Option.{same_Some}
 use Rattle.histar_base.specs.Refusals.{◌orelse◌, unless}
-use Rattle.histar_flat.specs.declared.calls.User.{User}
 use Rattle.histar_flat.specs.declared.calls.UnixCall.TheVariants.{Spawn}
 use Rattle.histar_flat.specs.declared.replies.Errno.TheVariants.{EAGAIN}
 use Rattle.histar_flat.specs.declared.replies.Reply.{Reply}
 use Rattle.histar_flat.specs.declared.replies.Reply.TheVariants.{Child}
 use Rattle.histar_flat.specs.Words.{ProcName, most_children, most_numbers}
-use Rattle.histar_flat.specs.Sessions.{Session, session_of}
+use Rattle.histar_flat.specs.Sessions.{Session}
 use Rattle.histar_flat.specs.Classes.{Process, knows}
 use Rattle.histar_flat.specs.FlatState.{Flat}
 use Rattle.histar_flat.specs.FlatState as flat
@@ -37,6 +36,7 @@ use Rattle.histar_process.specs.Kin.{kin_of}
 use Rattle.histar_process.specs.Parts.{read_status}
 use Rattle.histar_process.specs.SpawnCall.{must_have_room, spawn_program}
 use Rattle.histar_login.specs.Start.{places_of}
+use Rattle.histar_refinement.specs.Sessions.{IsSession}
 use Rattle.histar_refinement.specs.Guards.{guard_label, rights_label, rights_clearance}
 use Rattle.histar_refinement.specs.Labels.{process_guard, thread_rights}
 use Rattle.histar_refinement.specs.Addresses.{home_of}
@@ -62,18 +62,15 @@ either_again : (b : Bool) → (unless b EAGAIN orelse Some EAGAIN) ≡ Some EAGA
 either_again true = refl
 either_again false = refl
 
-module _ (users : List User) (me : ProcName) (caller : Caller) (old new : KernelModel) (f : Flat) (result : Result Reply Stopped)
-    (ready : IsReady (session_of users) (state old) f me caller.thread) (found : caller_at (state old) (places_of (length users)).home me ≡ Some caller) where
+module _ (session : Session) (ok : IsSession session) (me : ProcName) (caller : Caller) (old new : KernelModel) (f : Flat) (result : Result Reply Stopped)
+    (ready : IsReady session (state old) f me caller.thread) (found : caller_at (state old) (places_of (length session.users)).home me ≡ Some caller) where
   abbrev t : ℕ
   t = caller.thread
-
-  abbrev session : Session
-  session = record { users = users; groups = [] }
 
   abbrev p : Process
   p = ready.caller.process
 
-  abbrev l : Laid (record { users = users; groups = [] }) (state old) f
+  abbrev l : Laid session (state old) f
   l = ready.lays_out.laid
 
   abbrev Goal : Type 0
@@ -117,7 +114,7 @@ module _ (users : List User) (me : ProcName) (caller : Caller) (old new : Kernel
   reply = Child ((status.born + 1) ∷ me)
 
   abbrev with_labels : ProcessStatus → Levels × Levels → Program
-  with_labels told labels = birth caller.home told (kin_of (length users) labels.0) (λ _. ask (SetLabel labels.0) (λ _. ask (SetClearance labels.1) (λ _. Answers (Child ((told.born + 1) ∷ me)))))
+  with_labels told labels = birth caller.home told (kin_of session labels.0) (λ _. ask (SetLabel labels.0) (λ _. ask (SetClearance labels.1) (λ _. Answers (Child ((told.born + 1) ∷ me)))))
 
   abbrev in_room : ProcessStatus → Program
   in_room told = ask OwnLabel (with_labels told)
@@ -140,18 +137,18 @@ module _ (users : List User) (me : ProcName) (caller : Caller) (old new : Kernel
       few_born = ltb-true p.born 64 room
 
       -- with all raw calls the call is answered
-      answered : (calls : List RawCall) (later : KernelModel) → Chain old t (all_granted calls) later → state later ≡ spawned (state old) t caller.home status (kin_of (length users) own) own most → (state old).next_object + 3 < greatest
+      answered : (calls : List RawCall) (later : KernelModel) → Chain old t (all_granted calls) later → state later ≡ spawned (state old) t caller.home status (kin_of session own) own most → (state old).next_object + 3 < greatest
           → Runs (Answers reply) later new t result → Goal
       answered calls later chain is few runs =
           answered_step session f me ready.caller Spawn old new t ready.thread result calls later chain reply refl (refused_is true true room long) tt tt
           (subst (λ (s : State). LaysOut session s (flat.with_child f me p p.chain)) (sym is)
-          (spawned_laid users (state old) f ready.lays_out me p ready.caller.stands ready.caller.runs few_born ready.caller.free caller.home.container caller.home.segment at_home at_status t at_thread few)) runs
+          (spawned_laid session ok (state old) f ready.lays_out me p ready.caller.stands ready.caller.runs few_born ready.caller.free caller.home.container caller.home.segment at_home at_status t at_thread few)) runs
 
       -- the thread has asked for its own labels
       born : (mid : KernelModel) → Chain old t (all_granted (reads ∷ OwnLabel ∷ [])) mid → state mid ≡ state old → Runs (with_labels status (own, most)) mid new t result → Goal
       born mid chain stays runs =
-          birth_made session f me ready.caller Spawn old new t ready.thread result (state old) caller.home status (kin_of (length users) own) own most
-          (fit users (state old) f ready.lays_out me p ready.caller.stands ready.caller.runs few_born ready.caller.free caller.home.container caller.home.segment at_home at_status t at_thread) reply
+          birth_made session f me ready.caller Spawn old new t ready.thread result (state old) caller.home status (kin_of session own) own most
+          (fit session ok (state old) f ready.lays_out me p ready.caller.stands ready.caller.runs few_born ready.caller.free caller.home.container caller.home.segment at_home at_status t at_thread) reply
           answered (reads ∷ OwnLabel ∷ []) mid chain stays runs
 
       asked : (mid : KernelModel) → Chain old t (all_granted (reads ∷ [])) mid → state mid ≡ state old → Runs (in_room status) mid new t result → Goal
@@ -205,4 +202,4 @@ module _ (users : List User) (me : ProcName) (caller : Caller) (old new : Kernel
 -- A spawn is the row of its call.
 pub spawns_are_rows : SpawnsAreRows
 unfolding spawn_program
-spawns_are_rows users ok me caller old new f result ready found runs = by_length users me caller old new f result ready found (nat_lt (length me) most_numbers) refl runs
+spawns_are_rows session ok me caller old new f result ready found runs = by_length session ok me caller old new f result ready found (nat_lt (length me) most_numbers) refl runs

@@ -2,12 +2,11 @@
 use Rattle.std.proofs.Common.{◌≡◌, ℕ, List, [], ◌∷◌, Some, Result, inl, refl, sym, ap, ◌∙◌, subst, length}
 use Rattle.std.specs.Prelude.{not}
 use Rattle.std.proofs.lemmas.Option.{same_Some}
-use Rattle.histar_flat.specs.declared.calls.User.{User}
 use Rattle.histar_flat.specs.declared.calls.UnixCall.TheVariants as calls
 use Rattle.histar_flat.specs.declared.replies.Reply.{Reply}
 use Rattle.histar_flat.specs.declared.replies.Reply.TheVariants as replies
 use Rattle.histar_flat.specs.Words.{ProcName}
-use Rattle.histar_flat.specs.Sessions.{Session, session_of}
+use Rattle.histar_flat.specs.Sessions.{Session}
 use Rattle.histar_flat.specs.Classes.{Process}
 use Rattle.histar_flat.specs.FlatState.{Flat}
 use Rattle.histar_flat.specs.FlatCalls as flat
@@ -35,14 +34,11 @@ use Rattle.histar_process_rows.specs.Laws.{WhoamisAreRows}
 use Rattle.histar_process_rows.proofs.OwnLabels.{no_jobs_in, free_in_none, own_user_is, name_of_number}
 use Rattle.histar_process_rows.proofs.Searches.{runs_as}
 
-module _ (users : List User) (ok : IsSession (session_of users)) (old new : KernelModel) (f : Flat) (me : ProcName) (t : ℕ) (ready : IsReady (session_of users) (state old) f me t) (result : Result Reply Stopped) where
-  abbrev session : Session
-  session = session_of users
-
+module _ (session : Session) (ok : IsSession session) (old new : KernelModel) (f : Flat) (me : ProcName) (t : ℕ) (ready : IsReady session (state old) f me t) (result : Result Reply Stopped) where
   abbrev p : Process
   p = ready.caller.process
 
-  abbrev l : Laid (session_of users) (state old) f
+  abbrev l : Laid session (state old) f
   l = ready.lays_out.laid
 
   abbrev own : Levels
@@ -53,17 +49,17 @@ module _ (users : List User) (ok : IsSession (session_of users)) (old new : Kern
 
   -- what is replied by a label
   abbrev reply_by : Levels → Reply
-  reply_by label = replies.User (user_name users (user_of label (length users))) (not (is_empty (jobs_in label)))
+  reply_by label = replies.User (user_name session.users (user_of label (length session.users))) (not (is_empty (jobs_in label)))
 
-  name_is : user_name users (user_of own (length users)) ≡ p.user
-  name_is = ap (user_name users) (own_user_is session (state old) f l me p) ∙ name_of_number users ok p.user ((l.processes me p ready.caller.stands).someone ready.caller.runs)
+  name_is : user_name session.users (user_of own (length session.users)) ≡ p.user
+  name_is = ap (user_name session.users) (own_user_is session (state old) f l me p) ∙ name_of_number session ok p.user ((l.processes me p ready.caller.stands).someone ready.caller.runs)
 
   told : (label : Levels) → Some label ≡ label_there ((state old).objects t) → reply_by label ≡ flat.answer f me p calls.Whoami
   told label right =
       let is : label ≡ own = same_Some label own (right ∙ ap label_there thread) in
       ap reply_by is ∙ (λ i. replies.User (name_is i) (not (is_empty (no_jobs_in l.category session me p ready.caller.free i)))) ∙ (λ i. replies.User p.user (not (sym (free_in_none p ready.caller.free) i)))
 
-  whoami_is_row : Runs (whoami_program users) old new t result → Goal session f me ready.caller calls.Whoami old new t ready.thread result
+  whoami_is_row : Runs (whoami_program session) old new t result → Goal session f me ready.caller calls.Whoami old new t ready.thread result
   unfolding whoami_program
   whoami_is_row run =
       granted_step session f me ready.caller calls.Whoami old new t ready.thread result [] old (same_kernel old) OwnLabel (λ label. Answers (reply_by label.0))
@@ -74,4 +70,4 @@ module _ (users : List User) (ok : IsSession (session_of users)) (old new : Kern
 
 -- a whoami does what its flat rule says
 pub whoamis_are_rows : WhoamisAreRows
-whoamis_are_rows users ok me old new f t result ready run = whoami_is_row users ok old new f me t ready result run
+whoamis_are_rows session ok me old new f t result ready run = whoami_is_row session ok old new f me t ready result run

@@ -1,9 +1,8 @@
 -- What it means that calls on processes are the rows of the flat rules.
 use Rattle.std.specs.Prelude.{ℕ, ◌≤◌, List, length}
-use Rattle.histar_flat.specs.declared.calls.User.{User}
 use Rattle.histar_flat.specs.declared.calls.UnixCall.TheVariants.{Spawn, Exit, Status, Kill, Whoami}
 use Rattle.histar_flat.specs.Words.{ProcName, greatest_status}
-use Rattle.histar_flat.specs.Sessions.{Session, session_of}
+use Rattle.histar_flat.specs.Sessions.{Session}
 use Rattle.histar_login.specs.Start.{places_of}
 use Rattle.histar_process.specs.SpawnCall.{spawn_program}
 use Rattle.histar_process.specs.ExitCall.{exit_program}
@@ -13,9 +12,8 @@ use Rattle.histar_process.specs.Whoami.{whoami_program}
 use Rattle.histar_refinement.specs.Sessions.{IsSession}
 use Rattle.histar_rows.specs.Laws.{IsRowOf, IsRowOfCaller}
 
--- a spawn, where no group is declared
 abbrev pub SpawnsAreRows : Type 0
-SpawnsAreRows = (users : List User) → IsSession (session_of users) → IsRowOfCaller (session_of users) Spawn (λ me caller. spawn_program (length users) me caller.home)
+SpawnsAreRows = (session : Session) → IsSession session → IsRowOfCaller session Spawn (λ me caller. spawn_program session me caller.home)
 
 -- an exit with a number that is a byte
 abbrev pub ExitsAreRows : Type 0
@@ -27,9 +25,8 @@ StatusesAreRows = (session : Session) → IsSession session → (name : ProcName
 abbrev pub KillsAreRows : Type 0
 KillsAreRows = (session : Session) → IsSession session → (name : ProcName) → IsRowOf session (Kill name) (kill_program (places_of (length session.users)) name)
 
--- a whoami, where no group is declared
 abbrev pub WhoamisAreRows : Type 0
-WhoamisAreRows = (users : List User) → IsSession (session_of users) → IsRowOf (session_of users) Whoami (whoami_program users)
+WhoamisAreRows = (session : Session) → IsSession session → IsRowOf session Whoami (whoami_program session)
 
 -- the calls on processes are rows
 pub record ProcessCallsAreRows : Type 0 where

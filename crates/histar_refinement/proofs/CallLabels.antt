@@ -1,34 +1,35 @@
 -- The labels that calls hand in by the numbers of users are those of names: what is private or readable, and a thread as a user's.
-use Rattle.std.proofs.Common.{◌≡◌, ℕ, zero, suc, ◌+◌, ◌*◌, ◌<◌, ◌≤◌, Bool, true, false, cond, List, [], ◌∷◌, ◌++◌, length, Option, None, Some, arith, refl, sym, ap, ◌∙◌}
-use Rattle.std.specs.Prelude.{map, position, nat_eq, nat_le, option_map}
+use Rattle.std.proofs.Common.{◌≡◌, ℕ, ◌+◌, ◌<◌, ◌≤◌, Bool, true, false, List, [], ◌∷◌, ◌++◌, length, Option, None, Some, arith, refl, sym, ap, ◌∙◌}
+use Rattle.std.specs.Prelude.{map, position, nat_eq, option_map}
 use Rattle.std.specs.Str.{bytes_eq}
 use Rattle.std.proofs.lemmas.Bool.Decides.{nat_tests}
+use Rattle.std.proofs.lemmas.List.{append-nil}
 use Rattle.std.proofs.lemmas.Slice.Eq.{bytes_eq-Decides}
 use Rattle.histar_flat.specs.declared.calls.User.{User}
 use Rattle.histar_flat.specs.Words.{Name, ProcName}
 use Rattle.histar_flat.specs.PathOrder.{same}
-use Rattle.histar_flat.specs.Sessions.{Session, user_number}
+use Rattle.histar_flat.specs.Sessions.{Session, user_number, group_number}
 use Rattle.histar_flat.specs.Classes.{Process}
 use Rattle.histar_flat.specs.FlatState.{Flat}
 use Rattle.histar_label.specs.Level.{is_star}
 use Rattle.histar_label.specs.Levels.{level_of}
 use Rattle.histar_object.specs.State.{State}
-use Rattle.histar_calls.specs.Categories.{read_category, write_category, owns, IsUserOf}
+use Rattle.histar_calls.specs.Categories.{read_category, write_category, group_owner, owner_of_group, owners_of, owns, IsUserOf}
 use Rattle.histar_calls.specs.Labelling.{written_by, secret_of, guarded_by, owning, cleared_at}
 use Rattle.histar_process.specs.declared.caller.Caller.{Caller}
-use Rattle.histar_process.specs.Kin.{owned_by}
-use Rattle.histar_login.specs.Login.{place_of, user_label, user_clearance}
+use Rattle.histar_login.specs.Login.{place_of, owned_as_user, user_label, user_clearance}
 use Rattle.histar_refinement.specs.Categories.CategoryName.{ReadsUser, WritesUser, ReadsProcess, WritesProcess, OfJob}
-use Rattle.histar_refinement.specs.Categories.{among}
+use Rattle.histar_refinement.specs.Categories.{CategoryName, among}
 use Rattle.histar_refinement.specs.Processes.{or_zero}
 use Rattle.histar_refinement.specs.Guards.{guard_label, rights_label, rights_clearance}
-use Rattle.histar_refinement.specs.Labels.{private_guard, readable_guard, owned_as, thread_rights}
+use Rattle.histar_refinement.specs.Labels.{private_guard, readable_guard, group_guard, reading, writing, owned_as, thread_rights}
 use Rattle.histar_refinement.specs.LaysOut.{Laid}
 use Rattle.histar_refinement.proofs.Members.{same_truth}
 use Rattle.histar_refinement.proofs.Levelled.{owning_level, at_owning}
 use Rattle.histar_refinement.proofs.CategoryTests.{among_none, is_in_names}
 use Rattle.histar_refinement.proofs.ClassTests.{owns_read_of}
-use Rattle.histar_refinement.proofs.SessionLemmas.{is_number, equal_names, equal_tested, user_range}
+use Rattle.histar_refinement.proofs.GateLabels.{user_reads, user_writes, group_reads, group_writes, owned_is}
+use Rattle.histar_refinement.proofs.SessionLemmas.{is_number, equal_names, equal_tested, user_range, group_range}
 
 -- a user's place is looked for by equal bytes, and a password is tested so
 pub equal_bytes : (a b : Name) → bytes_eq a b ≡ same a b
@@ -39,15 +40,12 @@ pub number_by_place : (session : Session) (name : Name) → user_number session 
 number_by_place session name = λ i. option_map (λ place. place + 1) (position (λ (u : User). sym (equal_bytes u.name name) i) session.users)
 
 module _ (session : Session) (s : State) (f : Flat) (l : Laid session s f) where
-  low_test : (i n : ℕ) → i ≤ n → nat_le i n ≡ true
-  low_test i n h = grind (arith, nat_tests, h)
-
   -- a user's categories have the numbers that the calls reckon with
   pub reads_numbered : (i : ℕ) → i ≤ length session.users → l.category (ReadsUser i) ≡ read_category i
-  reads_numbered i h = l.as_made (ReadsUser i) (2 + 2 * i) (ap (λ b. cond b (Some (2 + 2 * i)) None) (low_test i (length session.users) h))
+  reads_numbered = user_reads session l.category l.as_made
 
   pub writes_numbered : (i : ℕ) → i ≤ length session.users → l.category (WritesUser i) ≡ write_category i
-  writes_numbered i h = l.as_made (WritesUser i) (3 + 2 * i) (ap (λ b. cond b (Some (3 + 2 * i)) None) (low_test i (length session.users) h))
+  writes_numbered = user_writes session l.category l.as_made
 
   -- what is private to a user, and what everyone may read and the user may write
   pub private_label : (i : ℕ) → i ≤ length session.users → guard_label l.category (private_guard i) ≡ secret_of (read_category i) (write_category i)
@@ -55,6 +53,14 @@ module _ (session : Session) (s : State) (f : Flat) (l : Laid session s f) where
 
   pub readable_label : (i : ℕ) → i ≤ length session.users → guard_label l.category (readable_guard i) ≡ written_by (write_category i)
   readable_label i h = λ k. guarded_by [] (writes_numbered i h k ∷ [])
+
+  -- what is for the members of a group
+  pub group_label : (name : Name) (k : ℕ) → group_number session name ≡ Some k → guard_label l.category (group_guard k) ≡ secret_of (read_category (owner_of_group session name)) (write_category (owner_of_group session name))
+  group_label name k numbered =
+      let range = group_range session name k numbered in
+      let owner : owner_of_group session name ≡ group_owner (length session.users) k = λ i. elim (numbered i) as (λ _. ℕ) [ None ↦ 0 | Some number ↦ group_owner (length session.users) number ] in
+      (λ i. guarded_by (group_reads session l.category l.as_made k range.0 range.1 i ∷ []) (group_writes session l.category l.as_made k range.0 range.1 i ∷ []))
+      ∙ ap (λ (o : ℕ). secret_of (read_category o) (write_category o)) (sym owner)
 
 -- star tells what is owned
 star_told : (b : Bool) → is_star (owning_level b false) ≡ b
@@ -99,35 +105,25 @@ module _ (session : Session) (s : State) (f : Flat) (l : Laid session s f) (me :
             known = high;
           }
 
--- what a user owns, who has a number
-owned_as_one : (i : ℕ) → 0 < i → owned_by i true ≡ read_category i ∷ write_category i ∷ []
-owned_as_one zero low = absurd (omega (arith, low))
-owned_as_one (suc i) low = refl
-
-module _ (users : List User) (s : State) (f : Flat) (l : Laid (record { users = users; groups = [] }) s f) (me : ProcName) (caller : Caller) (own_reads : l.category (ReadsProcess me) ≡ caller.read) (own_writes : l.category (WritesProcess me) ≡ caller.write)
-    (name : Name) (i : ℕ) (numbered : user_number (record { users = users; groups = [] }) name ≡ Some i) (exited : Option ℕ) (born : ℕ) where
-  abbrev session : Session
-  session = record { users = users; groups = [] }
-
+module _ (session : Session) (s : State) (f : Flat) (l : Laid session s f) (me : ProcName) (caller : Caller) (own_reads : l.category (ReadsProcess me) ≡ caller.read) (own_writes : l.category (WritesProcess me) ≡ caller.write)
+    (name : Name) (i : ℕ) (numbered : user_number session name ≡ Some i) (exited : Option ℕ) (born : ℕ) where
   -- the process as the user's, in no job and holding none
   abbrev pub as_user : Process
   as_user = record { user = name; chain = []; held = []; exited = exited; born = born }
 
-  high : i ≤ length users
-  high = (user_range session name i numbered).1
+  abbrev owned : List ℕ
+  owned = owned_as_user caller (owners_of session i name)
 
-  owns_both : owned_by i true ≡ read_category i ∷ write_category i ∷ []
-  owns_both = owned_as_one i (user_range session name i numbered).0
+  -- what it owns then are its own two categories and those that the user owns
+  owned_so : map l.category (thread_rights session me as_user).owned ≡ owned
+  owned_so =
+      ap (λ (x : Option ℕ). map l.category (ReadsProcess me ∷ WritesProcess me ∷ owned_as session as_user x ++ [])) numbered
+      ∙ (λ k. own_reads k ∷ own_writes k ∷ map l.category (append-nil (reading session name i ++ writing session name i) k))
+      ∙ ap (λ (o : List ℕ). caller.read ∷ caller.write ∷ o) (owned_is session l.category l.as_made name i (user_range session name i numbered).1 true)
 
-  -- Without groups the label and the clearance that a login gives a process are those of the user.
-  pub user_label_is : rights_label l.category (thread_rights (record { users = users; groups = [] }) me as_user) ≡ user_label caller i
-  user_label_is =
-      ap (λ (x : Option ℕ). rights_label l.category (record { owned = ReadsProcess me ∷ WritesProcess me ∷ owned_as session as_user x ++ []; tainted = [] })) numbered
-      ∙ (λ k. owning (own_reads k ∷ own_writes k ∷ reads_numbered session s f l i high k ∷ writes_numbered session s f l i high k ∷ []) [])
-      ∙ ap (λ (o : List ℕ). owning (caller.read ∷ caller.write ∷ o) []) (sym owns_both)
+  -- The label and the clearance that a login gives a process are those of the user.
+  pub user_label_is : rights_label l.category (thread_rights session me as_user) ≡ user_label caller (owners_of session i name)
+  user_label_is = ap (λ (o : List ℕ). owning o []) owned_so
 
-  pub user_clearance_is : rights_clearance l.category (thread_rights (record { users = users; groups = [] }) me as_user) ≡ user_clearance caller i
-  user_clearance_is =
-      ap (λ (x : Option ℕ). rights_clearance l.category (record { owned = ReadsProcess me ∷ WritesProcess me ∷ owned_as session as_user x ++ []; tainted = [] })) numbered
-      ∙ (λ k. cleared_at (own_reads k ∷ own_writes k ∷ reads_numbered session s f l i high k ∷ writes_numbered session s f l i high k ∷ []))
-      ∙ ap (λ (o : List ℕ). cleared_at (caller.read ∷ caller.write ∷ o)) (sym owns_both)
+  pub user_clearance_is : rights_clearance l.category (thread_rights session me as_user) ≡ user_clearance caller (owners_of session i name)
+  user_clearance_is = ap (λ (names : List CategoryName). cleared_at (map l.category names)) (append-nil (thread_rights session me as_user).owned) ∙ ap cleared_at owned_so

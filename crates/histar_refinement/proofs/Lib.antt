@@ -17,7 +17,7 @@ pub mod StartNames
 pub mod StartTable
 pub mod StartTree
 pub mod StartCategories
-pub mod StartGates
+pub mod GateLabels
 pub mod Start
 pub mod Beside
 pub mod Becoming

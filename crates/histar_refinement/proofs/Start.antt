@@ -1,6 +1,6 @@
 -- The state in which a machine starts lays out the flat state at the start.
 use Rattle.std.proofs.Common.{◌≡◌, ◌≢◌, ℕ, zero, suc, ◌+◌, ◌*◌, ◌<◌, ◌≤◌, ◌⊎◌, inl, inr, Bool, true, false, cond, List, [], ◌∷◌, ◌++◌, length, get_or, drop, Option, None, Some, arith, refl, sym, ap, ◌∙◌, subst, append_assoc}
-use Rattle.std.specs.Prelude.{is_some, option_map, option_and_then, map, nat_lt, nat_le}
+use Rattle.std.specs.Prelude.{is_some, option_map, option_and_then, map, nat_lt, nat_le, unwrap_or}
 use Rattle.std.specs.List.{flat_map}
 use Rattle.std.specs.FinSet as set
 use Rattle.std.proofs.lemmas.Bool.Decides.{nat_tests}
@@ -26,13 +26,13 @@ use Rattle.histar_container.proofs.Addresses.{same_tells}
 use Rattle.histar_calls.specs.Categories.{write_category}
 use Rattle.histar_calls.specs.Labelling.{written_by, guarded_by, owning, cleared_at}
 use Rattle.histar_login.specs.Start.{numbered, declared, of_user, of_users, of_directory, of_process, user_table, start_objects, start_state, object_at, process_bytes, own_read_category, own_write_category}
-use Rattle.histar_flat.specs.Sessions.{Session, session_of, user_number}
+use Rattle.histar_flat.specs.Sessions.{Session, user_number}
 use Rattle.histar_flat.specs.Classes.{Process, nobody, knows}
 use Rattle.histar_flat.specs.Classes.Class.{Readable}
 use Rattle.histar_flat.specs.FlatState.{Node, Flat, is_given}
 use Rattle.histar_flat.specs.Meaning.{first_user, first_process, boot}
 use Rattle.histar_flat.specs.FlatState.Content.{Dir}
-use Rattle.histar_refinement.specs.Categories.{CategoryName, IsMade, boot_category, is_for, IsKnown, IsServed, IsUsed}
+use Rattle.histar_refinement.specs.Categories.{CategoryName, IsMade, boot_category, booted, is_for, IsKnown, IsServed, IsUsed}
 use Rattle.histar_refinement.specs.Categories.CategoryName.{OfBoot, ReadsUser, WritesUser, ReadsGroup, WritesGroup, ReadsProcess, WritesProcess, OfJob}
 use Rattle.histar_refinement.specs.Guards.{Rights, guard_label, rights_label, rights_clearance}
 use Rattle.histar_refinement.specs.Labels.{class_guard, readable_guard, owned_as}
@@ -48,7 +48,7 @@ use Rattle.histar_refinement.proofs.Places.{address_process, address_inside}
 use Rattle.histar_refinement.proofs.StartNumbers.{is_left, process_address, inside_address, start_number}
 use Rattle.histar_refinement.proofs.StartNames.{place_of_number}
 use Rattle.histar_refinement.proofs.StartTable.{left_plain, slash_stands, listing_stands, home_stands, inside_stands, runner_stands, status_stands}
-use Rattle.histar_refinement.proofs.StartGates.{user_reads, user_writes, group_test, gate_label_is, gate_clearance_is}
+use Rattle.histar_refinement.proofs.GateLabels.{user_reads, user_writes, group_test, gate_label_is, gate_clearance_is}
 use Rattle.histar_refinement.proofs.StartTree.{start_naming, place_there, start_laid}
 use Rattle.histar_refinement.proofs.StartCategories.{start_category, start_as_made, start_made, start_different}
 
@@ -108,8 +108,12 @@ module _ (session : Session) (some_user : 0 < length session.users) where
   used_booted (WritesProcess me) u = (5 + 2 * n + 2 * m, ap (λ (x : ProcName). boot_category session (WritesProcess x)) (some_first me u))
   used_booted (OfJob job) u = absurd (no_job job u)
 
+  -- boot's numbers are those that it gave
+  booted_as_made : (c : CategoryName) (q : ℕ) → boot_category session c ≡ Some q → booted session c ≡ q
+  booted_as_made c q is = ap (λ (o : Option ℕ). unwrap_or o 0) is
+
   -- the first user has the number 1
-  first_numbered : (names : List User) → 0 < length names → user_number (session_of names) (first_user names) ≡ Some 1
+  first_numbered : (names : List User) → 0 < length names → user_number (record { users = names; groups = [] }) (first_user names) ≡ Some 1
   first_numbered [] h = absurd (omega (arith, h))
   first_numbered (u ∷ names) h =
       let own : same u.name u.name ≡ true = elim (same_name_found u.name u.name) [ inl e ↦ e.0 | inr e ↦ absurd (e.1 refl) ] in
@@ -152,10 +156,10 @@ module _ (session : Session) (some_user : 0 < length session.users) where
   -- what boot left
   same_user : (i : ℕ) (u : User) → i ≤ n → of_user session i u ≡ left_for_user session i u
   same_user i u h =
-      let reads = user_reads session i h in
-      let writes = user_writes session i h in
+      let reads = user_reads session (booted session) booted_as_made i h in
+      let writes = user_writes session (booted session) booted_as_made i h in
       λ k. Some (record { label = guarded_by (sym reads k ∷ []) (sym writes k ∷ []); kind = Segment u.password })
-      ∷ Some (record { label = gate_label_is session u.name i h k; kind = Gate (gate_clearance_is session u.name i h k) (Login i) }) ∷ []
+      ∷ Some (record { label = gate_label_is session (booted session) booted_as_made u.name i h k; kind = Gate (gate_clearance_is session (booted session) booted_as_made u.name i h k) (Login i) }) ∷ []
 
   same_left : (i : ℕ) (some : List User) → i + length some ≤ n + 1 → (table : Found) (back : List Found) (k : ℕ) → k ≤ 2 * length some
       → get_or (numbered (of_user session) i some ++ table ∷ back) k None ≡ get_or (numbered (left_for_user session) i some ++ table ∷ []) k None

@@ -1,12 +1,10 @@
 -- What it means that the calls of processes are the rows of the flat rules.
 use Rattle.std.specs.Prelude.{ℕ, ◌≡◌, List, length, Some, IsTrue, Result}
-use Rattle.histar_flat.specs.declared.calls.User.{User}
 use Rattle.histar_flat.specs.declared.calls.Mode.{Mode}
 use Rattle.histar_flat.specs.declared.calls.UnixCall.TheVariants.{Create, Mkdir, Write, Append, Read, List as ListCall, Stat, Login}
 use Rattle.histar_flat.specs.declared.replies.Reply.{Reply}
 use Rattle.histar_flat.specs.Words.{Name, Password, Path, ProcName, is_path}
-use Rattle.histar_flat.specs.Modes.{is_line_mode}
-use Rattle.histar_flat.specs.Sessions.{Session, session_of}
+use Rattle.histar_flat.specs.Sessions.{Session}
 use Rattle.histar_flat.specs.FlatState.{Flat}
 use Rattle.histar_syscall.specs.KernelModel.{KernelModel, state}
 use Rattle.histar_calls.specs.declared.ending.Stopped.{Stopped}
@@ -46,12 +44,10 @@ abbrev pub WritesAreRows : Type 0
 WritesAreRows = (session : Session) → IsSession session → (path : Path) (bytes : List ℕ) → IsRowOf session (Write path bytes) (write_program (places_of (length session.users)) path bytes)
 
 abbrev pub CreatesAreRows : Type 0
-CreatesAreRows = (session : Session) → IsSession session → (path : Path) (mode : Mode) → IsTrue (is_path path) → IsTrue (is_line_mode mode)
-    → IsRowOf session (Create path mode) (create_program (places_of (length session.users)) path mode)
+CreatesAreRows = (session : Session) → IsSession session → (path : Path) (mode : Mode) → IsTrue (is_path path) → IsRowOf session (Create path mode) (create_program session (places_of (length session.users)) path mode)
 
 abbrev pub MkdirsAreRows : Type 0
-MkdirsAreRows = (session : Session) → IsSession session → (path : Path) (mode : Mode) → IsTrue (is_path path) → IsTrue (is_line_mode mode)
-    → IsRowOf session (Mkdir path mode) (mkdir_program (places_of (length session.users)) path mode)
+MkdirsAreRows = (session : Session) → IsSession session → (path : Path) (mode : Mode) → IsTrue (is_path path) → IsRowOf session (Mkdir path mode) (mkdir_program session (places_of (length session.users)) path mode)
 
 abbrev pub AppendsAreRows : Type 0
 AppendsAreRows = (session : Session) → IsSession session → (path : Path) (bytes : List ℕ) → IsRowOf session (Append path bytes) (append_program (places_of (length session.users)) path bytes)
@@ -59,14 +55,11 @@ AppendsAreRows = (session : Session) → IsSession session → (path : Path) (by
 abbrev pub ListsAreRows : Type 0
 ListsAreRows = (session : Session) → IsSession session → (path : Path) → IsRowOf session (ListCall path) (list_program (places_of (length session.users)) path)
 
--- a stat, where no group is declared
 abbrev pub StatsAreRows : Type 0
-StatsAreRows = (users : List User) → IsSession (session_of users) → (path : Path) → IsRowOf (session_of users) (Stat path) (stat_program users (places_of (length users)) path)
+StatsAreRows = (session : Session) → IsSession session → (path : Path) → IsRowOf session (Stat path) (stat_program session (places_of (length session.users)) path)
 
--- a login, where no group is declared
 abbrev pub LoginsAreRows : Type 0
-LoginsAreRows = (users : List User) → IsSession (session_of users) → (name : Name) (password : Password)
-    → IsRowOfCaller (session_of users) (Login name password) (λ me caller. login_program users caller name password)
+LoginsAreRows = (session : Session) → IsSession session → (name : Name) (password : Password) → IsRowOfCaller session (Login name password) (λ me caller. login_program session caller name password)
 
 -- the calls that a line can make are rows
 pub record CallsAreRows : Type 0 where

@@ -8,7 +8,6 @@ use Rattle.histar_flat.specs.declared.replies.Errno.TheVariants.{EAUTH}
 use Rattle.histar_flat.specs.declared.replies.Reply.{Reply}
 use Rattle.histar_flat.specs.declared.replies.Reply.TheVariants.{Done, Data, Stats, Refused, Gone}
 use Rattle.histar_flat.specs.Words.{Path, ProcName, greatest_status, is_name, is_path}
-use Rattle.histar_flat.specs.Modes.{is_line_mode}
 use Rattle.histar_flat.specs.Sessions.{Session}
 use Rattle.histar_flat.specs.Files.{get}
 use Rattle.histar_flat.specs.Classes.{Class, Process}
@@ -34,10 +33,10 @@ use Rattle.histar_login.specs.Login.{place_of, password_of}
 use Rattle.histar_refinement.specs.LaysOut.{LaysOut}
 use Rattle.histar_refinement.specs.Lines.{IsStatusSegment, IsThreadOf, IsDirectoryAt, IsObjectAt}
 
--- a call that a line of a script can make: one of these, with a path, a mode, a name and a status that a line can name
+-- a call that a line of a script can make: one of these, with a path, a name and a status that a line can name
 abbrev pub IsScriptable : UnixCall → Type 0
-IsScriptable (Create path mode) = IsTrue (is_path path) × IsTrue (is_line_mode mode)
-IsScriptable (Mkdir path mode) = IsTrue (is_path path) × IsTrue (is_line_mode mode)
+IsScriptable (Create path mode) = IsTrue (is_path path)
+IsScriptable (Mkdir path mode) = IsTrue (is_path path)
 IsScriptable (Write path bytes) = IsTrue (is_path path)
 IsScriptable (Append path bytes) = IsTrue (is_path path)
 IsScriptable (Read path) = IsTrue (is_path path)

@@ -4,12 +4,12 @@ use Rattle.std.specs.Prelude.{IfOk}
 use Rattle.histar_script.specs.declared.fault.Fault.{Fault}
 use Rattle.histar_script.specs.declared.fault.Fault.TheVariants.{BadScript}
 use Rattle.histar_script.specs.Lines.{lines_of}
-use Rattle.histar_script.specs.Script.{Reading, IsUserList, IsNumbered}
+use Rattle.histar_script.specs.Script.{Reading, IsDeclared, IsNumbered}
 use Rattle.histar_script.specs.Reading.{reading}
 use Rattle.histar_script.specs.Outcome.{Gives}
 use Rattle.histar_script.specs.Grammar.{IsScript, IsFirstBad}
 use Rattle.histar_script.proofs.ScriptsBack.{found_from, again_from}
-use Rattle.histar_script.proofs.Kept.{listed, numbered}
+use Rattle.histar_script.proofs.Kept.{is_declared, numbered}
 use Rattle.histar_script.proofs.FirstBad.{first_bad}
 
 -- what reading a script answers
@@ -41,10 +41,10 @@ one_script text a b p q = same_script a b (sym (again_from text a p) ∙ again_f
 pub is_first_bad : (r : Answer) (text : List ℕ) (n : ℕ) → Gives r (reading text) → r ≡ Err (BadScript n) → IsFirstBad text n
 is_first_bad r text n given e = first_bad text n (subst (λ (x : Answer). Gives x (reading text)) e given)
 
--- the users of what is read
-pub is_user_list : (r : Answer) (text : List ℕ) → Gives r (reading text) → IfOk r (λ script. IsUserList script.users)
-is_user_list (Ok script) text given = listed text script (found_from text script given)
-is_user_list (Err f) text given = tt
+-- the users and the groups of what is read
+pub declares : (r : Answer) (text : List ℕ) → Gives r (reading text) → IfOk r (λ script. IsDeclared script.session)
+declares (Ok script) text given = is_declared text script (found_from text script given)
+declares (Err f) text given = tt
 
 -- the numbers of what is read
 pub is_numbered : (r : Answer) (text : List ℕ) → Gives r (reading text) → IfOk r (λ script. IsNumbered (length (lines_of text)) script.calls)

@@ -28,7 +28,7 @@ after_so n rest (Some m) later = later m
 -- lines are read as a script, or one of them is bad
 lines_so : (s : Reading) (n : ℕ) (lines : List (List ℕ)) → IsAnswered (with_lines s n lines)
 unfolding with_lines
-lines_so s n [] = ended_so (eqb (length s.users) 0) (n + 1) s
+lines_so s n [] = ended_so (eqb (length s.session.users) 0) (n + 1) s
 lines_so s n (line ∷ lines) = after_so (n + 1) (λ m. with_lines m (n + 1) lines) (with_line s (n + 1) line) (λ m. lines_so m (n + 1) lines)
 
 -- a text is read as a script, or a line of it is bad
@@ -37,10 +37,10 @@ unfolding reading
 answered text = lines_so nothing_read 0 (lines_of text)
 
 -- lines that are taken without a user are bad after their last
-userless : (s : Reading) (n : ℕ) (lines : List (List ℕ)) (t : Reading) → TakesAll s n lines t → t.users ≡ [] → with_lines s n lines ≡ Err (BadScript (n + length lines + 1))
+userless : (s : Reading) (n : ℕ) (lines : List (List ℕ)) (t : Reading) → TakesAll s n lines t → t.session.users ≡ [] → with_lines s n lines ≡ Err (BadScript (n + length lines + 1))
 unfolding with_lines
 userless s n [] t taken none =
-    let here : s.users ≡ [] = ap (λ (x : Reading). x.users) (sym taken) ∙ none in
+    let here : s.session.users ≡ [] = ap (λ (x : Reading). x.session.users) (sym taken) ∙ none in
     let number : n + 1 ≡ n + 0 + 1 = omega arith in
     rw here (ap (λ (k : ℕ). Err (BadScript k)) number)
 userless s n (line ∷ lines) t taken none =

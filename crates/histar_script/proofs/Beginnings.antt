@@ -6,10 +6,11 @@ use Rattle.std.proofs.lemmas.List.Elements.{All-nil}
 use Rattle.std.proofs.lemmas.List.{nil_from_length, take_at}
 use Rattle.histar_flat.specs.declared.calls.User.{User}
 use Rattle.histar_flat.specs.Words.{is_name, is_user_name, is_password}
+use Rattle.histar_flat.specs.Sessions.{Group, with_user}
 use Rattle.histar_script.specs.declared.items.Item.{Item}
 use Rattle.histar_script.specs.declared.items.Item.TheVariants as items
 use Rattle.histar_script.specs.Lines.{lines_of, is_plain, is_plain_byte, most_line_bytes}
-use Rattle.histar_script.specs.Script.{Reading, nothing_read}
+use Rattle.histar_script.specs.Script.{Reading, IsMembership, nothing_read}
 use Rattle.histar_script.specs.Grammar.{Says, Adds, Takes, TakesAll, BeginsSome}
 
 -- a byte that ends no line
@@ -68,20 +69,34 @@ takes_on : (s : Reading) (k n : ℕ) (lines : List (List ℕ)) (t : Reading) (li
 takes_on s k n [] t line u h is next = let number : n ≡ k + 1 = omega arith in (u, subst (λ (x : ℕ). Takes s x line u) number (subst (λ (x : Reading). Takes x n line u) h next), refl)
 takes_on s k n (first ∷ lines) t line u h is next = (h.0, h.1, takes_on h.0 (k + 1) n lines t line u h.2 (omega arith) next)
 
--- an item that adds no user adds no call where there is no user
-still : (s t : Reading) (n : ℕ) (i : Item) → (s.users ≡ [] → s.calls ≡ []) → Adds s n i t → t.users ≡ [] → t.calls ≡ []
-still s t n items.Comment here added e = ap (λ (x : Reading). x.calls) added ∙ here (sym (ap (λ (x : Reading). x.users) added) ∙ e)
-still s t n (items.User u) here added e = ap (λ (x : Reading). x.calls) added.3 ∙ added.0
-still s t n (items.Call p c) here added e =
-    let none : s.users ≡ [] = sym (ap (λ (x : Reading). x.users) added.1) ∙ e in
-    let some : 0 < length s.users = added.0 in
-    let len : length s.users ≡ 0 = ap length none in
+-- where there is no user, there is no call and no group
+abbrev IsBlank : Reading → Type 0
+IsBlank s = s.session.users ≡ [] → (s.calls ≡ []) × (s.session.groups ≡ [])
+
+-- no group has members where there is no user
+no_members : (users : List User) (g : Group) → users ≡ [] → IsMembership users g → ⊥
+no_members users g none is =
+    let some : 0 < length g.members = is.some in
+    let member = is.declared 0 [] some in
+    let among : member.0 < length users = member.2 in
+    let len : length users ≡ 0 = ap length none in
+    omega arith
+
+-- an item that adds no user adds no call and no group where there is no user
+still : (s t : Reading) (n : ℕ) (i : Item) → IsBlank s → Adds s n i t → IsBlank t
+still s t n items.Comment here added = subst IsBlank (sym added) here
+still s t n (items.User u) here added = λ none. (ap (λ (x : Reading). x.calls) added.4 ∙ added.0, ap (λ (x : Reading). x.session.groups) added.4 ∙ added.1)
+still s t n (items.Group g) here added = λ none. absurd (no_members s.session.users g (sym (ap (λ (x : Reading). x.session.users) added.5) ∙ none) added.4)
+still s t n (items.Call p c) here added = λ e.
+    let none : s.session.users ≡ [] = sym (ap (λ (x : Reading). x.session.users) added.2) ∙ e in
+    let some : 0 < length s.session.users = added.0 in
+    let len : length s.session.users ≡ 0 = ap length none in
     absurd (omega arith)
 
--- without a user there is no call
-no_calls : (s : Reading) (k : ℕ) (lines : List (List ℕ)) (t : Reading) → (s.users ≡ [] → s.calls ≡ []) → TakesAll s k lines t → t.users ≡ [] → t.calls ≡ []
-no_calls s k [] t here h none = ap (λ (x : Reading). x.calls) h ∙ here (sym (ap (λ (x : Reading). x.users) h) ∙ none)
-no_calls s k (line ∷ lines) t here h none = no_calls h.0 (k + 1) lines t (still s h.0 (k + 1) h.1.0 here h.1.2) h.2 none
+-- without a user there is no call and no group
+stays_blank : (s : Reading) (k : ℕ) (lines : List (List ℕ)) (t : Reading) → IsBlank s → TakesAll s k lines t → IsBlank t
+stays_blank s k [] t here h = subst IsBlank (sym h) here
+stays_blank s k (line ∷ lines) t here h = stays_blank h.0 (k + 1) lines t (still s h.0 (k + 1) h.1.0 here h.1.2) h.2
 
 -- a user line
 abbrev user_line : List ℕ
@@ -93,15 +108,15 @@ user_a = record { name = codes "a"; password = codes "a" }
 
 -- what was read, with this user
 abbrev with_a : Reading → Reading
-with_a t = record { users = t.users ++ user_a ∷ []; calls = t.calls }
+with_a t = record { session = with_user t.session user_a; calls = t.calls }
 
--- the user line is taken where there is no user and no call
-takes_user : (t : Reading) (n : ℕ) → t.users ≡ [] → t.calls ≡ [] → Takes t n user_line (with_a t)
+-- the user line is taken where there is no user
+takes_user : (t : Reading) (n : ℕ) → t.session.users ≡ [] → IsBlank t → Takes t n user_line (with_a t)
 unfolding is_plain is_name is_user_name is_password
-takes_user t n none quiet = (
+takes_user t n none blank = (
   items.User user_a,
   inr (refl, record { spelled = refl; name = refl; password = refl }),
-  (quiet, rw none (omega arith), rw none (All-nil (λ v. v.name ≢ user_a.name)), refl),
+  ((blank none).0, (blank none).1, rw none (omega arith), rw none (All-nil (λ v. v.name ≢ user_a.name)), refl),
 )
 
 -- the user line is one line
@@ -115,19 +130,19 @@ unfolding lines_of
 no_lines_left = refl
 
 -- where there is no user yet, the user line makes a script
-begun_without : (lines : List (List ℕ)) (t : Reading) → TakesAll nothing_read 0 lines t → t.users ≡ [] → BeginsSome lines
+begun_without : (lines : List (List ℕ)) (t : Reading) → TakesAll nothing_read 0 lines t → t.session.users ≡ [] → BeginsSome lines
 begun_without lines t h none =
     let is : lines_of (with_ends lines ++ user_line) ≡ lines ++ user_line ∷ [] = lines_back lines user_line (taken_are_lines nothing_read 0 lines t h) ∙ ap (λ (l : List (List ℕ)). lines ++ l) user_line_alone in
-    let next = takes_user t (length lines + 1) none (no_calls nothing_read 0 lines t (λ _. refl) h none) in
+    let next = takes_user t (length lines + 1) none (stays_blank nothing_read 0 lines t (λ _. (refl, refl)) h) in
     let all = takes_on nothing_read 0 (length lines + 1) lines t user_line (with_a t) h (omega arith) next in (
       with_ends lines ++ user_line,
       with_a t,
       ap (take (length lines)) is ∙ take_at lines (user_line ∷ []) (length lines) refl,
-      (subst (λ (l : List (List ℕ)). TakesAll nothing_read 0 l (with_a t)) (sym is) all, omega (arith, length-append t.users (user_a ∷ []))),
+      (subst (λ (l : List (List ℕ)). TakesAll nothing_read 0 l (with_a t)) (sym is) all, omega (arith, length-append t.session.users (user_a ∷ []))),
     )
 
 -- where there is a user, the lines are a script
-begun_with : (lines : List (List ℕ)) (t : Reading) → TakesAll nothing_read 0 lines t → 0 < length t.users → BeginsSome lines
+begun_with : (lines : List (List ℕ)) (t : Reading) → TakesAll nothing_read 0 lines t → 0 < length t.session.users → BeginsSome lines
 begun_with lines t h some =
     let is : lines_of (with_ends lines ++ []) ≡ lines ++ [] = lines_back lines [] (taken_are_lines nothing_read 0 lines t h) ∙ ap (λ (l : List (List ℕ)). lines ++ l) no_lines_left in (
       with_ends lines ++ [],
@@ -139,7 +154,7 @@ begun_with lines t h some =
 -- some script begins with lines that are taken
 pub begun : (lines : List (List ℕ)) (t : Reading) → TakesAll nothing_read 0 lines t → BeginsSome lines
 begun lines t h =
-    elim (cases_lt 0 (length t.users)) [
+    elim (cases_lt 0 (length t.session.users)) [
       | inl some ↦ begun_with lines t h some
-      | inr none ↦ begun_without lines t h (nil_from_length t.users (omega arith))
+      | inr none ↦ begun_without lines t h (nil_from_length t.session.users (omega arith))
     ]

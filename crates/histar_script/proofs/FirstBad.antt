@@ -31,7 +31,7 @@ bad_step s k n lines (Some m) e later = omega (arith, later m e)
 later_bad : (s : Reading) (k : ℕ) (lines : List (List ℕ)) (n : ℕ) → with_lines s k lines ≡ failed n → k < n
 unfolding with_lines
 later_bad s k [] n e =
-    elim (chosen (eqb (length s.users) 0) (failed (k + 1)) (Ok s) (failed n) e) [ inl h ↦ let same : k + 1 ≡ n = same_line (k + 1) n h.1 in omega arith | inr h ↦ absurd cc ]
+    elim (chosen (eqb (length s.session.users) 0) (failed (k + 1)) (Ok s) (failed n) e) [ inl h ↦ let same : k + 1 ≡ n = same_line (k + 1) n h.1 in omega arith | inr h ↦ absurd cc ]
 later_bad s k (line ∷ lines) n e = bad_step s k n lines (with_line s (k + 1) line) e (λ m h. later_bad m (k + 1) lines n h)
 
 -- what begins with the same lines as a text whose line n is bad is no script
@@ -56,20 +56,20 @@ begins_none text n bad le other script same is =
 
 -- the lines before a bad line are right, by one more line
 before_step : (s : Reading) (k : ℕ) (line : List ℕ) (lines : List (List ℕ)) (n j : ℕ) (o : Option Reading) → with_line s (k + 1) line ≡ o → after (k + 1) (λ m. with_lines m (k + 1) lines) o ≡ failed n → n ≡ k + suc (suc j)
-    → ((m : Reading) → with_lines m (k + 1) lines ≡ failed n → (t : Reading) × TakesAll m (k + 1) (take j lines) t × (length lines ≤ j → t.users ≡ []) × (j ≤ length lines))
-    → (t : Reading) × TakesAll s k (take (suc j) (line ∷ lines)) t × (length (line ∷ lines) ≤ suc j → t.users ≡ []) × (suc j ≤ length (line ∷ lines))
+    → ((m : Reading) → with_lines m (k + 1) lines ≡ failed n → (t : Reading) × TakesAll m (k + 1) (take j lines) t × (length lines ≤ j → t.session.users ≡ []) × (j ≤ length lines))
+    → (t : Reading) × TakesAll s k (take (suc j) (line ∷ lines)) t × (length (line ∷ lines) ≤ suc j → t.session.users ≡ []) × (suc j ≤ length (line ∷ lines))
 before_step s k line lines n j None met bad is later = let same : k + 1 ≡ n = same_line (k + 1) n bad in absurd (omega arith)
 before_step s k line lines n j (Some m) met bad is later =
     let r = later m bad in
     (r.0, (m, line_takes s (k + 1) line m met, r.1), (λ le. r.2 (omega arith)), omega (arith, r.3))
 
 -- the lines before a bad line are right
-before_bad : (s : Reading) (k : ℕ) (lines : List (List ℕ)) (n j : ℕ) → with_lines s k lines ≡ failed n → n ≡ k + suc j → (t : Reading) × TakesAll s k (take j lines) t × (length lines ≤ j → t.users ≡ []) × (j ≤ length lines)
+before_bad : (s : Reading) (k : ℕ) (lines : List (List ℕ)) (n j : ℕ) → with_lines s k lines ≡ failed n → n ≡ k + suc j → (t : Reading) × TakesAll s k (take j lines) t × (length lines ≤ j → t.session.users ≡ []) × (j ≤ length lines)
 unfolding with_lines
 before_bad s k [] n zero bad is =
-    elim (chosen (eqb (length s.users) 0) (failed (k + 1)) (Ok s) (failed n) bad) [ inl h ↦ (s, refl, (λ _. none_left s.users h.0), omega arith) | inr h ↦ absurd cc ]
+    elim (chosen (eqb (length s.session.users) 0) (failed (k + 1)) (Ok s) (failed n) bad) [ inl h ↦ (s, refl, (λ _. none_left s.session.users h.0), omega arith) | inr h ↦ absurd cc ]
 before_bad s k [] n (suc j) bad is =
-    elim (chosen (eqb (length s.users) 0) (failed (k + 1)) (Ok s) (failed n) bad) [ inl h ↦ let same : k + 1 ≡ n = same_line (k + 1) n h.1 in absurd (omega arith) | inr h ↦ absurd cc ]
+    elim (chosen (eqb (length s.session.users) 0) (failed (k + 1)) (Ok s) (failed n) bad) [ inl h ↦ let same : k + 1 ≡ n = same_line (k + 1) n h.1 in absurd (omega arith) | inr h ↦ absurd cc ]
 before_bad s k (line ∷ lines) n zero bad is = (s, refl, (λ le. absurd (omega arith)), omega arith)
 before_bad s k (line ∷ lines) n (suc j) bad is = before_step s k line lines n j (with_line s (k + 1) line) refl bad is (λ m h. before_bad m (k + 1) lines n j h (omega arith))
 

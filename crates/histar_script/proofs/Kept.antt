@@ -1,16 +1,18 @@
 -- What holds of all that was read, line by line.
-use Rattle.std.proofs.Common.{◌≡◌, ◌≢◌, ℕ, ◌+◌, ◌<◌, ◌≤◌, List, [], ◌∷◌, ◌++◌, length, sym, subst, inl, inr, arith, length-append, IsTrue}
+use Rattle.std.proofs.Common.{◌≡◌, ◌≢◌, ℕ, ◌+◌, ◌<◌, ◌≤◌, List, [], ◌∷◌, ◌++◌, length, refl, sym, subst, arith, length-append, IsTrue}
 use Rattle.std.specs.Prelude.{All, AllPairs}
-use Rattle.std.proofs.lemmas.List.Elements.{All-nil, All-cons, All-append}
+use Rattle.std.proofs.lemmas.List.Elements.{All-nil, All-push}
 use Rattle.std.proofs.lemmas.List.Quantifiers.{all_pairs_push}
 use Rattle.histar_flat.specs.declared.calls.User.{User}
-use Rattle.histar_flat.specs.Words.{is_user_name}
 use Rattle.histar_flat.specs.declared.calls.CallLine.{CallLine}
+use Rattle.histar_flat.specs.Words.{Name, is_user_name}
+use Rattle.histar_flat.specs.Sessions.{Session, Group, most_users, with_user, with_group}
 use Rattle.histar_script.specs.declared.items.Item.{Item}
 use Rattle.histar_script.specs.declared.items.Item.TheVariants as items
 use Rattle.histar_script.specs.Lines.{lines_of}
-use Rattle.histar_script.specs.Script.{Reading, most_users, nothing_read, IsUserList, IsNumbered}
+use Rattle.histar_script.specs.Script.{Reading, nothing_read, IsMembership, AreGroups, IsDeclared, IsNumbered}
 use Rattle.histar_script.specs.Grammar.{Says, Adds, TakesAll, IsScript}
+use Rattle.histar_script.proofs.ItemsBack.{spells_user, spells_group}
 
 -- a user whose name may be one
 abbrev IsNamed : User → Type 0
@@ -20,6 +22,18 @@ IsNamed u = IsTrue (is_user_name u.name)
 abbrev Differ : User → User → Type 0
 Differ u v = u.name ≢ v.name
 
+-- a group whose name has the form of a user's
+abbrev IsNamedGroup : Group → Type 0
+IsNamedGroup g = IsTrue (is_user_name g.name)
+
+-- no user has the name
+abbrev IsNoUser : List User → Name → Type 0
+IsNoUser users name = All (λ u. u.name ≢ name) users
+
+-- groups of two names
+abbrev GroupsDiffer : Group → Group → Type 0
+GroupsDiffer g h = g.name ≢ h.name
+
 -- calls one after the other
 abbrev Precedes : CallLine → CallLine → Type 0
 Precedes c d = c.line < d.line
@@ -28,11 +42,36 @@ Precedes c d = c.line < d.line
 abbrev IsAmong : ℕ → CallLine → Type 0
 IsAmong n c = (0 < c.line) × (c.line ≤ n)
 
+-- ---- groups
+
+-- where no group is declared, the groups are in order
+no_groups : (session : Session) → session.groups ≡ [] → AreGroups session
+no_groups session none = record {
+  few = rw none (omega arith);
+  named = rw none (All-nil IsNamedGroup);
+  no_users = rw none (All-nil (λ g. IsNoUser session.users g.name));
+  distinct = rw none (λ i j d lt in_list. absurd (omega arith));
+  members = rw none (All-nil (IsMembership session.users));
+}
+
+-- one group more, of a new name and with users as its members
+one_more : (session : Session) (g : Group) → AreGroups session → length session.groups < 8 → IsNamedGroup g → IsNoUser session.users g.name → All (λ h. h.name ≢ g.name) session.groups → IsMembership session.users g → AreGroups (with_group session g)
+one_more session g k room named no_user new members = record {
+  few = omega (arith, room, length-append session.groups (g ∷ []));
+  named = All-push IsNamedGroup session.groups g k.named named;
+  no_users = All-push (λ h. IsNoUser session.users h.name) session.groups g k.no_users no_user;
+  distinct = all_pairs_push GroupsDiffer session.groups g k.distinct new;
+  members = All-push (IsMembership session.users) session.groups g k.members members;
+}
+
+-- ---- lines
+
 -- what was read in the first n lines is in order
 record Kept (s : Reading) (n : ℕ) : Type 0 where
-  most : length s.users ≤ most_users
-  named : All IsNamed s.users
-  distinct : AllPairs Differ s.users
+  most : length s.session.users ≤ most_users
+  named : All IsNamed s.session.users
+  distinct : AllPairs Differ s.session.users
+  groups : AreGroups s.session
   rising : AllPairs Precedes s.calls
   within : All (IsAmong n) s.calls
 
@@ -42,6 +81,7 @@ kept_at_first = record {
   most = omega arith;
   named = All-nil IsNamed;
   distinct = λ i j d lt in_list. absurd (omega arith);
+  groups = no_groups nothing_read.session refl;
   rising = λ i j d lt in_list. absurd (omega arith);
   within = All-nil (IsAmong 0);
 }
@@ -56,37 +96,46 @@ kept_later s n k = record {
   most = k.most;
   named = k.named;
   distinct = k.distinct;
+  groups = k.groups;
   rising = k.rising;
   within = among_more n s.calls k.within;
 }
-
--- a user line names its user
-names_user : (line : List ℕ) (u : User) → Says line (items.User u) → IsNamed u
-names_user line u (inl h) = absurd cc
-names_user line u (inr h) = h.1.name
 
 -- an item that is added
 kept_item : (s : Reading) (n : ℕ) (line : List ℕ) (i : Item) (t : Reading) → Kept s n → Says line i → Adds s (n + 1) i t → Kept t (n + 1)
 kept_item s n line items.Comment t k said added = subst (λ (r : Reading). Kept r (n + 1)) (sym added) (kept_later s n k)
 kept_item s n line (items.User u) t k said added =
-    let is : Kept (record { users = s.users ++ u ∷ []; calls = s.calls }) (n + 1) = record {
-      most = omega (arith, added.1, length-append s.users (u ∷ []));
-      named = All-append IsNamed s.users (u ∷ []) k.named (All-cons IsNamed u [] (names_user line u said) (All-nil IsNamed));
-      distinct = all_pairs_push Differ s.users u k.distinct added.2;
+    let users = s.session.users in
+    let is : Kept (record { session = with_user s.session u; calls = s.calls }) (n + 1) = record {
+      most = omega (arith, added.2, length-append users (u ∷ []));
+      named = All-push IsNamed users u k.named (spells_user line u said).name;
+      distinct = all_pairs_push Differ users u k.distinct added.3;
+      groups = no_groups (with_user s.session u) added.1;
       rising = k.rising;
       within = among_more n s.calls k.within;
     } in
-    subst (λ (r : Reading). Kept r (n + 1)) (sym added.3) is
-kept_item s n line (items.Call p c) t k said added =
-    let call : CallLine = record { line = n + 1; process = p; call = c } in
-    let is : Kept (record { users = s.users; calls = s.calls ++ call ∷ [] }) (n + 1) = record {
+    subst (λ (r : Reading). Kept r (n + 1)) (sym added.4) is
+kept_item s n line (items.Group g) t k said added =
+    let is : Kept (record { session = with_group s.session g; calls = s.calls }) (n + 1) = record {
       most = k.most;
       named = k.named;
       distinct = k.distinct;
-      rising = all_pairs_push Precedes s.calls call k.rising (λ i d lt. let w = k.within i d lt in omega (arith, w.1));
-      within = All-append (IsAmong (n + 1)) s.calls (call ∷ []) (among_more n s.calls k.within) (All-cons (IsAmong (n + 1)) call [] (omega arith, omega arith) (All-nil (IsAmong (n + 1))));
+      groups = one_more s.session g k.groups added.1 (spells_group line g said).name added.2 added.3 added.4;
+      rising = k.rising;
+      within = among_more n s.calls k.within;
     } in
-    subst (λ (r : Reading). Kept r (n + 1)) (sym added.1) is
+    subst (λ (r : Reading). Kept r (n + 1)) (sym added.5) is
+kept_item s n line (items.Call p c) t k said added =
+    let call : CallLine = record { line = n + 1; process = p; call = c } in
+    let is : Kept (record { session = s.session; calls = s.calls ++ call ∷ [] }) (n + 1) = record {
+      most = k.most;
+      named = k.named;
+      distinct = k.distinct;
+      groups = k.groups;
+      rising = all_pairs_push Precedes s.calls call k.rising (λ i d lt. let w = k.within i d lt in omega (arith, w.1));
+      within = All-push (IsAmong (n + 1)) s.calls call (among_more n s.calls k.within) (omega arith, omega arith);
+    } in
+    subst (λ (r : Reading). Kept r (n + 1)) (sym added.2) is
 
 -- all lines
 kept_all : (s : Reading) (n : ℕ) (lines : List (List ℕ)) (t : Reading) → TakesAll s n lines t → Kept s n → Kept t (n + length lines)
@@ -99,10 +148,14 @@ kept_all s n (line ∷ lines) t h k =
 kept_script : (text : List ℕ) (script : Reading) → IsScript text script → Kept script (0 + length (lines_of text))
 kept_script text script is = kept_all nothing_read 0 (lines_of text) script is.0 kept_at_first
 
--- the users of a script
-pub listed : (text : List ℕ) (script : Reading) → IsScript text script → IsUserList script.users
-listed text script is =
-    let k = kept_script text script is in record { some = is.1; most = k.most; named = k.named; distinct = k.distinct }
+-- the users and the groups of a script
+pub is_declared : (text : List ℕ) (script : Reading) → IsScript text script → IsDeclared script.session
+is_declared text script is =
+    let k = kept_script text script is in
+    record {
+      users = record { some = is.1; most = k.most; named = k.named; distinct = k.distinct };
+      groups = k.groups;
+    }
 
 -- the numbers of a script's calls
 pub numbered : (text : List ℕ) (script : Reading) → IsScript text script → IsNumbered (length (lines_of text)) script.calls

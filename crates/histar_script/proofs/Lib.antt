@@ -6,6 +6,9 @@ pub mod WordsBack
 pub mod PathsBack
 pub mod ProcessesBack
 pub mod CallsBack
+pub mod Members
+pub mod GroupsBack
+pub mod Naming
 pub mod ItemsBack
 pub mod ScriptsBack
 pub mod Beginnings

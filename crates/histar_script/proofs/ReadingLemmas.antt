@@ -8,6 +8,6 @@ use Rattle.histar_script.specs.Reading.{with_lines}
 use Rattle.histar_script.proofs.LineLemmas.{no_lines}
 
 -- after the last line
-pub at_end : (s : Reading) (n : ℕ) (rest : List ℕ) (total : Result Reading Fault) → length rest ≡ 0 → with_lines s n (lines_of rest) ≡ total → total ≡ cond (eqb (length s.users) 0) (Err (BadScript (n + 1))) (Ok s)
+pub at_end : (s : Reading) (n : ℕ) (rest : List ℕ) (total : Result Reading Fault) → length rest ≡ 0 → with_lines s n (lines_of rest) ≡ total → total ≡ cond (eqb (length s.session.users) 0) (Err (BadScript (n + 1))) (Ok s)
 unfolding with_lines
 at_end s n rest total none so_far = sym so_far ∙ ap (with_lines s n) (no_lines rest none)

@@ -1,68 +1,86 @@
 -- Lines are taken by reading as by the grammar, one after another.
-use Rattle.std.proofs.Common.{◌≡◌, ◌≢◌, ℕ, ◌+◌, ◌<◌, Bool, true, false, not, cond, eqb, ltb, ◌&&◌, List, [], ◌∷◌, ◌++◌, length, Option, Some, None, Result, Ok, Err, refl, sym, ap, subst, ◌∙◌, inl, inr}
+use Rattle.std.proofs.Common.{◌≡◌, ℕ, ◌+◌, ◌<◌, Bool, true, false, not, cond, eqb, ltb, ◌&&◌, List, [], ◌∷◌, ◌++◌, length, Option, Some, None, Result, Ok, Err, refl, sym, ap, subst, ◌∙◌}
 use Rattle.std.proofs.lemmas.Option.{cond_some}
-use Rattle.std.specs.List.{AllByRecursion}
-use Rattle.std.specs.Str.{bytes_eq}
-use Rattle.std.proofs.lemmas.Slice.Eq.{bytes_eq-Decides}
-use Rattle.std.proofs.lemmas.List.Elements.{All-from_recursion, recursion_from_All}
-use Rattle.std.proofs.lemmas.Bool.{false≢true, ltb-true, lt-ltb, false_from_ne_true, and_parts, not-true, or_parts}
+use Rattle.std.proofs.lemmas.Bool.{ltb-true, lt-ltb, and_parts, not-true}
 use Rattle.histar_flat.specs.declared.calls.User.{User}
+use Rattle.histar_flat.specs.Sessions.{Group, most_users, most_groups, with_user, with_group, is_group}
 use Rattle.histar_script.specs.declared.fault.Fault.{Fault}
 use Rattle.histar_script.specs.declared.fault.Fault.TheVariants.{BadScript}
 use Rattle.histar_script.specs.declared.items.Item.{Item}
 use Rattle.histar_script.specs.declared.items.Item.TheVariants as items
 use Rattle.histar_script.specs.Lines.{lines_of}
-use Rattle.histar_script.specs.Script.{Reading, most_users, nothing_read}
-use Rattle.histar_script.specs.Reading.{item_of, has_user, with_item, with_line, with_lines, reading}
-use Rattle.histar_script.specs.Grammar.{Adds, Takes, TakesAll, IsScript}
-use Rattle.histar_script.proofs.Chains.{bind_some, chosen, none_left, some_left, not_empty}
-use Rattle.histar_script.proofs.ItemsBack.{item_takes, item_again}
+use Rattle.histar_script.specs.Script.{Reading, IsMembership, nothing_read, is_declared_call}
+use Rattle.histar_script.specs.Reading.{item_of, has_user, is_empty, takes_user, are_users, are_distinct, is_new_name, takes_group, takes_call, with_item, with_line, with_lines, reading}
+use Rattle.histar_script.specs.Grammar.{IsGroupText, Says, Adds, Takes, TakesAll, IsScript}
+use Rattle.histar_script.proofs.Chains.{bind_some, none_left, some_left, not_empty}
+use Rattle.histar_script.proofs.ItemsBack.{item_takes, item_again, spells_group}
+use Rattle.histar_script.proofs.Naming.{all_others, not_named, all_users, users_again, all_distinct, passes_distinct}
 
--- no user has the name
-no_other : (users : List User) (name : List ℕ) → has_user users name ≡ false → AllByRecursion (λ v. v.name ≢ name) users
-no_other [] name h = tt
-no_other (v ∷ vs) name h =
-    let p = or_parts (bytes_eq v.name name) (has_user vs name) h in
-    (λ same. absurd (false≢true (sym p.0 ∙ (bytes_eq-Decides v.name name).1 same)), no_other vs name p.1)
-
--- and the other way
-no_user : (users : List User) (name : List ℕ) → AllByRecursion (λ v. v.name ≢ name) users → has_user users name ≡ false
-no_user [] name h = refl
-no_user (v ∷ vs) name h =
-    let first : bytes_eq v.name name ≡ false = false_from_ne_true (bytes_eq v.name name) (λ e. h.0 ((bytes_eq-Decides v.name name).0 e)) in
-    rw (first, no_user vs name h.1) refl
+-- a group that is taken has users as its members
+has_members : (line : List ℕ) (users : List User) (g : Group) → IsGroupText line g → are_users users g.members ≡ true → are_distinct g.members ≡ true → IsMembership users g
+has_members line users g is known apart = record { some = is.some; few = is.few; declared = all_users users g.members known; distinct = all_distinct g.members apart }
 
 -- an item that is taken adds to what was read
-adds : (s : Reading) (n : ℕ) (i : Item) (t : Reading) → with_item s n i ≡ Some t → Adds s n i t
+adds : (s : Reading) (n : ℕ) (line : List ℕ) (i : Item) (t : Reading) → Says line i → with_item s n i ≡ Some t → Adds s n i t
 unfolding with_item
-adds s n items.Comment t e = cc
-adds s n (items.User u) t e =
-    let g = cond_some (eqb (length s.calls) 0 && ltb (length s.users) most_users && not (has_user s.users u.name)) (record { users = s.users ++ u ∷ []; calls = s.calls }) t e in
-    let p = and_parts (eqb (length s.calls) 0 && ltb (length s.users) most_users) (not (has_user s.users u.name)) g.0 in
-    let q = and_parts (eqb (length s.calls) 0) (ltb (length s.users) most_users) p.0 in
-    (none_left s.calls q.0, ltb-true (length s.users) most_users q.1, All-from_recursion (λ v. v.name ≢ u.name) s.users (no_other s.users u.name (not-true (has_user s.users u.name) p.1)), sym g.1)
-adds s n (items.Call p c) t e =
-    elim (chosen (eqb (length s.users) 0) None (Some (record { users = s.users; calls = s.calls ++ (record { line = n; process = p; call = c }) ∷ [] })) (Some t) e) [
-      | inl h ↦ absurd cc
-      | inr h ↦ (some_left s.users h.0, cc)
-    ]
+adds s n line items.Comment t said e = cc
+adds s n line (items.User u) t said e =
+    let g = cond_some (takes_user s u) (record { session = with_user s.session u; calls = s.calls }) t e in
+    let users = s.session.users in
+    let p = and_parts (is_empty s.session.groups && is_empty s.calls && ltb (length users) most_users) (not (has_user users u.name)) g.0 in
+    let q = and_parts (is_empty s.session.groups && is_empty s.calls) (ltb (length users) most_users) p.0 in
+    let r = and_parts (is_empty s.session.groups) (is_empty s.calls) q.0 in (
+      none_left s.calls r.1,
+      none_left s.session.groups r.0,
+      ltb-true (length users) most_users q.1,
+      all_others (λ (v : User). v.name) u.name users (not-true (has_user users u.name) p.1),
+      sym g.1,
+    )
+adds s n line (items.Group g) t said e =
+    let c = cond_some (takes_group s g) (record { session = with_group s.session g; calls = s.calls }) t e in
+    let users = s.session.users in
+    let groups = s.session.groups in
+    let p = and_parts (is_empty s.calls && ltb (length groups) most_groups && is_new_name s.session g.name && are_users users g.members) (are_distinct g.members) c.0 in
+    let q = and_parts (is_empty s.calls && ltb (length groups) most_groups && is_new_name s.session g.name) (are_users users g.members) p.0 in
+    let r = and_parts (is_empty s.calls && ltb (length groups) most_groups) (is_new_name s.session g.name) q.0 in
+    let f = and_parts (is_empty s.calls) (ltb (length groups) most_groups) r.0 in
+    let new = and_parts (not (has_user users g.name)) (not (is_group s.session g.name)) r.1 in (
+      none_left s.calls f.0,
+      ltb-true (length groups) most_groups f.1,
+      all_others (λ (v : User). v.name) g.name users (not-true (has_user users g.name) new.0),
+      all_others (λ (h : Group). h.name) g.name groups (not-true (is_group s.session g.name) new.1),
+      has_members line users g (spells_group line g said) q.1 p.1,
+      sym c.1,
+    )
+adds s n line (items.Call p c) t said e =
+    let g = cond_some (takes_call s c) (record { session = s.session; calls = s.calls ++ (record { line = n; process = p; call = c }) ∷ [] }) t e in
+    let parts = and_parts (not (is_empty s.session.users)) (is_declared_call s.session c) g.0 in
+    (some_left s.session.users (not-true (is_empty s.session.users) parts.0), parts.1, sym g.1)
 
 -- and the other way
 adds_again : (s : Reading) (n : ℕ) (i : Item) (t : Reading) → Adds s n i t → with_item s n i ≡ Some t
 unfolding with_item
 adds_again s n items.Comment t h = ap (λ (x : Reading). Some x) (sym h)
 adds_again s n (items.User u) t h =
-    let none : eqb (length s.calls) 0 ≡ true = rw h.0 refl in
-    let room : ltb (length s.users) most_users ≡ true = lt-ltb (length s.users) most_users h.1 in
-    rw (none, room, no_user s.users u.name (recursion_from_All (λ v. v.name ≢ u.name) s.users h.2)) (ap (λ (x : Reading). Some x) (sym h.3))
-adds_again s n (items.Call p c) t h = rw (not_empty s.users h.0) (ap (λ (x : Reading). Some x) (sym h.1))
+    let no_call : is_empty s.calls ≡ true = rw h.0 refl in
+    let no_group : is_empty s.session.groups ≡ true = rw h.1 refl in
+    let room : ltb (length s.session.users) most_users ≡ true = lt-ltb (length s.session.users) most_users h.2 in
+    rw (no_group, no_call, room, not_named (λ (v : User). v.name) u.name s.session.users h.3) (ap (λ (x : Reading). Some x) (sym h.4))
+adds_again s n (items.Group g) t h =
+    let no_call : is_empty s.calls ≡ true = rw h.0 refl in
+    let room : ltb (length s.session.groups) most_groups ≡ true = lt-ltb (length s.session.groups) most_groups h.1 in
+    let no_user : has_user s.session.users g.name ≡ false = not_named (λ (v : User). v.name) g.name s.session.users h.2 in
+    let no_group : is_group s.session g.name ≡ false = not_named (λ (v : Group). v.name) g.name s.session.groups h.3 in
+    rw (no_call, room, no_user, no_group, users_again s.session.users g.members h.4.declared, passes_distinct g.members h.4.distinct) (ap (λ (x : Reading). Some x) (sym h.5))
+adds_again s n (items.Call p c) t h = rw (not_empty s.session.users h.0, h.1) (ap (λ (x : Reading). Some x) (sym h.2))
 
 -- a line that is taken
 pub line_takes : (s : Reading) (n : ℕ) (line : List ℕ) (t : Reading) → with_line s n line ≡ Some t → Takes s n line t
 unfolding with_line
 line_takes s n line t e =
     let a = bind_some (item_of line) (λ i. with_item s n i) t e in
-    (a.0, item_takes line a.0 a.1, adds s n a.0 t a.2)
+    let said = item_takes line a.0 a.1 in
+    (a.0, said, adds s n line a.0 t said a.2)
 
 -- and the other way
 pub line_again : (s : Reading) (n : ℕ) (line : List ℕ) (t : Reading) → Takes s n line t → with_line s n line ≡ Some t
@@ -84,21 +102,21 @@ ended true f s t e = absurd cc
 ended false f s t e = (refl, cc)
 
 -- lines that are read are taken
-pub lines_take : (s : Reading) (n : ℕ) (lines : List (List ℕ)) (t : Reading) → with_lines s n lines ≡ Ok t → TakesAll s n lines t × (0 < length t.users)
+pub lines_take : (s : Reading) (n : ℕ) (lines : List (List ℕ)) (t : Reading) → with_lines s n lines ≡ Ok t → TakesAll s n lines t × (0 < length t.session.users)
 unfolding with_lines
 lines_take s n [] t e =
-    let g = ended (eqb (length s.users) 0) (BadScript (n + 1)) s t e in
-    (sym g.1, subst (λ (x : Reading). 0 < length x.users) g.1 (some_left s.users g.0))
+    let g = ended (eqb (length s.session.users) 0) (BadScript (n + 1)) s t e in
+    (sym g.1, subst (λ (x : Reading). 0 < length x.session.users) g.1 (some_left s.session.users g.0))
 lines_take s n (line ∷ lines) t e =
     let a = taken (with_line s (n + 1) line) (n + 1) (λ m. with_lines m (n + 1) lines) t e in
     let b = lines_take a.0 (n + 1) lines t a.2 in
     ((a.0, line_takes s (n + 1) line a.0 a.1, b.0), b.1)
 
 -- lines that are taken are read
-pub lines_again : (s : Reading) (n : ℕ) (lines : List (List ℕ)) (t : Reading) → TakesAll s n lines t → 0 < length t.users → with_lines s n lines ≡ Ok t
+pub lines_again : (s : Reading) (n : ℕ) (lines : List (List ℕ)) (t : Reading) → TakesAll s n lines t → 0 < length t.session.users → with_lines s n lines ≡ Ok t
 unfolding with_lines
 lines_again s n [] t h some =
-    let some_here : eqb (length s.users) 0 ≡ false = not_empty s.users (subst (λ (x : Reading). 0 < length x.users) h some) in
+    let some_here : eqb (length s.session.users) 0 ≡ false = not_empty s.session.users (subst (λ (x : Reading). 0 < length x.session.users) h some) in
     rw some_here (ap (λ (x : Reading). Ok x) (sym h))
 lines_again s n (line ∷ lines) t h some = ap (after (n + 1) (λ m. with_lines m (n + 1) lines)) (line_again s (n + 1) line h.0 h.1) ∙ lines_again h.0 (n + 1) lines t h.2 some
 

@@ -1,5 +1,5 @@
 -- Words are read from the texts that spell them, and from no others.
-use Rattle.std.proofs.Common.{◌≡◌, ℕ, ◌<◌, Bool, true, false, not, cond, eqb, ltb, leb, ◌&&◌, List, [], ◌∷◌, length, Some, None, codes, refl, sym, ap, subst, ◌∙◌, inl, inr}
+use Rattle.std.proofs.Common.{◌≡◌, ℕ, ◌<◌, Bool, true, false, not, cond, eqb, ltb, leb, ◌&&◌, List, [], ◌∷◌, ◌++◌, length, Some, None, codes, refl, sym, ap, subst, ◌∙◌, inl, inr}
 use Rattle.std.proofs.lemmas.Option.{cond_some}
 use Rattle.std.specs.List.{list_all}
 use Rattle.std.specs.Str.{bytes_eq}
@@ -7,12 +7,14 @@ use Rattle.std.proofs.lemmas.Slice.Eq.{bytes_eq-Decides}
 use Rattle.std.proofs.lemmas.Bool.{false≢true, false_from_ne_true, eqb-true, ltb-true, and_parts}
 use Rattle.histar_flat.specs.declared.calls.Mode.{Mode}
 use Rattle.histar_flat.specs.declared.calls.Mode.TheVariants.{Private, Readable, Open, Group}
-use Rattle.histar_flat.specs.Words.{is_name, is_name_byte, is_dots, is_user_name, begins_with_letter}
-use Rattle.histar_flat.specs.Modes.{mode_of, is_line_mode}
+use Rattle.std.specs.Option.{option_map}
+use Rattle.histar_flat.specs.Words.{is_name, is_name_byte, is_dots, is_user_name, begins_with_letter, split_at_first, user_name_of}
+use Rattle.histar_flat.specs.Modes.{colon, group_mode_of, mode_of, is_line_mode}
 use Rattle.histar_flat.specs.Texts.{mode_text}
 use Rattle.histar_script.specs.Lines.{split_word, ◌space◌}
-use Rattle.histar_script.proofs.Chains.{chosen}
-use Rattle.histar_script.proofs.Parting.{lacks, split_before}
+use Rattle.histar_script.specs.Reading.{◌>>=◌}
+use Rattle.histar_script.proofs.Chains.{bind_some, mapped, chosen}
+use Rattle.histar_script.proofs.Parting.{lacks, split_before, split_parts}
 
 -- ---- names
 
@@ -66,20 +68,40 @@ same_bytes xs ys h = (bytes_eq-Decides xs ys).0 h
 abbrev IsSpelled : List ℕ → Mode → Type 0
 IsSpelled text mode = (text ≡ mode_text mode) × (is_line_mode mode ≡ true)
 
+-- the mode of a group that is read is spelled so
+group_mode_takes : (text : List ℕ) (mode : Mode) → group_mode_of text ≡ Some mode → IsSpelled text mode
+unfolding group_mode_of
+group_mode_takes text mode e =
+    let w = split_at_first colon text in
+    elim (chosen (bytes_eq w.0 (codes "group")) (w.1 >>= λ name. option_map (λ group. Group group) (user_name_of name)) None (Some mode) e) [
+      | inl h ↦
+          let a = bind_some w.1 (λ name. option_map (λ group. Group group) (user_name_of name)) mode h.1 in
+          let m = mapped (user_name_of a.0) (λ group. Group group) mode a.2 in
+          let name = cond_some (is_user_name a.0) a.0 m.0 m.1 in
+          let word = ap (λ (l : List ℕ). l ++ colon ∷ a.0) (same_bytes w.0 (codes "group") h.0) in
+          let spelled : text ≡ codes "group:" ++ a.0 = split_parts colon text a.0 a.1 ∙ word in
+          subst (IsSpelled text) m.2 (spelled ∙ ap (λ (l : List ℕ). codes "group:" ++ l) name.1, ap is_user_name (sym name.1) ∙ name.0)
+      | inr h ↦ absurd cc
+    ]
+
 -- a mode that is read is spelled so, and a line can name it
 pub mode_takes : (text : List ℕ) (mode : Mode) → mode_of text ≡ Some mode → (text ≡ mode_text mode) × (is_line_mode mode ≡ true)
 mode_takes text mode e =
-    elim (chosen (bytes_eq text (codes "private")) (Some Private) (cond (bytes_eq text (codes "readable")) (Some Readable) (cond (bytes_eq text (codes "open")) (Some Open) None)) (Some mode) e) [
+    elim (chosen (bytes_eq text (codes "private")) (Some Private) (cond (bytes_eq text (codes "readable")) (Some Readable) (cond (bytes_eq text (codes "open")) (Some Open) (group_mode_of text))) (Some mode) e) [
       | inl h ↦ let same : Private ≡ mode = cc in subst (IsSpelled text) same (same_bytes text (codes "private") h.0, refl)
-      | inr h ↦ elim (chosen (bytes_eq text (codes "readable")) (Some Readable) (cond (bytes_eq text (codes "open")) (Some Open) None) (Some mode) h.1) [
+      | inr h ↦ elim (chosen (bytes_eq text (codes "readable")) (Some Readable) (cond (bytes_eq text (codes "open")) (Some Open) (group_mode_of text)) (Some mode) h.1) [
         | inl k ↦ let same : Readable ≡ mode = cc in subst (IsSpelled text) same (same_bytes text (codes "readable") k.0, refl)
-        | inr k ↦ let g = cond_some (bytes_eq text (codes "open")) Open mode k.1 in subst (IsSpelled text) g.1 (same_bytes text (codes "open") g.0, refl)
+        | inr k ↦ elim (chosen (bytes_eq text (codes "open")) (Some Open) (group_mode_of text) (Some mode) k.1) [
+          | inl o ↦ let same : Open ≡ mode = cc in subst (IsSpelled text) same (same_bytes text (codes "open") o.0, refl)
+          | inr o ↦ group_mode_takes text mode o.1
+        ]
       ]
     ]
 
 -- and a mode that is spelled is read, where a line can name it
 pub mode_again : (mode : Mode) → is_line_mode mode ≡ true → mode_of (mode_text mode) ≡ Some mode
+unfolding group_mode_of split_at_first
 mode_again Private h = refl
 mode_again Readable h = refl
 mode_again Open h = refl
-mode_again (Group name) h = absurd (false≢true h)
+mode_again (Group name) h = rw h refl

@@ -1,5 +1,6 @@
 -- The grammar: what a line says, which script a text is, and which line is bad.
 use Rattle.std.specs.Prelude.{◌≡◌, ◌≢◌, ℕ, ◌+◌, ◌-◌, ◌<◌, ◌≤◌, ◌⊎◌, IsTrue, All, List, [], ◌∷◌, ◌++◌, length, take, codes, decimal}
+use Rattle.std.specs.List.{flat_map}
 use Rattle.histar_flat.specs.declared.calls.Mode.{Mode}
 use Rattle.histar_flat.specs.declared.calls.User.{User}
 use Rattle.histar_flat.specs.declared.calls.UnixCall.{UnixCall}
@@ -7,16 +8,29 @@ use Rattle.histar_flat.specs.declared.calls.UnixCall.TheVariants.{Create, Mkdir,
 use Rattle.histar_flat.specs.Words.{Path, ProcName, greatest_status, is_name, is_user_name, is_password, is_path, is_process}
 use Rattle.histar_flat.specs.Modes.{is_line_mode}
 use Rattle.histar_flat.specs.Texts.{path_text, process_text, mode_text}
+use Rattle.histar_flat.specs.Sessions.{Group, most_users, most_groups, most_members, with_user, with_group}
 use Rattle.histar_script.specs.declared.items.Item.{Item}
 use Rattle.histar_script.specs.declared.items.Item.TheVariants as items
 use Rattle.histar_script.specs.Lines.{lines_of, is_plain, ◌space◌}
-use Rattle.histar_script.specs.Script.{Reading, most_users, nothing_read}
+use Rattle.histar_script.specs.Script.{Reading, IsMembership, nothing_read, is_declared_call}
 
 -- `user NAME PASSWORD`, the name being one that a user may have
 pub record IsUserText (text : List ℕ) (u : User) : Type 0 where
   pub spelled : text ≡ codes "user" space u.name space u.password
   pub name : IsTrue (is_user_name u.name)
   pub password : IsTrue (is_password u.password)
+
+-- words with a space before each
+abbrev pub spaced : List (List ℕ) → List ℕ
+spaced words = flat_map (λ word. 32 ∷ word) words
+
+-- `group NAME USER..`: the name of the group and those of 1 to 16 members, each of the form of a user's
+pub record IsGroupText (text : List ℕ) (g : Group) : Type 0 where
+  pub spelled : text ≡ codes "group" space (g.name ++ spaced g.members)
+  pub name : IsTrue (is_user_name g.name)
+  pub members : All (λ member. IsTrue (is_user_name member)) g.members
+  pub some : 0 < length g.members
+  pub few : length g.members ≤ most_members
 
 -- a word, a path that can be named, and a mode that a line can name
 abbrev pub SpellsMode : List ℕ → List ℕ → Path → Mode → Type 0
@@ -57,21 +71,25 @@ IsCallText text (Kill name) = SpellsProcess text (codes "kill") name
 IsCallText text Whoami = text ≡ codes "whoami"
 IsCallText text (Wrap path) = ⊥
 
--- what a line that is not empty says: `#..`, `user NAME PASSWORD` or `PROC CALL`
+-- what a line that is not empty says: `#..`, `user NAME PASSWORD`, `group NAME USER..` or `PROC CALL`
 abbrev pub SaysInWords : List ℕ → Item → Type 0
 SaysInWords line items.Comment = (rest : List ℕ) × (line ≡ codes "#" ++ rest)
 SaysInWords line (items.User u) = IsUserText line u
+SaysInWords line (items.Group g) = IsGroupText line g
 SaysInWords line (items.Call p c) = (rest : List ℕ) × (line ≡ process_text p space rest) × IsTrue (is_process p) × IsCallText rest c
 
 -- an empty line is a comment, and any other is plain
 abbrev pub Says : List ℕ → Item → Type 0
 Says line item = ((line ≡ []) × (item ≡ items.Comment)) ⊎ (IsTrue (is_plain line) × SaysInWords line item)
 
--- a user line comes before the calls, is one of at most 16, and has a new name; a call line comes after some user line
+-- a user line comes before the groups and the calls, is one of at most 16, and has a new name; a group line comes before the calls, is
+-- one of at most 8, and has a name that is no user's and no group's, and users as its members; a call line comes after some user line,
+-- and names no group that is not declared
 abbrev pub Adds : Reading → ℕ → Item → Reading → Type 0
 Adds old n items.Comment new = new ≡ old
-Adds old n (items.User u) new = (old.calls ≡ []) × (length old.users < most_users) × All (λ v. v.name ≢ u.name) old.users × (new ≡ record { users = old.users ++ u ∷ []; calls = old.calls })
-Adds old n (items.Call p c) new = (0 < length old.users) × (new ≡ record { users = old.users; calls = old.calls ++ (record { line = n; process = p; call = c }) ∷ [] })
+Adds old n (items.User u) new = (old.calls ≡ []) × (old.session.groups ≡ []) × (length old.session.users < most_users) × All (λ v. v.name ≢ u.name) old.session.users × (new ≡ record { session = with_user old.session u; calls = old.calls })
+Adds old n (items.Group g) new = (old.calls ≡ []) × (length old.session.groups < most_groups) × All (λ u. u.name ≢ g.name) old.session.users × All (λ h. h.name ≢ g.name) old.session.groups × IsMembership old.session.users g × (new ≡ record { session = with_group old.session g; calls = old.calls })
+Adds old n (items.Call p c) new = (0 < length old.session.users) × IsTrue (is_declared_call old.session c) × (new ≡ record { session = old.session; calls = old.calls ++ (record { line = n; process = p; call = c }) ∷ [] })
 
 -- line n says an item that adds to what was read
 abbrev pub Takes : Reading → ℕ → List ℕ → Reading → Type 0
@@ -84,7 +102,7 @@ TakesAll old n (line ∷ lines) new = (mid : Reading) × Takes old (n + 1) line 
 
 -- the text is this script: all its lines are taken, and there is a user
 abbrev pub IsScript : List ℕ → Reading → Type 0
-IsScript text script = TakesAll nothing_read 0 (lines_of text) script × (0 < length script.users)
+IsScript text script = TakesAll nothing_read 0 (lines_of text) script × (0 < length script.session.users)
 
 -- no script begins with the first n lines of this text
 abbrev pub BeginsNone : List ℕ → ℕ → Type 0
@@ -99,5 +117,5 @@ BeginsSome lines = (other : List ℕ) × (script : Reading) × (take (length lin
 pub record IsFirstBad (text : List ℕ) (n : ℕ) : Type 0 where
   pub none : n ≤ length (lines_of text) → BeginsNone text n
   pub some : BeginsSome (take (n - 1) (lines_of text))
-  pub before : (read : Reading) × TakesAll nothing_read 0 (take (n - 1) (lines_of text)) read × (length (lines_of text) < n → read.users ≡ [])
+  pub before : (read : Reading) × TakesAll nothing_read 0 (take (n - 1) (lines_of text)) read × (length (lines_of text) < n → read.session.users ≡ [])
   pub close : (0 < n) × (n ≤ length (lines_of text) + 1)

@@ -1,6 +1,6 @@
 -- Reading a script from its first line to its last, up to the first bad line.
-use Rattle.std.specs.Prelude.{ℕ, ◌+◌, Bool, not, ◌&&◌, List, [], ◌∷◌, ◌++◌, length, codes, Option, Some, None, Result, Ok, Err, option_and_then, option_map, nat_lt, ◌==◌, if◌then◌else◌}
-use Rattle.std.specs.List.{list_any}
+use Rattle.std.specs.Prelude.{ℕ, zero, suc, ◌+◌, Bool, true, not, ◌&&◌, List, [], ◌∷◌, ◌++◌, length, codes, Option, Some, None, Result, Ok, Err, option_and_then, option_map, nat_lt, ◌==◌, if◌then◌else◌}
+use Rattle.std.specs.List.{list_any, list_all}
 use Rattle.std.specs.Str.{bytes_eq}
 use Rattle.histar_flat.specs.declared.calls.Mode.{Mode}
 use Rattle.histar_flat.specs.declared.calls.User.{User}
@@ -8,12 +8,13 @@ use Rattle.histar_flat.specs.declared.calls.UnixCall.{UnixCall}
 use Rattle.histar_flat.specs.declared.calls.UnixCall.TheVariants.{Create, Mkdir, Write, Append, Read, List as ListCall, Stat, Unlink, Rmdir, Rmtree, Rename, Spawn, Exit, Status, Kill, Whoami, Login}
 use Rattle.histar_flat.specs.Words.{Name, Path, name_of, user_name_of, password_of, path_of, process_of, status_of}
 use Rattle.histar_flat.specs.Modes.{mode_of}
+use Rattle.histar_flat.specs.Sessions.{Session, Group, most_users, most_groups, most_members, with_user, with_group, has, is_group}
 use Rattle.histar_script.specs.declared.fault.Fault.{Fault}
 use Rattle.histar_script.specs.declared.fault.Fault.TheVariants.{BadScript, TooLong}
 use Rattle.histar_script.specs.declared.items.Item.{Item}
 use Rattle.histar_script.specs.declared.items.Item.TheVariants as items
 use Rattle.histar_script.specs.Lines.{lines_of, is_too_long, is_plain, split_word}
-use Rattle.histar_script.specs.Script.{Reading, most_users, nothing_read}
+use Rattle.histar_script.specs.Script.{Reading, nothing_read, is_declared_call}
 
 -- with what is there, go on
 infixl 10 ◌>>=◌
@@ -27,6 +28,24 @@ user_of text = do
   rest ← (split_word text).1
   password ← password_of rest
   Some (record { name = name; password = password })
+
+-- members, and behind them those that a text names, at most so many and with a space between two
+unfoldable pub members_from : ℕ → List Name → List ℕ → Option (List Name)
+members_from zero members text = None
+members_from (suc most) members text = user_name_of (split_word text).0 >>= λ name.
+    elim (split_word text).1 [ None ↦ Some (members ++ name ∷ []) | Some rest ↦ members_from most (members ++ name ∷ []) rest ]
+
+-- the members that a text names: 1 to 16, with a space between two
+abbrev pub members_of : List ℕ → Option (List Name)
+members_of text = members_from most_members [] text
+
+-- NAME USER.. of a group line
+unfoldable pub group_of : List ℕ → Option Group
+group_of text = do
+  name ← user_name_of (split_word text).0
+  rest ← (split_word text).1
+  members ← members_of rest
+  Some (record { name = name; members = members })
 
 -- PATH MODE
 unfoldable pub path_mode_of : List ℕ → Option (Path × Mode)
@@ -98,6 +117,12 @@ user_item text = do
   user ← user_of text
   Some (items.User user)
 
+-- a group, as what a line says
+abbrev pub group_item : List ℕ → Option Item
+group_item text = do
+  group ← group_of text
+  Some (items.Group group)
+
 -- the call of a process, as what a line says
 abbrev pub call_item : List ℕ → List ℕ → Option Item
 call_item word text = do
@@ -105,11 +130,13 @@ call_item word text = do
   call ← call_of text
   Some (items.Call process call)
 
--- `user NAME PASSWORD` or `PROC CALL`
+-- `user NAME PASSWORD`, `group NAME USER..` or `PROC CALL`
 unfoldable pub words_item : List ℕ → Option Item
 words_item line = do
   rest ← (split_word line).1
-  if bytes_eq (split_word line).0 (codes "user") then user_item rest else call_item (split_word line).0 rest
+  if bytes_eq (split_word line).0 (codes "user") then user_item rest
+      else (if bytes_eq (split_word line).0 (codes "group") then group_item rest
+      else call_item (split_word line).0 rest)
 
 -- what a line says, unless it is bad: nothing where it is empty or begins with `#`
 unfoldable pub item_of : List ℕ → Option Item
@@ -124,11 +151,37 @@ has_user users name = list_any (λ u. bytes_eq u.name name) users
 abbrev pub is_empty : {X : Type 0} → List X → Bool
 is_empty xs = length xs == 0
 
+-- a line that declares this user may stand here
+abbrev pub takes_user : Reading → User → Bool
+takes_user s u = is_empty s.session.groups && is_empty s.calls && nat_lt (length s.session.users) most_users && not (has_user s.session.users u.name)
+
+-- each name is a user's
+abbrev pub are_users : List User → List Name → Bool
+are_users users names = list_all (has_user users) names
+
+-- no name is there twice
+abbrev pub are_distinct : List Name → Bool
+are_distinct [] = true
+are_distinct (name ∷ names) = not (has names name) && are_distinct names
+
+-- no user and no group has the name
+abbrev pub is_new_name : Session → Name → Bool
+is_new_name session name = not (has_user session.users name) && not (is_group session name)
+
+-- a line that declares this group may stand here
+abbrev pub takes_group : Reading → Group → Bool
+takes_group s g = is_empty s.calls && nat_lt (length s.session.groups) most_groups && is_new_name s.session g.name && are_users s.session.users g.members && are_distinct g.members
+
+-- a line with this call may stand here
+abbrev pub takes_call : Reading → UnixCall → Bool
+takes_call s c = not (is_empty s.session.users) && is_declared_call s.session c
+
 -- what is read after a line that says this, unless it may not stand here
 unfoldable pub with_item : Reading → ℕ → Item → Option Reading
 with_item s n items.Comment = Some s
-with_item s n (items.User u) = if is_empty s.calls && nat_lt (length s.users) most_users && not (has_user s.users u.name) then Some (record { users = s.users ++ u ∷ []; calls = s.calls }) else None
-with_item s n (items.Call p c) = if is_empty s.users then None else Some (record { users = s.users; calls = s.calls ++ (record { line = n; process = p; call = c }) ∷ [] })
+with_item s n (items.User u) = if takes_user s u then Some (record { session = with_user s.session u; calls = s.calls }) else None
+with_item s n (items.Group g) = if takes_group s g then Some (record { session = with_group s.session g; calls = s.calls }) else None
+with_item s n (items.Call p c) = if takes_call s c then Some (record { session = s.session; calls = s.calls ++ (record { line = n; process = p; call = c }) ∷ [] }) else None
 
 -- what is read after line n
 unfoldable pub with_line : Reading → ℕ → List ℕ → Option Reading
@@ -136,7 +189,7 @@ with_line s n line = item_of line >>= λ i. with_item s n i
 
 -- what is read after these lines, which follow n others, or the fault in them
 unfoldable pub with_lines : Reading → ℕ → List (List ℕ) → Result Reading Fault
-with_lines s n [] = if is_empty s.users then Err (BadScript (n + 1)) else Ok s
+with_lines s n [] = if is_empty s.session.users then Err (BadScript (n + 1)) else Ok s
 with_lines s n (line ∷ lines) = elim (with_line s (n + 1) line) [ None ↦ Err (BadScript (n + 1)) | Some t ↦ with_lines t (n + 1) lines ]
 
 -- the script that a text is whose length is right, or the fault in it

@@ -1,21 +1,21 @@
 -- What a script says.
-use Rattle.std.specs.Prelude.{◌≢◌, ℕ, ◌<◌, ◌≤◌, List, [], length, IsTrue, All, AllPairs}
+use Rattle.std.specs.Prelude.{◌≡◌, ◌≢◌, ℕ, ◌<◌, ◌≤◌, Bool, true, List, [], length, IsTrue, All, AllPairs}
+use Rattle.std.specs.List.{Any}
 use Rattle.histar_flat.specs.declared.calls.User.{User}
-use Rattle.histar_flat.specs.Words.{is_user_name}
+use Rattle.histar_flat.specs.declared.calls.UnixCall.{UnixCall}
+use Rattle.histar_flat.specs.declared.calls.UnixCall.TheVariants.{Create, Mkdir, Write, Append, Read, List as ListCall, Stat, Unlink, Rmdir, Rmtree, Rename, Spawn, Exit, Status, Kill, Whoami, Login, Wrap}
 use Rattle.histar_flat.specs.declared.calls.CallLine.{CallLine}
+use Rattle.histar_flat.specs.Words.{Name, is_user_name}
+use Rattle.histar_flat.specs.Sessions.{Session, Group, most_users, most_groups, most_members, no_session, is_declared_mode}
 
--- the users in their order, and the calls with the numbers of their lines
+-- the users and the groups in their order, and the calls with the numbers of their lines
 pub record Reading : Type 0 where
-  pub users : List User
+  pub session : Session
   pub calls : List CallLine
 
 -- what was read before the first line
 abbrev pub nothing_read : Reading
-nothing_read = record { users = []; calls = [] }
-
--- the most users of a script: 16
-abbrev pub most_users : ℕ
-most_users = 16
+nothing_read = record { session = no_session; calls = [] }
 
 -- the users of a script: 1 to 16, each with a name that a user may have and that no other one has
 pub record IsUserList (users : List User) : Type 0 where
@@ -23,6 +23,51 @@ pub record IsUserList (users : List User) : Type 0 where
   pub most : length users ≤ most_users
   pub named : All (λ u. IsTrue (is_user_name u.name)) users
   pub distinct : AllPairs (λ u v. u.name ≢ v.name) users
+
+-- one of the users has the name
+abbrev pub IsUserOf : List User → Name → Type 0
+IsUserOf users name = Any (λ u. u.name ≡ name) users
+
+-- the members of a group: 1 to 16 of the users, none of them twice
+pub record IsMembership (users : List User) (group : Group) : Type 0 where
+  pub some : 0 < length group.members
+  pub few : length group.members ≤ most_members
+  pub declared : All (IsUserOf users) group.members
+  pub distinct : AllPairs (λ a b. a ≢ b) group.members
+
+-- the groups of a script: at most 8, each with users as its members and a name of the form of a user's that no user and no other group has
+pub record AreGroups (session : Session) : Type 0 where
+  pub few : length session.groups ≤ most_groups
+  pub named : All (λ g. IsTrue (is_user_name g.name)) session.groups
+  pub no_users : All (λ g. All (λ u. u.name ≢ g.name) session.users) session.groups
+  pub distinct : AllPairs (λ g h. g.name ≢ h.name) session.groups
+  pub members : All (IsMembership session.users) session.groups
+
+-- the users and the groups are those of a script
+pub record IsDeclared (session : Session) : Type 0 where
+  pub users : IsUserList session.users
+  pub groups : AreGroups session
+
+-- the mode that a call names, if it names one, is for a user or for a group that is declared
+abbrev pub is_declared_call : Session → UnixCall → Bool
+is_declared_call session (Create path mode) = is_declared_mode session mode
+is_declared_call session (Mkdir path mode) = is_declared_mode session mode
+is_declared_call session (Write path bytes) = true
+is_declared_call session (Append path bytes) = true
+is_declared_call session (Read path) = true
+is_declared_call session (ListCall path) = true
+is_declared_call session (Stat path) = true
+is_declared_call session (Unlink path) = true
+is_declared_call session (Rmdir path) = true
+is_declared_call session (Rmtree path) = true
+is_declared_call session (Rename path name) = true
+is_declared_call session Spawn = true
+is_declared_call session (Exit status) = true
+is_declared_call session (Status process) = true
+is_declared_call session (Kill process) = true
+is_declared_call session Whoami = true
+is_declared_call session (Login name password) = true
+is_declared_call session (Wrap path) = true
 
 -- the calls of a script of so many lines: their numbers rise, and are numbers of lines
 pub record IsNumbered (lines : ℕ) (calls : List CallLine) : Type 0 where

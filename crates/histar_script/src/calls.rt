@@ -1,7 +1,9 @@
-//! Reading what a line says. `Ok(None)` is a bad line; the bytes of a `write` or an `append` are copied, so memory may run out.
+//! Reading what a line says. `Ok(None)` is a bad line; the bytes of a `write` or an `append` and the members of a group are copied,
+//! so memory may run out.
 ghost use Rattle.std.specs.Prelude.{◌≡◌, IfOk};
 ghost use Rattle.histar_script.specs.Reading.{user_of, path_mode_of, path_bytes_of, rename_of, login_of, call_on, call_alone, call_named, call_of, words_item, item_of};
 
+use crate::groups::read_group;
 use crate::items::Item;
 use crate::lines::{is_plain, split_word};
 use histar_base::Bytes;
@@ -146,7 +148,7 @@ fn read_call(alloc: Global, text: &[u8]) -> Result<Option<UnixCall>, AllocError>
     }
 }
 
-/// `user NAME PASSWORD` or `PROC CALL`
+/// `user NAME PASSWORD`, `group NAME USER..` or `PROC CALL`
 #[tactic(auto, unfolding(crate::specs::Reading::words_item))]
 fn read_words(alloc: Global, line: &[u8]) -> Result<Option<Item>, AllocError>
     ensures { IfOk result (λ item. item ≡ words_item line.now) }
@@ -157,6 +159,9 @@ fn read_words(alloc: Global, line: &[u8]) -> Result<Option<Item>, AllocError>
     };
     if word == b"user".as_slice() {
         return Ok(read_user(rest).map(Item::User));
+    }
+    if word == b"group".as_slice() {
+        return Ok(read_group(alloc, rest)?.map(Item::Group));
     }
     let Some(process) = read_process(word) else {
         return Ok(None);

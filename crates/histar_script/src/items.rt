@@ -1,10 +1,11 @@
 //! What lines say.
-use histar_flat::{ProcName, UnixCall, User};
+use histar_flat::{Group, ProcName, UnixCall, User};
 
 /// What one line says.
 #[derive(Drop)]
 pub enum Item {
     Comment,
     User(User),
+    Group(Group),
     Call(ProcName, UnixCall),
 }

@@ -1,8 +1,10 @@
-//! Scripts: users and numbered call lines, read from bytes.
+//! Scripts: users, groups and numbered call lines, read from bytes.
 #![tactic(auto)]
 
 mod calls;
+mod declarations;
 mod fault;
+mod groups;
 mod items;
 mod lines;
 mod script;

@@ -1,16 +1,17 @@
 //! Reading a whole script.
-ghost use Rattle.std.specs.Prelude.{ℕ, IfOk, false, ◌≡◌, ◌≤◌, [], length, IsTrue, IsErrOf, Ok, Err};
+ghost use Rattle.std.specs.Prelude.{ℕ, IfOk, false, ◌≡◌, ◌≤◌, length, IsTrue, IsErrOf, Ok, Err};
 ghost use Rattle.histar_script.specs.Lines.{lines_of, most_script_bytes, is_too_long as too_long};
-ghost use Rattle.histar_script.specs.Script.{Reading, IsUserList, IsNumbered};
+ghost use Rattle.histar_script.specs.Script.{Reading, IsDeclared, IsNumbered, nothing_read};
 ghost use Rattle.histar_script.specs.Grammar.{IsScript, IsFirstBad};
-ghost use Rattle.histar_script.specs.Reading.{reading, script_of, with_item, has_user as user_known};
+ghost use Rattle.histar_script.specs.Reading.{reading, script_of, with_item};
 ghost use Rattle.histar_script.specs.Outcome.{Gives, GivesNext};
 
 use crate::calls::read_item;
+use crate::declarations::{are_distinct, are_users, has_user, is_declared_call, is_new_name};
 use crate::fault::Fault;
 use crate::items::Item;
 use crate::lines::{count_lines, split_line};
-use histar_flat::{CallLine, Name, ProcName, UnixCall, User};
+use histar_flat::{CallLine, Group, ProcName, Session, UnixCall, User};
 use std::alloc::Global;
 use std::marker::Model;
 
@@ -23,10 +24,13 @@ const MOST_SCRIPT_LINES: usize = 16_384;
 /// The most users of a script.
 const MOST_USERS: usize = 16;
 
-/// The users and the calls of a script.
+/// The most groups of a script.
+const MOST_GROUPS: usize = 8;
+
+/// The session that a script declares, and its calls.
 #[derive(Drop)]
 pub struct Script {
-    users: Vec<User>,
+    session: Session,
     calls: Vec<CallLine>,
 }
 
@@ -35,31 +39,30 @@ impl Model for Script {
 
     ghost Value = { Reading };
 
-    ghost view = { λ s. record { users = s.users.items; calls = s.calls.items } };
+    ghost view = { λ s. record { session = s.session; calls = s.calls.items } };
 }
 
 impl Script {
-    /// The users, in the order of their lines.
-    pub fn users(&self) -> &[User]
-        ensures { result.now ≡ self.now.users }
+    /// The users and the groups, each in the order of their lines.
+    pub fn session(&self) -> &Session
+        ensures { result.now ≡ self.now.session }
     {
-        self.users.as_slice()
+        &self.session
     }
 
-    /// The users and the calls, to be taken one by one.
-    pub fn into_parts(self) -> (Vec<User>, Vec<CallLine>)
-        ensures users { result.0.items ≡ self.users }
+    /// The session, and the calls, to be taken one by one.
+    pub fn into_parts(self) -> (Session, Vec<CallLine>)
+        ensures session { result.0 ≡ self.session }
         ensures calls { result.1.items ≡ self.calls }
     {
-        (self.users, self.calls)
+        (self.session, self.calls)
     }
 
     fn new(alloc: Global) -> Script
-        ensures users { result.users ≡ [] }
-        ensures calls { result.calls ≡ [] }
+        ensures { result ≡ nothing_read }
     {
         Script {
-            users: Vec::new(alloc),
+            session: Session::new(alloc),
             calls: Vec::new(alloc),
         }
     }
@@ -72,6 +75,7 @@ impl Script {
         match item {
             Item::Comment => Ok(()),
             Item::User(user) => self.add_user(line, user),
+            Item::Group(group) => self.add_group(line, group),
             Item::Call(process, call) => self.add_call(line, process, call),
         }
     }
@@ -80,13 +84,30 @@ impl Script {
     fn add_user(&mut self, line: u32, user: User) -> Result<(), Fault>
         ensures { GivesNext line result self.new (with_item self.old line (Item.User user)) }
     {
-        let is_right = self.calls.is_empty()
-            && self.users.len() < MOST_USERS
-            && !has_user(self.users.as_slice(), user.name);
+        let is_right = self.session.groups().is_empty()
+            && self.calls.is_empty()
+            && self.session.users().len() < MOST_USERS
+            && !has_user(self.session.users(), user.name);
         if !is_right {
             return Err(Fault::BadScript(line));
         }
-        self.users.push(user)?;
+        self.session.add_user(user)?;
+        Ok(())
+    }
+
+    #[tactic(auto, unfolding(crate::specs::Reading::with_item))]
+    fn add_group(&mut self, line: u32, group: Group) -> Result<(), Fault>
+        ensures { GivesNext line result self.new (with_item self.old line (Item.Group group)) }
+    {
+        let is_right = self.calls.is_empty()
+            && self.session.groups().len() < MOST_GROUPS
+            && is_new_name(&self.session, group.name())
+            && are_users(self.session.users(), group.members())
+            && are_distinct(group.members());
+        if !is_right {
+            return Err(Fault::BadScript(line));
+        }
+        self.session.add_group(group)?;
         Ok(())
     }
 
@@ -94,7 +115,8 @@ impl Script {
     fn add_call(&mut self, line: u32, process: ProcName, call: UnixCall) -> Result<(), Fault>
         ensures { GivesNext line result self.new (with_item self.old line (Item.Call process call)) }
     {
-        if self.users.is_empty() {
+        let is_right = !self.session.users().is_empty() && is_declared_call(&self.session, &call);
+        if !is_right {
             return Err(Fault::BadScript(line));
         }
         self.calls.push(CallLine {
@@ -104,12 +126,6 @@ impl Script {
         })?;
         Ok(())
     }
-}
-
-fn has_user(users: &[User], name: Name) -> bool
-    ensures { result ≡ user_known users.now name }
-{
-    users.iter().any(|user| user.name == name)
 }
 
 /// Whether a script is over a limit.
@@ -130,8 +146,8 @@ pub fn read_script(alloc: Global, text: &[u8]) -> Result<Script, Fault>
     ensures found { IfOk result (IsScript text.now) }
     // A script of the grammar within the limits is read, unless memory runs out.
     ensures only { (script : Reading) → too_long text.now ≡ false → IsScript text.now script → Gives result (Ok script) }
-    // The users are 1 to 16, and no two have one name.
-    ensures users { IfOk result (λ script. IsUserList script.users) }
+    // The users and the groups are those of a script.
+    ensures declared { IfOk result (λ script. IsDeclared script.session) }
     // The numbers of the calls rise, and are numbers of lines.
     ensures numbered { IfOk result (λ script. IsNumbered (length (lines_of text.now)) script.calls) }
     // The bad line is the first one.
@@ -160,7 +176,7 @@ fn read_lines(alloc: Global, text: &[u8]) -> Result<Script, Fault>
         script.add(count, item)?;
         rest = after;
     }
-    if script.users().is_empty() {
+    if script.session().users().is_empty() {
         return Err(Fault::BadScript(count + 1));
     }
     Ok(script)

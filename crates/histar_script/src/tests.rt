@@ -1,6 +1,6 @@
 //! Worked scripts: what is read, which line is bad, and what is too long.
 use crate::{Fault, read_script};
-use histar_flat::{CallLine, Mode, Path, ProcName, UnixCall};
+use histar_flat::{CallLine, Group, Mode, Name, Path, ProcName, UnixCall};
 use std::alloc::{AllocError, Global};
 use std::test::Fail;
 
@@ -63,7 +63,8 @@ fn told(alloc: Global, line: &CallLine) -> Result<Vec<u8>, AllocError> {
 fn says_what_the_lines_say(rt: HostRuntime) -> Result<(), Fail> {
     let text =
         b"# two users\nuser root rr\nuser bob-1 b!\n\n0 login 9 ~\n0 create /a.b private\n0 create /nobody readable\n0 write /a.b  x y \n0 write /a.b \n0 read /_\n0 mkdir /d open\n0 create /d/e/f open\n0 append /d/e  x \n0 append /a \n0 list /\n0 list /d/e\n0 stat /d\n0 unlink /d/e\n0 rmdir /d\n0 rmtree /\n0 rename /d/e f".as_slice();
-    let (users, calls) = read_script(rt.alloc(), text)?.into_parts();
+    let (session, calls) = read_script(rt.alloc(), text)?.into_parts();
+    let users = session.users();
     let wanted = [
         (5, b"login|9|~".as_slice()),
         (6, b"create|/a.b|private".as_slice()),
@@ -91,6 +92,60 @@ fn says_what_the_lines_say(rt: HostRuntime) -> Result<(), Fail> {
         assert_eq!(rt; call.line, *number);
         assert_eq!(rt; call.process.numbers(), b"".as_slice());
         assert_eq!(rt; told(rt.alloc(), call)?.as_slice(), *words);
+    }
+    Ok(())
+}
+
+/// The name of a group and those of its members, with a bar between two.
+fn group_words(alloc: Global, group: &Group) -> Result<Vec<u8>, AllocError> {
+    let mut words = Vec::from_slice(alloc, group.name().as_bytes())?;
+    for member in group.members() {
+        words.push(b'|')?;
+        words.extend_from_slice(member.as_bytes())?;
+    }
+    Ok(words)
+}
+
+/// The group for which a call makes something.
+fn group_of_call(call: &UnixCall) -> Option<Name> {
+    match call {
+        UnixCall::Create(_, Mode::Group(group)) => Some(*group),
+        UnixCall::Mkdir(_, Mode::Group(group)) => Some(*group),
+        _ => None,
+    }
+}
+
+#[test]
+fn says_what_group_lines_say(rt: HostRuntime) -> Result<(), Fail> {
+    let text =
+        b"user root rr\nuser alice aa\nuser bob bb\ngroup team bob alice\n# a comment\ngroup a-1 root\n0 create /a group:team\n0 mkdir /d group:a-1\n0 mkdir /e open\n".as_slice();
+    let (session, calls) = read_script(rt.alloc(), text)?.into_parts();
+    let users = [
+        (b"root".as_slice(), b"rr".as_slice()),
+        (b"alice".as_slice(), b"aa".as_slice()),
+        (b"bob".as_slice(), b"bb".as_slice()),
+    ];
+    let groups = [b"team|bob|alice".as_slice(), b"a-1|root".as_slice()];
+    let wanted = [
+        (7, b"create|/a|team".as_slice(), Some(b"team".as_slice())),
+        (8, b"mkdir|/d|a-1".as_slice(), Some(b"a-1".as_slice())),
+        (9, b"mkdir|/e|open".as_slice(), None),
+    ];
+    assert_eq!(rt; session.users().len(), users.len());
+    for (user, (name, password)) in session.users().iter().zip(users.iter()) {
+        assert_eq!(rt; user.name.as_bytes(), *name);
+        assert_eq!(rt; user.password.as_bytes(), *password);
+    }
+    assert_eq!(rt; session.groups().len(), groups.len());
+    for (group, words) in session.groups().iter().zip(groups.iter()) {
+        assert_eq!(rt; group_words(rt.alloc(), group)?.as_slice(), *words);
+    }
+    assert_eq!(rt; calls.len(), wanted.len());
+    for (call, (number, words, group)) in calls.iter().zip(wanted.iter()) {
+        assert_eq!(rt; call.line, *number);
+        assert_eq!(rt; told(rt.alloc(), call)?.as_slice(), *words);
+        let named = group_of_call(&call.call);
+        assert_eq!(rt; named.as_ref().map(|name| name.as_bytes()), *group);
     }
     Ok(())
 }
@@ -148,6 +203,136 @@ fn finds_the_first_bad_line(rt: HostRuntime) {
         let fault = read_script(rt.alloc(), text).err();
         assert_eq!(rt; fault, line.map(Fault::BadScript), "at {text:?}");
     }
+}
+
+#[test]
+fn finds_group_lines_out_of_place(rt: HostRuntime) {
+    let texts = [
+        (b"group team root\nuser root rr\n".as_slice(), Some(1)),
+        (b"user root rr\ngroup team root\n".as_slice(), None),
+        (
+            b"user root rr\ngroup team root\nuser bob bb\n".as_slice(),
+            Some(3),
+        ),
+        (
+            b"user root rr\ngroup team root\ngroup team root\n".as_slice(),
+            Some(3),
+        ),
+        (
+            b"user root rr\ngroup team root\ngroup crew root\n".as_slice(),
+            None,
+        ),
+        (
+            b"user root rr\n0 whoami\ngroup team root\n".as_slice(),
+            Some(3),
+        ),
+        (
+            b"user root rr\ngroup team root\n0 whoami\nuser bob bb\n".as_slice(),
+            Some(4),
+        ),
+        (
+            b"user root rr\ngroup team root\n0 create /a group:crew\ngroup crew root\n".as_slice(),
+            Some(3),
+        ),
+    ];
+    for (text, line) in texts {
+        let fault = read_script(rt.alloc(), text).err();
+        assert_eq!(rt; fault, line.map(Fault::BadScript), "at {text:?}");
+    }
+}
+
+#[test]
+fn reads_group_lines_in_their_form(rt: HostRuntime) -> Result<(), Fail> {
+    let lines = [
+        (b"group team bob".as_slice(), true),
+        (b"group t-1 root alice bob carol".as_slice(), true),
+        (b"group user bob".as_slice(), true),
+        (b"group group bob".as_slice(), true),
+        (b"group user group".as_slice(), false),
+        (b"group".as_slice(), false),
+        (b"group ".as_slice(), false),
+        (b"group team".as_slice(), false),
+        (b"group team ".as_slice(), false),
+        (b"group alice bob".as_slice(), false),
+        (b"group t zed".as_slice(), false),
+        (b"group t bob bob".as_slice(), false),
+        (b"group t bob alice bob".as_slice(), false),
+        (b"group t bob t".as_slice(), false),
+        (b"group nobody bob".as_slice(), false),
+        (b"group t nobody".as_slice(), false),
+        (b"group t bob nobody".as_slice(), false),
+        (b"group T bob".as_slice(), false),
+        (b"group 1 bob".as_slice(), false),
+        (b"group t Bob".as_slice(), false),
+        (b"group  t bob".as_slice(), false),
+        (b"group t  bob".as_slice(), false),
+        (b"group t bob  alice".as_slice(), false),
+        (b"group t bob ".as_slice(), false),
+        (b" group t bob".as_slice(), false),
+        (b"Group t bob".as_slice(), false),
+        (b"0 create /a group:none".as_slice(), false),
+        (b"0 mkdir /a group:none".as_slice(), false),
+        (b"0 create /a group:".as_slice(), false),
+        (b"0 create /a group:alice".as_slice(), false),
+        (b"0 create /a group".as_slice(), false),
+        (b"0 group t bob".as_slice(), false),
+    ];
+    for (line, is_right) in lines {
+        let mut text = Vec::from_slice(
+            rt.alloc(),
+            b"user root rr\nuser alice aa\nuser bob bb\nuser carol cc\n".as_slice(),
+        )?;
+        text.extend_from_slice(line)?;
+        let fault = read_script(rt.alloc(), text.as_slice()).err();
+        let wanted = if is_right {
+            None
+        } else {
+            Some(Fault::BadScript(5))
+        };
+        assert_eq!(rt; fault, wanted, "at {line:?}");
+    }
+    Ok(())
+}
+
+/// The 16 users `a` to `p`, then groups of all of these by the names in `names`, each with `more` behind it.
+fn crowd(alloc: Global, names: &[u8], more: &[u8]) -> Result<Vec<u8>, AllocError> {
+    let mut text = Vec::new(alloc);
+    for user in b'a'..=b'p' {
+        text.extend_from_slice(b"user ".as_slice())?;
+        text.push(user)?;
+        text.extend_from_slice(b" x\n".as_slice())?;
+    }
+    for name in names {
+        text.extend_from_slice(b"group ".as_slice())?;
+        text.push(*name)?;
+        text.extend_from_slice(b" a b c d e f g h i j k l m n o p".as_slice())?;
+        text.extend_from_slice(more)?;
+        text.push(b'\n')?;
+    }
+    Ok(text)
+}
+
+#[test]
+fn counts_groups_and_members(rt: HostRuntime) -> Result<(), Fail> {
+    let scripts = [
+        (b"qrstuvwx".as_slice(), b"".as_slice(), None),
+        (b"qrstuvwxy".as_slice(), b"".as_slice(), Some(25)),
+        (b"q".as_slice(), b" a".as_slice(), Some(17)),
+        (b"q".as_slice(), b" z".as_slice(), Some(17)),
+    ];
+    for (names, more, line) in scripts {
+        let text = crowd(rt.alloc(), names, more)?;
+        let fault = read_script(rt.alloc(), text.as_slice()).err();
+        assert_eq!(rt; fault, line.map(Fault::BadScript), "at {names:?}");
+    }
+    let text = crowd(rt.alloc(), b"qrstuvwx".as_slice(), b"".as_slice())?;
+    let (session, _) = read_script(rt.alloc(), text.as_slice())?.into_parts();
+    assert_eq!(rt; session.groups().len(), 8);
+    assert_eq!(rt;
+        group_words(rt.alloc(), &session.groups()[7])?.as_slice(),
+        b"x|a|b|c|d|e|f|g|h|i|j|k|l|m|n|o|p".as_slice()
+    );
+    Ok(())
 }
 
 /// The fault of a script with a user and this line.

@@ -1,20 +1,20 @@
-use Rattle.std.proofs.Common.{◌≡◌, ℕ, ◌+◌, None, length, subst, arith}
+use Rattle.std.proofs.Common.{◌≡◌, ℕ, ◌+◌, None, length, ap, subst, arith}
 use Rattle.histar_rules.specs.declared.raw.RawCall.TheVariants.{Unlink}
 use Rattle.histar_rules.specs.Sound.{root_number}
 use Rattle.histar_syscall.specs.KernelModel.{Called}
 use Rattle.histar_login.specs.Boot.{boot_thread_number}
 use Rattle.histar_login.specs.Booting.{BootsOn, IsAnywhere, categories_part}
-use Rattle.histar_login.specs.Start.{session_with, declared, places_of}
+use Rattle.histar_login.specs.Start.{declared, places_of}
 use Rattle.histar_login.proofs.Parts.{granted_as}
 use Rattle.histar_login.proofs.LastStage.{HasParts, has_parts, booted, started, first_parts, more_parts}
 use Rattle.histar_login.proofs.booting.boot.Given as given
 use Rattle.histar_login.proofs.booting.boot.Goals as goal
 
 parts : (g : given.Over) (c : goal.In_ok-granted g)
-    → HasParts (session_with c.args.users.now c.args.groups.now) c.in_ok-kernel.kernel c.make_users.new.kernel c.make_directory.new.kernel c.make_process.new.kernel
+    → HasParts c.args.session.now c.in_ok-kernel.kernel c.make_users.new.kernel c.make_directory.new.kernel c.make_process.new.kernel
 parts g c =
-    let session = session_with c.args.users.now c.args.groups.now in
-    let count : 1 + length c.args.users.now + length c.args.groups.now ≡ 1 + declared session = omega arith in
+    let session = c.args.session.now in
+    let count : 1 + length c.users.result.now + length c.groups.result.now ≡ 1 + declared session = omega (arith, ap length c.users.ensures.users, ap length c.groups.ensures.groups) in
     has_parts session c.in_ok-kernel.kernel c.make_categories.new.kernel c.make_users.new.kernel c.make_directory.new.kernel c.make_process.new.kernel
     c.in_ok-kernel.ensures.state
     (subst (λ (n : ℕ). BootsOn c.in_ok-kernel.kernel c.make_categories.new.kernel IsAnywhere (categories_part n)) count c.in_ok-make_categories.ensures)
@@ -26,16 +26,16 @@ unlinked g c =
 
 pub returns-clause-booted : goal.returns-clause-booted
 returns-clause-booted g c =
-    booted (session_with c.args.users.now c.args.groups.now) c.in_ok-kernel.kernel c.make_process.new.kernel c.unlink.new.self (parts g c).all (unlinked g c) c.in_ok-kernel.ensures.state c.in_ok-kernel.ensures.trace c.in_ok-kernel.ensures.line
+    booted c.args.session.now c.in_ok-kernel.kernel c.make_process.new.kernel c.unlink.new.self (parts g c).all (unlinked g c) c.in_ok-kernel.ensures.state c.in_ok-kernel.ensures.trace c.in_ok-kernel.ensures.line
 
 pub returns-clause-state : goal.returns-clause-state
-returns-clause-state g c = started (session_with c.args.users.now c.args.groups.now) c.in_ok-kernel.kernel c.make_process.new.kernel c.unlink.new.self (parts g c).all (unlinked g c)
+returns-clause-state g c = started c.args.session.now c.in_ok-kernel.kernel c.make_process.new.kernel c.unlink.new.self (parts g c).all (unlinked g c)
 
-slash_is : (g : given.Over) (c : goal.In_ok-granted g) → c.in_ok-slash.slash ≡ (places_of (length c.args.users.now)).slash
-slash_is g c = c.in_ok-slash.ensures.slash c.in_ok-kernel.kernel (first_parts (session_with c.args.users.now c.args.groups.now)) (parts g c).is_next (parts g c).before
+slash_is : (g : given.Over) (c : goal.In_ok-granted g) → c.in_ok-slash.slash ≡ (places_of (length c.args.session.now.users)).slash
+slash_is g c = c.in_ok-slash.ensures.slash c.in_ok-kernel.kernel (first_parts c.args.session.now) (parts g c).is_next (parts g c).before
 
-home_is : (g : given.Over) (c : goal.In_ok-granted g) → c.in_ok-home.home ≡ (places_of (length c.args.users.now)).home
-home_is g c = c.in_ok-home.ensures.home (length c.args.users.now) (declared (session_with c.args.users.now c.args.groups.now)) c.in_ok-kernel.kernel (more_parts (session_with c.args.users.now c.args.groups.now)) (parts g c).is_after (parts g c).middle
+home_is : (g : given.Over) (c : goal.In_ok-granted g) → c.in_ok-home.home ≡ (places_of (length c.args.session.now.users)).home
+home_is g c = c.in_ok-home.ensures.home (length c.args.session.now.users) (declared c.args.session.now) c.in_ok-kernel.kernel (more_parts c.args.session.now) (parts g c).is_after (parts g c).middle
 
 pub returns-clause-places : goal.returns-clause-places
-returns-clause-places g c = λ j. record { slash = slash_is g c j; home = home_is g c j; users = length c.args.users.now }
+returns-clause-places g c = λ j. record { slash = slash_is g c j; home = home_is g c j }

@@ -1,10 +1,8 @@
 use Rattle.std.proofs.Common.{◌≡◌, ◌++◌, [], ◌∷◌, length, ap, ◌∙◌}
 use Rattle.std.specs.Int.{w64, to_be_bytes}
-use Rattle.std.specs.List.{filter_map}
 use Rattle.std.proofs.lemmas.Result.{on_ok_weaker}
-use Rattle.histar_flat.specs.Sessions.{session_of, user_number}
-use Rattle.histar_calls.specs.Categories.{read_category, write_category}
-use Rattle.histar_login.specs.Start.{group_owner}
+use Rattle.histar_login.specs.Start.{numbers_among}
+use Rattle.histar_calls.specs.Categories.{read_category, write_category, group_owner}
 use Rattle.histar_login.proofs.GroupLemmas.{group_grows}
 use Rattle.histar_login.proofs.table.push_group.Goals as goal
 
@@ -16,16 +14,16 @@ returns c =
     let t3 = c.extend_from_slice-2.new.self.items in
     let t4 = c.extend_from_slice-3.new.self.items in
     let t5 = c.push-2.new.self.items in
-    let owner = group_owner (length c.args.users.now) c.args.number in
+    let owner = group_owner (length c.args.session.now.users) c.args.number in
     let name : c.as_bytes.result.now ≡ c.args.group.now.name = c.as_bytes.ensures.value ∙ c.name-name.ensures in
     let name-2 : c.as_bytes-2.result.now ≡ c.args.group.now.name = c.as_bytes-2.ensures.value ∙ c.name-name.ensures in
     let read : c.number.result ≡ read_category owner = c.number.ensures ∙ c.read_category.ensures ∙ ap read_category c.group_owner-owner.ensures in
     let write : c.number-2.result ≡ write_category owner = c.number-2.ensures ∙ c.write_category.ensures ∙ ap write_category c.group_owner-owner.ensures in
     on_ok_weaker c.push_members.result
-    (group_grows t0 t1 t2 t3 t4 t5 c.push_members.new.table.items c.args.users.now c.args.number c.args.group.now
+    (group_grows t0 t1 t2 t3 t4 t5 c.push_members.new.table.items c.args.session.now.users c.args.number c.args.group.now
     (c.in_ok-push.ensures.items ∙ ap (λ n. t0 ++ length n ∷ []) name)
     (c.in_ok-extend_from_slice.ensures.items ∙ ap (λ n. t1 ++ n) name-2)
     (c.in_ok-extend_from_slice-2.ensures.items ∙ ap (λ n. t2 ++ n) (c.to_be_bytes.ensures ∙ ap (to_be_bytes w64) read))
     (c.in_ok-extend_from_slice-3.ensures.items ∙ ap (λ n. t3 ++ n) (c.to_be_bytes-2.ensures ∙ ap (to_be_bytes w64) write))
-    (c.in_ok-push-2.ensures.items ∙ ap (λ n. t4 ++ length n ∷ []) c.members.ensures))
-    (on_ok_weaker c.push_members.result (λ e. e ∙ ap (λ n. t5 ++ filter_map (user_number (session_of c.args.users.now)) n) c.members-2.ensures) c.push_members.ensures)
+    (c.in_ok-push-2.ensures.items ∙ ap (λ n. t4 ++ length n ∷ []) c.members.ensures.members))
+    (on_ok_weaker c.push_members.result (λ e. e ∙ ap (λ users. t5 ++ numbers_among 1 users c.args.group.now.members) c.users.ensures.users) c.push_members.ensures)

@@ -1,3 +1,5 @@
+use Rattle.std.proofs.Common.{◌≡◌, ◌<◌, List, length, get_or, subst}
+use Rattle.histar_flat.specs.declared.calls.User.{User}
 use Rattle.histar_flat.proofs.WordLemmas.{short_name}
 use Rattle.histar_login.proofs.StartLemmas.{table_next}
 use Rattle.histar_login.proofs.table.user_table.Goals as goal
@@ -7,5 +9,6 @@ push_user-requires-in-loop-i c = rw c.as_bytes.ensures.value (short_name _ c.as_
 
 pub loop-i-preserved : goal.loop-i-preserved
 loop-i-preserved c =
-    table_next c.args.users.now c.loop-i.i c.index-users-i.result c.as_bytes.result.now c.loop-i.table.items c.push_user-in-loop-i.new.table.items
-    c.loop-i-test.true c.index-users-i.is c.as_bytes.ensures.value c.loop-i.invariant c.in_ok-push_user-2.ensures
+    table_next c.args.session.now.users c.loop-i.i c.index-users-i.result c.as_bytes.result.now c.loop-i.table.items c.push_user-in-loop-i.new.table.items
+    (subst (λ (users : List User). c.loop-i.i < length users) c.users-users.ensures.users c.loop-i-test.true)
+    (subst (λ (users : List User). c.index-users-i.result ≡ get_or users c.loop-i.i c.index-users-i.result) c.users-users.ensures.users c.index-users-i.is) c.as_bytes.ensures.value c.loop-i.invariant c.in_ok-push_user-2.ensures

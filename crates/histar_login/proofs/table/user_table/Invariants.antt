@@ -3,4 +3,4 @@ use Rattle.histar_login.specs.Start.{user_entries}
 use Rattle.histar_login.proofs.table.user_table.Given as goal
 
 abbrev pub invariant-loop-i : goal.invariant-loop-i
-invariant-loop-i l = l.table.items ≡ user_entries (take l.i l.users)
+invariant-loop-i l = l.table.items ≡ user_entries (take l.i l.session.users)

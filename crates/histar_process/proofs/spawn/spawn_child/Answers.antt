@@ -23,11 +23,11 @@ returns-in_err-must_have_room g c =
     let t = c.args.caller.now.thread in
     let me = c.args.caller.now.home in
     let name = c.args.name.now in
-    let users = c.args.users in
+    let session = c.args.session.now in
     let old = c.args.kernel.now in
     let depth = must_have_room (nat_lt (length name) most_numbers) in
     let depth_is = ap (λ (ns : List ℕ). must_have_room (nat_lt (length ns) most_numbers)) c.numbers.ensures.value in
-    call_fails_so t (spawn_program users name me) old old (Refused c.in_err-must_have_room.field-0.0) _ c.from_residual.ensures.1
+    call_fails_so t (spawn_program session name me) old old (Refused c.in_err-must_have_room.field-0.0) _ c.from_residual.ensures.1
     (call_fails t (given depth) old old _ (Refused c.in_err-must_have_room.field-0.0) (decided_not t old depth c.in_err-must_have_room.field-0.0 (c.in_err-must_have_room.ensures ∙ depth_is)))
 
 pub returns-in_err-head : goal.returns-in_err-head
@@ -36,12 +36,12 @@ returns-in_err-head g c =
     let t = c.args.caller.now.thread in
     let me = c.args.caller.now.home in
     let name = c.args.name.now in
-    let users = c.args.users in
+    let session = c.args.session.now in
     let old = c.args.kernel.now in
     let depth = must_have_room (nat_lt (length name) most_numbers) in
     let depth_is = ap (λ (ns : List ℕ). must_have_room (nat_lt (length ns) most_numbers)) c.numbers.ensures.value in
     let k1 = c.read_segment.new.kernel in
-    call_fails_so t (spawn_program users name me) old k1 c.in_err-head.field-0.0 _ c.from_residual-in_err-head.ensures.1
+    call_fails_so t (spawn_program session name me) old k1 c.in_err-head.field-0.0 _ c.from_residual-in_err-head.ensures.1
     (then_call t (given depth) old k1 _ old tt (decided t old depth tt (c.in_ok-must_have_room.ensures ∙ depth_is)) _
     (call_fails t (read_status me) old k1 _ c.in_err-head.field-0.0 c.in_err-head.ensures))
 
@@ -51,7 +51,7 @@ returns-in_err-must_have_room-2 g c =
     let t = c.args.caller.now.thread in
     let me = c.args.caller.now.home in
     let name = c.args.name.now in
-    let users = c.args.users in
+    let session = c.args.session.now in
     let old = c.args.kernel.now in
     let depth = must_have_room (nat_lt (length name) most_numbers) in
     let depth_is = ap (λ (ns : List ℕ). must_have_room (nat_lt (length ns) most_numbers)) c.numbers.ensures.value in
@@ -60,7 +60,7 @@ returns-in_err-must_have_room-2 g c =
     let segment = c.in_ok-head.ensures.1 in
     let room = must_have_room (nat_lt status.born most_children) in
     let room_is = ap (λ (h : StatusHead). must_have_room (nat_lt h.born most_children)) segment.head in
-    call_fails_so t (spawn_program users name me) old k1 (Refused c.in_err-must_have_room-2.field-0.0) _ c.from_residual-in_err-must_have_room-2.ensures.1
+    call_fails_so t (spawn_program session name me) old k1 (Refused c.in_err-must_have_room-2.field-0.0) _ c.from_residual-in_err-must_have_room-2.ensures.1
     (then_call t (given depth) old k1 _ old tt (decided t old depth tt (c.in_ok-must_have_room.ensures ∙ depth_is)) _
     (then_call t (read_status me) old k1 _ k1 status c.in_ok-head.ensures.2 _
     (call_fails t (given room) k1 k1 _ (Refused c.in_err-must_have_room-2.field-0.0) (decided_not t k1 room c.in_err-must_have_room-2.field-0.0 (c.in_err-must_have_room-2.ensures ∙ room_is)))))
@@ -71,7 +71,7 @@ returns-in_err-own g c =
     let t = c.args.caller.now.thread in
     let me = c.args.caller.now.home in
     let name = c.args.name.now in
-    let users = c.args.users in
+    let session = c.args.session.now in
     let old = c.args.kernel.now in
     let depth = must_have_room (nat_lt (length name) most_numbers) in
     let depth_is = ap (λ (ns : List ℕ). must_have_room (nat_lt (length ns) most_numbers)) c.numbers.ensures.value in
@@ -81,7 +81,7 @@ returns-in_err-own g c =
     let room = must_have_room (nat_lt status.born most_children) in
     let room_is = ap (λ (h : StatusHead). must_have_room (nat_lt h.born most_children)) segment.head in
     let k2 = c.own_label.new.self in
-    call_fails_so t (spawn_program users name me) old k2 _ _ c.from_residual-in_err-own.ensures.1
+    call_fails_so t (spawn_program session name me) old k2 _ _ c.from_residual-in_err-own.ensures.1
     (then_call t (given depth) old k2 _ old tt (decided t old depth tt (c.in_ok-must_have_room.ensures ∙ depth_is)) _
     (then_call t (read_status me) old k2 _ k1 status c.in_ok-head.ensures.2 _
     (then_call t (given room) k1 k2 _ k1 tt (decided t k1 room tt (c.in_ok-must_have_room-2.ensures ∙ room_is)) _
@@ -93,7 +93,7 @@ returns-in_err-jobs g c =
     let t = c.args.caller.now.thread in
     let me = c.args.caller.now.home in
     let name = c.args.name.now in
-    let users = c.args.users in
+    let session = c.args.session.now in
     let old = c.args.kernel.now in
     let depth = must_have_room (nat_lt (length name) most_numbers) in
     let depth_is = ap (λ (ns : List ℕ). must_have_room (nat_lt (length ns) most_numbers)) c.numbers.ensures.value in
@@ -105,8 +105,8 @@ returns-in_err-jobs g c =
     let k2 = c.own_label.new.self in
     let own = c.in_ok-own.own in
     let most = c.in_ok-own.most in
-    let kin = kin_of users own in
-    call_fails_so t (spawn_program users name me) old k2 Stopped _ c.from_residual-in_err-jobs.ensures.1
+    let kin = kin_of session own in
+    call_fails_so t (spawn_program session name me) old k2 Stopped _ c.from_residual-in_err-jobs.ensures.1
     (then_call t (given depth) old k2 _ old tt (decided t old depth tt (c.in_ok-must_have_room.ensures ∙ depth_is)) _
     (then_call t (read_status me) old k2 _ k1 status c.in_ok-head.ensures.2 _
     (then_call t (given room) k1 k2 _ k1 tt (decided t k1 room tt (c.in_ok-must_have_room-2.ensures ∙ room_is)) _
@@ -119,7 +119,7 @@ returns-in_err-owned g c =
     let t = c.args.caller.now.thread in
     let me = c.args.caller.now.home in
     let name = c.args.name.now in
-    let users = c.args.users in
+    let session = c.args.session.now in
     let old = c.args.kernel.now in
     let depth = must_have_room (nat_lt (length name) most_numbers) in
     let depth_is = ap (λ (ns : List ℕ). must_have_room (nat_lt (length ns) most_numbers)) c.numbers.ensures.value in
@@ -131,8 +131,8 @@ returns-in_err-owned g c =
     let k2 = c.own_label.new.self in
     let own = c.in_ok-own.own in
     let most = c.in_ok-own.most in
-    let kin = kin_of users own in
-    call_fails_so t (spawn_program users name me) old k2 Stopped _ c.from_residual-in_err-owned.ensures.1
+    let kin = kin_of session own in
+    call_fails_so t (spawn_program session name me) old k2 Stopped _ c.from_residual-in_err-owned.ensures.1
     (then_call t (given depth) old k2 _ old tt (decided t old depth tt (c.in_ok-must_have_room.ensures ∙ depth_is)) _
     (then_call t (read_status me) old k2 _ k1 status c.in_ok-head.ensures.2 _
     (then_call t (given room) k1 k2 _ k1 tt (decided t k1 room tt (c.in_ok-must_have_room-2.ensures ∙ room_is)) _
@@ -145,7 +145,7 @@ returns-in_err-give_birth g c =
     let t = c.args.caller.now.thread in
     let me = c.args.caller.now.home in
     let name = c.args.name.now in
-    let users = c.args.users in
+    let session = c.args.session.now in
     let old = c.args.kernel.now in
     let depth = must_have_room (nat_lt (length name) most_numbers) in
     let depth_is = ap (λ (ns : List ℕ). must_have_room (nat_lt (length ns) most_numbers)) c.numbers.ensures.value in
@@ -157,11 +157,11 @@ returns-in_err-give_birth g c =
     let k2 = c.own_label.new.self in
     let own = c.in_ok-own.own in
     let most = c.in_ok-own.most in
-    let kin = kin_of users own in
+    let kin = kin_of session own in
     let told = subst (λ (bytes : List ℕ). status_in bytes ≡ Some status) (sym c.as_slice.ensures) segment.told in
-    let kin_so = kin_is own users c.user_of.result c.is_in_job.result c.as_slice-2.result.now c.as_slice-3.result.now c.user_of.ensures c.is_in_job.ensures (c.as_slice-2.ensures.value ∙ c.in_ok-owned.ensures) (c.as_slice-3.ensures.value ∙ c.in_ok-jobs.ensures) in
+    let kin_so = kin_is own session c.user_of.result c.is_in_job.result c.as_slice-2.result.now c.as_slice-3.result.now c.user_of.ensures c.is_in_job.ensures (c.as_slice-2.ensures.value ∙ c.in_ok-owned.ensures) (c.as_slice-3.ensures.value ∙ c.in_ok-jobs.ensures) in
     let k3 = c.give_birth.new.kernel in
-    call_fails_so t (spawn_program users name me) old k3 c.in_err-give_birth.field-0.0 _ c.from_residual-in_err-give_birth.ensures.1
+    call_fails_so t (spawn_program session name me) old k3 c.in_err-give_birth.field-0.0 _ c.from_residual-in_err-give_birth.ensures.1
     (then_call t (given depth) old k3 _ old tt (decided t old depth tt (c.in_ok-must_have_room.ensures ∙ depth_is)) _
     (then_call t (read_status me) old k3 _ k1 status c.in_ok-head.ensures.2 _
     (then_call t (given room) k1 k3 _ k1 tt (decided t k1 room tt (c.in_ok-must_have_room-2.ensures ∙ room_is)) _
@@ -174,7 +174,7 @@ returns-in_err-set_label g c =
     let t = c.args.caller.now.thread in
     let me = c.args.caller.now.home in
     let name = c.args.name.now in
-    let users = c.args.users in
+    let session = c.args.session.now in
     let old = c.args.kernel.now in
     let depth = must_have_room (nat_lt (length name) most_numbers) in
     let depth_is = ap (λ (ns : List ℕ). must_have_room (nat_lt (length ns) most_numbers)) c.numbers.ensures.value in
@@ -186,12 +186,12 @@ returns-in_err-set_label g c =
     let k2 = c.own_label.new.self in
     let own = c.in_ok-own.own in
     let most = c.in_ok-own.most in
-    let kin = kin_of users own in
+    let kin = kin_of session own in
     let told = subst (λ (bytes : List ℕ). status_in bytes ≡ Some status) (sym c.as_slice.ensures) segment.told in
-    let kin_so = kin_is own users c.user_of.result c.is_in_job.result c.as_slice-2.result.now c.as_slice-3.result.now c.user_of.ensures c.is_in_job.ensures (c.as_slice-2.ensures.value ∙ c.in_ok-owned.ensures) (c.as_slice-3.ensures.value ∙ c.in_ok-jobs.ensures) in
+    let kin_so = kin_is own session c.user_of.result c.is_in_job.result c.as_slice-2.result.now c.as_slice-3.result.now c.user_of.ensures c.is_in_job.ensures (c.as_slice-2.ensures.value ∙ c.in_ok-owned.ensures) (c.as_slice-3.ensures.value ∙ c.in_ok-jobs.ensures) in
     let k3 = c.give_birth.new.kernel in
     let k4 = c.set_label.new.self in
-    call_fails_so t (spawn_program users name me) old k4 _ _ c.from_residual-in_err-set_label.ensures.1
+    call_fails_so t (spawn_program session name me) old k4 _ _ c.from_residual-in_err-set_label.ensures.1
     (then_call t (given depth) old k4 _ old tt (decided t old depth tt (c.in_ok-must_have_room.ensures ∙ depth_is)) _
     (then_call t (read_status me) old k4 _ k1 status c.in_ok-head.ensures.2 _
     (then_call t (given room) k1 k4 _ k1 tt (decided t k1 room tt (c.in_ok-must_have_room-2.ensures ∙ room_is)) _
@@ -205,7 +205,7 @@ returns-in_err-set_clearance g c =
     let t = c.args.caller.now.thread in
     let me = c.args.caller.now.home in
     let name = c.args.name.now in
-    let users = c.args.users in
+    let session = c.args.session.now in
     let old = c.args.kernel.now in
     let depth = must_have_room (nat_lt (length name) most_numbers) in
     let depth_is = ap (λ (ns : List ℕ). must_have_room (nat_lt (length ns) most_numbers)) c.numbers.ensures.value in
@@ -217,13 +217,13 @@ returns-in_err-set_clearance g c =
     let k2 = c.own_label.new.self in
     let own = c.in_ok-own.own in
     let most = c.in_ok-own.most in
-    let kin = kin_of users own in
+    let kin = kin_of session own in
     let told = subst (λ (bytes : List ℕ). status_in bytes ≡ Some status) (sym c.as_slice.ensures) segment.told in
-    let kin_so = kin_is own users c.user_of.result c.is_in_job.result c.as_slice-2.result.now c.as_slice-3.result.now c.user_of.ensures c.is_in_job.ensures (c.as_slice-2.ensures.value ∙ c.in_ok-owned.ensures) (c.as_slice-3.ensures.value ∙ c.in_ok-jobs.ensures) in
+    let kin_so = kin_is own session c.user_of.result c.is_in_job.result c.as_slice-2.result.now c.as_slice-3.result.now c.user_of.ensures c.is_in_job.ensures (c.as_slice-2.ensures.value ∙ c.in_ok-owned.ensures) (c.as_slice-3.ensures.value ∙ c.in_ok-jobs.ensures) in
     let k3 = c.give_birth.new.kernel in
     let k4 = c.set_label.new.self in
     let k5 = c.set_clearance.new.self in
-    call_fails_so t (spawn_program users name me) old k5 _ _ c.from_residual-in_err-set_clearance.ensures.1
+    call_fails_so t (spawn_program session name me) old k5 _ _ c.from_residual-in_err-set_clearance.ensures.1
     (then_call t (given depth) old k5 _ old tt (decided t old depth tt (c.in_ok-must_have_room.ensures ∙ depth_is)) _
     (then_call t (read_status me) old k5 _ k1 status c.in_ok-head.ensures.2 _
     (then_call t (given room) k1 k5 _ k1 tt (decided t k1 room tt (c.in_ok-must_have_room-2.ensures ∙ room_is)) _
@@ -238,7 +238,7 @@ returns g c =
     let t = c.args.caller.now.thread in
     let me = c.args.caller.now.home in
     let name = c.args.name.now in
-    let users = c.args.users in
+    let session = c.args.session.now in
     let old = c.args.kernel.now in
     let depth = must_have_room (nat_lt (length name) most_numbers) in
     let depth_is = ap (λ (ns : List ℕ). must_have_room (nat_lt (length ns) most_numbers)) c.numbers.ensures.value in
@@ -250,9 +250,9 @@ returns g c =
     let k2 = c.own_label.new.self in
     let own = c.in_ok-own.own in
     let most = c.in_ok-own.most in
-    let kin = kin_of users own in
+    let kin = kin_of session own in
     let told = subst (λ (bytes : List ℕ). status_in bytes ≡ Some status) (sym c.as_slice.ensures) segment.told in
-    let kin_so = kin_is own users c.user_of.result c.is_in_job.result c.as_slice-2.result.now c.as_slice-3.result.now c.user_of.ensures c.is_in_job.ensures (c.as_slice-2.ensures.value ∙ c.in_ok-owned.ensures) (c.as_slice-3.ensures.value ∙ c.in_ok-jobs.ensures) in
+    let kin_so = kin_is own session c.user_of.result c.is_in_job.result c.as_slice-2.result.now c.as_slice-3.result.now c.user_of.ensures c.is_in_job.ensures (c.as_slice-2.ensures.value ∙ c.in_ok-owned.ensures) (c.as_slice-3.ensures.value ∙ c.in_ok-jobs.ensures) in
     let k3 = c.give_birth.new.kernel in
     let k4 = c.set_label.new.self in
     let k5 = c.set_clearance.new.self in

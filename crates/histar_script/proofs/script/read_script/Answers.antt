@@ -1,4 +1,4 @@
-use Rattle.histar_script.proofs.Answered.{is_found, is_read, is_user_list, is_numbered, is_first_bad}
+use Rattle.histar_script.proofs.Answered.{is_found, is_read, declares, is_numbered, is_first_bad}
 use Rattle.histar_script.proofs.script.read_script.Goals as goal
 
 pub returns-clause-found : goal.returns-clause-found
@@ -10,8 +10,8 @@ returns-clause-only c = λ script short is. is_read c.read_lines.result c.args.t
 pub returns-clause-bad : goal.returns-clause-bad
 returns-clause-bad c = λ n e. is_first_bad c.read_lines.result c.args.text.now n c.read_lines.ensures e
 
-pub returns-clause-users : goal.returns-clause-users
-returns-clause-users c = is_user_list c.read_lines.result c.args.text.now c.read_lines.ensures
+pub returns-clause-declared : goal.returns-clause-declared
+returns-clause-declared c = declares c.read_lines.result c.args.text.now c.read_lines.ensures
 
 pub returns-clause-numbered : goal.returns-clause-numbered
 returns-clause-numbered c = is_numbered c.read_lines.result c.args.text.now c.read_lines.ensures

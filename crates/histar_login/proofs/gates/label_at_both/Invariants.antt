@@ -1,7 +1,7 @@
 use Rattle.std.proofs.Common.{◌≡◌, take}
 use Rattle.histar_calls.specs.Labelling.{labelled}
 use Rattle.histar_login.specs.Start.{at_both}
-use Rattle.histar_login.proofs.booting.label_at_both.Given as goal
+use Rattle.histar_login.proofs.gates.label_at_both.Given as goal
 
 abbrev pub invariant-loop-owner : goal.invariant-loop-owner
 invariant-loop-owner l = l.label ≡ labelled (at_both l.fn.level (take l.owner-index l.owners)) l.fn.default

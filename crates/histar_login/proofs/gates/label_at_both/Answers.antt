@@ -1,7 +1,7 @@
 use Rattle.std.proofs.Common.{sym, ◌∙◌}
 use Rattle.histar_label.specs.Levels.{with_level}
 use Rattle.histar_login.proofs.GroupLemmas.{both_next}
-use Rattle.histar_login.proofs.booting.label_at_both.Goals as goal
+use Rattle.histar_login.proofs.gates.label_at_both.Goals as goal
 
 pub loop-owner-preserved : goal.loop-owner-preserved
 loop-owner-preserved c =

@@ -1,0 +1,7 @@
+use Rattle.std.proofs.Common.{◌≡◌, ◌+◌, drop, length}
+use Rattle.histar_calls.specs.ClassOf.{group_class_from}
+use Rattle.histar_calls.proofs.class.group_class_of.Given as goal
+
+abbrev pub invariant-loop-place : goal.invariant-loop-place
+invariant-loop-place l =
+    group_class_from l.label (length l.session.users + 1) l.session.groups ≡ group_class_from l.label (length l.session.users + 1 + l.place) (drop l.place l.session.groups)

@@ -1,0 +1,35 @@
+//! What the gates of users give.
+ghost use Rattle.std.specs.Prelude.{◌≡◌, IfOk};
+ghost use Rattle.histar_calls.specs.Labelling.{labelled};
+ghost use Rattle.histar_login.specs.Start.{at_both, owners_label, owners_clearance};
+
+use histar_calls::{read_category, write_category};
+use histar_label::{Label, Level};
+use std::alloc::{AllocError, Global};
+
+/// The label that a gate gives, and its clearance: it owns the categories of these users and groups.
+pub(crate) fn gate_labels(alloc: Global, owners: &[u8]) -> Result<(Label, Label), AllocError>
+    ensures { IfOk result (λ gate. (gate.0 ≡ owners_label owners.now) × (gate.1 ≡ owners_clearance owners.now)) }
+{
+    let given = label_at_both(alloc, Level::L1, Level::Star, owners)?;
+    let most = label_at_both(alloc, Level::L2, Level::L3, owners)?;
+    Ok((given, most))
+}
+
+/// The label with one level at both categories of each of these users and groups, and another at all
+/// others.
+fn label_at_both(
+    alloc: Global,
+    default: Level,
+    level: Level,
+    owners: &[u8],
+) -> Result<Label, AllocError>
+    ensures { IfOk result (λ label. label ≡ labelled (at_both level owners.now) default) }
+{
+    let mut label = Label::new(alloc, default);
+    for &owner in owners {
+        label = label.with(read_category(owner), level)?;
+        label = label.with(write_category(owner), level)?;
+    }
+    Ok(label)
+}

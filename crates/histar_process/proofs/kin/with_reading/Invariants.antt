@@ -1,0 +1,6 @@
+use Rattle.std.proofs.Common.{◌≡◌, ◌++◌, map, take}
+use Rattle.histar_calls.specs.Categories.{read_category}
+use Rattle.histar_process.proofs.kin.with_reading.Given as goal
+
+abbrev pub invariant-loop-owner : goal.invariant-loop-owner
+invariant-loop-owner l = l.made.items ≡ l.fn.categories.items ++ map read_category (take l.owner-index l.owners)

@@ -1,0 +1,67 @@
+//! What is asked of the users and the groups that are declared before a line.
+ghost use Rattle.std.specs.Prelude.{◌≡◌};
+ghost use Rattle.histar_flat.specs.Sessions.{has as list_has, is_declared_mode as declared_mode};
+ghost use Rattle.histar_script.specs.Script.{is_declared_call as declared_call};
+ghost use Rattle.histar_script.specs.Reading.{has_user as user_known, are_users as users_named, are_distinct as distinct, is_new_name as new_name};
+
+use histar_flat::{Mode, Name, Session, UnixCall, User};
+
+/// Whether a user has this name.
+pub fn has_user(users: &[User], name: Name) -> bool
+    ensures { result ≡ user_known users.now name }
+{
+    users.iter().any(|user| user.name == name)
+}
+
+/// Whether no user and no group has this name.
+pub fn is_new_name(session: &Session, name: Name) -> bool
+    ensures { result ≡ new_name session.now name }
+{
+    !has_user(session.users(), name) && !session.has_group(name)
+}
+
+/// Whether each name is a user's.
+pub fn are_users(users: &[User], names: &[Name]) -> bool
+    ensures { result ≡ users_named users.now names.now }
+{
+    names.iter().all(|name| has_user(users, *name))
+}
+
+/// Whether no name is there twice.
+pub fn are_distinct(names: &[Name]) -> bool
+    ensures { result ≡ distinct names.now }
+{
+    let mut rest = names;
+    while let [first, others @ ..] = rest {
+        if has(others, *first) {
+            return false;
+        }
+        rest = others;
+    }
+    true
+}
+
+fn has(names: &[Name], name: Name) -> bool
+    ensures { result ≡ list_has names.now name }
+{
+    names.iter().any(|other| name == *other)
+}
+
+/// Whether the mode that a call names, if it names one, is for a user or for a group that is declared.
+pub fn is_declared_call(session: &Session, call: &UnixCall) -> bool
+    ensures { result ≡ declared_call session.now call.now }
+{
+    match call {
+        UnixCall::Create(_, mode) | UnixCall::Mkdir(_, mode) => is_declared_mode(session, *mode),
+        _ => true,
+    }
+}
+
+fn is_declared_mode(session: &Session, mode: Mode) -> bool
+    ensures { result ≡ declared_mode session.now mode }
+{
+    match mode {
+        Mode::Group(name) => session.has_group(name),
+        _ => true,
+    }
+}

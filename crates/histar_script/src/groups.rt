@@ -1,0 +1,48 @@
+//! Reading what a line declares as a group. Names are put into a list, so memory may run out; `Ok(None)` is a bad line.
+ghost use Rattle.std.specs.Prelude.{◌≡◌, ◌≤◌, length, option_map, IfOk, IfSome};
+ghost use Rattle.histar_flat.specs.Sessions.{most_members};
+ghost use Rattle.histar_script.specs.Reading.{group_of, members_of};
+
+use crate::lines::split_word;
+use histar_flat::{Group, Name, read_user_name};
+use std::alloc::{AllocError, Global};
+
+/// The most members of a group.
+const MOST_MEMBERS: usize = 16;
+
+/// `NAME USER..`, each name being one that a user may have.
+#[tactic(auto, unfolding(crate::specs::Reading::group_of))]
+pub fn read_group(alloc: Global, text: &[u8]) -> Result<Option<Group>, AllocError>
+    ensures { IfOk result (λ group. group ≡ group_of text.now) }
+{
+    let (word, rest) = split_word(text);
+    let Some(name) = read_user_name(word) else {
+        return Ok(None);
+    };
+    let Some(rest) = rest else {
+        return Ok(None);
+    };
+    let members = read_members(alloc, rest)?;
+    Ok(members.map(|members| Group::new(name, members)))
+}
+
+/// The 1 to 16 names of users that the bytes are, with a space between two.
+fn read_members(alloc: Global, text: &[u8]) -> Result<Option<Vec<Name>>, AllocError>
+    ensures names { IfOk result (λ members. option_map (λ names. names.items) members ≡ members_of text.now) }
+    ensures few { IfOk result (λ members. IfSome members (λ names. length names.items ≤ most_members)) }
+{
+    let mut members = Vec::new(alloc);
+    let mut rest = text;
+    for _ in 0..MOST_MEMBERS {
+        let (word, after) = split_word(rest);
+        let Some(name) = read_user_name(word) else {
+            return Ok(None);
+        };
+        members.push(name)?;
+        match after {
+            None => return Ok(Some(members)),
+            Some(names) => rest = names,
+        }
+    }
+    Ok(None)
+}
