@@ -9,7 +9,6 @@ use Rattle.histar_flat.specs.declared.calls.UnixCall.TheVariants as calls
 use Rattle.histar_flat.specs.declared.replies.Reply.{Reply}
 use Rattle.histar_flat.specs.declared.replies.Reply.TheVariants.{Done}
 use Rattle.histar_flat.specs.Words.{Name, Path, ProcName, is_name}
-use Rattle.histar_flat.specs.Modes.{is_line_mode}
 use Rattle.histar_flat.specs.Sessions.{Session}
 use Rattle.histar_flat.specs.Classes.{Process}
 use Rattle.histar_flat.specs.FlatState.{Flat, entries_in}
@@ -51,7 +50,7 @@ make container x = raw.MakeSegment container x []
 abbrev within : Room → Levels → ℕ → Program
 within room x file = write_entries room.place (map.insert room.entries room.name (targets.File file)) (λ _. Answers Done)
 
-module _ (session : Session) (ok : IsSession session) (old new : KernelModel) (f : Flat) (me : ProcName) (t : ℕ) (ready : IsReady session (state old) f me t) (m : Name) (named : IsTrue (is_name m)) (d : Path) (mode : Mode) (nameable : IsTrue (is_line_mode mode)) (result : Result Reply Stopped) where
+module _ (session : Session) (ok : IsSession session) (old new : KernelModel) (f : Flat) (me : ProcName) (t : ℕ) (ready : IsReady session (state old) f me t) (m : Name) (named : IsTrue (is_name m)) (d : Path) (mode : Mode) (result : Result Reply Stopped) where
   abbrev call : UnixCall
   call = calls.Create (m ∷ d) mode
 
@@ -59,7 +58,7 @@ module _ (session : Session) (ok : IsSession session) (old new : KernelModel) (f
   makes = create_makes session f me ready.caller.process (m ∷ d) mode
 
   -- once the file is made the directory is written
-  goes_on : GoesOn session ok old new f me t ready m d mode (File []) call result makes nameable make within
+  goes_on : GoesOn session ok old new f me t ready m d mode (File []) call result makes make within
   goes_on open_so_far absent room made is_may has mid stays linked number called number_is chain rest =
       let above = container session ok (state old) f me t ready d in
       let file : Object Levels = record { label = guard_label ready.lays_out.laid.category made.guard; kind = Segment [] } in
@@ -69,7 +68,7 @@ module _ (session : Session) (ok : IsSession session) (old new : KernelModel) (f
       let later = laid_created session (state old) f ready.lays_out.laid d (directory_class session ok (state old) f me t ready d open_so_far) (directory_stands session ok (state old) f me t ready d open_so_far) above (listing session ok (state old) f me t ready d)
       at_container (listing_numbered session ok (state old) f me t ready d open_so_far) m absent made.class made.fits made.guard made.guarded named (ltb-true (length (entries_in f d)) most_entries room) next_below in
       let making : RawCall = make above (guard_label ready.lays_out.laid.category made.guard) in
-      entry_written session ok old new f me t ready m d mode (File []) call result makes nameable named open_so_far absent room made is_may
+      entry_written session ok old new f me t ready m d mode (File []) call result makes named open_so_far absent room made is_may
       (targets.File (state old).next_object) (omega (arith, low), omega (arith, next_below)) (added (state old) above file) (listing_still session ok (state old) f me t ready d open_so_far file)
       (asked session ok (state old) f me t ready d ++ making ∷ []) (among_asked session ok (state old) f me t ready d old.line (making ∷ []))
       linked (called.state ∙ ap (λ (s : State). added s above file) stays) chain later.0
@@ -78,8 +77,8 @@ module _ (session : Session) (ok : IsSession session) (old new : KernelModel) (f
 -- a create does what its flat rule says
 pub creates_are_rows : CreatesAreRows
 unfolding create_program
-creates_are_rows session ok [] mode right nameable me old new f t result ready run =
+creates_are_rows session ok [] mode right me old new f t result ready run =
     slash_stands session old new f me t ready mode (File []) (calls.Create [] mode) result (create_makes session f me ready.caller.process [] mode) _ run
-creates_are_rows session ok (m ∷ d) mode right nameable me old new f t result ready run =
-    entry_step session ok old new f me t ready m d mode (File []) (calls.Create (m ∷ d) mode) result (create_makes session f me ready.caller.process (m ∷ d) mode) nameable make within
-    (λ open_so_far. segment_made session ok (state old) f me t ready d open_so_far) run (goes_on session ok old new f me t ready m (last_name m d right) d mode nameable result)
+creates_are_rows session ok (m ∷ d) mode right me old new f t result ready run =
+    entry_step session ok old new f me t ready m d mode (File []) (calls.Create (m ∷ d) mode) result (create_makes session f me ready.caller.process (m ∷ d) mode) make within
+    (λ open_so_far. segment_made session ok (state old) f me t ready d open_so_far) run (goes_on session ok old new f me t ready m (last_name m d right) d mode result)

@@ -11,7 +11,6 @@ use Rattle.histar_flat.specs.declared.calls.UnixCall.TheVariants as calls
 use Rattle.histar_flat.specs.declared.replies.Reply.{Reply}
 use Rattle.histar_flat.specs.declared.replies.Reply.TheVariants.{Done}
 use Rattle.histar_flat.specs.Words.{Name, Path, ProcName, is_name}
-use Rattle.histar_flat.specs.Modes.{is_line_mode}
 use Rattle.histar_flat.specs.Sessions.{Session}
 use Rattle.histar_flat.specs.Files.{get}
 use Rattle.histar_flat.specs.Classes.{Process, may_write}
@@ -66,7 +65,7 @@ ending room inner segment = write_entries room.place (map.insert room.entries ro
 abbrev within : Room → Levels → ℕ → Program
 within room x inner = ask (raw.MakeSegment inner x []) (ending room inner)
 
-module _ (session : Session) (ok : IsSession session) (old new : KernelModel) (f : Flat) (me : ProcName) (t : ℕ) (ready : IsReady session (state old) f me t) (m : Name) (named : IsTrue (is_name m)) (d : Path) (mode : Mode) (nameable : IsTrue (is_line_mode mode)) (result : Result Reply Stopped) where
+module _ (session : Session) (ok : IsSession session) (old new : KernelModel) (f : Flat) (me : ProcName) (t : ℕ) (ready : IsReady session (state old) f me t) (m : Name) (named : IsTrue (is_name m)) (d : Path) (mode : Mode) (result : Result Reply Stopped) where
   abbrev call : UnixCall
   call = calls.Mkdir (m ∷ d) mode
 
@@ -90,7 +89,7 @@ module _ (session : Session) (ok : IsSession session) (old new : KernelModel) (f
   new_container = (state old).next_object
 
   module _ (open_so_far : into session f ready.caller.process d ≡ None) (absent : get f.files (m ∷ d) ≡ None) (room : nat_lt (length (entries_in f d)) most_entries ≡ true)
-      (made : MakesClass session ok (state old) f me t ready mode nameable) (is_may : may_write session ready.caller.process (directory_class session ok (state old) f me t ready d open_so_far) ≡ true) where
+      (made : MakesClass session ok (state old) f me t ready mode) (is_may : may_write session ready.caller.process (directory_class session ok (state old) f me t ready d open_so_far) ≡ true) where
     abbrev due : Levels
     due = guard_label ready.lays_out.laid.category made.guard
 
@@ -134,7 +133,7 @@ module _ (session : Session) (ok : IsSession session) (old new : KernelModel) (f
           let low = below session ok (state old) f me t ready (address_of d) above at_container in
           let number_left = ltb-true (new_container + 1) greatest more in
           let later = laid_directory_created session (state old) f l d class stands above listing_there at_container at_listing m absent made.class made.fits made.guard made.guarded named (ltb-true (length (entries_in f d)) most_entries room) number_left in
-          entry_written session ok old new f me t ready m d mode Dir call result makes nameable named open_so_far absent room made is_may
+          entry_written session ok old new f me t ready m d mode Dir call result makes named open_so_far absent room made is_may
           (targets.Directory new_container (new_container + 1)) ((omega (arith, low), omega (arith, number_left)), (omega (arith, low), omega (arith, number_left)))
           (added with_container new_container segment) (listing_then session ok (state old) f me t ready d open_so_far held segment)
           (before ++ next ∷ []) (among_then old.line t (walk_reads session ok (state old) f me t ready d) before (next ∷ []) (among_asked session ok (state old) f me t ready d old.line (make above due ∷ [])))
@@ -149,7 +148,7 @@ module _ (session : Session) (ok : IsSession session) (old new : KernelModel) (f
           (λ inside number called number_is chain rest. written is inside number called number_is chain rest)
 
   -- once the container is made its directory segment is
-  goes_on : GoesOn session ok old new f me t ready m d mode Dir call result makes nameable make within
+  goes_on : GoesOn session ok old new f me t ready m d mode Dir call result makes make within
   goes_on open_so_far absent room made is_may has mid stays linked inner called inner_is chain rest =
       let label : Levels = guard_label ready.lays_out.laid.category made.guard in
       let held : Object Levels = record { label = label; kind = Container set.empty } in
@@ -159,8 +158,8 @@ module _ (session : Session) (ok : IsSession session) (old new : KernelModel) (f
 -- a mkdir does what its flat rule says
 pub mkdirs_are_rows : MkdirsAreRows
 unfolding mkdir_program
-mkdirs_are_rows session ok [] mode right nameable me old new f t result ready run =
+mkdirs_are_rows session ok [] mode right me old new f t result ready run =
     slash_stands session old new f me t ready mode Dir (calls.Mkdir [] mode) result (mkdir_makes session f me ready.caller.process [] mode) _ run
-mkdirs_are_rows session ok (m ∷ d) mode right nameable me old new f t result ready run =
-    entry_step session ok old new f me t ready m d mode Dir (calls.Mkdir (m ∷ d) mode) result (mkdir_makes session f me ready.caller.process (m ∷ d) mode) nameable make within
-    (λ open_so_far. container_made session ok (state old) f me t ready d open_so_far) run (goes_on session ok old new f me t ready m (last_name m d right) d mode nameable result)
+mkdirs_are_rows session ok (m ∷ d) mode right me old new f t result ready run =
+    entry_step session ok old new f me t ready m d mode Dir (calls.Mkdir (m ∷ d) mode) result (mkdir_makes session f me ready.caller.process (m ∷ d) mode) make within
+    (λ open_so_far. container_made session ok (state old) f me t ready d open_so_far) run (goes_on session ok old new f me t ready m (last_name m d right) d mode result)

@@ -4,7 +4,6 @@ use Rattle.std.proofs.lemmas.List.{append-nil}
 use Rattle.std.proofs.lemmas.Option.{same_Some}
 use Rattle.std.specs.FinMap as map
 use Rattle.histar_base.specs.Refusals.{◌orelse◌, unless}
-use Rattle.histar_flat.specs.declared.calls.User.{User}
 use Rattle.histar_flat.specs.declared.calls.UnixCall.{UnixCall}
 use Rattle.histar_flat.specs.declared.calls.UnixCall.TheVariants as calls
 use Rattle.histar_flat.specs.declared.replies.Errno.{Errno}
@@ -12,7 +11,7 @@ use Rattle.histar_flat.specs.declared.replies.Errno.TheVariants.{ENOENT}
 use Rattle.histar_flat.specs.declared.replies.Reply.{Reply}
 use Rattle.histar_flat.specs.declared.replies.Reply.TheVariants.{Stats, Refused}
 use Rattle.histar_flat.specs.Words.{Name, Path, ProcName}
-use Rattle.histar_flat.specs.Sessions.{Session, session_of}
+use Rattle.histar_flat.specs.Sessions.{Session}
 use Rattle.histar_flat.specs.Files.{get}
 use Rattle.histar_flat.specs.Classes.{Class, Process}
 use Rattle.histar_flat.specs.FlatState.{Flat, Node, Content, is_some_and, is_dir, is_dir_at, into}
@@ -61,10 +60,7 @@ use Rattle.histar_rows.proofs.Walks.{runs, place_at, walk_reads, reads_way, has_
 label_less : (session : Session) (s : State) (f : Flat) (m : Name) (d : Path) (errno : Errno) (entries : List TraceEntry) (p : Process) → HasWay session s f p d entries → HasLabel session s f p (m ∷ d) (Refused errno) entries
 label_less session s f m d errno entries p way = (way.0, [], way.1, refl, subst (λ (calls : List RawCall). AreAmong calls entries) (sym (append-nil way.0)) way.2)
 
-module _ (users : List User) (ok : IsSession (session_of users)) (old new : KernelModel) (f : Flat) (me : ProcName) (t : ℕ) (ready : IsReady (session_of users) (state old) f me t) (result : Result Reply Stopped) where
-  abbrev session : Session
-  session = session_of users
-
+module _ (session : Session) (ok : IsSession session) (old new : KernelModel) (f : Flat) (me : ProcName) (t : ℕ) (ready : IsReady session (state old) f me t) (result : Result Reply Stopped) where
   abbrev Row : Path → Type 0
   Row q = Goal session f me ready.caller (calls.Stat q) old new t ready.thread result
 
@@ -81,8 +77,8 @@ module _ (users : List User) (ok : IsSession (session_of users)) (old new : Kern
     guard : (g : Guard) × (class_guard session there.class ≡ Some g)
     guard = guard_at session (state old) f ready.lays_out.laid q there at
 
-    tells : Tells there.class (class_of users (guard_label ready.lays_out.laid.category guard.0))
-    tells = class_told users ready.lays_out.laid.category ready.lays_out.laid.different ready.lays_out.laid.as_made there.class guard.0 guard.1
+    tells : Tells there.class (class_of session (guard_label ready.lays_out.laid.category guard.0))
+    tells = class_told session ready.lays_out.laid.category ready.lays_out.laid.different ready.lays_out.laid.as_made there.class guard.0 guard.1
 
     abbrev due : Reply
     due = Stats (stat_of tells.told_class (is_dir there))
@@ -90,17 +86,17 @@ module _ (users : List User) (ok : IsSession (session_of users)) (old new : Kern
     due_is : due ≡ stat_reply (get f.files q)
     due_is = (λ i. Stats (record { is_directory = is_dir there; owner = tells.owner i; mode = tells.mode i })) ∙ sym (ap stat_reply at)
 
-    told_is : (label : Levels) → Some label ≡ label_there ((state mid).objects O) → told (is_dir there) (class_of users label) ≡ Answers due
+    told_is : (label : Levels) → Some label ≡ label_there ((state mid).objects O) → told (is_dir there) (class_of session label) ≡ Answers due
     told_is label right =
         let same = same_Some _ _ (right ∙ ap (λ (s : State). label_there (s.objects O)) stays ∙ label_at session (state old) f ready.lays_out.laid q there at O numbered guard.0 guard.1) in
-        ap (λ (l : Levels). told (is_dir there) (class_of users l)) same ∙ ap (told (is_dir there)) tells.is
+        ap (λ (l : Levels). told (is_dir there) (class_of session l)) same ∙ ap (told (is_dir there)) tells.is
 
     all_reads : ReadsAmong session f me ready.caller call old new t ready.thread (all_granted (reads ++ next ∷ [])) due
     all_reads = (reads, next ∷ [], are_reads, (D, O, object_at, refl), among_granted_all old.line t (reads ++ next ∷ []))
 
-    label_step : Runs (ask next (λ label. told (is_dir there) (class_of users label))) mid new t result → Row q
+    label_step : Runs (ask next (λ label. told (is_dir there) (class_of session label))) mid new t result → Row q
     label_step on =
-        granted_step session f me ready.caller call old new t ready.thread result reads mid chain next (λ label. told (is_dir there) (class_of users label)) (ap (λ (s : State). check s t next) stays ∙ passes) on
+        granted_step session f me ready.caller call old new t ready.thread result reads mid chain next (λ label. told (is_dir there) (class_of session label)) (ap (λ (s : State). check s t next) stays ∙ passes) on
         (λ later label called right longer end.
         let same : state later ≡ state old = called.state ∙ stays in
         let entries = entries_of old.line t (all_granted (reads ++ next ∷ [])) in
@@ -125,7 +121,7 @@ module _ (users : List User) (ok : IsSession (session_of users)) (old new : Kern
 
     -- once the entry was looked up
     abbrev at_entry : Option Target → Program
-    at_entry target = given (entry_at target) (λ found. ask (raw.LabelOf place.container (object_of found)) (λ label. told (is_directory found) (class_of users label)))
+    at_entry target = given (entry_at target) (λ found. ask (raw.LabelOf place.container (object_of found)) (λ label. told (is_directory found) (class_of session label)))
 
     module _ (open_so_far : into session f ready.caller.process d ≡ None) (mid : KernelModel) (stays : state mid ≡ state old) (chain : Chain old t (all_granted walk) mid)
         (on : Runs (at_entry (map.get (directory_of f.files ready.lays_out.laid.naming.number d) m)) mid new t result) where
@@ -143,7 +139,7 @@ module _ (users : List User) (ok : IsSession (session_of users)) (old new : Kern
           (at_container session ok (state old) f me t ready d is_dir_above) (at_listing session ok (state old) f me t ready d is_dir_above) (seen session ok (state old) f me t ready d open_so_far) m (object_of target) numbered
           (no_thread_at session (state old) f ready.lays_out.laid (m ∷ d) there at (object_of target) numbered) in
           label_step (m ∷ d) there at place.container (object_of target) numbered object_at (refused_is None (Some there) open_so_far at) passes walk (reads_way session ok (state old) f me t ready d) mid stays chain
-          (subst (λ (b : Bool). Runs (ask (raw.LabelOf place.container (object_of target)) (λ label. told b (class_of users label))) mid new t result) kind (leads (Some target) is))
+          (subst (λ (b : Bool). Runs (ask (raw.LabelOf place.container (object_of target)) (λ label. told b (class_of session label))) mid new t result) kind (leads (Some target) is))
 
       by_content : (class : Class) (c : Content) → get f.files (m ∷ d) ≡ Some (record { class = class; content = c }) → Row (m ∷ d)
       by_content class Dir at =
@@ -158,24 +154,24 @@ module _ (users : List User) (ok : IsSession (session_of users)) (old new : Kern
           (label_less session (state old) f m d ENOENT _ ready.caller.process (has_way session ok (state old) f me t ready d _ (among_granted_all old.line t walk))) (leads None (nothing_there session ok (state old) f me t ready m d at))
       by_stands (Some there) at = by_content there.class there.content at
 
-    stat_is_row : Runs (stat_program users (places_of (length users)) (m ∷ d)) old new t result → Row (m ∷ d)
+    stat_is_row : Runs (stat_program session (places_of (length session.users)) (m ∷ d)) old new t result → Row (m ∷ d)
     unfolding stat_program find_object
     stat_is_row run =
-        walk_step session ok old new f me t ready stat result d (λ directory. given (entry_at (map.get directory.entries m)) (λ found. ask (raw.LabelOf directory.place.container (object_of found)) (λ label. told (is_directory found) (class_of users label)))) run
+        walk_step session ok old new f me t ready stat result d (λ directory. given (entry_at (map.get directory.entries m)) (λ found. ask (raw.LabelOf directory.place.container (object_of found)) (λ label. told (is_directory found) (class_of session label)))) run
         (λ errno is steps among. (refused_is (Some errno) (get f.files (m ∷ d)) is refl, label_less session (state old) f m d errno _ ready.caller.process (has_way session ok (state old) f me t ready d _ among)))
         (λ open_so_far mid stays chain on. by_stands open_so_far mid stays chain on (get f.files (m ∷ d)) refl)
 
   -- a stat of `/`
-  stat_of_slash : Runs (stat_program users (places_of (length users)) []) old new t result → Row []
+  stat_of_slash : Runs (stat_program session (places_of (length session.users)) []) old new t result → Row []
   unfolding stat_program find_object
   stat_of_slash run =
       let root = root_is_dir session (state old) f ready.lays_out.laid in
-      let slash = slash_number (length users) in
+      let slash = slash_number (length session.users) in
       label_step [] (record { class = root.0; content = Dir }) root.1 root_number slash (ready.lays_out.laid.as_booted (Slash ∷ []) slash refl) (refl, refl)
       (ap (λ (o : Option Node). unless (is_some_and o (λ n. true)) ENOENT) root.1) (slash_label_said session (state old) f ready.lays_out.laid me ready.caller.process t (runs session ok (state old) f me t ready))
       [] refl old refl (same_kernel old) run
 
 -- a stat does what its flat rule says
 pub stats_are_rows : StatsAreRows
-stats_are_rows users ok [] me old new f t result ready run = stat_of_slash users ok old new f me t ready result run
-stats_are_rows users ok (m ∷ d) me old new f t result ready run = stat_is_row users ok old new f me t ready result m d run
+stats_are_rows session ok [] me old new f t result ready run = stat_of_slash session ok old new f me t ready result run
+stats_are_rows session ok (m ∷ d) me old new f t result ready run = stat_is_row session ok old new f me t ready result m d run

@@ -1,6 +1,6 @@
 -- A spawn of a process in no job, where no group is declared: what the raw calls of its birth need is there, and they leave a state that
 -- lays out the flat state with the child.
-use Rattle.std.proofs.Common.{◌≡◌, ℕ, ◌+◌, ◌<◌, ◌≤◌, List, [], ◌∷◌, length, None, Some, arith, sym, ◌∙◌, subst}
+use Rattle.std.proofs.Common.{◌≡◌, ℕ, ◌+◌, ◌<◌, [], ◌∷◌, length, None, Some, arith, sym, ◌∙◌, subst}
 use Rattle.std.specs.FinSet as set
 use Rattle.histar_flat.specs.Words.{ProcName}
 use Rattle.histar_flat.specs.Sessions.{Session, user_number}
@@ -29,7 +29,6 @@ use Rattle.histar_refinement.specs.Addresses.Step.{Status, Inside, Runner}
 use Rattle.histar_refinement.specs.LaysOut.{LaysOut}
 use Rattle.histar_refinement.specs.Processes.{or_zero, process_bytes, status_by}
 use Rattle.histar_refinement.proofs.Beside.{own_set}
-use Rattle.histar_refinement.proofs.CallLabels.{reads_numbered, writes_numbered}
 use Rattle.histar_refinement.proofs.Spawned.{births, state_spawned, lays_out_spawned}
 use Rattle.histar_refinement.proofs.Spawning.{keeps, reads_number, writes_number}
 use Rattle.histar_process_rows.proofs.OwnLabels.{no_jobs_in, own_user_is, name_of_number}

@@ -1,5 +1,5 @@
 -- What it means that calls on processes are the rows of the flat rules.
-use Rattle.std.specs.Prelude.{ℕ, ◌≤◌, List, length}
+use Rattle.std.specs.Prelude.{ℕ, ◌≤◌, length}
 use Rattle.histar_flat.specs.declared.calls.UnixCall.TheVariants.{Spawn, Exit, Status, Kill, Whoami}
 use Rattle.histar_flat.specs.Words.{ProcName, greatest_status}
 use Rattle.histar_flat.specs.Sessions.{Session}

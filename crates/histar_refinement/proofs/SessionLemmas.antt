@@ -1,6 +1,6 @@
 -- Users and groups by their names and numbers.
 use Rattle.std.proofs.Common.{◌≡◌, ◌≢◌, ℕ, zero, suc, ◌+◌, ◌<◌, ◌≤◌, ◌⊎◌, inl, inr, Bool, true, false, ◌&&◌, cond, if◌then◌else◌, List, [], ◌∷◌, length, Option, None, Some, arith, refl, sym, ap, ◌∙◌, subst}
-use Rattle.std.specs.Prelude.{not, slice_get, nat_lt, nat_eq, position}
+use Rattle.std.specs.Prelude.{not, slice_get, nat_lt, nat_eq, option_map, position}
 use Rattle.std.specs.List.{list_any, position_or_len}
 use Rattle.std.proofs.lemmas.Bool.Decides.{nat_tests, eqb_tells}
 use Rattle.std.proofs.lemmas.Option.{same_Some, none-some}
@@ -47,6 +47,19 @@ module _ {A : Type 0} (test : A → Bool) where
       let below : position_or_len test xs < length xs = grind (arith, nat_tests, passed) in
       let at = first_place xs below in
       (at.0, ap (slice_get xs) (sym is.1) ∙ at.1, at.2, omega (arith, below, is.1))
+
+module _ {A : Type 0} (test : A → Bool) where
+  -- what passes the test has a place
+  place_found_by : (x : A) (xs : List A) (b : Bool) → test x ≡ b → (b ≡ false → position_or_len test xs < length xs) → position_or_len test (x ∷ xs) < length (x ∷ xs)
+  place_found_by x xs true is later = let place : cond (not (test x)) (1 + position_or_len test xs) 0 ≡ 0 = ap (λ b. cond (not b) (1 + position_or_len test xs) 0) is in omega (arith, place)
+  place_found_by x xs false is later =
+      let place : cond (not (test x)) (1 + position_or_len test xs) 0 ≡ 1 + position_or_len test xs = ap (λ b. cond (not b) (1 + position_or_len test xs) 0) is in
+      omega (arith, place, later refl)
+
+  place_found : (xs : List A) (i : ℕ) (x : A) → slice_get xs i ≡ Some x → test x ≡ true → position_or_len test xs < length xs
+  place_found [] i x at is = absurd (none-some x at)
+  place_found (y ∷ xs) zero x at is = place_found_by y xs (test y) refl (λ fails. absurd (true≢false (sym is ∙ ap test (sym (same_Some y x at)) ∙ fails)))
+  place_found (y ∷ xs) (suc i) x at is = place_found_by y xs (test y) refl (λ _. place_found xs i x at is)
 
 -- users and groups have the numbers from 1 on
 pub user_range : (session : Session) (name : Name) (i : ℕ) → user_number session name ≡ Some i → (1 ≤ i) × (i ≤ length session.users)
@@ -179,3 +192,16 @@ is_member_number session ok name group k numbered =
     let alike : same found.1.name at.0.name ≡ true = equal_tested found.1.name at.0.name (equal_names found.1.name group found.3 ∙ sym (equal_names at.0.name group at.2)) in
     let same_place : found.0 ≡ place.0 = ok.groups_differ found.0 place.0 found.1 at.0 found.2 at.1 alike in
     ap (has_number (groups_of session name)) (omega (arith, same_place, place.2)) ∙ to_numbers 1 session.groups name found.0 found.1 found.2 found.4)
+
+-- a group that is not declared has no members
+pub no_member : (session : Session) (name group : Name) → group_number session group ≡ None → is_member session name group ≡ false
+no_member session name group undeclared = by (is_member session name group) refl
+  where
+    by : (b : Bool) → is_member session name group ≡ b → b ≡ false
+    by false is = refl
+    by true is =
+        let found = from_members session.groups name group is in
+        let place = position_or_len (λ (g : Group). same g.name group) session.groups in
+        let lt : place < length session.groups = place_found (λ (g : Group). same g.name group) session.groups found.0 found.1 found.2 found.3 in
+        let within : nat_lt place (length session.groups) ≡ true = grind (arith, nat_tests, lt) in
+        absurd (none-some (place + 1) (sym undeclared ∙ ap (λ b. option_map (λ k. k + 1) (cond b (Some place) None)) within))
