@@ -1,6 +1,6 @@
 -- Users and groups by their names and numbers.
 use Rattle.std.proofs.Common.{◌≡◌, ◌≢◌, ℕ, zero, suc, ◌+◌, ◌<◌, ◌≤◌, ◌⊎◌, inl, inr, Bool, true, false, ◌&&◌, cond, if◌then◌else◌, List, [], ◌∷◌, length, Option, None, Some, arith, refl, sym, ap, ◌∙◌, subst}
-use Rattle.std.specs.Prelude.{not, slice_get, nat_lt, nat_eq, option_map, position}
+use Rattle.std.specs.Prelude.{is_some, not, slice_get, nat_lt, nat_eq, option_map, position}
 use Rattle.std.specs.List.{list_any, position_or_len}
 use Rattle.std.proofs.lemmas.Bool.Decides.{nat_tests, eqb_tells}
 use Rattle.std.proofs.lemmas.Option.{same_Some, none-some}
@@ -60,6 +60,14 @@ module _ {A : Type 0} (test : A → Bool) where
   place_found [] i x at is = absurd (none-some x at)
   place_found (y ∷ xs) zero x at is = place_found_by y xs (test y) refl (λ fails. absurd (true≢false (sym is ∙ ap test (sym (same_Some y x at)) ∙ fails)))
   place_found (y ∷ xs) (suc i) x at is = place_found_by y xs (test y) refl (λ _. place_found xs i x at is)
+
+-- so a user of a name has a number
+pub has_a_number : (session : Session) (name : Name) (i : ℕ) (user : User) → slice_get session.users i ≡ Some user → same user.name name ≡ true → is_some (user_number session name) ≡ true
+has_a_number session name i user at is =
+    let place = position_or_len (λ (u : User). same u.name name) session.users in
+    let lt : place < length session.users = place_found (λ (u : User). same u.name name) session.users i user at is in
+    let within : nat_lt place (length session.users) ≡ true = grind (arith, nat_tests, lt) in
+    ap (λ b. is_some (option_map (λ k. k + 1) (cond b (Some place) None))) within
 
 -- users and groups have the numbers from 1 on
 pub user_range : (session : Session) (name : Name) (i : ℕ) → user_number session name ≡ Some i → (1 ≤ i) × (i ≤ length session.users)
@@ -161,7 +169,7 @@ to_numbers m (h ∷ groups) name (suc i) g at is =
     by false later = later
 
 -- a member of a group of this name
-from_members : (groups : List Group) (name group : Name) → list_any (λ (g : Group). same g.name group && has g.members name) groups ≡ true
+pub from_members : (groups : List Group) (name group : Name) → list_any (λ (g : Group). same g.name group && has g.members name) groups ≡ true
     → (i : ℕ) × (g : Group) × (slice_get groups i ≡ Some g) × (same g.name group ≡ true) × (has g.members name ≡ true)
 from_members [] name group e = absurd (true≢false (sym e))
 from_members (g ∷ groups) name group e = elim (or_either (same g.name group && has g.members name) (list_any (λ (h : Group). same h.name group && has h.members name) groups) e) [

@@ -3,18 +3,17 @@ use Rattle.std.proofs.Common.{◌≡◌, ℕ, Bool, true, false, List, [], ◌�
 use Rattle.std.specs.Prelude.{is_some}
 use Rattle.std.specs.List.{AllByRecursion}
 use mathlib.Core.Bool.{true≢false}
-use Rattle.histar_flat.specs.declared.calls.User.{User}
 use Rattle.histar_flat.specs.declared.calls.UnixCall.{UnixCall}
 use Rattle.histar_flat.specs.declared.calls.UnixCall.TheVariants.{Create, Mkdir, Write, Append, Read, List as ListCall, Stat, Unlink, Rmdir, Rmtree, Rename, Spawn, Exit, Status, Kill, Whoami, Login, Wrap}
 use Rattle.histar_flat.specs.declared.replies.Reply.{Reply}
 use Rattle.histar_flat.specs.declared.replies.Reply.TheVariants.{Gone}
 use Rattle.histar_flat.specs.Words.{ProcName}
-use Rattle.histar_flat.specs.Sessions.{Session, session_of}
+use Rattle.histar_flat.specs.Sessions.{Session}
 use Rattle.histar_flat.specs.Classes.{Process}
 use Rattle.histar_flat.specs.FlatState.{Flat}
 use Rattle.histar_flat.specs.FlatCalls.{running, reply_to, flat_after}
 use Rattle.histar_flat.proofs.Laws.{not_running_is_gone}
-use Rattle.histar_script.specs.Script.{IsUserList}
+use Rattle.histar_script.specs.Script.{IsDeclared}
 use Rattle.histar_object.specs.State.{State}
 use Rattle.histar_syscall.specs.declared.trace.TraceEntry.{TraceEntry}
 use Rattle.histar_syscall.specs.KernelModel.{KernelModel, state}
@@ -46,17 +45,17 @@ none_of (Some x) e = absurd (true≢false e)
 
 module _ (rows : LinesAreRows) (old new : MachineModel) (f : Flat) (shows : Shows old f) where
   abbrev session : Session
-  session = session_of old.users
+  session = old.session
 
-  ok : IsSession (session_of old.users)
-  ok = is_session old.users shows.users
+  ok : IsSession old.session
+  ok = is_session old.session shows.declared
 
-  module _ (me : ProcName) (caller : Caller) (found : caller_at (state old.kernel) (places_of (length old.users)).home me ≡ Some caller) where
+  module _ (me : ProcName) (caller : Caller) (found : caller_at (state old.kernel) (places_of (length old.session.users)).home me ≡ Some caller) where
     -- the process is found where it runs
-    running_as : (p : Process) × IsCallerOf (session_of old.users) (state old.kernel) f shows.lays_out.laid me p caller
-    running_as = caller_found (session_of old.users) (state old.kernel) f shows.lays_out.laid me caller found
+    running_as : (p : Process) × IsCallerOf old.session (state old.kernel) f shows.lays_out.laid me p caller
+    running_as = caller_found old.session (state old.kernel) f shows.lays_out.laid me caller found
 
-    ready : IsReady (session_of old.users) (state old.kernel) f me caller.thread
+    ready : IsReady old.session (state old.kernel) f me caller.thread
     ready =
         let p = running_as.0 in
         let runs = running_as.1 in
@@ -66,61 +65,61 @@ module _ (rows : LinesAreRows) (old new : MachineModel) (f : Flat) (shows : Show
           caller = record { process = p; stands = runs.runs.0; runs = runs.runs.1; free = none.in_none; holds_none = none.holds_none };
           first = λ q at. (shows.jobless [] q at).in_none;
           small = shows.small;
-          thread = thread_led (session_of old.users) (state old.kernel) f shows.lays_out.laid me p caller.thread runs.runs.0 runs.runs.1 runs.runs.2;
+          thread = thread_led old.session (state old.kernel) f shows.lays_out.laid me p caller.thread runs.runs.0 runs.runs.1 runs.runs.2;
         }
 
     -- a call of the process is its row
     made_row : (k : KernelModel) → state k ≡ state old.kernel → (call : UnixCall) (result : Result Reply Stopped) → IsScriptable call
-        → Makes old.users (places_of (length old.users)) me caller k new.kernel call result → DoesItsRow (session_of old.users) f me call k new.kernel caller.thread result
+        → Makes old.session (places_of (length old.session.users)) me caller k new.kernel call result → DoesItsRow old.session f me call k new.kernel caller.thread result
     made_row k same call result can made = by call can made
       where
-        there : IsReady (session_of old.users) (state k) f me caller.thread
-        there = subst (λ (s : State). IsReady (session_of old.users) s f me caller.thread) (sym same) ready
+        there : IsReady old.session (state k) f me caller.thread
+        there = subst (λ (s : State). IsReady old.session s f me caller.thread) (sym same) ready
 
-        at : caller_at (state k) (places_of (length old.users)).home me ≡ Some caller
-        at = ap (λ (s : State). caller_at s (places_of (length old.users)).home me) same ∙ found
+        at : caller_at (state k) (places_of (length old.session.users)).home me ≡ Some caller
+        at = ap (λ (s : State). caller_at s (places_of (length old.session.users)).home me) same ∙ found
 
-        by : (c : UnixCall) → IsScriptable c → Makes old.users (places_of (length old.users)) me caller k new.kernel c result → DoesItsRow (session_of old.users) f me c k new.kernel caller.thread result
-        by (Create path mode) can made = rows.calls.create session ok path mode can.0 can.1 me k new.kernel f caller.thread result there made
+        by : (c : UnixCall) → IsScriptable c → Makes old.session (places_of (length old.session.users)) me caller k new.kernel c result → DoesItsRow old.session f me c k new.kernel caller.thread result
+        by (Create path mode) can made = rows.calls.create session ok path mode can me k new.kernel f caller.thread result there made
         by (Write path bytes) can made = rows.calls.write session ok path bytes me k new.kernel f caller.thread result there made
-        by (Mkdir path mode) can made = rows.calls.mkdir session ok path mode can.0 can.1 me k new.kernel f caller.thread result there made
+        by (Mkdir path mode) can made = rows.calls.mkdir session ok path mode can me k new.kernel f caller.thread result there made
         by (Append path bytes) can made = rows.calls.append session ok path bytes me k new.kernel f caller.thread result there made
         by (ListCall path) can made = rows.calls.list session ok path me k new.kernel f caller.thread result there made
         by (Read path) can made = rows.calls.read session ok path me k new.kernel f caller.thread result there made
-        by (Stat path) can made = rows.calls.stat old.users ok path me k new.kernel f caller.thread result there made
+        by (Stat path) can made = rows.calls.stat session ok path me k new.kernel f caller.thread result there made
         by (Unlink path) can made = rows.moves.unlink session ok path me k new.kernel f caller.thread result there made
         by (Rmdir path) can made = rows.moves.rmdir session ok path me k new.kernel f caller.thread result there made
         by (Rmtree path) can made = rows.moves.rmtree session ok path me k new.kernel f caller.thread result there made
         by (Rename path name) can made = rows.moves.rename session ok path name can.1 me k new.kernel f caller.thread result there made
-        by Spawn can made = rows.processes.spawn old.users ok me caller k new.kernel f result there at made
+        by Spawn can made = rows.processes.spawn session ok me caller k new.kernel f result there at made
         by (Exit number) can made = rows.processes.exit session ok number can me caller k new.kernel f result there at made
         by (Status name) can made = rows.processes.status session ok name me k new.kernel f caller.thread result there made
         by (Kill name) can made = rows.processes.kill session ok name me k new.kernel f caller.thread result there made
-        by Whoami can made = rows.processes.whoami old.users ok me k new.kernel f caller.thread result there made
-        by (Login name password) can made = rows.calls.login old.users ok name password me caller k new.kernel f result there at made
+        by Whoami can made = rows.processes.whoami session ok me k new.kernel f caller.thread result there made
+        by (Login name password) can made = rows.calls.login session ok name password me caller k new.kernel f result there at made
         by (Wrap path) can made = absurd can
 
     -- at the places that boot told the machine
     row_of_made : (line : ℕ) (call : UnixCall) (result : Result Reply Stopped) → IsScriptable call → HasMade old new line me caller call result
-        → DoesItsRow (session_of old.users) f me call (on_line line old.kernel) new.kernel caller.thread result
+        → DoesItsRow old.session f me call (on_line line old.kernel) new.kernel caller.thread result
     row_of_made line call result can h =
         made_row (on_line line old.kernel) refl call result can
-        (subst (λ (places : Places). Makes old.users places me caller (on_line line old.kernel) new.kernel call result) shows.places h.made)
+        (subst (λ (places : Places). Makes old.session places me caller (on_line line old.kernel) new.kernel call result) shows.places h.made)
 
     -- the machine after it shows what its kernel lays out
-    still_shows : (line : ℕ) (call : UnixCall) (result : Result Reply Stopped) (g : Flat) → HasMade old new line me caller call result → LaysOut (session_of old.users) (state new.kernel) g → AreJobless g → AreFilesSmall g → Shows new g
+    still_shows : (line : ℕ) (call : UnixCall) (result : Result Reply Stopped) (g : Flat) → HasMade old new line me caller call result → LaysOut old.session (state new.kernel) g → AreJobless g → AreFilesSmall g → Shows new g
     still_shows line call result g h lays jobless small = record {
-      users = subst IsUserList (sym h.users) shows.users;
-      places = h.places ∙ shows.places ∙ ap (λ (us : List User). places_of (length us)) (sym h.users);
-      lays_out = subst (λ (us : List User). LaysOut (session_of us) (state new.kernel) g) (sym h.users) lays;
+      declared = subst IsDeclared (sym h.session) shows.declared;
+      places = h.places ∙ shows.places ∙ ap (λ (declared : Session). places_of (length declared.users)) (sym h.session);
+      lays_out = subst (λ (declared : Session). LaysOut declared (state new.kernel) g) (sym h.session) lays;
       jobless = jobless;
       small = small;
     }
 
     -- each raw call is by the process's thread
-    own_thread : (line : ℕ) (entries : List TraceEntry) → AllByRecursion (IsBy line caller.thread) entries → AllByRecursion (λ (e : TraceEntry). (e.line ≡ line) × IsThreadOf (session_of old.users) (state old.kernel) me e.thread) entries
+    own_thread : (line : ℕ) (entries : List TraceEntry) → AllByRecursion (IsBy line caller.thread) entries → AllByRecursion (λ (e : TraceEntry). (e.line ≡ line) × IsThreadOf old.session (state old.kernel) me e.thread) entries
     own_thread line [] own = tt
-    own_thread line (e ∷ entries) own = ((own.0.0, subst (IsThreadOf (session_of old.users) (state old.kernel) me) (sym own.0.1) ready.thread), own_thread line entries own.1)
+    own_thread line (e ∷ entries) own = ((own.0.0, subst (IsThreadOf old.session (state old.kernel) me) (sym own.0.1) ready.thread), own_thread line entries own.1)
 
     -- the call ends as is meant
     made_ends : (line : ℕ) (call : UnixCall) (result : Result Reply Stopped) → IsScriptable call → HasMade old new line me caller call result → EndsAsMeant old new f (record { line = line; process = me; call = call }) result
@@ -131,9 +130,9 @@ module _ (rows : LinesAreRows) (old new : MachineModel) (f : Flat) (shows : Show
           entries = row.1.entries;
           trace = row.1.trace;
           row = row.1.row;
-          shows = still_shows line call (Ok reply) (flat_after (session_of old.users) f me call) h row.1.row.lays_out
-              (jobless_after (session_of old.users) f shows.jobless me call can)
-              (small_after f shows.small (session_of old.users) me (nothing_under (session_of old.users) (state old.kernel) f shows.lays_out.laid) call can);
+          shows = still_shows line call (Ok reply) (flat_after old.session f me call) h row.1.row.lays_out
+              (jobless_after old.session f shows.jobless me call can)
+              (small_after f shows.small old.session me (nothing_under old.session (state old.kernel) f shows.lays_out.laid) call can);
         }
     made_ends line call (Err stopped) can h =
         let out = row_of_made line call (Err stopped) can h in
@@ -166,14 +165,14 @@ module _ (rows : LinesAreRows) (old new : MachineModel) (f : Flat) (shows : Show
       }
 
   -- who is not found doesn't run
-  lost_is_gone : (me : ProcName) → caller_at (state old.kernel) (places_of (length old.users)).home me ≡ None → running f me ≡ None
-  lost_is_gone me lost = none_of (running f me) (sym (caller_there (session_of old.users) (state old.kernel) f shows.lays_out.laid me) ∙ ap is_some lost)
+  lost_is_gone : (me : ProcName) → caller_at (state old.kernel) (places_of (length old.session.users)).home me ≡ None → running f me ≡ None
+  lost_is_gone me lost = none_of (running f me) (sym (caller_there old.session (state old.kernel) f shows.lays_out.laid me) ∙ ap is_some lost)
 
   runs_end : (line : ℕ) (me : ProcName) (call : UnixCall) (result : Result Reply Stopped) → IsScriptable call → AnswersRunning old new line me call result → EndsAsMeant old new f (record { line = line; process = me; call = call }) result
-  runs_end line me call result can h = by (caller_at (state old.kernel) (places_of (length old.users)).home me) refl
+  runs_end line me call result can h = by (caller_at (state old.kernel) (places_of (length old.session.users)).home me) refl
       (subst (λ (places : Places). AnswersFound (caller_at (state old.kernel) places.home me) old new line me call result) shows.places h)
     where
-      by : (o : Option Caller) → caller_at (state old.kernel) (places_of (length old.users)).home me ≡ o → AnswersFound o old new line me call result → EndsAsMeant old new f (record { line = line; process = me; call = call }) result
+      by : (o : Option Caller) → caller_at (state old.kernel) (places_of (length old.session.users)).home me ≡ o → AnswersFound o old new line me call result → EndsAsMeant old new f (record { line = line; process = me; call = call }) result
       by None lost k =
           subst (λ (m : MachineModel). EndsAsMeant old m f (record { line = line; process = me; call = call }) result) (sym k.1)
           (subst (EndsAsMeant old old f (record { line = line; process = me; call = call })) (sym k.0) (gone_ends line me call (lost_is_gone me lost)))
@@ -200,14 +199,14 @@ module _ (rows : LinesAreRows) (old new : MachineModel) (f : Flat) (shows : Show
 pub line_follows : (rows : LinesAreRows) (old new : MachineModel) (line : ℕ) (process : ProcName) (call : UnixCall) (result : Result Reply Stopped) → AnswersLine old new line process call result → FollowsMeaning old new line process call result
 line_follows rows old new line process call result h f shows can = line_ends rows old new f shows line process call result can h
 
--- the users of a machine stay
-pub users_stay : (old new : MachineModel) (line : ℕ) (process : ProcName) (call : UnixCall) (result : Result Reply Stopped) → AnswersLine old new line process call result → new.users ≡ old.users
-users_stay old new line process call result h = by old.is_stopped h
+-- the users and groups of a machine stay
+pub session_stays : (old new : MachineModel) (line : ℕ) (process : ProcName) (call : UnixCall) (result : Result Reply Stopped) → AnswersLine old new line process call result → new.session ≡ old.session
+session_stays old new line process call result h = by old.is_stopped h
   where
-    runs : (o : Option Caller) → AnswersFound o old new line process call result → new.users ≡ old.users
-    runs None k = ap (λ (m : MachineModel). m.users) k.1
-    runs (Some caller) k = k.users
+    runs : (o : Option Caller) → AnswersFound o old new line process call result → new.session ≡ old.session
+    runs None k = ap (λ (m : MachineModel). m.session) k.1
+    runs (Some caller) k = k.session
 
-    by : (b : Bool) → AnswersIf b old new line process call result → new.users ≡ old.users
-    by true k = ap (λ (m : MachineModel). m.users) k.1
+    by : (b : Bool) → AnswersIf b old new line process call result → new.session ≡ old.session
+    by true k = ap (λ (m : MachineModel). m.session) k.1
     by false k = runs (caller_at (state old.kernel) old.places.home process) k

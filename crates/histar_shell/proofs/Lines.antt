@@ -1,6 +1,6 @@
 -- What a call line does to a machine that runs.
 use Rattle.std.proofs.Common.{◌≡◌, ℕ, Bool, false, List, Option, None, Some, Result, Ok, Err, refl, sym, ap, ◌∙◌, subst}
-use Rattle.histar_flat.specs.declared.calls.User.{User}
+use Rattle.histar_flat.specs.Sessions.{Session}
 use Rattle.histar_flat.specs.declared.replies.Reply.TheVariants.{Gone}
 use Rattle.histar_flat.specs.declared.calls.UnixCall.{UnixCall}
 use Rattle.histar_flat.specs.declared.replies.Reply.{Reply}
@@ -25,7 +25,7 @@ pub gone_line : (m : MachineModel) (line : ℕ) (me : ProcName) (call : UnixCall
 gone_line m line me call runs lost = subst (λ (b : Bool). AnswersIf b m m line me call (Ok Gone)) (sym runs) (subst (λ (o : Option Caller). AnswersFound o m m line me call (Ok Gone)) (sym lost) (refl, refl))
 
 -- a call that no line can hold makes no raw call, and has no answer
-pub makes_none : (users : List User) (places : Places) (me : ProcName) (caller : Caller) (k : KernelModel) (stopped : Stopped) (call other : UnixCall) → call ≡ other → program_of users places me caller other ≡ Stops
-    → Makes users places me caller k k call (Err stopped)
+pub makes_none : (session : Session) (places : Places) (me : ProcName) (caller : Caller) (k : KernelModel) (stopped : Stopped) (call other : UnixCall) → call ≡ other → program_of session places me caller other ≡ Stops
+    → Makes session places me caller k k call (Err stopped)
 unfolding Runs
-makes_none users places me caller k stopped call other is stops = subst (λ (p : Program). Runs p k k caller.thread (Err stopped)) (sym (ap (program_of users places me caller) is ∙ stops)) (record { state = refl; trace = refl; line = refl })
+makes_none session places me caller k stopped call other is stops = subst (λ (p : Program). Runs p k k caller.thread (Err stopped)) (sym (ap (program_of session places me caller) is ∙ stops)) (record { state = refl; trace = refl; line = refl })

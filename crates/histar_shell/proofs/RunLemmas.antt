@@ -14,13 +14,13 @@ use Rattle.histar_script.specs.Outcome.{Gives, input_fault}
 use Rattle.histar_script.specs.Lines.{most_script_bytes}
 use Rattle.histar_script.specs.Reading.{script_of}
 use Rattle.histar_devices.specs.Input.{most_taken, TakesAll, TakesSome}
+use Rattle.histar_flat.specs.Sessions.{Session}
 use Rattle.histar_shell.specs.Outcome.{IsOutputFault, IsFaultAt, AgreesWith, AnswersScript, BeginsScript, WritesAtFault, WritesAnswers, is_read_failed}
 use Rattle.histar_shell.specs.Meaning.{RunsAsMeant}
 use Rattle.histar_shell.specs.Run.{RunsText, RunsTaken, StopsReading, RunsInput, LeavesSink}
 use Rattle.histar_shell.specs.Machine.{MachineModel, IsStart}
 use Rattle.histar_shell.specs.Session.{AnswersCalls, BeginsAnswers}
 use Rattle.histar_syscall.specs.declared.trace.TraceEntry.{TraceEntry}
-use Rattle.histar_flat.specs.declared.calls.User.{User}
 use Rattle.histar_flat.specs.declared.calls.CallLine.{CallLine}
 use Rattle.histar_shell.proofs.CallRows.{LinesAreRows}
 use Rattle.histar_shell.proofs.SessionMeanings.{meant_run}
@@ -75,16 +75,16 @@ answer_fault_writes OutOfMemory old new read h begun = inr begun
 answer_fault_writes ReadFailed old new read h begun = absurd h
 answer_fault_writes WriteFailed old new read h begun = begun
 
--- the machine was booted with the users that the script has
-pub starts_with : (m : MachineModel) (script : Reading) (slice users : List User) → slice ≡ users → users ≡ script.users → IsStart slice m → IsStart script.users m
-starts_with m script slice users same listed starts = subst (λ (l : List User). IsStart l m) (same ∙ listed) starts
+-- the machine was booted with the users and groups that the script has
+pub starts_with : (m : MachineModel) (script : Reading) (session : Session) → session ≡ script.session → IsStart session m → IsStart script.session m
+starts_with m script session same starts = subst (λ (declared : Session). IsStart declared m) same starts
 
 -- a beginning of the calls of the script was answered
-pub begins_script : (old new : Option (List ℕ)) (script : Reading) (start : MachineModel) (calls : List CallLine) → IsStart script.users start → calls ≡ script.calls → BeginsAnswers start old new calls → (read : Result Reading Fault) → read ≡ Ok script → BeginsScript old new read
+pub begins_script : (old new : Option (List ℕ)) (script : Reading) (start : MachineModel) (calls : List CallLine) → IsStart script.session start → calls ≡ script.calls → BeginsAnswers start old new calls → (read : Result Reading Fault) → read ≡ Ok script → BeginsScript old new read
 begins_script old new script start calls starts listed begun read is_read = record { script = script; is_read = is_read; start = start; starts = starts; begun = subst (λ (l : List CallLine). BeginsAnswers start old new l) listed begun }
 
 -- the calls of the script were answered, and the trace is that of the machine at the end
-pub answers_script : (old new : Option (List ℕ)) (script : Reading) (start end : MachineModel) (calls : List CallLine) (trace : List TraceEntry) → IsStart script.users start → calls ≡ script.calls → AnswersCalls start end old new calls → trace ≡ end.kernel.trace → (read : Result Reading Fault) → read ≡ Ok script → AnswersScript old new read trace
+pub answers_script : (old new : Option (List ℕ)) (script : Reading) (start end : MachineModel) (calls : List CallLine) (trace : List TraceEntry) → IsStart script.session start → calls ≡ script.calls → AnswersCalls start end old new calls → trace ≡ end.kernel.trace → (read : Result Reading Fault) → read ≡ Ok script → AnswersScript old new read trace
 answers_script old new script start end calls trace starts listed answered recorded read is_read = record { script = script; is_read = is_read; start = start; starts = starts; end = end; answered = subst (λ (l : List CallLine). AnswersCalls start end old new l) listed answered; recorded = recorded }
 
 -- a text of which a beginning of the calls was answered

@@ -3,15 +3,14 @@ use Rattle.std.proofs.Common.{◌≡◌, ℕ, List, [], ◌∷◌, ◌++◌, Opt
 use Rattle.std.specs.List.{AllByRecursion}
 use Rattle.std.specs.Io.KnownBytes.{Appends}
 use Rattle.std.proofs.lemmas.Grind.{flat_map-append}
-use Rattle.histar_flat.specs.declared.calls.User.{User}
 use Rattle.histar_flat.specs.declared.replies.Reply.{Reply}
-use Rattle.histar_flat.specs.Sessions.{Session as Declared, session_of}
+use Rattle.histar_flat.specs.Sessions.{Session as Declared}
 use Rattle.histar_flat.specs.FlatState.{Flat}
 use Rattle.histar_flat.specs.FlatCalls.{reply_to, flat_after}
 use Rattle.histar_flat.specs.Meaning.{boot, answered_from, flat_end, meaning, Answered}
 use Rattle.histar_flat.proofs.Laws.{replies_go_on}
 use Rattle.histar_object.specs.State.{State, empty_state}
-use Rattle.histar_script.specs.Script.{Reading, IsUserList}
+use Rattle.histar_script.specs.Script.{Reading, IsDeclared}
 use Rattle.histar_script.specs.declared.fault.Fault.{Fault}
 use Rattle.histar_script.specs.declared.fault.Fault.TheVariants.{BadScript, TooLong, OutOfMemory, ReadFailed, WriteFailed}
 use Rattle.histar_flat.specs.declared.calls.CallLine.{CallLine}
@@ -31,16 +30,16 @@ use Rattle.histar_shell.specs.Session.{Session, AnswersCalls, BeginsAnswers}
 use Rattle.histar_shell.specs.Outcome.{BeginsScript, WritesAtFault, WritesAnswers}
 use Rattle.histar_shell.specs.Meaning.{meaning_text, Shows, AnswersAsMeant, WritesMeaning, BeginsMeaning, WritesMeaningAtFault, RunsAsMeant}
 use Rattle.histar_shell.proofs.Users.{AreScriptable, script_says}
-use Rattle.histar_shell.proofs.LineMeanings.{line_follows, users_stay}
+use Rattle.histar_shell.proofs.LineMeanings.{line_follows, session_stays}
 use Rattle.histar_shell.proofs.RowRuns.{run_after, rows_run}
 use Rattle.histar_shell.proofs.Starts.{start_is_laid, start_shows}
 
 -- What the lines of a session have done, from a machine that shows a flat state on.
 pub record IsMeantSession (m : MachineModel) (f : Flat) (answers : List Answered) (end : MachineModel) : Type 0 where
-  pub text : answers_text answers ≡ answers_text (answered_from (session_of m.users) f (calls_of answers))
+  pub text : answers_text answers ≡ answers_text (answered_from m.session f (calls_of answers))
   pub entries : List TraceEntry
   pub trace : end.kernel.trace ≡ m.kernel.trace ++ entries
-  pub rows : AreRows (session_of m.users) (state m.kernel) f (calls_of answers) entries (state end.kernel)
+  pub rows : AreRows m.session (state m.kernel) f (calls_of answers) entries (state end.kernel)
 
 -- a session of no line
 session_none : (m : MachineModel) (f : Flat) (end : MachineModel) → end ≡ m → IsMeantSession m f [] end
@@ -52,31 +51,31 @@ session_none m f end same = record {
 }
 
 -- a line before a session
-session_first : (m mid : MachineModel) (f : Flat) (a : Answered) (answers : List Answered) (end : MachineModel) → mid.users ≡ m.users → AnswersAsMeant m mid f a.call a.reply
-    → IsMeantSession mid (flat_after (session_of m.users) f a.call.process a.call.call) answers end → IsMeantSession m f (a ∷ answers) end
+session_first : (m mid : MachineModel) (f : Flat) (a : Answered) (answers : List Answered) (end : MachineModel) → mid.session ≡ m.session → AnswersAsMeant m mid f a.call a.reply
+    → IsMeantSession mid (flat_after m.session f a.call.process a.call.call) answers end → IsMeantSession m f (a ∷ answers) end
 session_first m mid f a answers end same line later =
-    let g = flat_after (session_of m.users) f a.call.process a.call.call in
+    let g = flat_after m.session f a.call.process a.call.call in
     let asked = calls_of answers in
     record {
-      text = (λ i. line_text a.call.line (line.told i) ++ later.text i) ∙ ap (λ (users : List User). line_text a.call.line (reply_of line) ++ answers_text (answered_from (session_of users) g asked)) same;
+      text = (λ i. line_text a.call.line (line.told i) ++ later.text i) ∙ ap (λ (declared : Declared). line_text a.call.line (reply_of line) ++ answers_text (answered_from declared g asked)) same;
       entries = line.entries ++ later.entries;
       trace = later.trace ∙ ap (λ (es : List TraceEntry). es ++ later.entries) line.trace ∙ append_assoc m.kernel.trace line.entries later.entries;
-      rows = (line.entries, later.entries, state mid.kernel, refl, line.row, subst (λ (users : List User). AreRows (session_of users) (state mid.kernel) g asked later.entries (state end.kernel)) same later.rows);
+      rows = (line.entries, later.entries, state mid.kernel, refl, line.row, subst (λ (declared : Declared). AreRows declared (state mid.kernel) g asked later.entries (state end.kernel)) same later.rows);
     }
   where
     reply_of : AnswersAsMeant m mid f a.call a.reply → Reply
-    reply_of l = reply_to (session_of m.users) f a.call.process a.call.call
+    reply_of l = reply_to m.session f a.call.process a.call.call
 
 -- a session of lines that a script can have
 pub session_means : (rows : LinesAreRows) (m : MachineModel) (f : Flat) (answers : List Answered) (end : MachineModel) → Session m answers end → Shows m f → AreScriptable (calls_of answers) → IsMeantSession m f answers end
 session_means rows m f [] end session shows can = session_none m f end session
 session_means rows m f (a ∷ answers) end session shows can =
     let line = line_follows rows m session.0 a.call.line a.call.process a.call.call (Ok a.reply) session.1 f shows can.0 in
-    session_first m session.0 f a answers end (users_stay m session.0 a.call.line a.call.process a.call.call (Ok a.reply) session.1) line
-    (session_means rows session.0 (flat_after (session_of m.users) f a.call.process a.call.call) answers end session.2 line.shows can.1)
+    session_first m session.0 f a answers end (session_stays m session.0 a.call.line a.call.process a.call.call (Ok a.reply) session.1) line
+    (session_means rows session.0 (flat_after m.session f a.call.process a.call.call) answers end session.2 line.shows can.1)
 
 -- the raw calls of boot
-record IsBootTrace (users : List User) (m : MachineModel) : Type 0 where
+record IsBootTrace (session : Declared) (m : MachineModel) : Type 0 where
   pub entries : List TraceEntry
   pub trace : m.kernel.trace ≡ entries
   pub run : IsRun empty_state entries (state m.kernel)
@@ -90,9 +89,9 @@ booted_traced session kernel booted =
     let entries = entries_of booted.first.line boot_thread_number granted.0 in
     subst (λ (es : List TraceEntry). IsRun empty_state es (state kernel)) (sym (part.trace ∙ ap (λ (es : List TraceEntry). es ++ entries) booted.no_trace)) (subst (λ (s : State). IsRun s entries (state kernel)) booted.empty part.run)
 
-boot_trace : (users : List User) (m : MachineModel) → IsBooted (session_of users) m.kernel → IsBootTrace users m
-boot_trace users m booted =
-    let granted = granted_run boot_thread_number booted.first m.kernel (boot_calls (session_of users)) booted.made in
+boot_trace : (session : Declared) (m : MachineModel) → IsBooted session m.kernel → IsBootTrace session m
+boot_trace session m booted =
+    let granted = granted_run boot_thread_number booted.first m.kernel (boot_calls session) booted.made in
     let part = chain_run boot_thread_number booted.first m.kernel granted.0 granted.1 in
     let entries = entries_of booted.first.line boot_thread_number granted.0 in
     record {
@@ -102,28 +101,28 @@ boot_trace users m booted =
       own = subst (λ (line : ℕ). AllByRecursion (IsBy line boot_thread_number) entries) booted.line (chain_own boot_thread_number booted.first.line granted.0);
     }
 
-module _ (rows : LinesAreRows) (script : Reading) (is_list : IsUserList script.users) (can : AreScriptable script.calls) (start : MachineModel) (starts : IsStart script.users start) where
+module _ (rows : LinesAreRows) (script : Reading) (declared : IsDeclared script.session) (can : AreScriptable script.calls) (start : MachineModel) (starts : IsStart script.session start) where
   -- the session from the start on
-  from_start : (answers : List Answered) (end : MachineModel) → AreScriptable (calls_of answers) → Session start answers end → IsMeantSession start (boot (session_of script.users)) answers end
-  from_start answers end these session = session_means rows start (boot (session_of script.users)) answers end session (start_shows script.users is_list start starts) these
+  from_start : (answers : List Answered) (end : MachineModel) → AreScriptable (calls_of answers) → Session start answers end → IsMeantSession start (boot script.session) answers end
+  from_start answers end these session = session_means rows start (boot script.session) answers end session (start_shows script.session declared start starts) these
 
   -- the text of the lines that were answered
-  text_is : (answers : List Answered) (end : MachineModel) → AreScriptable (calls_of answers) → Session start answers end → answers_text answers ≡ answers_text (meaning (session_of script.users) (calls_of answers))
-  text_is answers end these session = (from_start answers end these session).text ∙ ap (λ (us : List User). answers_text (answered_from (session_of us) (boot (session_of script.users)) (calls_of answers))) starts.users
+  text_is : (answers : List Answered) (end : MachineModel) → AreScriptable (calls_of answers) → Session start answers end → answers_text answers ≡ answers_text (meaning script.session (calls_of answers))
+  text_is answers end these session = (from_start answers end these session).text ∙ ap (λ (us : Declared). answers_text (answered_from us (boot script.session) (calls_of answers))) starts.session
 
   -- all lines were answered
   pub writes_meaning : (old new : Option (List ℕ)) (read : Result Reading Fault) → read ≡ Ok script → (trace : List TraceEntry) (end : MachineModel) → AnswersCalls start end old new script.calls → trace ≡ end.kernel.trace → WritesMeaning old new read trace
   writes_meaning old new read is_read trace end answered recorded =
       let these : AreScriptable (calls_of answered.answers) = subst AreScriptable (sym answered.each) can in
       let session = from_start answered.answers end these answered.session in
-      let of_boot = boot_trace script.users start starts.booted in
+      let of_boot = boot_trace script.session start starts.booted in
       let parts = recorded ∙ session.trace ∙ ap (λ (es : List TraceEntry). es ++ session.entries) of_boot.trace in
-      let of_lines = subst (λ (calls : List CallLine). AreRows (session_of script.users) (state start.kernel) (boot (session_of script.users)) calls session.entries (state end.kernel)) answered.each
-      (subst (λ (us : List User). AreRows (session_of us) (state start.kernel) (boot (session_of script.users)) (calls_of answered.answers) session.entries (state end.kernel)) starts.users session.rows) in
+      let of_lines = subst (λ (calls : List CallLine). AreRows script.session (state start.kernel) (boot script.session) calls session.entries (state end.kernel)) answered.each
+      (subst (λ (us : Declared). AreRows us (state start.kernel) (boot script.session) (calls_of answered.answers) session.entries (state end.kernel)) starts.session session.rows) in
       record {
         script = script;
         is_read = is_read;
-        written = subst (Appends old new) (text_is answered.answers end these answered.session ∙ ap (λ (calls : List CallLine). answers_text (meaning (session_of script.users) calls)) answered.each) answered.written;
+        written = subst (Appends old new) (text_is answered.answers end these answered.session ∙ ap (λ (calls : List CallLine). answers_text (meaning script.session calls)) answered.each) answered.written;
         recorded = record {
           of_boot = of_boot.entries;
           of_lines = session.entries;
@@ -131,12 +130,12 @@ module _ (rows : LinesAreRows) (script : Reading) (is_list : IsUserList script.u
           start = state start.kernel;
           boot_run = of_boot.run;
           boot_own = of_boot.own;
-          boot_lays_out = subst (λ (s : State). LaysOut (session_of script.users) s (boot (session_of script.users))) (sym starts.state) (start_is_laid script.users is_list);
+          boot_lays_out = subst (λ (s : State). LaysOut script.session s (boot script.session)) (sym starts.state) (start_is_laid script.session declared);
           end = state end.kernel;
           rows = of_lines;
           run = subst (λ (es : List TraceEntry). IsRun empty_state es (state end.kernel)) (sym parts)
               (run_after empty_state (state start.kernel) (state end.kernel) of_boot.entries session.entries of_boot.run
-              (rows_run (session_of script.users) (state start.kernel) (boot (session_of script.users)) script.calls session.entries (state end.kernel) of_lines));
+              (rows_run script.session (state start.kernel) (boot script.session) script.calls session.entries (state end.kernel) of_lines));
         };
       }
 
@@ -157,11 +156,11 @@ module _ (rows : LinesAreRows) (script : Reading) (is_list : IsUserList script.u
       let asked = front in
       let more = begun.rest in
       let text = text_is begun.answers begun.end these begun.session in
-      let rest_text = answers_text (answered_from (session_of script.users) (flat_end (session_of script.users) (boot (session_of script.users)) asked) more) in
+      let rest_text = answers_text (answered_from script.session (flat_end script.session (boot script.session) asked) more) in
       let whole : meaning_text script ≡ answers_text begun.answers ++ rest_text =
-      ap (λ (calls : List CallLine). answers_text (meaning (session_of script.users) calls)) begun.parts
-      ∙ ap answers_text (replies_go_on (session_of script.users) (boot (session_of script.users)) asked more)
-      ∙ flat_map-append answer_text (meaning (session_of script.users) asked) (answered_from (session_of script.users) (flat_end (session_of script.users) (boot (session_of script.users)) asked) more)
+      ap (λ (calls : List CallLine). answers_text (meaning script.session calls)) begun.parts
+      ∙ ap answers_text (replies_go_on script.session (boot script.session) asked more)
+      ∙ flat_map-append answer_text (meaning script.session asked) (answered_from script.session (flat_end script.session (boot script.session) asked) more)
       ∙ ap (λ (t : List ℕ). t ++ rest_text) (sym text) in
       record { script = script; is_read = is_read; written = subst (AppendsFront old new) (sym whole) (longer_front old new (answers_text begun.answers) rest_text begun.written) }
 

@@ -1,10 +1,9 @@
 -- A machine that was booted shows the flat start.
 use Rattle.std.proofs.Common.{◌≤◌, List, length, sym, ap, ◌∙◌, subst, arith}
-use Rattle.histar_flat.specs.declared.calls.User.{User}
-use Rattle.histar_flat.specs.Sessions.{session_of}
+use Rattle.histar_flat.specs.Sessions.{Session}
 use Rattle.histar_flat.specs.Meaning.{boot}
 use Rattle.histar_object.specs.State.{State}
-use Rattle.histar_script.specs.Script.{IsUserList}
+use Rattle.histar_script.specs.Script.{IsDeclared}
 use Rattle.histar_rules.specs.Rules.{greatest}
 use Rattle.histar_syscall.specs.KernelModel.{state}
 use Rattle.histar_login.specs.Start.{start_state, places_of}
@@ -17,23 +16,23 @@ use Rattle.histar_shell.proofs.SmallFiles.{small_at_start}
 use Rattle.histar_shell.proofs.Jobless.{jobless_at_start}
 use Rattle.histar_shell.proofs.Users.{is_session}
 
-module _ (users : List User) (is_list : IsUserList users) where
+module _ (session : Session) (declared : IsDeclared session) where
   -- the objects of boot have numbers
-  room : (start_state (session_of users)).next_object ≤ greatest
-  room = omega (arith, length_start (session_of users), is_list.most)
+  room : (start_state session).next_object ≤ greatest
+  room = omega (arith, length_start session, declared.users.most)
 
   -- the start state lays out the flat start
-  pub start_is_laid : LaysOut (session_of users) (start_state (session_of users)) (boot (session_of users))
-  start_is_laid = start_lays_out (session_of users) is_list.some (is_session users is_list).no_one room
+  pub start_is_laid : LaysOut session (start_state session) (boot session)
+  start_is_laid = start_lays_out session declared.users.some (is_session session declared).no_one room
 
   -- a machine that was booted shows the flat start
-  pub start_shows : (m : MachineModel) → IsStart users m → Shows m (boot (session_of users))
+  pub start_shows : (m : MachineModel) → IsStart session m → Shows m (boot session)
   start_shows m start = record {
-    users = subst IsUserList (sym start.users) is_list;
-    places = start.places ∙ ap (λ (us : List User). places_of (length us)) (sym start.users);
+    declared = subst IsDeclared (sym start.session) declared;
+    places = start.places ∙ ap (λ (x : Session). places_of (length x.users)) (sym start.session);
     lays_out =
-        subst (λ (us : List User). LaysOut (session_of us) (state m.kernel) (boot (session_of users))) (sym start.users)
-        (subst (λ (s : State). LaysOut (session_of users) s (boot (session_of users))) (sym start.state) start_is_laid);
-    jobless = jobless_at_start (session_of users);
-    small = small_at_start (session_of users);
+        subst (λ (x : Session). LaysOut x (state m.kernel) (boot session)) (sym start.session)
+        (subst (λ (s : State). LaysOut session s (boot session)) (sym start.state) start_is_laid);
+    jobless = jobless_at_start session;
+    small = small_at_start session;
   }

@@ -1,17 +1,19 @@
--- The users of a script are those of a session, and its calls are calls that a line can make.
-use Rattle.std.proofs.Common.{◌≡◌, ℕ, ◌+◌, Bool, true, false, ◌&&◌, List, [], ◌∷◌, ◌++◌, length, cond, None, Some, Result, Ok, Err, refl, sym, ap, ◌∙◌, subst, inl, inr, if◌then◌else◌, arith}
-use Rattle.std.specs.Prelude.{IsTrue, All, not, nat_lt, option_map}
+-- The users and the groups of a script are those of a session, and its calls are calls that a line can make.
+use Rattle.std.proofs.Common.{◌≡◌, ◌≢◌, ℕ, ◌+◌, ◌<◌, get_or, Bool, true, false, ◌&&◌, List, [], ◌∷◌, ◌++◌, length, cond, None, Some, Result, Ok, Err, refl, sym, ap, ◌∙◌, subst, inl, inr, if◌then◌else◌, arith}
+use Rattle.std.specs.Prelude.{IsTrue, All, AllPairs, is_some, not, nat_lt, option_map, slice_get}
 use Rattle.std.specs.List.{AllByRecursion, position_or_len}
 use Rattle.std.specs.Str.{bytes_eq}
 use Rattle.std.proofs.lemmas.Bool.Decides.{nat_tests}
 use Rattle.std.proofs.lemmas.List.Elements.{All-head, All-tail}
-use Rattle.std.proofs.lemmas.Option.{none-some}
-use mathlib.Core.Bool.{true≢false}
+use Rattle.std.proofs.lemmas.Bool.{cases_lt}
+use Rattle.std.proofs.lemmas.List.Folds.{Any-from_list_any}
+use Rattle.std.proofs.lemmas.Option.{get_or_from_slice_get, slice_get-get_or, slice_get_within}
 use Rattle.histar_flat.specs.declared.calls.User.{User}
 use Rattle.histar_flat.specs.declared.calls.UnixCall.{UnixCall}
 use Rattle.histar_flat.specs.declared.calls.UnixCall.TheVariants.{Create, Mkdir, Write, Append, Read, List as ListCall, Stat, Unlink, Rmdir, Rmtree, Rename, Spawn, Exit, Status, Kill, Whoami, Login, Wrap}
-use Rattle.histar_flat.specs.Words.{is_name, is_user_name, begins_with_letter}
-use Rattle.histar_flat.specs.Sessions.{session_of, user_number}
+use Rattle.histar_flat.specs.Words.{Name, is_name, is_user_name, begins_with_letter}
+use Rattle.histar_flat.specs.Sessions.{Group, Session, is_member, user_number}
+use Rattle.histar_flat.specs.PathOrder.{same}
 use Rattle.histar_flat.specs.Classes.{nobody}
 use Rattle.histar_flat.specs.declared.calls.CallLine.{CallLine}
 use Rattle.histar_script.specs.declared.items.Item.{Item}
@@ -19,12 +21,13 @@ use Rattle.histar_script.specs.declared.items.Item.TheVariants as items
 use Rattle.histar_script.specs.declared.fault.Fault.{Fault}
 use Rattle.histar_script.specs.declared.fault.Fault.TheVariants.{TooLong}
 use Rattle.histar_script.specs.Lines.{lines_of, is_too_long}
-use Rattle.histar_script.specs.Script.{Reading, nothing_read, IsUserList}
+use Rattle.histar_script.specs.Script.{Reading, nothing_read, IsUserList, IsUserOf, IsMembership, AreGroups, IsDeclared}
 use Rattle.histar_script.specs.Grammar.{IsCallText, Says, Adds, TakesAll, IsScript}
 use Rattle.histar_script.specs.Reading.{reading, script_of}
 use Rattle.histar_script.proofs.ScriptsBack.{found_from}
-use Rattle.histar_script.proofs.Kept.{listed}
+use Rattle.histar_script.proofs.Kept.{is_declared}
 use Rattle.histar_refinement.specs.Sessions.{IsSession}
+use Rattle.histar_refinement.proofs.SessionLemmas.{equal_names, equal_tested, from_members, has_a_number}
 use Rattle.histar_rows.specs.Rows.{IsScriptable}
 
 -- a test that comes last of three
@@ -52,18 +55,47 @@ none_first (u ∷ users) named =
     ap (λ (b : Bool). cond (not b) (1 + position_or_len (λ (v : User). bytes_eq v.name nobody) users) 0) (is_not_nobody u.name (All-head (λ (v : User). IsTrue (is_user_name v.name)) u users named)) ∙ next
 
 -- and nobody has no number
-nobody_unnumbered : (users : List User) → IsUserList users → user_number (session_of users) nobody ≡ None
-nobody_unnumbered users h =
+nobody_unnumbered : (session : Session) → IsUserList session.users → user_number session nobody ≡ None
+nobody_unnumbered session h =
+    let users = session.users in
     let outside : nat_lt (length users) (length users) ≡ false = grind (arith, nat_tests) in
     ap (λ (k : ℕ). option_map (λ (place : ℕ). place + 1) (cond (nat_lt k (length users)) (Some k) None)) (none_first users h.named)
     ∙ ap (λ (b : Bool). option_map (λ (place : ℕ). place + 1) (cond b (Some (length users)) None)) outside
 
--- the users of a script are those of a session without groups
-pub is_session : (users : List User) → IsUserList users → IsSession (session_of users)
-is_session users h = record {
-  no_one = nobody_unnumbered users h;
-  groups_differ = λ i j g k at also e. absurd (none-some g at);
-  declared = λ name group is. absurd (true≢false (sym is));
+-- groups of a script that have one name are one
+one_group : (groups : List Group) → AllPairs (λ (g h : Group). g.name ≢ h.name) groups → (i j : ℕ) (g h : Group) → slice_get groups i ≡ Some g → slice_get groups j ≡ Some h → i < j → g.name ≢ h.name
+one_group groups distinct i j g h at_i at_j lt same =
+    let first : get_or groups i g ≡ g = get_or_from_slice_get groups i g g at_i in
+    let second : get_or groups j g ≡ h = get_or_from_slice_get groups j h g at_j in
+    distinct i j g lt (slice_get_within groups j h at_j) (ap (λ (x : Group). x.name) first ∙ same ∙ ap (λ (x : Group). x.name) (sym second))
+
+groups_apart : (session : Session) → AreGroups session → (i j : ℕ) (g h : Group) → slice_get session.groups i ≡ Some g → slice_get session.groups j ≡ Some h → same g.name h.name ≡ true → i ≡ j
+groups_apart session are i j g h at_i at_j alike = elim (cases_lt i j) [
+  | inl less ↦ absurd (one_group session.groups are.distinct i j g h at_i at_j less (equal_names g.name h.name alike))
+  | inr most ↦ elim (cases_lt j i) [
+    | inl less ↦ absurd (one_group session.groups are.distinct j i h g at_j at_i less (sym (equal_names g.name h.name alike)))
+    | inr least ↦ omega (arith, most, least)
+  ]
+]
+
+-- a member of a group of a script is a user
+member_declared : (session : Session) → AreGroups session → (name group : Name) → is_member session name group ≡ true → is_some (user_number session name) ≡ true
+member_declared session are name group member =
+    let found = from_members session.groups name group member in
+    let i = found.0 in
+    let g = found.1 in
+    let of_group : IsMembership session.users g = subst (IsMembership session.users) (get_or_from_slice_get session.groups i g g found.2) (are.members i g (slice_get_within session.groups i g found.2)) in
+    let among = Any-from_list_any (same name) g.members found.4 in
+    let user : IsUserOf session.users among.1 = subst (IsUserOf session.users) among.3 (of_group.declared among.0 among.1 among.2) in
+    has_a_number session name user.0 user.1 (slice_get-get_or session.users user.0 user.1 user.2 ∙ ap Some user.3)
+    (equal_tested user.1.name name (user.4 ∙ sym (equal_names name among.1 among.4)))
+
+-- the users and the groups of a script are those of a session
+pub is_session : (session : Session) → IsDeclared session → IsSession session
+is_session session declared = record {
+  no_one = nobody_unnumbered session declared.users;
+  groups_differ = groups_apart session declared.groups;
+  declared = member_declared session declared.groups;
 }
 
 -- the calls of lines are calls that a line can make
@@ -77,9 +109,9 @@ more_scriptable (d ∷ calls) c h k = (h.0, more_scriptable calls c h.1 k)
 
 -- a call that is spelled so
 spelled_scriptable : (text : List ℕ) (c : UnixCall) → IsCallText text c → IsScriptable c
-spelled_scriptable text (Create path mode) h = (h.1, h.2)
+spelled_scriptable text (Create path mode) h = h.1
 spelled_scriptable text (Write path bytes) h = h.1
-spelled_scriptable text (Mkdir path mode) h = (h.1, h.2)
+spelled_scriptable text (Mkdir path mode) h = h.1
 spelled_scriptable text (Append path bytes) h = h.1
 spelled_scriptable text (Read path) h = h.1
 spelled_scriptable text (ListCall path) h = h.1
@@ -104,9 +136,10 @@ said_scriptable line process c (inr h) = spelled_scriptable h.1.0 c h.1.3
 -- an item that is added
 item_scriptable : (s : Reading) (n : ℕ) (line : List ℕ) (i : Item) (t : Reading) → AreScriptable s.calls → Says line i → Adds s n i t → AreScriptable t.calls
 item_scriptable s n line items.Comment t h said added = subst (λ (r : Reading). AreScriptable r.calls) (sym added) h
-item_scriptable s n line (items.User u) t h said added = subst (λ (r : Reading). AreScriptable r.calls) (sym added.3) h
+item_scriptable s n line (items.User u) t h said added = subst (λ (r : Reading). AreScriptable r.calls) (sym added.4) h
+item_scriptable s n line (items.Group g) t h said added = subst (λ (r : Reading). AreScriptable r.calls) (sym added.5) h
 item_scriptable s n line (items.Call p c) t h said added =
-    subst (λ (r : Reading). AreScriptable r.calls) (sym added.1) (more_scriptable s.calls (record { line = n; process = p; call = c }) h (said_scriptable line p c said))
+    subst (λ (r : Reading). AreScriptable r.calls) (sym added.2) (more_scriptable s.calls (record { line = n; process = p; call = c }) h (said_scriptable line p c said))
 
 -- all lines
 lines_scriptable : (s : Reading) (n : ℕ) (lines : List (List ℕ)) (t : Reading) → TakesAll s n lines t → AreScriptable s.calls → AreScriptable t.calls
@@ -122,8 +155,8 @@ script_is false fault text script e never = found_from text script e
 too_long_is_none : (r : Reading) → ◌≡◌ {A = Result Reading Fault} (Err TooLong) (Ok r) → ⊥
 too_long_is_none r e = absurd cc
 
--- the users and the calls of a text that is a script
-pub script_says : (text : List ℕ) (script : Reading) → script_of text ≡ Ok script → IsUserList script.users × AreScriptable script.calls
+-- the users, the groups and the calls of a text that is a script
+pub script_says : (text : List ℕ) (script : Reading) → script_of text ≡ Ok script → IsDeclared script.session × AreScriptable script.calls
 script_says text script e =
     let is = script_is (is_too_long text) (Err TooLong) text script e too_long_is_none in
-    (listed text script is, lines_scriptable nothing_read 0 (lines_of text) script is.0 tt)
+    (is_declared text script is, lines_scriptable nothing_read 0 (lines_of text) script is.0 tt)

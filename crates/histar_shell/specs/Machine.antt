@@ -1,13 +1,12 @@
 -- What a machine keeps, and what a call line does to it.
-use Rattle.std.specs.Prelude.{◌≡◌, ℕ, Bool, true, false, List, length, Option, None, Some, Result, Ok, IsErr, is_err, refl}
-use Rattle.std.specs.Coded.{Coded, code_by, coded×, coded_bool, coded_list}
-use Rattle.histar_flat.specs.declared.calls.User.{User}
-use Rattle.histar_flat.specs.contracts.calls.User as user
+use Rattle.std.specs.Prelude.{◌≡◌, ℕ, Bool, true, false, length, Option, None, Some, Result, Ok, IsErr, is_err, refl}
+use Rattle.std.specs.Coded.{Coded, code_by, coded×, coded_bool}
 use Rattle.histar_flat.specs.declared.calls.UnixCall.{UnixCall}
 use Rattle.histar_flat.specs.declared.calls.UnixCall.TheVariants.{Create, Mkdir, Write, Append, Read, List as ListCall, Stat, Unlink, Rmdir, Rmtree, Rename, Spawn, Exit, Status, Kill, Whoami, Login, Wrap}
 use Rattle.histar_flat.specs.declared.replies.Reply.{Reply}
 use Rattle.histar_flat.specs.declared.replies.Reply.TheVariants.{Gone}
-use Rattle.histar_flat.specs.Sessions.{session_of}
+use Rattle.histar_flat.specs.Sessions.{Session}
+use Rattle.histar_flat.specs.contracts.sessions.Session as sessions
 use Rattle.histar_flat.specs.Words.{ProcName}
 use Rattle.histar_object.specs.State.{empty_state}
 use Rattle.histar_syscall.specs.KernelModel.{KernelModel, coded_kernel_model, state}
@@ -39,27 +38,27 @@ use Rattle.histar_process.specs.Whoami.{whoami_program}
 use Rattle.histar_login.specs.Start.{places_of, start_state}
 use Rattle.histar_calls.specs.declared.ending.Stopped.{Stopped}
 
--- the kernel of a machine, the places of `/` and process 0, its users, and whether a call of it has ended without a reply
+-- the kernel of a machine, the places of `/` and process 0, its users and groups, and whether a call of it has ended without a reply
 pub record MachineModel : Type 0 where
   pub kernel : KernelModel
   pub places : Places
-  pub users : List User
+  pub session : Session
   pub is_stopped : Bool
 
 -- stored as the tuple of its parts
 abbrev pub coded_machine_model : Coded MachineModel
-coded_machine_model = code_by (KernelModel × (Places × (List User × Bool))) (coded× coded_kernel_model (coded× where_is.the_row.coded (coded× (coded_list user.the_row.coded) coded_bool))) (λ m. (m.kernel, (m.places, (m.users, m.is_stopped)))) (λ p. record { kernel = p.0; places = p.1.0; users = p.1.1.0; is_stopped = p.1.1.1 }) (λ _. refl)
+coded_machine_model = code_by (KernelModel × (Places × (Session × Bool))) (coded× coded_kernel_model (coded× where_is.the_row.coded (coded× sessions.the_row.coded coded_bool))) (λ m. (m.kernel, (m.places, (m.session, m.is_stopped)))) (λ p. record { kernel = p.0; places = p.1.0; session = p.1.1.0; is_stopped = p.1.1.1 }) (λ _. refl)
 
 -- the trace of the kernel is a run from the empty kernel to its state
 abbrev pub IsTraced : KernelModel → Type 0
 IsTraced k = IsRun empty_state k.trace (state k)
 
--- a machine that was booted with these users, in no group: it runs, and no raw call but those of boot was made
-pub record IsStart (declared : List User) (m : MachineModel) : Type 0 where
-  pub users : m.users ≡ declared
-  pub places : m.places ≡ places_of (length declared)
-  pub state : state m.kernel ≡ start_state (session_of declared)
-  pub booted : IsBooted (session_of declared) m.kernel
+-- a machine that was booted with these users and groups: it runs, and no raw call but those of boot was made
+pub record IsStart (declared : Session) (m : MachineModel) : Type 0 where
+  pub session : m.session ≡ declared
+  pub places : m.places ≡ places_of (length declared.users)
+  pub state : state m.kernel ≡ start_state declared
+  pub booted : IsBooted declared m.kernel
   pub line : m.kernel.line ≡ 0
   pub runs : m.is_stopped ≡ false
 
@@ -68,36 +67,36 @@ abbrev pub on_line : ℕ → KernelModel → KernelModel
 on_line line k = record { kept = k.kept; line = line; trace = k.trace }
 
 -- the program of raw calls that a call of a process runs; a call that no line can hold stops before its first
-abbrev pub program_of : List User → Places → ProcName → Caller → UnixCall → Program
-program_of users places me caller (Create path mode) = create_program places path mode
-program_of users places me caller (Mkdir path mode) = mkdir_program places path mode
-program_of users places me caller (Write path bytes) = write_program places path bytes
-program_of users places me caller (Append path bytes) = append_program places path bytes
-program_of users places me caller (Read path) = read_program places path
-program_of users places me caller (ListCall path) = list_program places path
-program_of users places me caller (Stat path) = stat_program users places path
-program_of users places me caller (Unlink path) = unlink_program places path
-program_of users places me caller (Rmdir path) = rmdir_program places path
-program_of users places me caller (Rmtree path) = rmtree_program places path
-program_of users places me caller (Rename path name) = rename_program places path name
-program_of users places me caller Spawn = spawn_program places.users me caller.home
-program_of users places me caller (Exit number) = exit_program caller.home number
-program_of users places me caller (Status name) = status_program places name
-program_of users places me caller (Kill name) = kill_program places name
-program_of users places me caller Whoami = whoami_program users
-program_of users places me caller (Login name password) = login_program users caller name password
-program_of users places me caller (Wrap path) = Stops
+abbrev pub program_of : Session → Places → ProcName → Caller → UnixCall → Program
+program_of session places me caller (Create path mode) = create_program session places path mode
+program_of session places me caller (Mkdir path mode) = mkdir_program session places path mode
+program_of session places me caller (Write path bytes) = write_program places path bytes
+program_of session places me caller (Append path bytes) = append_program places path bytes
+program_of session places me caller (Read path) = read_program places path
+program_of session places me caller (ListCall path) = list_program places path
+program_of session places me caller (Stat path) = stat_program session places path
+program_of session places me caller (Unlink path) = unlink_program places path
+program_of session places me caller (Rmdir path) = rmdir_program places path
+program_of session places me caller (Rmtree path) = rmtree_program places path
+program_of session places me caller (Rename path name) = rename_program places path name
+program_of session places me caller Spawn = spawn_program session me caller.home
+program_of session places me caller (Exit number) = exit_program caller.home number
+program_of session places me caller (Status name) = status_program places name
+program_of session places me caller (Kill name) = kill_program places name
+program_of session places me caller Whoami = whoami_program session
+program_of session places me caller (Login name password) = login_program session caller name password
+program_of session places me caller (Wrap path) = Stops
 
 -- a call of a process runs its program, by the process's thread on the line that was begun
-abbrev pub Makes : List User → Places → ProcName → Caller → KernelModel → KernelModel → UnixCall → Result Reply Stopped → Type 0
-Makes users places me caller old new call result = Runs (program_of users places me caller call) old new caller.thread result
+abbrev pub Makes : Session → Places → ProcName → Caller → KernelModel → KernelModel → UnixCall → Result Reply Stopped → Type 0
+Makes session places me caller old new call result = Runs (program_of session places me caller call) old new caller.thread result
 
--- The call was made by the thread of the process on the line that was begun; the machine has the places and the users that it had, and
--- has stopped where the call ended without an answer.
+-- The call was made by the thread of the process on the line that was begun; the machine has the places, the users and the groups that
+-- it had, and has stopped where the call ended without an answer.
 pub record HasMade (old new : MachineModel) (line : ℕ) (me : ProcName) (caller : Caller) (call : UnixCall) (result : Result Reply Stopped) : Type 0 where
-  pub made : Makes old.users old.places me caller (on_line line old.kernel) new.kernel call result
+  pub made : Makes old.session old.places me caller (on_line line old.kernel) new.kernel call result
   pub places : new.places ≡ old.places
-  pub users : new.users ≡ old.users
+  pub session : new.session ≡ old.session
   pub stops : new.is_stopped ≡ is_err result
 
 -- a process that is found has its call made; one that is not is answered `gone`, and nothing changes

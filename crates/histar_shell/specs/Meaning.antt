@@ -2,18 +2,17 @@
 use Rattle.std.specs.Prelude.{◌≡◌, ℕ, ◌⊎◌, List, ◌++◌, length, Option, Some, Result, Ok, Err, MatchResult}
 use Rattle.std.specs.List.{AllByRecursion}
 use Rattle.std.specs.Io.KnownBytes.{Appends, Keeps}
-use Rattle.histar_flat.specs.declared.calls.User.{User}
 use Rattle.histar_flat.specs.declared.replies.Reply.{Reply}
 use Rattle.histar_flat.specs.declared.calls.UnixCall.{UnixCall}
 use Rattle.histar_flat.specs.Words.{ProcName}
-use Rattle.histar_flat.specs.Sessions.{session_of}
+use Rattle.histar_flat.specs.Sessions.{Session}
 use Rattle.histar_flat.specs.Classes.{Process}
 use Rattle.histar_flat.specs.FlatState.{Flat}
 use Rattle.histar_flat.specs.Laws.{HasNoJob}
 use Rattle.histar_flat.specs.FlatCalls.{reply_to, flat_after}
 use Rattle.histar_flat.specs.Meaning.{boot, meaning}
 use Rattle.histar_object.specs.State.{State, empty_state}
-use Rattle.histar_script.specs.Script.{Reading, IsUserList}
+use Rattle.histar_script.specs.Script.{Reading, IsDeclared}
 use Rattle.histar_script.specs.declared.fault.Fault.{Fault}
 use Rattle.histar_script.specs.declared.fault.Fault.TheVariants.{BadScript, TooLong, OutOfMemory, ReadFailed, WriteFailed}
 use Rattle.histar_flat.specs.declared.calls.CallLine.{CallLine}
@@ -32,29 +31,29 @@ use Rattle.histar_shell.specs.Machine.{MachineModel}
 
 -- the text of a script's meaning: for each call line, its number and the reply that the flat rules give
 abbrev pub meaning_text : Reading → List ℕ
-meaning_text script = answers_text (meaning (session_of script.users) script.calls)
+meaning_text script = answers_text (meaning script.session script.calls)
 
 -- no process is in a job or holds one, since no line of a script can start a job yet
 abbrev pub AreJobless : Flat → Type 0
 AreJobless f = (me : ProcName) (p : Process) → f.processes me ≡ Some p → HasNoJob p
 
--- A machine lays out a flat state, in which there are no jobs: its kernel does, and it knows of `/`, of process 0 and of its users what
--- boot told it.
+-- A machine lays out a flat state, in which there are no jobs: its kernel does, its users and groups are those of a script, and it
+-- knows of `/` and of process 0 what boot told it.
 pub record Shows (m : MachineModel) (f : Flat) : Type 0 where
-  pub users : IsUserList m.users
-  pub places : m.places ≡ places_of (length m.users)
-  pub lays_out : LaysOut (session_of m.users) (state m.kernel) f
+  pub declared : IsDeclared m.session
+  pub places : m.places ≡ places_of (length m.session.users)
+  pub lays_out : LaysOut m.session (state m.kernel) f
   pub jobless : AreJobless f
   pub small : AreFilesSmall f
 
 -- The line was answered what the flat state says. The new end of the trace are its raw calls, which are its row, and the machine lays
 -- out the flat state after the call.
 pub record AnswersAsMeant (old new : MachineModel) (f : Flat) (asked : CallLine) (reply : Reply) : Type 0 where
-  pub told : reply ≡ reply_to (session_of old.users) f asked.process asked.call
+  pub told : reply ≡ reply_to old.session f asked.process asked.call
   pub entries : List TraceEntry
   pub trace : new.kernel.trace ≡ old.kernel.trace ++ entries
-  pub row : IsRow (session_of old.users) (state old.kernel) f asked entries (state new.kernel)
-  pub shows : Shows new (flat_after (session_of old.users) f asked.process asked.call)
+  pub row : IsRow old.session (state old.kernel) f asked entries (state new.kernel)
+  pub shows : Shows new (flat_after old.session f asked.process asked.call)
 
 -- The line ended without an answer: its raw calls are a run of the kernel by the thread of its process, of which none was refused but
 -- where a counter has its greatest value.
@@ -62,7 +61,7 @@ pub record StopsUnrefused (old new : MachineModel) (line : ℕ) (process : ProcN
   pub entries : List TraceEntry
   pub trace : new.kernel.trace ≡ old.kernel.trace ++ entries
   pub run : IsRunUnlessExhausted (state old.kernel) entries (state new.kernel)
-  pub own : AllByRecursion (λ e. (e.line ≡ line) × IsThreadOf (session_of old.users) (state old.kernel) process e.thread) entries
+  pub own : AllByRecursion (λ e. (e.line ≡ line) × IsThreadOf old.session (state old.kernel) process e.thread) entries
 
 -- a line that ends so
 abbrev pub EndsAsMeant : MachineModel → MachineModel → Flat → CallLine → Result Reply Stopped → Type 0
@@ -75,8 +74,8 @@ FollowsMeaning old new line process call result =
     (f : Flat) → Shows old f → IsScriptable call → EndsAsMeant old new f (record { line = line; process = process; call = call }) result
 
 -- a machine lays out the flat start
-abbrev pub ShowsStart : List User → MachineModel → Type 0
-ShowsStart users m = Shows m (boot (session_of users))
+abbrev pub ShowsStart : Session → MachineModel → Type 0
+ShowsStart session m = Shows m (boot session)
 
 -- The trace of a run: one run of the labelled kernel from its empty state on. It is raw calls of boot, by the boot thread on line 0,
 -- which leave a state that lays out the flat start; then the raw calls of the lines, each line the row of its call.
@@ -87,9 +86,9 @@ pub record IsMeantTrace (script : Reading) (trace : List TraceEntry) : Type 0 wh
   pub start : State
   pub boot_run : IsRun empty_state of_boot start
   pub boot_own : AllByRecursion (IsBy 0 boot_thread_number) of_boot
-  pub boot_lays_out : LaysOut (session_of script.users) start (boot (session_of script.users))
+  pub boot_lays_out : LaysOut script.session start (boot script.session)
   pub end : State
-  pub rows : AreRows (session_of script.users) start (boot (session_of script.users)) script.calls of_lines end
+  pub rows : AreRows script.session start (boot script.session) script.calls of_lines end
   pub run : IsRun empty_state trace end
 
 -- The reading is of a script, the text of its meaning was written, and the trace is that of the meaning.

@@ -47,24 +47,24 @@ IsFaultAt read WriteFailed = IsOk read
 abbrev pub AgreesWith : {A : Type 0} → Result Reading Fault → Result A Fault → Type 0
 AgreesWith read result = MatchResult result (λ _. IsOk read) (IsFaultAt read)
 
--- The reading is of a script. A machine that was booted with its users answered each of its call lines, the lines that tell the
+-- The reading is of a script. A machine that was booted with its users and groups answered each of its call lines, the lines that tell the
 -- replies were written, and the trace is the one that the machine has at the end.
 pub record AnswersScript (old new : Option (List ℕ)) (read : Result Reading Fault) (trace : List TraceEntry) : Type 0 where
   pub script : Reading
   pub is_read : read ≡ Ok script
   pub start : MachineModel
-  pub starts : IsStart script.users start
+  pub starts : IsStart script.session start
   pub end : MachineModel
   pub answered : AnswersCalls start end old new script.calls
   pub recorded : trace ≡ end.kernel.trace
 
--- The reading is of a script. A machine that was booted with its users answered the first of its call lines, and a beginning of
+-- The reading is of a script. A machine that was booted with its users and groups answered the first of its call lines, and a beginning of
 -- the lines that tell the replies was written.
 pub record BeginsScript (old new : Option (List ℕ)) (read : Result Reading Fault) : Type 0 where
   pub script : Reading
   pub is_read : read ≡ Ok script
   pub start : MachineModel
-  pub starts : IsStart script.users start
+  pub starts : IsStart script.session start
   pub begun : BeginsAnswers start old new script.calls
 
 -- At a failed write a beginning of the answers was written, at want of memory that or nothing, at the other faults nothing.

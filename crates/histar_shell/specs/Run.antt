@@ -9,7 +9,7 @@ use Rattle.histar_devices.specs.Input.{TakesAll, TakesSome}
 use Rattle.histar_shell.specs.Outcome.{AgreesWith, WritesAnswers}
 use Rattle.histar_shell.specs.Meaning.{RunsAsMeant}
 
--- The text was run: its fault is answered, a machine that starts with its users answers its call lines, and what was written and the
+-- The text was run: its fault is answered, a machine that starts with its users and groups answers its call lines, and what was written and the
 -- trace are that machine's and those of the script's meaning.
 pub record RunsText (text : List ℕ) (old new : Option (List ℕ)) (result : Result (List TraceEntry) Fault) : Type 0 where
   pub faults : AgreesWith (script_of text) result

@@ -1,11 +1,11 @@
 //! The machine: a labelled kernel with its start state, and what each call line has it do.
-ghost use Rattle.std.specs.Prelude.{◌≡◌, ◌≤◌, length, IfOk};
-ghost use Rattle.histar_script.specs.Script.{IsUserList, most_users};
+ghost use Rattle.std.specs.Prelude.{◌≡◌, IfOk};
+ghost use Rattle.histar_script.specs.Script.{IsDeclared};
 ghost use Rattle.histar_shell.specs.Machine.{AnswersLine, IsStart, IsTraced, Makes};
 ghost use Rattle.histar_shell.specs.Meaning.{FollowsMeaning, ShowsStart};
 
 use histar_calls::{Places, Stopped, append, create, list, mkdir, read, stat, write};
-use histar_flat::{ProcName, Reply, UnixCall, User};
+use histar_flat::{ProcName, Reply, Session, UnixCall};
 use histar_label::LabelStore;
 use histar_login::{boot, login};
 use histar_moves::{rename, rmdir, rmtree, unlink};
@@ -48,38 +48,35 @@ impl Trace {
 pub struct Machine<S: LabelStore + Drop> {
     kernel: Kernel<S>,
     places: Places,
-    users: Vec<User>,
+    session: Session,
     is_stopped: bool,
 }
 
 impl<S: LabelStore + Drop> Model for Machine<S> {
-    ghost use Rattle.std.specs.Prelude.{◌≤◌, length};
-    ghost use Rattle.histar_script.specs.Script.{most_users};
     ghost use Rattle.histar_shell.specs.Machine.{MachineModel, coded_machine_model, IsTraced};
 
     ghost Value = { MachineModel };
 
     ghost coded = { coded_machine_model };
 
-    ghost view = { λ m. record { kernel = m.kernel; places = m.places; users = m.users.items; is_stopped = m.is_stopped } };
+    ghost view = { λ m. record { kernel = m.kernel; places = m.places; session = m.session; is_stopped = m.is_stopped } };
 
-    ghost invariant = { λ m. (length m.users.items ≤ most_users) × IsTraced m.kernel };
+    ghost invariant = { λ m. IsTraced m.kernel };
 }
 
 impl<S: LabelStore + Drop> Machine<S> {
-    /// A machine with these users that was booted by its raw calls, before the first call of a script:
-    /// `/` is the first user's, readable and empty, and process 0 is nobody's.
-    pub fn boot(alloc: Global, store: S, users: &[User]) -> Result<Self, Stopped>
-        requires { IsUserList users.now }
-        ensures starts { IfOk result (IsStart users.now) }
-        ensures shows { IfOk result (ShowsStart users.now) }
+    /// A machine with these users and groups that was booted by its raw calls, before the first call of a
+    /// script: `/` is the first user's, readable and empty, and process 0 is nobody's.
+    pub fn boot(alloc: Global, store: S, session: Session) -> Result<Self, Stopped>
+        requires { IsDeclared session }
+        ensures starts { IfOk result (IsStart session) }
+        ensures shows { IfOk result (ShowsStart session) }
     {
-        let users = Vec::from_slice(alloc, users)?;
-        let (kernel, places) = boot(alloc, store, users.as_slice(), &[])?;
+        let (kernel, places) = boot(alloc, store, &session)?;
         Ok(Machine {
             kernel,
             places,
-            users,
+            session,
             is_stopped: false,
         })
     }
@@ -103,12 +100,11 @@ impl<S: LabelStore + Drop> Machine<S> {
             return Ok(Reply::Gone);
         };
         self.kernel.begin(line);
-        let users = self.users.as_slice();
         let result = make(
             &mut self.kernel,
             alloc,
             &self.places,
-            users,
+            &self.session,
             process,
             &caller,
             call,
@@ -133,36 +129,39 @@ fn make<S: LabelStore + Drop>(
     kernel: &mut Kernel<S>,
     alloc: Global,
     places: &Places,
-    users: &[User],
+    session: &Session,
     me: &ProcName,
     caller: &Caller,
     call: UnixCall,
 ) -> Result<Reply, Stopped>
-    requires { length users.now ≤ most_users }
-    ensures { Makes users.now places.now me.now caller.now kernel.old kernel.new call result }
+    ensures { Makes session.now places.now me.now caller.now kernel.old kernel.new call result }
 {
     let thread = caller.thread;
     match call {
-        UnixCall::Create(path, mode) => create::create(kernel, alloc, places, thread, &path, mode),
-        UnixCall::Mkdir(path, mode) => mkdir::mkdir(kernel, alloc, places, thread, &path, mode),
+        UnixCall::Create(path, mode) => create::create(
+            kernel, alloc, places, session, thread, &path, mode,
+        ),
+        UnixCall::Mkdir(path, mode) => mkdir::mkdir(
+            kernel, alloc, places, session, thread, &path, mode,
+        ),
         UnixCall::Read(path) => read::read(kernel, alloc, places, thread, &path),
         UnixCall::Write(path, bytes) => write::write(kernel, alloc, places, thread, &path, bytes),
         UnixCall::Append(path, bytes) => append::append(
             kernel, alloc, places, thread, &path, bytes,
         ),
         UnixCall::List(path) => list::list(kernel, alloc, places, thread, &path),
-        UnixCall::Stat(path) => stat::stat(kernel, places, users, thread, &path),
+        UnixCall::Stat(path) => stat::stat(kernel, places, session, thread, &path),
         UnixCall::Unlink(path) => unlink::unlink(kernel, alloc, places, thread, &path),
         UnixCall::Rmdir(path) => rmdir::rmdir(kernel, alloc, places, thread, &path),
         UnixCall::Rmtree(path) => rmtree::rmtree(kernel, alloc, places, thread, &path),
         UnixCall::Rename(path, name) => rename::rename(kernel, alloc, places, thread, &path, &name),
-        UnixCall::Spawn => spawn::spawn(kernel, alloc, places.users, me, caller),
+        UnixCall::Spawn => spawn::spawn(kernel, alloc, session, me, caller),
         UnixCall::Exit(number) => exit::exit(kernel, alloc, caller, number),
         UnixCall::Status(name) => status::status(kernel, places, thread, &name),
         UnixCall::Kill(name) => kill::kill(kernel, alloc, places, thread, &name),
-        UnixCall::Whoami => whoami::whoami(kernel, users, thread),
+        UnixCall::Whoami => whoami::whoami(kernel, session, thread),
         UnixCall::Login(name, password) => login::login(
-            kernel, alloc, users, caller, name, password,
+            kernel, alloc, session, caller, name, password,
         ),
         UnixCall::Wrap(_) => Err(Stopped),
     }

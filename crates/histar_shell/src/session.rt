@@ -55,9 +55,9 @@ fn run_text<W: Sink>(alloc: Global, text: &[u8], writer: &mut W) -> Result<Trace
     ensures runs { RunsText text.now (W.written writer.old) (W.written writer.new) result }
 {
     let script = read_script(alloc, text)?;
-    let (users, calls) = script.into_parts();
+    let (session, calls) = script.into_parts();
     let store = PlainStore::new(alloc);
-    let Ok(mut machine) = Machine::boot(alloc, store, users.as_slice()) else {
+    let Ok(mut machine) = Machine::boot(alloc, store, session) else {
         return Err(Fault::OutOfMemory);
     };
     answer_calls(alloc, &mut machine, calls, writer)?;

@@ -25,13 +25,13 @@ pub returns-in_err-answer_calls-clause-runs : goal.returns-in_err-answer_calls-c
 returns-in_err-answer_calls-clause-runs g c =
     let p = err_from_is_err_and c.from_residual-in_err-answer_calls.result c.from_residual-in_err-answer_calls.ensures.1 in
     let given = c.in_ok-script.ensures.exact in
-    let starts = starts_with c.in-Ok.machine c.in_ok-script.script _ _ c.as_slice.ensures.value c.into_parts-users.ensures.users c.in-Ok.ensures.starts in
-    let begun = begins_script _ _ c.in_ok-script.script c.in-Ok.machine _ starts c.into_parts-users.ensures.calls c.in_err-answer_calls.ensures.err _ given in
+    let starts = starts_with c.in-Ok.machine c.in_ok-script.script _ c.into_parts-session.ensures.session c.in-Ok.ensures.starts in
+    let begun = begins_script _ _ c.in_ok-script.script c.in-Ok.machine _ starts c.into_parts-session.ensures.calls c.in_err-answer_calls.ensures.err _ given in
     rw (p.1, p.2) (begun_text lines_are_rows c.args.text.now _ _ c.in_err-answer_calls.field-0.0 c.in_ok-script.script given c.in_err-answer_calls.ensures.faults begun)
 
 pub returns-clause-runs : goal.returns-clause-runs
 returns-clause-runs g c =
     let given = c.in_ok-script.ensures.exact in
-    let starts = starts_with c.in-Ok.machine c.in_ok-script.script _ _ c.as_slice.ensures.value c.into_parts-users.ensures.users c.in-Ok.ensures.starts in
-    let answers = answers_script _ _ c.in_ok-script.script c.in-Ok.machine c.answer_calls.new.machine _ _ starts c.into_parts-users.ensures.calls c.in_ok-answer_calls.ensures.ok c.into_trace.ensures.trace _ given in
+    let starts = starts_with c.in-Ok.machine c.in_ok-script.script _ c.into_parts-session.ensures.session c.in-Ok.ensures.starts in
+    let answers = answers_script _ _ c.in_ok-script.script c.in-Ok.machine c.answer_calls.new.machine _ _ starts c.into_parts-session.ensures.calls c.in_ok-answer_calls.ensures.ok c.into_trace.ensures.trace _ given in
     answered_text lines_are_rows c.args.text.now _ _ _ c.in_ok-script.script given answers
