@@ -20,11 +20,7 @@ use std::alloc::{AllocError, Global};
 
 /// The label and the clearance of a process's thread as a user who owns the categories of these users and
 /// groups: it owns these and the process's own.
-fn user_labels(
-    alloc: Global,
-    caller: &Caller,
-    owners: &[u8],
-) -> Result<(Label, Label), AllocError>
+fn user_labels(alloc: Global, caller: &Caller, owners: &[u8]) -> Result<(Label, Label), AllocError>
     ensures { IfOk result (λ own. (own.0 ≡ user_label caller.now owners.now) × (own.1 ≡ user_clearance caller.now owners.now)) }
 {
     let categories = categories_of(alloc, owners, true)?;

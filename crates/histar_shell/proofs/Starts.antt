@@ -1,5 +1,5 @@
 -- A machine that was booted shows the flat start.
-use Rattle.std.proofs.Common.{◌≤◌, List, length, sym, ap, ◌∙◌, subst, arith}
+use Rattle.std.proofs.Common.{◌≤◌, length, sym, ap, ◌∙◌, subst, arith}
 use Rattle.histar_flat.specs.Sessions.{Session}
 use Rattle.histar_flat.specs.Meaning.{boot}
 use Rattle.histar_object.specs.State.{State}
