@@ -31,3 +31,6 @@ pub mod Worked
 pub mod WorkedRights
 pub mod WorkedFiles
 pub mod WorkedJobs
+pub mod WorkedGroups
+pub mod WorkedProcesses
+pub mod WorkedRuns

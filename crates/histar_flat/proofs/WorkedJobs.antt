@@ -1,10 +1,10 @@
 -- Worked sessions with jobs and groups: what is printed, computed.
-use Rattle.std.specs.Prelude.{◌≡◌, [], ◌∷◌, codes, refl}
+use Rattle.std.specs.Prelude.{◌≡◌, [], ◌∷◌, ◌++◌, codes, refl}
 use Rattle.std.specs.Fmt.{digits}
 use Rattle.histar_flat.specs.declared.calls.Mode.TheVariants as modes
-use Rattle.histar_flat.specs.declared.calls.UnixCall.TheVariants.{Create, Mkdir, Read, Write, Append, List as ListCall, Stat, Rmdir, Rmtree, Spawn, Exit, Status, Kill, Whoami, Login, Wrap}
+use Rattle.histar_flat.specs.declared.calls.UnixCall.TheVariants.{Create, Mkdir, Read, Write, Append, List as ListCall, Stat, Unlink, Rmdir, Rmtree, Spawn, Exit, Status, Kill, Whoami, Login, Wrap}
 use Rattle.histar_flat.specs.Meaning.{meaning}
-use Rattle.histar_flat.proofs.WorkedScripts.{line_of, printed, with_a_team, after_tmp}
+use Rattle.histar_flat.proofs.WorkedScripts.{line_of, printed, with_a_team, tmp_printed, from_tmp, after_tmp}
 
 -- a process in a job reads as its user, writes only in its job, logs in as no one, and starts jobs in its job alone
 pub job : after_tmp (
@@ -87,6 +87,53 @@ pub job_in_a_job : after_tmp (
     codes "10 ok 0.1.1\n11 ok 0.1.1.1\n12 ok\n13 ok file alice scratch\n14 ok k/\n15 EACCES\n16 EACCES\n17 ok\n18 = \n19 EACCES\n20 EACCES\n21 ok running\n22 EACCES\n23 EACCES\n24 ok\n25 ok\n"
 unfolding digits
 job_in_a_job = refl
+
+-- two jobs of one process don't see each other; who started them makes files in their directories and ends them, and a further
+-- child of it ends none
+pub two_jobs : from_tmp (
+    line_of 10 (1 ∷ []) (Wrap (codes "j" ∷ codes "tmp" ∷ [])) ∷
+    line_of 11 (1 ∷ []) (Wrap (codes "k" ∷ codes "tmp" ∷ [])) ∷
+    line_of 12 (1 ∷ 1 ∷ []) (ListCall (codes "k" ∷ codes "tmp" ∷ [])) ∷
+    line_of 13 (1 ∷ 1 ∷ []) (Status (2 ∷ 1 ∷ [])) ∷
+    line_of 14 (1 ∷ []) (Create (codes "x" ∷ codes "j" ∷ codes "tmp" ∷ []) modes.Private) ∷
+    line_of 15 (1 ∷ 1 ∷ []) (Read (codes "x" ∷ codes "j" ∷ codes "tmp" ∷ [])) ∷
+    line_of 16 (1 ∷ 1 ∷ []) (Write (codes "x" ∷ codes "j" ∷ codes "tmp" ∷ []) (codes "no")) ∷
+    line_of 17 (1 ∷ 1 ∷ []) (Unlink (codes "x" ∷ codes "j" ∷ codes "tmp" ∷ [])) ∷
+    line_of 18 (1 ∷ []) Spawn ∷
+    line_of 19 (3 ∷ 1 ∷ []) (Kill (1 ∷ 1 ∷ [])) ∷
+    line_of 20 (1 ∷ []) (Kill (2 ∷ 1 ∷ [])) ∷
+    line_of 21 (1 ∷ []) (Rmtree (codes "k" ∷ codes "tmp" ∷ [])) ∷
+    line_of 22 (1 ∷ []) Whoami ∷ []) ≡
+    tmp_printed ++ codes "10 ok 0.1.1\n11 ok 0.1.2\n12 EACCES\n13 EACCES\n14 ok\n15 = \n16 EACCES\n17 ok\n18 ok 0.1.3\n19 EACCES\n20 ok\n21 ok\n22 ok alice\n"
+unfolding digits
+two_jobs = refl
+
+-- nor do two jobs in a job see each other; a job in one of them reads what is of the jobs around it, and each process that started a
+-- job looks into the directory of that job, and not into those of the jobs in it
+pub two_jobs_in_a_job : from_tmp (
+    line_of 10 (1 ∷ []) (Wrap (codes "j" ∷ codes "tmp" ∷ [])) ∷
+    line_of 11 (1 ∷ 1 ∷ []) (Wrap (codes "k" ∷ codes "j" ∷ codes "tmp" ∷ [])) ∷
+    line_of 12 (1 ∷ 1 ∷ []) (Wrap (codes "l" ∷ codes "j" ∷ codes "tmp" ∷ [])) ∷
+    line_of 13 (1 ∷ 1 ∷ 1 ∷ []) (Create (codes "o" ∷ codes "k" ∷ codes "j" ∷ codes "tmp" ∷ []) modes.Private) ∷
+    line_of 14 (1 ∷ 1 ∷ 1 ∷ []) (Write (codes "o" ∷ codes "k" ∷ codes "j" ∷ codes "tmp" ∷ []) (codes "deep")) ∷
+    line_of 15 (2 ∷ 1 ∷ 1 ∷ []) (ListCall (codes "k" ∷ codes "j" ∷ codes "tmp" ∷ [])) ∷
+    line_of 16 (2 ∷ 1 ∷ 1 ∷ []) (Status (1 ∷ 1 ∷ 1 ∷ [])) ∷
+    line_of 17 (2 ∷ 1 ∷ 1 ∷ []) (Kill (1 ∷ 1 ∷ 1 ∷ [])) ∷
+    line_of 18 (1 ∷ 1 ∷ 1 ∷ []) (Wrap (codes "m" ∷ codes "k" ∷ codes "j" ∷ codes "tmp" ∷ [])) ∷
+    line_of 19 (1 ∷ 1 ∷ 1 ∷ 1 ∷ []) (Read (codes "o" ∷ codes "k" ∷ codes "j" ∷ codes "tmp" ∷ [])) ∷
+    line_of 20 (1 ∷ 1 ∷ 1 ∷ 1 ∷ []) (Write (codes "o" ∷ codes "k" ∷ codes "j" ∷ codes "tmp" ∷ []) (codes "no")) ∷
+    line_of 21 (1 ∷ 1 ∷ 1 ∷ 1 ∷ []) (Create (codes "p" ∷ codes "m" ∷ codes "k" ∷ codes "j" ∷ codes "tmp" ∷ []) modes.Open) ∷
+    line_of 22 (1 ∷ 1 ∷ 1 ∷ 1 ∷ []) Whoami ∷
+    line_of 23 (1 ∷ 1 ∷ 1 ∷ []) (Read (codes "p" ∷ codes "m" ∷ codes "k" ∷ codes "j" ∷ codes "tmp" ∷ [])) ∷
+    line_of 24 (1 ∷ 1 ∷ []) (Read (codes "p" ∷ codes "m" ∷ codes "k" ∷ codes "j" ∷ codes "tmp" ∷ [])) ∷
+    line_of 25 (1 ∷ 1 ∷ []) (ListCall (codes "k" ∷ codes "j" ∷ codes "tmp" ∷ [])) ∷
+    line_of 26 (1 ∷ []) (ListCall (codes "k" ∷ codes "j" ∷ codes "tmp" ∷ [])) ∷
+    line_of 27 (1 ∷ []) (ListCall (codes "j" ∷ codes "tmp" ∷ [])) ∷
+    line_of 28 (1 ∷ 1 ∷ []) (Kill (1 ∷ 1 ∷ 1 ∷ [])) ∷
+    line_of 29 (1 ∷ 1 ∷ 1 ∷ 1 ∷ []) Whoami ∷ []) ≡
+    tmp_printed ++ codes "10 ok 0.1.1\n11 ok 0.1.1.1\n12 ok 0.1.1.2\n13 ok\n14 ok\n15 EACCES\n16 EACCES\n17 EACCES\n18 ok 0.1.1.1.1\n19 = deep\n20 EACCES\n21 ok\n22 ok alice confined\n23 = \n24 EACCES\n25 ok m/ o\n26 EACCES\n27 ok k/ l/\n28 ok\n29 gone\n"
+unfolding digits
+two_jobs_in_a_job = refl
 
 -- who logs in lets go of the jobs that the process held
 pub login_lets_go : after_tmp (

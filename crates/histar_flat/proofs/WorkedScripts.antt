@@ -1,14 +1,18 @@
 -- Scripts of three users, of whom root is the first, and of processes that make their calls.
-use Rattle.std.specs.Prelude.{◌≡◌, ℕ, List, [], ◌∷◌, ◌++◌, codes, refl}
+use Rattle.std.specs.Prelude.{◌≡◌, ℕ, List, [], ◌∷◌, ◌++◌, None, Some, codes, refl}
 use Rattle.std.specs.List.{flat_map}
 use Rattle.std.specs.Fmt.{decimal, digits}
 use Rattle.histar_flat.specs.declared.calls.CallLine.{CallLine}
 use Rattle.histar_flat.specs.declared.calls.Mode.TheVariants as modes
 use Rattle.histar_flat.specs.declared.calls.UnixCall.{UnixCall}
 use Rattle.histar_flat.specs.declared.calls.UnixCall.TheVariants.{Mkdir, Spawn, Whoami, Login}
-use Rattle.histar_flat.specs.Texts.{reply_text}
-use Rattle.histar_flat.specs.Words.{ProcName}
+use Rattle.histar_flat.specs.Texts.{path_text, stat_text, reply_text}
+use Rattle.histar_flat.specs.Words.{Path, ProcName}
 use Rattle.histar_flat.specs.Sessions.{Session}
+use Rattle.histar_flat.specs.Files.{get}
+use Rattle.histar_flat.specs.Classes.{class_owner, class_mode}
+use Rattle.histar_flat.specs.FlatState.{Flat, Node, Content, is_dir}
+use Rattle.histar_flat.specs.FlatState.Content.{Dir, File}
 use Rattle.histar_flat.specs.Meaning.{Answered, boot, answered_from, flat_end, meaning}
 
 -- a call line
@@ -18,6 +22,25 @@ line_of line process call = record { line = line; process = process; call = call
 -- replies as they are printed: a line each, with its number, a space and the text of the reply
 abbrev pub printed : List Answered → List ℕ
 printed = flat_map (λ (a : Answered). decimal a.call.line ++ codes " " ++ reply_text a.reply ++ codes "\n")
+
+-- what stands at a path as it is printed: the path, its kind, its owner and its mode, and the bytes of a file
+abbrev content_printed : Content → List ℕ
+content_printed Dir = []
+content_printed (File bytes) = codes " = " ++ bytes
+
+abbrev node_printed : Path → Node → List ℕ
+node_printed q node =
+    path_text q ++ codes " "
+    ++ stat_text (record { is_directory = is_dir node; owner = class_owner node.class; mode = class_mode node.class })
+    ++ content_printed node.content ++ codes "\n"
+
+-- the line of the path, where something stands there
+abbrev pub printed_at : Flat → Path → List ℕ
+printed_at f q = elim (get f.files q) [ None ↦ [] | Some node ↦ node_printed q node ]
+
+-- a line for each file and each directory at the end of a script, in the order of their paths
+abbrev pub tree_after : Session → List CallLine → List ℕ
+tree_after session calls = flat_map (λ e. node_printed e.0 e.1) (flat_end session (boot session) calls).files.entries
 
 -- root, alice and bob, in no group
 abbrev pub three_users : Session
@@ -46,6 +69,13 @@ tmp_made =
 pub tmp_is_made : printed (meaning three_users tmp_made) ≡ codes "4 ok 0.1\n5 ok 0.2\n6 ok\n7 ok\n8 ok\n9 ok\n"
 unfolding digits
 tmp_is_made = refl
+
+-- what is printed of it, and of a script that goes on from there
+abbrev pub tmp_printed : List ℕ
+tmp_printed = codes "4 ok 0.1\n5 ok 0.2\n6 ok\n7 ok\n8 ok\n9 ok\n"
+
+abbrev pub from_tmp : List CallLine → List ℕ
+from_tmp calls = printed (meaning three_users (tmp_made ++ calls))
 
 -- what is printed for the lines after that
 abbrev pub after_tmp : List CallLine → List ℕ

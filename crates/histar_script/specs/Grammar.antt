@@ -87,8 +87,12 @@ Says line item = ((line ≡ []) × (item ≡ items.Comment)) ⊎ (IsTrue (is_pla
 -- and names no group that is not declared
 abbrev pub Adds : Reading → ℕ → Item → Reading → Type 0
 Adds old n items.Comment new = new ≡ old
-Adds old n (items.User u) new = (old.calls ≡ []) × (old.session.groups ≡ []) × (length old.session.users < most_users) × All (λ v. v.name ≢ u.name) old.session.users × (new ≡ record { session = with_user old.session u; calls = old.calls })
-Adds old n (items.Group g) new = (old.calls ≡ []) × (length old.session.groups < most_groups) × All (λ u. u.name ≢ g.name) old.session.users × All (λ h. h.name ≢ g.name) old.session.groups × IsMembership old.session.users g × (new ≡ record { session = with_group old.session g; calls = old.calls })
+Adds old n (items.User u) new =
+    (old.calls ≡ []) × (old.session.groups ≡ []) × (length old.session.users < most_users) × All (λ v. v.name ≢ u.name) old.session.users
+    × (new ≡ record { session = with_user old.session u; calls = old.calls })
+Adds old n (items.Group g) new =
+    (old.calls ≡ []) × (length old.session.groups < most_groups) × All (λ u. u.name ≢ g.name) old.session.users × All (λ h. h.name ≢ g.name) old.session.groups
+    × IsMembership old.session.users g × (new ≡ record { session = with_group old.session g; calls = old.calls })
 Adds old n (items.Call p c) new = (0 < length old.session.users) × IsTrue (is_declared_call old.session c) × (new ≡ record { session = old.session; calls = old.calls ++ (record { line = n; process = p; call = c }) ∷ [] })
 
 -- line n says an item that adds to what was read
