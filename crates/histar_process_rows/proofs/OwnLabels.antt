@@ -49,7 +49,7 @@ IsAtThree es c = (l : Level) × Contains es (c, l) × (is_three l ≡ true)
 at_three_later : (x : ℕ × Level) (es : List (ℕ × Level)) (c : ℕ) → IsAtThree es c → IsAtThree (x ∷ es) c
 at_three_later x es c found = let low = found.1.1 in (found.0, (suc found.1.0, omega (arith, low), found.1.2), found.2)
 
--- a category that was picked has level 3, by the level of the first one
+-- by the level of the first one, what was picked is listed with level 3
 picked_by : (x : ℕ × Level) (es more : List (ℕ × Level)) (c : ℕ) → (is_in (map (λ (e : ℕ × Level). e.0) more) c ≡ true → IsAtThree es c)
     → (b : Bool) → is_three x.1 ≡ b → is_in (map (λ (e : ℕ × Level). e.0) (cond b (x ∷ more) more)) c ≡ true → IsAtThree (x ∷ es) c
 picked_by x es more c rest true three e = elim (eqb_tells c x.0) [
@@ -58,6 +58,7 @@ picked_by x es more c rest true three e = elim (eqb_tells c x.0) [
 ]
 picked_by x es more c rest false three e = at_three_later x es c (rest e)
 
+-- a category that was picked is listed with level 3
 picked_there : (es : List (ℕ × Level)) (c : ℕ) → is_in (picked es) c ≡ true → IsAtThree es c
 picked_there [] c e = absurd (true≢false (sym e))
 picked_there (x ∷ es) c e = picked_by x es (filter (λ e. is_three e.1) es) c (picked_there es c) (is_three x.1) refl e
