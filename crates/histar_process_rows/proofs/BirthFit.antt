@@ -1,10 +1,11 @@
--- A spawn of a process in no job, where no group is declared: what the raw calls of its birth need is there, and they leave a state that
+-- A spawn: what the raw calls of its birth need is there, and they leave a state that
 -- lays out the flat state with the child.
-use Rattle.std.proofs.Common.{◌≡◌, ℕ, ◌+◌, ◌<◌, [], ◌∷◌, length, None, Some, arith, sym, ◌∙◌, subst}
+use Rattle.std.proofs.Common.{◌≡◌, ℕ, ◌+◌, ◌<◌, [], ◌∷◌, length, None, Some, arith, sym, ap, ◌∙◌, subst}
+use Rattle.std.specs.Prelude.{map}
 use Rattle.std.specs.FinSet as set
 use Rattle.histar_flat.specs.Words.{ProcName}
 use Rattle.histar_flat.specs.Sessions.{Session, user_number}
-use Rattle.histar_flat.specs.Classes.{Process}
+use Rattle.histar_flat.specs.Classes.{Process, is_free}
 use Rattle.histar_flat.specs.FlatState.{Flat}
 use Rattle.histar_flat.specs.FlatState as flat
 use Rattle.histar_label.specs.Levels.{Levels}
@@ -17,11 +18,11 @@ use Rattle.histar_layout.specs.Status.{ProcessStatus}
 use Rattle.histar_calls.specs.Categories.{user_of}
 use Rattle.histar_calls.specs.declared.places.Home.{Home}
 use Rattle.histar_process.specs.Birth.{outer_label, inner_label, thread_label, thread_clearance}
-use Rattle.histar_process.specs.Kin.{Kin, jobs_in, user_name, kin_of}
+use Rattle.histar_process.specs.Kin.{Kin, jobs_in, is_empty, user_name, kin_of}
 use Rattle.histar_refinement.specs.Sessions.{IsSession}
 use Rattle.histar_refinement.proofs.Counting.{boot_used}
-use Rattle.histar_refinement.specs.Categories.CategoryName.{ReadsProcess, WritesProcess}
-use Rattle.histar_refinement.specs.Categories.{CategoryName, Categories, boot_category}
+use Rattle.histar_refinement.specs.Categories.CategoryName.{ReadsProcess, WritesProcess, OfJob}
+use Rattle.histar_refinement.specs.Categories.{CategoryName, Categories, IsUsed, boot_category}
 use Rattle.histar_refinement.specs.Guards.{guard_label, rights_label, rights_clearance}
 use Rattle.histar_refinement.specs.Labels.{process_guard, inside_guard, thread_rights}
 use Rattle.histar_refinement.specs.Addresses.{home_of}
@@ -29,16 +30,19 @@ use Rattle.histar_refinement.specs.Addresses.Step.{Status, Inside, Runner}
 use Rattle.histar_refinement.specs.LaysOut.{LaysOut}
 use Rattle.histar_refinement.specs.Processes.{or_zero, process_bytes, status_by}
 use Rattle.histar_refinement.proofs.Beside.{own_set}
+use Rattle.histar_refinement.proofs.Growing.{same_rights_label}
+use Rattle.histar_refinement.proofs.Members.{is_in}
 use Rattle.histar_refinement.proofs.Spawned.{births, state_spawned, lays_out_spawned}
 use Rattle.histar_refinement.proofs.Spawning.{keeps, reads_number, writes_number}
-use Rattle.histar_process_rows.proofs.OwnLabels.{no_jobs_in, own_user_is, name_of_number}
+use Rattle.histar_refinement.proofs.Uses.{rights_used}
+use Rattle.histar_process_rows.proofs.OwnLabels.{jobs_are, none_if_free, own_user_is, name_of_number}
 use Rattle.histar_process_rows.proofs.BirthChecks.{IsModified, IsLesser}
 use Rattle.histar_process_rows.proofs.BirthRights.{chain_used, chain_free, names, owner, owner_most, around_before, around_owner, home_modified, outer_modified, inner_modified, thread_lesser, own_taken}
 use Rattle.histar_process_rows.proofs.BirthRun.{IsFit, spawned}
 use Rattle.histar_process_rows.proofs.ChildBytes.{started_fits, grown_fits, few_listed, child_bytes_are, own_bytes_are}
 use Rattle.histar_process_rows.proofs.ChildLabels.{outer_is, inner_is, label_is, clearance_is}
 
-module _ (session : Session) (ok : IsSession session) (s : State) (f : Flat) (lays_out : LaysOut session s f) (me : ProcName) (p : Process) (here : f.processes me ≡ Some p) (runs : p.exited ≡ None) (room : p.born < 64) (free : p.chain ≡ [])
+module _ (session : Session) (ok : IsSession session) (s : State) (f : Flat) (lays_out : LaysOut session s f) (me : ProcName) (p : Process) (here : f.processes me ≡ Some p) (runs : p.exited ≡ None) (room : p.born < 64)
     (C S : ℕ) (at_home : lays_out.laid.naming.number (home_of me) ≡ Some C) (at_status : lays_out.laid.naming.number (Status ∷ home_of me) ≡ Some S) (T : ℕ) (at_thread : lays_out.laid.naming.number (Runner ∷ Inside ∷ home_of me) ≡ Some T) where
   abbrev own : Levels
   own = rights_label lays_out.laid.category (thread_rights session me p)
@@ -56,9 +60,6 @@ module _ (session : Session) (ok : IsSession session) (s : State) (f : Flat) (la
   kin = kin_of session own
 
   -- what the own label of the thread tells
-  alone : jobs_in own ≡ []
-  alone = no_jobs_in lays_out.laid.category session me p free
-
   told : user_of own (length session.users) ≡ or_zero (user_number session p.user)
   told = own_user_is session s f lays_out.laid me p
 
@@ -66,11 +67,25 @@ module _ (session : Session) (ok : IsSession session) (s : State) (f : Flat) (la
   abbrev then_names : Categories
   then_names = names session s f lays_out.laid me p here runs room C S at_home at_status
 
-  -- boot's categories have their numbers still
+  -- what was used has its number still
+  kept : (c : CategoryName) → IsUsed session f c → then_names c ≡ lays_out.laid.category c
+  kept c used = keeps session s f lays_out.laid me p here runs room p.chain (chain_used session s f lays_out.laid me p here runs room C S at_home at_status) (lays_out.laid.processes me p here).chain (chain_free session s f lays_out.laid me p here runs room C S at_home at_status) C S at_home at_status c used
+
+  -- so have boot's categories
   as_made : (c : CategoryName) (q : ℕ) → boot_category session c ≡ Some q → then_names c ≡ q
-  as_made c q booted =
-      keeps session s f lays_out.laid me p here runs room p.chain (chain_used session s f lays_out.laid me p here runs room C S at_home at_status) (lays_out.laid.processes me p here).chain (chain_free session s f lays_out.laid me p here runs room C S at_home at_status) C S at_home at_status c
-      (boot_used session f lays_out.laid.first c q booted) ∙ lays_out.laid.as_made c q booted
+  as_made c q booted = kept c (boot_used session f lays_out.laid.first c q booted) ∙ lays_out.laid.as_made c q booted
+
+  -- and the own label of the thread tells the jobs of the process by their numbers then
+  own_kept : rights_label then_names (thread_rights session me p) ≡ own
+  own_kept =
+      let used = rights_used session f me p here in
+      same_rights_label lays_out.laid.category then_names (thread_rights session me p) (λ c e. kept c (used.0 c e), λ c e. kept c (used.1 c e))
+
+  alike : (q : ℕ) → is_in (jobs_in own) q ≡ is_in (map then_names (map OfJob p.chain)) q
+  alike q = ap (λ (label : Levels). is_in (jobs_in label) q) (sym own_kept) ∙ jobs_are then_names session me p q
+
+  alone : is_empty (jobs_in own) ≡ is_free p
+  alone = none_if_free lays_out.laid.category session me p
 
   named : user_name session.users (or_zero (user_number session p.user)) ≡ p.user
   named = name_of_number session ok p.user ((lays_out.laid.processes me p here).someone runs)
@@ -89,16 +104,16 @@ module _ (session : Session) (ok : IsSession session) (s : State) (f : Flat) (la
   newborn = record { user = p.user; chain = p.chain; held = []; exited = None; born = 0 }
 
   outer_same : outer_label kin (s.next_category + 1) ≡ guard_label then_names (process_guard child newborn)
-  outer_same = outer_is session then_names p free as_made named own alone told ((p.born + 1) ∷ me) s.next_category (s.next_category + 1) reads_is writes_is
+  outer_same = outer_is session then_names p as_made named own alike alone told ((p.born + 1) ∷ me) s.next_category (s.next_category + 1) reads_is writes_is
 
   inner_same : inner_label kin s.next_category (s.next_category + 1) ≡ guard_label then_names (inside_guard child newborn)
-  inner_same = inner_is session then_names p free as_made named own alone told ((p.born + 1) ∷ me) s.next_category (s.next_category + 1) reads_is writes_is
+  inner_same = inner_is session then_names p as_made named own alike alone told ((p.born + 1) ∷ me) s.next_category (s.next_category + 1) reads_is writes_is
 
   label_same : thread_label kin s.next_category (s.next_category + 1) ≡ rights_label then_names (thread_rights session child newborn)
-  label_same = label_is session then_names p free as_made named own alone told ((p.born + 1) ∷ me) s.next_category (s.next_category + 1) reads_is writes_is
+  label_same = label_is session then_names p as_made named own alike alone told ((p.born + 1) ∷ me) s.next_category (s.next_category + 1) reads_is writes_is
 
   clearance_same : thread_clearance kin s.next_category (s.next_category + 1) ≡ rights_clearance then_names (thread_rights session child newborn)
-  clearance_same = clearance_is session then_names p free as_made named own alone told ((p.born + 1) ∷ me) s.next_category (s.next_category + 1) reads_is writes_is
+  clearance_same = clearance_is session then_names p as_made named own alike alone told ((p.born + 1) ∷ me) s.next_category (s.next_category + 1) reads_is writes_is
 
   abbrev grown : Levels
   grown = owner session s f lays_out.laid me p here runs room C S at_home at_status

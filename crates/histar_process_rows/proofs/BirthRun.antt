@@ -34,7 +34,7 @@ use Rattle.histar_refinement.specs.Lines.{IsThreadOf}
 use Rattle.histar_refinement.proofs.RawChecks.{object}
 use Rattle.histar_refinement.proofs.Spawned.{births}
 use Rattle.histar_refinement.proofs.Beside.{own_set}
-use Rattle.histar_rows.specs.Rows.{RunsFree, has_category}
+use Rattle.histar_rows.specs.Rows.{IsRunning, has_category}
 use Rattle.histar_rows.proofs.Chains.{all_granted, Chain}
 use Rattle.histar_rows.proofs.Steps.{Goal, granted_step}
 use Rattle.histar_process_rows.proofs.BirthObjects.{Around}
@@ -70,7 +70,7 @@ spawned s t home status kin own most =
     (record { label = outer_label kin (s.next_category + 1); kind = Segment (status_bytes (started (s.next_object + 1) (s.next_object + 1 + 1))) })
     (status_bytes (with_child s.next_object (s.next_object + 1 + 1 + 1) status))) own most
 
-module _ (session : Session) (f : Flat) (me : ProcName) (caller : RunsFree f me) (call : UnixCall) (old new : KernelModel) (t : ℕ) (named : IsThreadOf session (state old) me t) (result : Result Reply Stopped)
+module _ (session : Session) (f : Flat) (me : ProcName) (caller : IsRunning f me) (call : UnixCall) (old new : KernelModel) (t : ℕ) (named : IsThreadOf session (state old) me t) (result : Result Reply Stopped)
     (s : State) (home : Home) (status : ProcessStatus) (kin : Kin) (own most : Levels) (fit : IsFit s t home status kin own most) (reply : Reply) where
   abbrev Row : Type 0
   Row = Goal session f me caller call old new t named result

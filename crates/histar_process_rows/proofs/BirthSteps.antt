@@ -15,11 +15,11 @@ use Rattle.histar_calls.specs.Refusals.{errno_for}
 use Rattle.histar_calls.specs.Programs.{AnswerOf, IsAnswer, Program, Runs}
 use Rattle.histar_calls.specs.Parts.{ask}
 use Rattle.histar_refinement.specs.Lines.{IsThreadOf}
-use Rattle.histar_rows.specs.Rows.{RunsFree, has_category}
+use Rattle.histar_rows.specs.Rows.{IsRunning, has_category}
 use Rattle.histar_rows.proofs.Chains.{all_granted, Chain}
 use Rattle.histar_rows.proofs.Steps.{Goal, granted_step, exhausted_step, exhausted_category_step}
 
-module _ (session : Session) (f : Flat) (me : ProcName) (caller : RunsFree f me) (call : UnixCall) (old new : KernelModel) (t : ℕ) (named : IsThreadOf session (state old) me t) (result : Result Reply Stopped) where
+module _ (session : Session) (f : Flat) (me : ProcName) (caller : IsRunning f me) (call : UnixCall) (old new : KernelModel) (t : ℕ) (named : IsThreadOf session (state old) me t) (result : Result Reply Stopped) where
   abbrev Row : Type 0
   Row = Goal session f me caller call old new t named result
 

@@ -38,6 +38,7 @@ use Rattle.histar_refinement.specs.LaysOut.{Laid, LaysOut}
 use Rattle.histar_refinement.specs.Processes.{or_zero, process_bytes}
 use Rattle.histar_refinement.proofs.CallerFound.{where_is, caller_found}
 use Rattle.histar_refinement.proofs.Exiting.{written, written_is, lays_out_exited}
+use Rattle.histar_refinement.proofs.MakingRanges.{all_known}
 use Rattle.histar_refinement.proofs.RawChecks.{object}
 use Rattle.histar_refinement.proofs.SessionLemmas.{equal_tested}
 use Rattle.histar_refinement.proofs.StatusFound.{numbered_runner, zero_there}
@@ -47,7 +48,7 @@ use Rattle.histar_rows.proofs.Steps.{Goal, granted_step, answered_step}
 use Rattle.histar_process_rows.specs.Laws.{ExitsAreRows}
 use Rattle.histar_process_rows.proofs.FoundProcesses.{at_container, at_segment, container_found, segment_found, step_below, observed, modified, thread}
 use Rattle.histar_process_rows.proofs.OwnSegment.{status_few, listed_few, segment_apart, thread_no_segment, write_granted, unlink_granted}
-use Rattle.histar_process_rows.proofs.Searches.{runs_as, status_of, read_of, seen_if_free, status_step}
+use Rattle.histar_process_rows.proofs.Searches.{runs_as, status_of, read_of, status_step}
 
 module _ (session : Session) (ok : IsSession session) (number : ℕ) (small : number ≤ greatest_status) (old new : KernelModel) (f : Flat) (me : ProcName) (t : ℕ) (ready : IsReady session (state old) f me t) (result : Result Reply Stopped) where
   abbrev call : UnixCall
@@ -104,13 +105,13 @@ module _ (session : Session) (ok : IsSession session) (number : ℕ) (small : nu
   segment_is = segment_found session (state old) f l me p here
 
   sees_itself : sees p p ≡ true
-  sees_itself = seen_if_free p p ready.caller.free
+  sees_itself = all_known p
 
   seen : is_below_raised due own ≡ true
   seen = observed session (state old) f l me p here me p ∙ sees_itself
 
   may : (is_below own due && is_below_raised due own) ≡ true
-  may = modified session (state old) f l me p here me p ready.caller.free sees_itself ∙ equal_tested me me refl
+  may = modified session (state old) f l me p here me p here sees_itself ∙ equal_tested me me refl
 
   -- what is written, and the raw calls
   abbrev told : ProcessStatus

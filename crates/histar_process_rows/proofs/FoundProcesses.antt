@@ -3,6 +3,7 @@ use Rattle.std.proofs.Common.{◌≡◌, ℕ, ◌&&◌, Bool, true, false, [], �
 use Rattle.std.specs.Prelude.{is_some}
 use Rattle.std.specs.List.{list_all}
 use Rattle.std.specs.FinSet as set
+use Rattle.std.proofs.lemmas.Option.{same_Some}
 use Rattle.histar_base.specs.Refusals.{unless}
 use Rattle.histar_flat.specs.PathOrder.{same}
 use Rattle.histar_flat.specs.Words.{ProcName}
@@ -29,10 +30,12 @@ use Rattle.histar_refinement.specs.Processes.{or_zero, process_bytes}
 use Rattle.histar_refinement.proofs.CallerFound.{where_is}
 use Rattle.histar_refinement.proofs.Steps.{step_tells}
 use Rattle.histar_refinement.proofs.ClassTests.{sees_process, below_process}
-use Rattle.histar_refinement.proofs.Members.{and_true}
+use Rattle.histar_refinement.proofs.Members.{and_true, and_false}
+use Rattle.histar_refinement.proofs.MakingRanges.{all_had}
 use Rattle.histar_refinement.proofs.Moving.{bare_is, at_number}
 use Rattle.histar_refinement.proofs.Places.{asked_home, asked_status}
 use Rattle.histar_refinement.proofs.RawChecks.{object, read_blocked, read_check, unlink_check}
+use Rattle.histar_refinement.proofs.SessionLemmas.{equal_names}
 use Rattle.histar_refinement.proofs.Standing.{bare_container_is, thread_found, step_linked}
 use Rattle.histar_refinement.proofs.StatusFound.{numbered_home, numbered_status, zero_there, status_found}
 
@@ -90,12 +93,19 @@ module _ (session : Session) (s : State) (f : Flat) (l : Laid session s f) where
       pub observed : is_below_raised (guard_label l.category (process_guard name other)) (rights_label l.category (thread_rights session me p)) ≡ sees p other
       observed = sees_process session me p l.category l.different name other
 
-      -- and a process in no job that sees it modifies it where it is its own
-      pub modified : p.chain ≡ [] → sees p other ≡ true
+      -- what is its own is secret to the jobs that the process is in
+      own_secret : f.processes me ≡ Some p → (b : Bool) → same name me ≡ b → (list_all (has other.chain) p.chain && b) ≡ b
+      own_secret stands true is =
+          let one : other ≡ p = same_Some other p (sym here ∙ ap f.processes (equal_names name me is) ∙ stands) in
+          and_true (list_all (has other.chain) p.chain) ∙ ap (λ (q : Process). list_all (has q.chain) p.chain) one ∙ all_had p.chain
+      own_secret stands false is = and_false (list_all (has other.chain) p.chain)
+
+      -- and a process that sees it modifies it where it is its own
+      pub modified : f.processes me ≡ Some p → sees p other ≡ true
           → (is_below (rights_label l.category (thread_rights session me p)) (guard_label l.category (process_guard name other)) && is_below_raised (guard_label l.category (process_guard name other)) (rights_label l.category (thread_rights session me p))) ≡ same name me
-      modified free seen =
+      modified stands seen =
           (λ i. below_process session me p l.category l.different name other i && (observed ∙ seen) i)
-          ∙ (λ i. (list_all (has other.chain) (free i) && same name me) && true) ∙ and_true (same name me)
+          ∙ and_true (list_all (has other.chain) p.chain && same name me) ∙ own_secret stands (same name me) refl
 
       module _ (t : ℕ) (runs : RunsAs session s f l me p t) where
         pub thread : s.objects t ≡ object (rights_label l.category (thread_rights session me p)) (Thread (rights_clearance l.category (thread_rights session me p)))
@@ -112,6 +122,6 @@ module _ (session : Session) (s : State) (f : Flat) (l : Laid session s f) where
                 ∙ ap (λ (b : Bool). unless b Observe) (observed ∙ is)
 
         -- What its container links is taken away by itself alone.
-        pub unlink_said : p.chain ≡ [] → sees p other ≡ true → (x : Step) (o : ℕ) → l.naming.number (x ∷ home_of name) ≡ Some o → check s t (Unlink (where_is session s f l name).container o) ≡ unless (same name me) Modify
-        unlink_said free seen x o at =
-            unlink_check s t own most thread container due container_found.0 container_found.1 (observed ∙ seen) o (step_below x o at) ∙ ap (λ (b : Bool). unless b Modify) (modified free seen)
+        pub unlink_said : sees p other ≡ true → (x : Step) (o : ℕ) → l.naming.number (x ∷ home_of name) ≡ Some o → check s t (Unlink (where_is session s f l name).container o) ≡ unless (same name me) Modify
+        unlink_said seen x o at =
+            unlink_check s t own most thread container due container_found.0 container_found.1 (observed ∙ seen) o (step_below x o at) ∙ ap (λ (b : Bool). unless b Modify) (modified runs.0 seen)

@@ -53,6 +53,7 @@ use Rattle.histar_refinement.proofs.CategoryTests.{among-append, among_none}
 use Rattle.histar_refinement.proofs.ClassTests.{sees_unguarded, jobs_apart}
 use Rattle.histar_refinement.proofs.Killing.{lays_out_left}
 use Rattle.histar_refinement.proofs.LeftObjects.{root_found, root_label}
+use Rattle.histar_refinement.proofs.Members.{and_false}
 use Rattle.histar_refinement.proofs.RawChecks.{object, unlink_check}
 use Rattle.histar_refinement.proofs.SessionLemmas.{equal_names}
 use Rattle.histar_refinement.proofs.Standing.{thread_found, step_linked}
@@ -94,7 +95,7 @@ owns_no_boot session me p =
         ∙ (λ k. among_none ReadsGroup OfBoot (λ g. refl) (groups_of session p.user) k || picked (is_free p) i k)
 
 -- so what the root container links is taken away by none
-module _ (session : Session) (s : State) (f : Flat) (l : Laid session s f) (me : ProcName) (p : Process) (t : ℕ) (runs : RunsAs session s f l me p t) (free : p.chain ≡ []) where
+module _ (session : Session) (s : State) (f : Flat) (l : Laid session s f) (me : ProcName) (p : Process) (t : ℕ) (runs : RunsAs session s f l me p t) where
   abbrev own_label : Levels
   own_label = rights_label l.category (thread_rights session me p)
 
@@ -114,7 +115,7 @@ module _ (session : Session) (s : State) (f : Flat) (l : Laid session s f) (me :
   root_unwritten =
       ap (is_below own_label) (root_label session s f l)
       ∙ below_by_names l.category l.different boot_guard (thread_rights session me p) (jobs_apart session me p p.chain (OfBoot ∷ []) (λ job. refl))
-      ∙ (λ i. list_all (among []) (map OfJob (free i)) && (owns_no_boot session me p i && true))
+      ∙ (λ i. list_all (among []) (map OfJob p.chain) && (owns_no_boot session me p i && true)) ∙ and_false (list_all (among []) (map OfJob p.chain))
 
   home_linked : set.contains root.0 home ≡ true
   home_linked = sym (ap (λ (found : Found). set.contains (links_in found) home) root.1) ∙ step_linked session s f l Home [] root_number home (l.as_booted [] root_number refl) (l.as_booted (Home ∷ []) home refl)
@@ -150,7 +151,7 @@ module _ (session : Session) (ok : IsSession session) (old new : KernelModel) (f
       search_step session ok old new f me t ready (calls.Kill []) result [] (λ home status. ask (raw.Unlink root_number (home_number (length session.users))) (λ _. Answers Done)) run (kill_refuses [])
       (λ found first here seen mid stays chain on.
       refused_step session f me ready.caller (calls.Kill []) old new t ready.thread result (calls_to []) mid chain stays ready.lays_out EACCES refl unlinks (λ _. Answers Done) Modify
-      (ap (λ (s : State). check s t unlinks) stays ∙ first_kept session (state old) f l me p t (runs_as session (state old) f me t ready) ready.caller.free) refl
+      (ap (λ (s : State). check s t unlinks) stays ∙ first_kept session (state old) f l me p t (runs_as session (state old) f me t ready)) refl
       (has_search session (state old) f me t ready [] _ (among_also old.line t (calls_to []) (calls_to []) ((unlinks, Some Modify) ∷ []) (among_granted_all old.line t (calls_to [])))) on)
 
   -- ---- another process
@@ -192,7 +193,7 @@ module _ (session : Session) (ok : IsSession session) (old new : KernelModel) (f
       said : (b : Bool) → same above me ≡ b → check (state mid) t unlinking ≡ unless b Modify
       said b is =
           ap (λ (s : State). check s t unlinking) stays
-          ∙ unlink_said session (state old) f l above parent here me p t (runs_as session (state old) f me t ready) ready.caller.free seen (Child n) o (at_container session (state old) f l name child there)
+          ∙ unlink_said session (state old) f l above parent here me p t (runs_as session (state old) f me t ready) seen (Child n) o (at_container session (state old) f l name child there)
           ∙ ap (λ (b : Bool). unless b Modify) is
 
       module _ (mine : same above me ≡ true) (cut : KernelModel) (cuts : CutsOff (state old) C o (state cut)) (so_far : Chain old t (all_granted (calls_to name ++ unlinking ∷ [])) cut) where
@@ -216,7 +217,7 @@ module _ (session : Session) (ok : IsSession session) (old new : KernelModel) (f
             (thread_then session (state old) f l above parent here n child there me p t runs outside (state cut) cuts)
             (holder_then session (state old) f l above parent here n child there me p t runs outside (state cut) cuts)
             (segment_then session (state old) f l above parent here n child there me p t runs outside (state cut) cuts)
-            (observed session (state old) f l above parent here me p ∙ seen) (modified session (state old) f l above parent here me p ready.caller.free seen ∙ mine)
+            (observed session (state old) f l above parent here me p ∙ seen) (modified session (state old) f l above parent here me p ready.caller.stands seen ∙ mine)
             (linked_then session (state old) f l above parent here n child there me p t runs outside (state cut) cuts) bytes (killed_few session (state old) f l above parent here n)
 
         laid_after : LaysOut session (with_bytes (state cut) S bytes) (without_process f name)

@@ -1,22 +1,26 @@
--- What its thread's own label tells of a process: that it is in no job, where it is in none, and whose it is.
-use Rattle.std.proofs.Common.{◌≡◌, ℕ, zero, suc, ◌⊎◌, inl, inr, Bool, true, false, cond, Contains, List, [], ◌∷◌, length, Option, Some, arith, refl, sym, ap, ◌∙◌}
+-- What its thread's own label tells of a process: which jobs it is in, and whose it is.
+use Rattle.std.proofs.Common.{◌≡◌, ◌≢◌, ℕ, zero, suc, ◌<◌, ◌==◌, ◌||◌, ◌⊎◌, inl, inr, Bool, true, false, cond, Contains, List, [], ◌∷◌, ◌++◌, length, get_or, Option, Some, arith, refl, sym, ap, ◌∙◌}
 use Rattle.std.specs.Prelude.{map, is_some, slice_get}
 use Rattle.std.specs.List.{filter}
+use Rattle.std.proofs.lemmas.Bool.Decides.{eqb_tells}
+use Rattle.std.proofs.lemmas.List.{get_or_default}
 use Rattle.std.proofs.lemmas.Option.{none-some, same_Some}
+use mathlib.Core.Bool.{true≢false}
 use Rattle.histar_flat.specs.declared.calls.User.{User}
 use Rattle.histar_flat.specs.Words.{Name, ProcName}
 use Rattle.histar_flat.specs.Sessions.{Session, user_number}
 use Rattle.histar_flat.specs.Classes.{Process, nobody, is_free}
 use Rattle.histar_flat.specs.FlatState.{Flat}
 use Rattle.histar_label.specs.declared.levels.Level.{Level}
-use Rattle.histar_label.specs.Levels.{exceptions_of}
+use Rattle.histar_label.specs.declared.levels.Level.TheVariants.{Star, L1, L3}
+use Rattle.histar_label.specs.Levels.{Levels, constant, default_of, default_of-constant, exceptions_of}
 use Rattle.histar_label.proofs.Listed.{ListsExceptions-exceptions_of}
 use Rattle.histar_object.specs.State.{State}
 use Rattle.histar_calls.specs.Categories.{user_of}
-use Rattle.histar_calls.specs.Labelling.{owning}
+use Rattle.histar_calls.specs.Labelling.{each_at, owning}
 use Rattle.histar_calls.proofs.UserOf.{user_is}
 use Rattle.histar_process.specs.Caller.{is_three}
-use Rattle.histar_process.specs.Kin.{jobs_in, user_name}
+use Rattle.histar_process.specs.Kin.{jobs_in, is_empty, user_name}
 use Rattle.histar_refinement.specs.Sessions.{IsSession}
 use Rattle.histar_refinement.specs.Categories.{Categories}
 use Rattle.histar_refinement.specs.Categories.CategoryName.{OfJob}
@@ -25,38 +29,94 @@ use Rattle.histar_refinement.specs.Labels.{thread_rights}
 use Rattle.histar_refinement.specs.LaysOut.{Laid}
 use Rattle.histar_refinement.specs.Processes.{or_zero}
 use Rattle.histar_refinement.proofs.CallLabels.{user_of_thread}
+use Rattle.histar_refinement.proofs.CallerLabels.{default_kept}
 use Rattle.histar_refinement.proofs.LeftObjects.{numbered_user}
 use Rattle.histar_refinement.proofs.Levelled.{owning_level, at_owning}
-use Rattle.histar_refinement.proofs.Members.{is_in}
+use Rattle.histar_refinement.proofs.Members.{is_in, same_truth, or_first, or_second, equal_itself}
 use Rattle.histar_refinement.proofs.Standing.{some_of}
 
 -- ---- jobs
 
--- where no exception has level 3 none is picked
-none_picked : (es : List (ℕ × Level)) → ((c : ℕ) (l : Level) → Contains es (c, l) → is_three l ≡ false) → filter (λ e. is_three e.1) es ≡ []
-none_picked [] each = refl
-none_picked (e ∷ es) each =
-    ap (λ (b : Bool). cond b (e ∷ filter (λ x. is_three x.1) es) (filter (λ x. is_three x.1) es)) (each e.0 e.1 (zero, omega arith, refl))
-    ∙ none_picked es (λ c l there. let low = there.1 in each c l (suc there.0, omega (arith, low), there.2))
+-- the categories that have level 3
+abbrev picked : List (ℕ × Level) → List ℕ
+picked es = map (λ (e : ℕ × Level). e.0) (filter (λ e. is_three e.1) es)
 
--- what owns categories, and has none at 3, has no category at 3
-owned_alone : (o : Bool) → is_three (owning_level o false) ≡ false
-owned_alone true = refl
-owned_alone false = refl
+-- the category is listed with level 3
+abbrev IsAtThree : List (ℕ × Level) → ℕ → Type 0
+IsAtThree es c = (l : Level) × Contains es (c, l) × (is_three l ≡ true)
 
--- so it is in no job
-pub jobs_of_owner : (owned : List ℕ) → jobs_in (owning owned []) ≡ []
-jobs_of_owner owned = ap (map (λ (e : ℕ × Level). e.0)) (none_picked (exceptions_of (owning owned []))
-    (λ c l there. ap is_three (sym ((ListsExceptions-exceptions_of (owning owned []) c l).0 there).0 ∙ at_owning owned [] c) ∙ owned_alone (is_in owned c)))
+-- what is listed later is listed
+at_three_later : (x : ℕ × Level) (es : List (ℕ × Level)) (c : ℕ) → IsAtThree es c → IsAtThree (x ∷ es) c
+at_three_later x es c found = let low = found.1.1 in (found.0, (suc found.1.0, omega (arith, low), found.1.2), found.2)
 
--- The own label of the thread of a process in no job tells no job.
-pub no_jobs_in : (category : Categories) (session : Session) (me : ProcName) (p : Process) → p.chain ≡ [] → jobs_in (rights_label category (thread_rights session me p)) ≡ []
-no_jobs_in category session me p free =
-    ap (λ (chain : List ProcName). jobs_in (owning (map category (thread_rights session me p).owned) (map category (map OfJob chain)))) free ∙ jobs_of_owner (map category (thread_rights session me p).owned)
+-- by the level of the first one, what was picked is listed with level 3
+picked_by : (x : ℕ × Level) (es more : List (ℕ × Level)) (c : ℕ) → (is_in (map (λ (e : ℕ × Level). e.0) more) c ≡ true → IsAtThree es c)
+    → (b : Bool) → is_three x.1 ≡ b → is_in (map (λ (e : ℕ × Level). e.0) (cond b (x ∷ more) more)) c ≡ true → IsAtThree (x ∷ es) c
+picked_by x es more c rest true three e = elim (eqb_tells c x.0) [
+  | inl k ↦ (x.1, (zero, omega arith, λ i. (sym k.1 i, x.1)), three)
+  | inr k ↦ at_three_later x es c (rest (sym (ap (λ b. b || is_in (map (λ (e : ℕ × Level). e.0) more) c) k.0) ∙ e))
+]
+picked_by x es more c rest false three e = at_three_later x es c (rest e)
 
--- a process in no job is free
-pub free_in_none : (p : Process) → p.chain ≡ [] → is_free p ≡ true
-free_in_none p e = λ i. elim (e i) as (λ _. Bool) [ [] ↦ true | job ∷ jobs ↦ false ]
+-- a category that was picked is listed with level 3
+picked_there : (es : List (ℕ × Level)) (c : ℕ) → is_in (picked es) c ≡ true → IsAtThree es c
+picked_there [] c e = absurd (true≢false (sym e))
+picked_there (x ∷ es) c e = picked_by x es (filter (λ e. is_three e.1) es) c (picked_there es c) (is_three x.1) refl e
+
+-- what is picked later is picked
+picked_later : (x : ℕ × Level) (more : List (ℕ × Level)) (c : ℕ) → is_in (map (λ (e : ℕ × Level). e.0) more) c ≡ true → (b : Bool) → is_in (map (λ (e : ℕ × Level). e.0) (cond b (x ∷ more) more)) c ≡ true
+picked_later x more c found true = or_second (c == x.0) _ found
+picked_later x more c found false = found
+
+-- and a category that is listed with level 3 is picked
+picked_if_there : (es : List (ℕ × Level)) (c : ℕ) (l : Level) → is_three l ≡ true → (j : ℕ) → j < length es → get_or es j (0, Star) ≡ (c, l) → is_in (picked es) c ≡ true
+picked_if_there [] c l three j low at = absurd (omega (arith, low))
+picked_if_there (x ∷ es) c l three zero low at =
+    ap (λ b. is_in (map (λ (e : ℕ × Level). e.0) (cond b (x ∷ filter (λ e. is_three e.1) es) (filter (λ e. is_three e.1) es))) c) (ap (λ (e : ℕ × Level). is_three e.1) at ∙ three)
+    ∙ or_first (c == x.0) _ (ap (λ (e : ℕ × Level). c == e.0) at ∙ equal_itself c)
+picked_if_there (x ∷ es) c l three (suc j) low at = picked_later x (filter (λ e. is_three e.1) es) c (picked_if_there es c l three j (omega (arith, low)) at) (is_three x.1)
+
+-- level 3 is the level of what is at 3
+is_tainted : (o t : Bool) → is_three (owning_level o t) ≡ true → t ≡ true
+is_tainted o true e = refl
+is_tainted true false e = absurd (true≢false (sym e))
+is_tainted false false e = absurd (true≢false (sym e))
+
+-- it is not the default of what owns categories
+three_apart : (owned tainted : List ℕ) → L3 ≢ default_of (owning owned tainted)
+three_apart owned tainted e =
+    let level : L3 ≡ L1 = e ∙ default_kept (constant L1) (each_at Star owned ++ each_at L3 tainted) ∙ default_of-constant L1 in
+    true≢false (ap is_three level)
+
+-- The jobs that a label of rights tells are the categories that it has at 3.
+pub in_jobs : (owned tainted : List ℕ) (c : ℕ) → is_in (jobs_in (owning owned tainted)) c ≡ is_in tainted c
+in_jobs owned tainted c = same_truth (is_in (jobs_in own) c) (is_in tainted c)
+    (λ e. let there = picked_there (exceptions_of own) c e in
+    is_tainted (is_in owned c) (is_in tainted c) (ap is_three (sym (at_owning owned tainted c) ∙ ((ListsExceptions-exceptions_of own c there.0).0 there.1).0) ∙ there.2))
+    (λ e. let there = (ListsExceptions-exceptions_of own c L3).1 (at_owning owned tainted c ∙ ap (owning_level (is_in owned c)) e, three_apart owned tainted) in
+    picked_if_there (exceptions_of own) c L3 refl there.0 there.1 (get_or_default (exceptions_of own) there.0 (0, Star) (c, L3) there.1 ∙ there.2))
+  where
+    own : Levels
+    own = owning owned tainted
+
+-- a list with the same numbers as an empty one is empty, and so the other way round
+empty_alike : (cs ds : List ℕ) → ((c : ℕ) → is_in cs c ≡ is_in ds c) → is_empty cs ≡ is_empty ds
+empty_alike [] [] same = refl
+empty_alike [] (d ∷ ds) same = absurd (true≢false (sym (same d ∙ or_first (d == d) (is_in ds d) (equal_itself d))))
+empty_alike (c ∷ cs) [] same = absurd (true≢false (sym (or_first (c == c) (is_in cs c) (equal_itself c)) ∙ same c))
+empty_alike (c ∷ cs) (d ∷ ds) same = refl
+
+-- The own label of the thread of a process tells the jobs that the process is in.
+pub jobs_are : (category : Categories) (session : Session) (me : ProcName) (p : Process) (c : ℕ) → is_in (jobs_in (rights_label category (thread_rights session me p))) c ≡ is_in (map category (map OfJob p.chain)) c
+jobs_are category session me p c = in_jobs (map category (thread_rights session me p).owned) (map category (map OfJob p.chain)) c
+
+-- So it tells whether the process is in any.
+pub none_if_free : (category : Categories) (session : Session) (me : ProcName) (p : Process) → is_empty (jobs_in (rights_label category (thread_rights session me p))) ≡ is_free p
+none_if_free category session me p = empty_alike _ (map category (map OfJob p.chain)) (jobs_are category session me p) ∙ by p.chain
+  where
+    by : (chain : List ProcName) → is_empty (map category (map OfJob chain)) ≡ elim chain as (λ _. Bool) [ [] ↦ true | job ∷ jobs ↦ false ]
+    by [] = refl
+    by (job ∷ jobs) = refl
 
 -- ---- users
 

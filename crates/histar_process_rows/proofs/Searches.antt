@@ -53,7 +53,7 @@ all_joined P [] ys all more = more
 all_joined P (x ∷ xs) ys all more = (all.0, all_joined P xs ys all.1 more)
 
 -- a process in no job is seen by every process
-pub seen_if_free : (p other : Process) → other.chain ≡ [] → sees p other ≡ true
+seen_if_free : (p other : Process) → other.chain ≡ [] → sees p other ≡ true
 seen_if_free p other free = ap (list_all (knows p)) free
 
 module _ (session : Session) (s : State) (f : Flat) (me : ProcName) (t : ℕ) (ready : IsReady session s f me t) where

@@ -1,7 +1,6 @@
 -- A spawn is the row of its call: it is refused as the flat rules say, or the child is born.
 use Rattle.std.proofs.Common.{◌≡◌, ℕ, ◌+◌, ◌<◌, Bool, true, false, List, [], ◌∷◌, length, Option, None, Some, Result, refl, sym, ap, ◌∙◌, subst}
 use Rattle.std.specs.Prelude.{nat_lt}
-use Rattle.std.specs.List.{list_all}
 use Rattle.std.proofs.lemmas.Bool.{ltb-true}
 use Rattle.std.proofs.lemmas.Option.{same_Some}
 use Rattle.histar_base.specs.Refusals.{◌orelse◌, unless}
@@ -11,7 +10,7 @@ use Rattle.histar_flat.specs.declared.replies.Reply.{Reply}
 use Rattle.histar_flat.specs.declared.replies.Reply.TheVariants.{Child}
 use Rattle.histar_flat.specs.Words.{ProcName, most_children, most_numbers}
 use Rattle.histar_flat.specs.Sessions.{Session}
-use Rattle.histar_flat.specs.Classes.{Process, knows}
+use Rattle.histar_flat.specs.Classes.{Process}
 use Rattle.histar_flat.specs.FlatState.{Flat}
 use Rattle.histar_flat.specs.FlatState as flat
 use Rattle.histar_flat.specs.FlatCalls.{refused}
@@ -46,6 +45,7 @@ use Rattle.histar_refinement.specs.Laws.{IsCallerOf}
 use Rattle.histar_refinement.specs.Processes.{or_zero, process_bytes, status_by}
 use Rattle.histar_refinement.proofs.CallerFound.{caller_found, status_is}
 use Rattle.histar_refinement.proofs.ClassTests.{sees_process}
+use Rattle.histar_refinement.proofs.MakingRanges.{all_known}
 use Rattle.histar_refinement.proofs.RawChecks.{read_check}
 use Rattle.histar_refinement.proofs.StatusFound.{thread_back}
 use Rattle.histar_rows.specs.Rows.{IsReady, DoesItsRow}
@@ -142,13 +142,13 @@ module _ (session : Session) (ok : IsSession session) (me : ProcName) (caller : 
       answered calls later chain is few runs =
           answered_step session f me ready.caller Spawn old new t ready.thread result calls later chain reply refl (refused_is true true room long) tt tt
           (subst (λ (s : State). LaysOut session s (flat.with_child f me p p.chain)) (sym is)
-          (spawned_laid session ok (state old) f ready.lays_out me p ready.caller.stands ready.caller.runs few_born ready.caller.free caller.home.container caller.home.segment at_home at_status t at_thread few)) runs
+          (spawned_laid session ok (state old) f ready.lays_out me p ready.caller.stands ready.caller.runs few_born caller.home.container caller.home.segment at_home at_status t at_thread few)) runs
 
       -- the thread has asked for its own labels
       born : (mid : KernelModel) → Chain old t (all_granted (reads ∷ OwnLabel ∷ [])) mid → state mid ≡ state old → Runs (with_labels status (own, most)) mid new t result → Goal
       born mid chain stays runs =
           birth_made session f me ready.caller Spawn old new t ready.thread result (state old) caller.home status (kin_of session own) own most
-          (fit session ok (state old) f ready.lays_out me p ready.caller.stands ready.caller.runs few_born ready.caller.free caller.home.container caller.home.segment at_home at_status t at_thread) reply
+          (fit session ok (state old) f ready.lays_out me p ready.caller.stands ready.caller.runs few_born caller.home.container caller.home.segment at_home at_status t at_thread) reply
           answered (reads ∷ OwnLabel ∷ []) mid chain stays runs
 
       asked : (mid : KernelModel) → Chain old t (all_granted (reads ∷ [])) mid → state mid ≡ state old → Runs (in_room status) mid new t result → Goal
@@ -171,7 +171,7 @@ module _ (session : Session) (ok : IsSession session) (me : ProcName) (caller : 
 
     -- it sees its own container
     seen : is_below_raised home_label own ≡ true
-    seen = sees_process session me p l.category l.different me p ∙ ap (list_all (knows p)) ready.caller.free
+    seen = sees_process session me p l.category l.different me p ∙ all_known p
 
     status_told : status_in (bytes_in ((state old).objects caller.home.segment)) ≡ Some status
     status_told = ap (λ (q : ℕ). status_at (state old) q) (sym (ap or_zero at_status)) ∙ status_is session (state old) f l me p ready.caller.stands

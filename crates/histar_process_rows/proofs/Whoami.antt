@@ -31,7 +31,7 @@ use Rattle.histar_refinement.proofs.Standing.{thread_found}
 use Rattle.histar_rows.specs.Rows.{IsReady}
 use Rattle.histar_rows.proofs.Steps.{Goal, granted_step, answered_step}
 use Rattle.histar_process_rows.specs.Laws.{WhoamisAreRows}
-use Rattle.histar_process_rows.proofs.OwnLabels.{no_jobs_in, free_in_none, own_user_is, name_of_number}
+use Rattle.histar_process_rows.proofs.OwnLabels.{none_if_free, own_user_is, name_of_number}
 use Rattle.histar_process_rows.proofs.Searches.{runs_as}
 
 module _ (session : Session) (ok : IsSession session) (old new : KernelModel) (f : Flat) (me : ProcName) (t : ℕ) (ready : IsReady session (state old) f me t) (result : Result Reply Stopped) where
@@ -57,7 +57,7 @@ module _ (session : Session) (ok : IsSession session) (old new : KernelModel) (f
   told : (label : Levels) → Some label ≡ label_there ((state old).objects t) → reply_by label ≡ flat.answer f me p calls.Whoami
   told label right =
       let is : label ≡ own = same_Some label own (right ∙ ap label_there thread) in
-      ap reply_by is ∙ (λ i. replies.User (name_is i) (not (is_empty (no_jobs_in l.category session me p ready.caller.free i)))) ∙ (λ i. replies.User p.user (not (sym (free_in_none p ready.caller.free) i)))
+      ap reply_by is ∙ (λ i. replies.User (name_is i) (not (none_if_free l.category session me p i)))
 
   whoami_is_row : Runs (whoami_program session) old new t result → Goal session f me ready.caller calls.Whoami old new t ready.thread result
   unfolding whoami_program

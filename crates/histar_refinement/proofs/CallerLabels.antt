@@ -20,7 +20,7 @@ use Rattle.histar_refinement.proofs.CategoryTests.{among_none, is_in_names}
 use Rattle.histar_refinement.proofs.FoundCategories.{found_in_label}
 
 -- the default of a label with some exceptions
-default_kept : (L : Levels) (es : List (ℕ × Level)) → default_of (with_levels L es) ≡ default_of L
+pub default_kept : (L : Levels) (es : List (ℕ × Level)) → default_of (with_levels L es) ≡ default_of L
 default_kept L [] = refl
 default_kept L (e ∷ es) = default_kept (with_level L e.0 e.1) es ∙ default_of-with_level L e.0 e.1
 

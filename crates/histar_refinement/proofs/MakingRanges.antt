@@ -25,14 +25,14 @@ use Rattle.histar_refinement.proofs.SessionLemmas.{is_number, has_number, equal_
 use Rattle.histar_refinement.proofs.ClassTests.{user_apart, group_apart, owns_read_of, owns_read_of_group, passes_other, passes_jobs, below_private, below_readable, below_open, below_scratch, below_group, member}
 
 -- a job is among some where it is one of them, so each of some is
-all_had : (jobs : List ProcName) → list_all (has jobs) jobs ≡ true
+pub all_had : (jobs : List ProcName) → list_all (has jobs) jobs ≡ true
 all_had jobs = each jobs jobs (λ job e. e)
   where
     each : (all some : List ProcName) → ((job : ProcName) → has some job ≡ true → has all job ≡ true) → list_all (has all) some ≡ true
     each all [] within = refl
     each all (j ∷ some) within = and_both (within j (or_first (same j j) (has some j) (equal_tested j j refl))) (each all some (λ job e. within job (or_second (same job j) (has some job) e)))
 
-all_known : (p : Process) → list_all (knows p) p.chain ≡ true
+pub all_known : (p : Process) → list_all (knows p) p.chain ≡ true
 all_known p = each p.chain (λ job e. or_first (has p.chain job) (has p.held job) e)
   where
     each : (some : List ProcName) → ((job : ProcName) → has some job ≡ true → knows p job ≡ true) → list_all (knows p) some ≡ true

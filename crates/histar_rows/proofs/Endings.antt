@@ -28,7 +28,7 @@ use Rattle.histar_calls.specs.Refusals.{errno_for, errno_of, write_errno_of}
 use Rattle.histar_calls.specs.Replies.{is_access, is_permission, is_no_access, is_no_permission, IsRefusedOnce}
 use Rattle.histar_refinement.specs.LaysOut.{LaysOut}
 use Rattle.histar_refinement.specs.Lines.{IsThreadOf}
-use Rattle.histar_rows.specs.Rows.{RunsFree, IsDenialTold, EndsWithRead, HasReads, HasReadsOf, IsLine, IsUnanswered, IsRunUnlessExhausted, DoesItsRow}
+use Rattle.histar_rows.specs.Rows.{IsRunning, IsDenialTold, EndsWithRead, HasReads, HasReadsOf, IsLine, IsUnanswered, IsRunUnlessExhausted, DoesItsRow}
 use Rattle.histar_rows.proofs.Chains.{Step, all_granted, entries_of, Chain, chain_run, chain_own}
 
 -- a chain that was refused nowhere else ends without a reply
@@ -120,7 +120,7 @@ read_last old mid t calls chain container segment = record {
   answers = refl;
 }
 
-module _ (session : Session) (f : Flat) (me : ProcName) (caller : RunsFree f me) (call : UnixCall) (old new : KernelModel) (t : ℕ) (named : IsThreadOf session (state old) me t) where
+module _ (session : Session) (f : Flat) (me : ProcName) (caller : IsRunning f me) (call : UnixCall) (old new : KernelModel) (t : ℕ) (named : IsThreadOf session (state old) me t) where
   -- the process runs
   runs : running f me ≡ Some caller.process
   runs = ap if_running caller.stands ∙ ap (λ (x : Option ℕ). elim x as (λ _. Option Process) [ None ↦ Some caller.process | Some n ↦ None ]) caller.runs

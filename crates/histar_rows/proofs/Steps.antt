@@ -28,7 +28,7 @@ use Rattle.histar_calls.specs.Programs.Program.{Answers}
 use Rattle.histar_calls.specs.Parts.{refused_with, or_refused, ask, if_there, list}
 use Rattle.histar_refinement.specs.LaysOut.{LaysOut}
 use Rattle.histar_refinement.specs.Lines.{IsThreadOf}
-use Rattle.histar_rows.specs.Rows.{RunsFree, has_category, DoesItsRow}
+use Rattle.histar_rows.specs.Rows.{IsRunning, has_category, DoesItsRow}
 use Rattle.histar_rows.proofs.Chains.{Step, all_granted, entries_of, Chain, chain_after, granted_unless, exhausted_unless}
 use Rattle.histar_rows.proofs.Endings.{IsBacked, ReadsAmong, told_shown, chain_unanswered, granted_row, unchanged_row, refused_row}
 
@@ -115,7 +115,7 @@ module _ (t : ℕ) (old new : KernelModel) where
               runs = subst (λ (d : Denied). Runs (refused_with (errno_for call d)) mid new t result) same runs;
             })
 
-module _ (session : Session) (f : Flat) (me : ProcName) (caller : RunsFree f me) (call : UnixCall) (old new : KernelModel) (t : ℕ) (named : IsThreadOf session (state old) me t) (result : Result Reply Stopped) where
+module _ (session : Session) (f : Flat) (me : ProcName) (caller : IsRunning f me) (call : UnixCall) (old new : KernelModel) (t : ℕ) (named : IsThreadOf session (state old) me t) (result : Result Reply Stopped) where
   -- what a row shows
   abbrev pub Goal : Type 0
   Goal = DoesItsRow session f me call old new t result

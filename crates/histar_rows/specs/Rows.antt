@@ -54,13 +54,11 @@ IsScriptable Whoami = Unit {0}
 IsScriptable (Login name password) = Unit {0}
 IsScriptable (Wrap path) = ⊥
 
--- The process that makes a call runs, is in no job, and holds none.
-pub record RunsFree (f : Flat) (me : ProcName) : Type 0 where
+-- The process that makes a call runs.
+pub record IsRunning (f : Flat) (me : ProcName) : Type 0 where
   pub process : Process
   pub stands : f.processes me ≡ Some process
   pub runs : process.exited ≡ None
-  pub free : process.chain ≡ []
-  pub holds_none : process.held ≡ []
 
 -- from this state on, the last of the entries is a read that the kernel answers with these bytes
 pub record EndsWithRead (s : State) (entries : List TraceEntry) (bytes : List ℕ) : Type 0 where
@@ -253,11 +251,11 @@ AreFilesSmall f = (q : Path) (class : Class) (bytes : List ℕ) → get f.files 
 abbrev pub IsFirstFree : Flat → Type 0
 IsFirstFree f = (p : Process) → f.processes [] ≡ Some p → p.chain ≡ []
 
--- Where a call of a process is made: the state lays out this flat state, in which the process runs, in no job, process 0 is in none
--- either, and files are small enough, and the thread is the process's own.
+-- Where a call of a process is made: the state lays out this flat state, in which the process runs, process 0 is in no job and files are
+-- small enough, and the thread is the process's own.
 pub record IsReady (session : Session) (s : State) (f : Flat) (me : ProcName) (t : ℕ) : Type 0 where
   pub lays_out : LaysOut session s f
-  pub caller : RunsFree f me
+  pub caller : IsRunning f me
   pub first : IsFirstFree f
   pub small : AreFilesSmall f
   pub thread : IsThreadOf session s me t
