@@ -1,4 +1,4 @@
--- A login is the row of its call: its raw calls are granted by the refinement's lemmas, and it ends as the user or as it was.
+-- A login is the row of its call: the gate keeps out who is in a job; else its raw calls are granted by the lemmas of the refinement, and it ends as the user or as it was.
 use Rattle.std.proofs.Common.{◌≡◌, ℕ, ◌+◌, ◌≤◌, Bool, true, false, List, [], ◌∷◌, ◌++◌, length, Option, None, Some, Result, inl, inr, refl, sym, ap, ◌∙◌, subst}
 use Rattle.std.specs.Prelude.{option_map, is_some}
 use Rattle.std.specs.Str.{bytes_eq}
