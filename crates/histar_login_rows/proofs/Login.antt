@@ -1,5 +1,5 @@
--- A login is the row of its call: its raw calls are granted by the refinement's lemmas, and it ends as the user or as it was.
-use Rattle.std.proofs.Common.{◌≡◌, ℕ, ◌+◌, ◌≤◌, Bool, true, false, List, [], ◌∷◌, length, Option, None, Some, Result, inl, inr, refl, sym, ap, ◌∙◌, subst}
+-- A login is the row of its call: the gate keeps out who is in a job; else its raw calls are granted by the lemmas of the refinement, and it ends as the user or as it was.
+use Rattle.std.proofs.Common.{◌≡◌, ℕ, ◌+◌, ◌≤◌, Bool, true, false, List, [], ◌∷◌, ◌++◌, length, Option, None, Some, Result, inl, inr, refl, sym, ap, ◌∙◌, subst}
 use Rattle.std.specs.Prelude.{option_map, is_some}
 use Rattle.std.specs.Str.{bytes_eq}
 use Rattle.std.proofs.lemmas.Option.{same_Some}
@@ -57,11 +57,11 @@ use Rattle.histar_login_rows.proofs.TakenLabels.{labels_taken, labels_back, kept
 use Rattle.histar_rows.specs.Laws.{LoginsAreRows}
 use Rattle.histar_rows.specs.Rows.{AreAmong, reads_of_login, IsReady, DoesItsRow}
 use Rattle.histar_rows.proofs.Chains.{all_granted, entries_of, Chain}
-use Rattle.histar_rows.proofs.Steps.{granted_step, refused_at_once, answered_step}
+use Rattle.histar_rows.proofs.Steps.{granted_step, refused_step, refused_at_once, answered_step}
 
--- a process in no job is free
-free_in_none : (p : Process) → p.chain ≡ [] → is_free p ≡ true
-free_in_none p e = λ i. elim (e i) as (λ _. Bool) [ [] ↦ true | job ∷ jobs ↦ false ]
+-- whether a process is free is said by the jobs that it is in
+free_by_chain : (p : Process) (chain : List ProcName) → p.chain ≡ chain → is_free p ≡ elim chain as (λ _. Bool) [ [] ↦ true | job ∷ jobs ↦ false ]
+free_by_chain p chain e = λ i. elim (e i) as (λ _. Bool) [ [] ↦ true | job ∷ jobs ↦ false ]
 
 module _ (session : Session) (name : Name) (password : Password) (me : ProcName) (caller : Caller) (old new : KernelModel) (f : Flat) (result : Result Reply Stopped)
     (ready : IsReady session (state old) f me caller.thread) (found : caller_at (state old) (places_of (length session.users)).home me ≡ Some caller) where
@@ -90,21 +90,18 @@ module _ (session : Session) (name : Name) (password : Password) (me : ProcName)
   own_writes : l.category (WritesProcess me) ≡ caller.write
   own_writes = (caller_found session (state old) f l me caller found).1.writes
 
-  is_alone : is_free p ≡ true
-  is_alone = free_in_none p ready.caller.free
-
   -- what the flat rules refuse, in their order
   abbrev refusal : Option User → Bool → Option Errno
   refusal found alone = unless (is_some found) ENOENT orelse unless alone EACCES orelse unless (is_some_and found (λ (u : User). same u.password password)) EAUTH
 
-  refused_is : (found : Option User) → user_named session.users name ≡ found → refused session f me p call ≡ refusal found true
-  refused_is found e = λ i. refusal (e i) (is_alone i)
+  refused_is : (found : Option User) (alone : Bool) → user_named session.users name ≡ found → is_free p ≡ alone → refused session f me p call ≡ refusal found alone
+  refused_is found alone named alone_is = λ i. refusal (named i) (alone_is i)
 
   -- no user has the name
   unknown : place_of session.users name ≡ None → Runs (Answers (Refused ENOENT)) old new t result → Goal
   unknown nowhere runs =
       refused_at_once session f me ready.caller call old new t ready.thread result [] old (same_kernel old) refl ready.lays_out ENOENT
-      (refused_is None (unnumbered_user session name (number_by_place session name ∙ ap (option_map (λ place. place + 1)) nowhere))) refl refl
+      (refused_is None (is_free p) (unnumbered_user session name (number_by_place session name ∙ ap (option_map (λ place. place + 1)) nowhere)) refl) refl refl
       (subst (λ (o : Option ℕ). AreAmong (reads_of_login session o false) []) (sym nowhere) tt) runs
 
   module _ (place : ℕ) (at_place : place_of session.users name ≡ Some place) where
@@ -148,14 +145,6 @@ module _ (session : Session) (name : Name) (password : Password) (me : ProcName)
     abbrev process_then : Process
     process_then = as_user session (state old) f l me p t runs_as name (place + 1) numbered
 
-    user_takes : user_label caller owners ≡ rights_label l.category (thread_rights session me process_then)
-    user_takes = sym (user_label_is session (state old) f l me caller own_reads own_writes name (place + 1) numbered p.exited p.born)
-        ∙ λ k. rights_label l.category (thread_rights session me (record { user = name; chain = sym ready.caller.free k; held = []; exited = p.exited; born = p.born }))
-
-    user_clears : user_clearance caller owners ≡ rights_clearance l.category (thread_rights session me process_then)
-    user_clears = sym (user_clearance_is session (state old) f l me caller own_reads own_writes name (place + 1) numbered p.exited p.born)
-        ∙ λ k. rights_clearance l.category (thread_rights session me (record { user = name; chain = sym ready.caller.free k; held = []; exited = p.exited; born = p.born }))
-
     -- ---- the raw calls
 
     abbrev enters : RawCall
@@ -167,10 +156,11 @@ module _ (session : Session) (name : Name) (password : Password) (me : ProcName)
     asks_said : check (state old) t OwnLabel ≡ None
     asks_said = λ k. unless (is_thread (thread k)) NoThread
 
-    enters_said : check (state old) t enters ≡ None
+    -- the gate lets in exactly who is in no job
+    enters_said : check (state old) t enters ≡ unless (is_free p) Gate
     enters_said =
         (λ k. check (state old) t (Enter root_number (gate_of (place + 1)) (floor_of own (sym gate_label k)) (join_of most (sym gate_clearance k)) own))
-        ∙ enter_said session (state old) f l me p t runs_as name (place + 1) numbered ∙ ap (λ (b : Bool). unless b Gate) is_alone
+        ∙ enter_said session (state old) f l me p t runs_as name (place + 1) numbered
 
     -- behind it the thread has the labels that the code asks for
     abbrev code_label : Levels
@@ -228,40 +218,66 @@ module _ (session : Session) (name : Name) (password : Password) (me : ProcName)
           ((λ k. check (at k) t (SetLabel (label_is k))) ∙ set_label_said session (state old) f l me p t runs_as name (place + 1) numbered r owned fewer as_many) runs
           (λ labelled done called told chain clears. cleared labelled chain (called.state ∙ λ k. with_changed (at k) t (relabelled (label_is k))) clears go_on)
 
-    refused_by : (right : Bool) → same user.0.password password ≡ right → refused session f me p call ≡ unless right EAUTH
-    refused_by right is = refused_is (Some user.0) user.1 ∙ ap (λ (b : Bool). unless b EAUTH) is
-
-    -- behind the gate, by whether the password is right
-    ends : (right : Bool) → same user.0.password password ≡ right → (mid : KernelModel) → Chain old t (all_granted (OwnLabel ∷ enters ∷ reads ∷ [])) mid → state mid ≡ behind → Runs (taking right) mid new t result → Goal
-    ends true is mid so_far at runs =
-        taken true (thread_rights session me process_then) (user_owns_less session (state old) f l me p t runs_as name (place + 1) numbered) (λ c e. e) (λ c e. e) user_takes user_clears mid so_far at runs
-        (λ later chain later_is answers.
-        answered_step session f me ready.caller call old new t ready.thread result (all_calls true) later chain Done refl (refused_by true is) tt (among_calls true)
-        (subst (λ (s : State). LaysOut session s (with_process f me process_then)) (sym later_is) (lays_out_login session (state old) f ready.lays_out me p runs_as.0 runs_as.1 name (ap is_some numbered) t runs_as.2)) answers)
-    ends false is mid so_far at runs =
-        taken false (thread_rights session me p) (own_owns_less session (state old) f l me p t runs_as name (place + 1) numbered) (λ c e. e) (λ c e. e) refl refl mid so_far at runs
-        (λ later chain later_is answers.
-        refused_at_once session f me ready.caller call old new t ready.thread result (all_calls false) later chain (later_is ∙ labels_back (state old) t own most thread) ready.lays_out EAUTH (refused_by false is) refl refl (among_calls false) answers)
-
     -- the program behind the gate
     abbrev reading : Program
     reading = ask reads (λ kept. taking (bytes_eq kept password))
 
-    -- the password is read
-    from_gate : (inside : KernelModel) → Chain old t (all_granted (OwnLabel ∷ enters ∷ [])) inside → state inside ≡ behind → Runs reading inside new t result → Goal
-    from_gate inside chain is runs =
-        granted_step session f me ready.caller call old new t ready.thread result (OwnLabel ∷ enters ∷ []) inside chain reads (λ kept. taking (bytes_eq kept password))
-        (ap (λ (s : State). check s t reads) is ∙ read_password_said session (state old) f l me p t runs_as name (place + 1) numbered) runs
-        (λ read kept called kept_is longer goes.
-        let kept_so : kept ≡ user.0.password = kept_is ∙ ap (λ (s : State). bytes_in (s.objects (password_of (place + 1)))) is ∙ password_then in
-        ends (bytes_eq kept password) (sym (ap (λ (bytes : List ℕ). bytes_eq bytes password) kept_so ∙ equal_bytes user.0.password password)) read longer (called.state ∙ is) goes)
+    -- the process is in no job
+    module _ (in_none : p.chain ≡ []) where
+      alone : is_free p ≡ true
+      alone = free_by_chain p [] in_none
 
-    -- the gate is entered
-    to_gate : (asked : KernelModel) → Chain old t (all_granted (OwnLabel ∷ [])) asked → state asked ≡ state old → Runs (ask enters (λ _. reading)) asked new t result → Goal
-    to_gate asked chain stays runs =
-        granted_step session f me ready.caller call old new t ready.thread result (OwnLabel ∷ []) asked chain enters (λ _. reading) (ap (λ (s : State). check s t enters) stays ∙ enters_said) runs
-        (λ inside entry called entry_is longer goes.
-        from_gate inside longer (called.state ∙ ap (λ (s : State). with_own s t code_label code_clearance) stays ∙ entered_is) goes)
+      -- the labels that the code takes are those of the user's process
+      user_takes : user_label caller owners ≡ rights_label l.category (thread_rights session me process_then)
+      user_takes = sym (user_label_is session (state old) f l me caller own_reads own_writes name (place + 1) numbered p.exited p.born)
+          ∙ λ k. rights_label l.category (thread_rights session me (record { user = name; chain = sym in_none k; held = []; exited = p.exited; born = p.born }))
+
+      user_clears : user_clearance caller owners ≡ rights_clearance l.category (thread_rights session me process_then)
+      user_clears = sym (user_clearance_is session (state old) f l me caller own_reads own_writes name (place + 1) numbered p.exited p.born)
+          ∙ λ k. rights_clearance l.category (thread_rights session me (record { user = name; chain = sym in_none k; held = []; exited = p.exited; born = p.born }))
+
+      refused_by : (right : Bool) → same user.0.password password ≡ right → refused session f me p call ≡ unless right EAUTH
+      refused_by right is = refused_is (Some user.0) true user.1 alone ∙ ap (λ (b : Bool). unless b EAUTH) is
+
+      -- behind the gate, by whether the password is right
+      ends : (right : Bool) → same user.0.password password ≡ right → (mid : KernelModel) → Chain old t (all_granted (OwnLabel ∷ enters ∷ reads ∷ [])) mid → state mid ≡ behind → Runs (taking right) mid new t result → Goal
+      ends true is mid so_far at runs =
+          taken true (thread_rights session me process_then) (user_owns_less session (state old) f l me p t runs_as name (place + 1) numbered) (λ c e. e) (λ c e. e) user_takes user_clears mid so_far at runs
+          (λ later chain later_is answers.
+          answered_step session f me ready.caller call old new t ready.thread result (all_calls true) later chain Done refl (refused_by true is) tt (among_calls true)
+          (subst (λ (s : State). LaysOut session s (with_process f me process_then)) (sym later_is) (lays_out_login session (state old) f ready.lays_out me p runs_as.0 runs_as.1 name (ap is_some numbered) t runs_as.2)) answers)
+      ends false is mid so_far at runs =
+          taken false (thread_rights session me p) (own_owns_less session (state old) f l me p t runs_as name (place + 1) numbered) (λ c e. e) (λ c e. e) refl refl mid so_far at runs
+          (λ later chain later_is answers.
+          refused_at_once session f me ready.caller call old new t ready.thread result (all_calls false) later chain (later_is ∙ labels_back (state old) t own most thread) ready.lays_out EAUTH (refused_by false is) refl refl (among_calls false) answers)
+
+      -- the password is read
+      from_gate : (inside : KernelModel) → Chain old t (all_granted (OwnLabel ∷ enters ∷ [])) inside → state inside ≡ behind → Runs reading inside new t result → Goal
+      from_gate inside chain is runs =
+          granted_step session f me ready.caller call old new t ready.thread result (OwnLabel ∷ enters ∷ []) inside chain reads (λ kept. taking (bytes_eq kept password))
+          (ap (λ (s : State). check s t reads) is ∙ read_password_said session (state old) f l me p t runs_as name (place + 1) numbered) runs
+          (λ read kept called kept_is longer goes.
+          let kept_so : kept ≡ user.0.password = kept_is ∙ ap (λ (s : State). bytes_in (s.objects (password_of (place + 1)))) is ∙ password_then in
+          ends (bytes_eq kept password) (sym (ap (λ (bytes : List ℕ). bytes_eq bytes password) kept_so ∙ equal_bytes user.0.password password)) read longer (called.state ∙ is) goes)
+
+      -- the gate lets it in
+      let_in : (asked : KernelModel) → Chain old t (all_granted (OwnLabel ∷ [])) asked → state asked ≡ state old → Runs (ask enters (λ _. reading)) asked new t result → Goal
+      let_in asked chain stays runs =
+          granted_step session f me ready.caller call old new t ready.thread result (OwnLabel ∷ []) asked chain enters (λ _. reading) (ap (λ (s : State). check s t enters) stays ∙ enters_said ∙ ap (λ (b : Bool). unless b Gate) alone) runs
+          (λ inside entry called entry_is longer goes.
+          from_gate inside longer (called.state ∙ ap (λ (s : State). with_own s t code_label code_clearance) stays ∙ entered_is) goes)
+
+    -- a process in a job is not let in
+    kept_out : is_free p ≡ false → (asked : KernelModel) → Chain old t (all_granted (OwnLabel ∷ [])) asked → state asked ≡ state old → Runs (ask enters (λ _. reading)) asked new t result → Goal
+    kept_out jobbed asked chain stays runs =
+        refused_step session f me ready.caller call old new t ready.thread result (OwnLabel ∷ []) asked chain stays ready.lays_out EACCES (refused_is (Some user.0) false user.1 jobbed) enters (λ _. reading) Gate
+        (ap (λ (s : State). check s t enters) stays ∙ enters_said ∙ ap (λ (b : Bool). unless b Gate) jobbed) refl
+        (subst (λ (o : Option ℕ). AreAmong (reads_of_login session o false) (entries_of old.line t (all_granted (OwnLabel ∷ []) ++ (enters, Some Gate) ∷ []))) (sym at_place) tt) runs
+
+    -- the gate is tried, by the jobs that the process is in
+    to_gate : (jobs : List ProcName) → p.chain ≡ jobs → (asked : KernelModel) → Chain old t (all_granted (OwnLabel ∷ [])) asked → state asked ≡ state old → Runs (ask enters (λ _. reading)) asked new t result → Goal
+    to_gate [] is asked chain stays runs = let_in is asked chain stays runs
+    to_gate (job ∷ jobs) is asked chain stays runs = kept_out (free_by_chain p (job ∷ jobs) is) asked chain stays runs
 
     -- what the program goes on with once it has the thread's own labels
     abbrev with_labels : Levels × Levels → Program
@@ -279,7 +295,7 @@ module _ (session : Session) (name : Name) (password : Password) (me : ProcName)
         granted_step session f me ready.caller call old new t ready.thread result [] old (same_kernel old) OwnLabel with_labels asks_said runs
         (λ asked told called tells chain goes.
         let told_is : told ≡ (own, most) = λ k. (same_Some told.0 own (tells.0 ∙ ap label_there thread) k, same_Some told.1 most (tells.1 ∙ ap clearance_there thread) k) in
-        to_gate asked chain called.state (subst (λ (x : Levels × Levels). Runs (with_labels x) asked new t result) told_is goes))
+        to_gate p.chain refl asked chain called.state (subst (λ (x : Levels × Levels). Runs (with_labels x) asked new t result) told_is goes))
 
   by_place : (o : Option ℕ) → place_of session.users name ≡ o → Runs (login_at session caller name password o) old new t result → Goal
   by_place None nowhere runs = unknown nowhere runs

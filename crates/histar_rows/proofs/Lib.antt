@@ -2,3 +2,4 @@ pub mod Chains
 pub mod Endings
 pub mod Steps
 pub mod Walks
+pub mod FirstFree
