@@ -1,10 +1,9 @@
 //! The raw calls that boot a machine, against lists that were written by hand: one with a user, and one
 //! with users and groups.
-ghost use Rattle.std.specs.Prelude.{◌≡◌, ◌≤◌, All, length, IfOk};
-ghost use Rattle.histar_login.specs.Start.{IsSmall};
+ghost use Rattle.std.specs.Prelude.{◌≡◌, [], length, IfOk};
 
 use crate::texts::call_text;
-use histar_flat::{Group, Name, User, read_password, read_user_name};
+use histar_flat::{Group, Name, Session, User, read_password, read_user_name};
 use histar_label::PlainStore;
 use histar_login::boot;
 use histar_shell::{Counted, Options, run};
@@ -41,9 +40,9 @@ const CALLS: [&str; 16] = [
 ];
 
 /// The raw calls that boot a machine with the users ann and bob, the group crew of bob alone, and the
-/// group all of both. The categories of crew are 8 and 9, those of all 10 and 11, and process 0's own
-/// 12 and 13. Behind the users the user table has a zero and then each group: its name, its categories,
-/// how many members it has, and their numbers.
+/// group all of both, bob being declared before ann. The categories of crew are 8 and 9, those of all 10
+/// and 11, and process 0's own 12 and 13. Behind the users the user table has a zero and then each group:
+/// its name, its categories, how many members it has, and their numbers, which rise.
 const CALLS_WITH_GROUPS: [&str; 24] = [
     "make category",
     "make category",
@@ -119,12 +118,14 @@ fn boots_by_sixteen_raw_calls(rt: HostRuntime) -> Result<(), Fail> {
 fn boots_with_groups(rt: HostRuntime) -> Result<(), Fail> {
     let alloc = rt.alloc();
     let (ann, bob) = (name(b"ann")?, name(b"bob")?);
-    let users = [user(b"ann", b"aa")?, user(b"bob", b"bb")?];
-    let groups = [
-        Group::new(name(b"crew")?, Vec::from_slice(alloc, &[bob])?),
-        Group::new(name(b"all")?, Vec::from_slice(alloc, &[ann, bob])?),
-    ];
-    let (kernel, places) = boot(alloc, PlainStore::new(alloc), &users, &groups)?;
+    let mut session = Session::new(alloc);
+    session.add_user(user(b"ann", b"aa")?)?;
+    session.add_user(user(b"bob", b"bb")?)?;
+    let crew = Vec::from_slice(alloc, &[bob])?;
+    session.add_group(Group::new(name(b"crew")?, crew))?;
+    let all = Vec::from_slice(alloc, &[bob, ann])?;
+    session.add_group(Group::new(name(b"all")?, all))?;
+    let (kernel, places) = boot(alloc, PlainStore::new(alloc), &session)?;
     compare(&rt, alloc, kernel.trace(), CALLS_WITH_GROUPS.as_slice())?;
     let home = places.home;
     assert_eq!(rt; home.container.number(), 10);
@@ -132,29 +133,25 @@ fn boots_with_groups(rt: HostRuntime) -> Result<(), Fail> {
     Ok(())
 }
 
-/// Sixteen users.
-fn most_users(alloc: Global) -> Result<Vec<User>, Fail>
-    ensures { IfOk result (λ users. length users.items ≤ 16) }
+/// A session with sixteen users and no group.
+fn with_most_users(alloc: Global) -> Result<Session, Fail>
+    ensures { IfOk result (λ session. session.groups ≡ []) }
 {
-    let mut users = Vec::new(alloc);
+    let mut session = Session::new(alloc);
     for number in 0..16_u8 {
-        users.push(user(&[b'u', b'a' + number], b"x")?)?;
+        session.add_user(user(&[b'u', b'a' + number], b"x")?)?;
     }
-    Ok(users)
+    Ok(session)
 }
 
-/// Eight groups, of which each has all these users as members.
-fn most_groups(alloc: Global, users: &[User]) -> Result<Vec<Group>, Fail>
-    requires { length users.now ≤ 16 }
-    ensures few { IfOk result (λ groups. length groups.items ≤ 8) }
-    ensures small { IfOk result (λ groups. All IsSmall groups.items) }
-{
-    let mut groups = Vec::new(alloc);
+/// A session with sixteen users and eight groups, of which each has all of them as members.
+fn with_most_groups(alloc: Global) -> Result<Session, Fail> {
+    let mut session = with_most_users(alloc)?;
     for number in 0..8_u8 {
-        let members = names_of(alloc, users)?;
-        groups.push(Group::new(name(&[b'g', b'a' + number])?, members))?;
+        let members = names_of(alloc, session.users())?;
+        session.add_group(Group::new(name(&[b'g', b'a' + number])?, members))?;
     }
-    Ok(groups)
+    Ok(session)
 }
 
 /// The names of users.
@@ -171,10 +168,8 @@ fn names_of(alloc: Global, users: &[User]) -> Result<Vec<Name>, Fail>
 #[test]
 fn boots_at_its_limits(rt: HostRuntime) -> Result<(), Fail> {
     let alloc = rt.alloc();
-    let users = most_users(alloc)?;
-    let groups = most_groups(alloc, users.as_slice())?;
-    let store = PlainStore::new(alloc);
-    let (kernel, places) = boot(alloc, store, users.as_slice(), groups.as_slice())?;
+    let session = with_most_groups(alloc)?;
+    let (kernel, places) = boot(alloc, PlainStore::new(alloc), &session)?;
     assert_eq!(rt; kernel.trace().len(), 2 * (1 + 16 + 8) + 2 * 16 + 3 + 6 + 1);
     let home = places.home;
     assert_eq!(rt; home.container.number(), 38);

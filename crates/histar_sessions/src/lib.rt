@@ -7,6 +7,8 @@ mod boot;
 #[cfg(test)]
 mod files;
 #[cfg(test)]
+mod groups;
+#[cfg(test)]
 mod processes;
 #[cfg(test)]
 mod raw_confined;

@@ -1,9 +1,6 @@
 //! Sessions of several processes: the reply to each line of a script.
-use crate::session::{Line, Session};
-use crate::texts::call_text;
-use histar_shell::{Counted, Options, run};
+use crate::session::{Line, Session, check_trace};
 use std::alloc::{AllocError, Global};
-use std::process::Abort;
 use std::test::Fail;
 
 /// One user.
@@ -262,27 +259,6 @@ fn a_process_has_sixty_four_children(rt: HostRuntime) -> Result<(), Fail> {
         ("0 status 0.63.1", "ok running"),
     ])?;
     session.check(&rt, rt.alloc())
-}
-
-/// What the lines of a script have for raw calls, behind those of boot, each with its line.
-fn check_trace(
-    rt: &impl Abort,
-    alloc: Global,
-    script: &[u8],
-    calls: &[(u32, &'static str)],
-) -> Result<(), Fail> {
-    let mut reader = Counted::new(script);
-    let mut writer = Counted::new(Vec::new(alloc));
-    let trace = run(alloc, &mut reader, &mut writer, Options {})?;
-    let mut entries = trace.entries().iter().filter(|entry| entry.line > 0);
-    for &(line, call) in calls {
-        let entry = entries.next().ok_or("a raw call more")?;
-        assert_eq!(rt; call_text(alloc, &entry.call)?.as_str(), call);
-        assert_eq!(rt; entry.line, line);
-        assert_eq!(rt; entry.thread.number(), 10);
-    }
-    assert!(rt; entries.next().is_none());
-    Ok(())
 }
 
 #[test]

@@ -1,10 +1,11 @@
-//! Scripts with the reply to each line.
+//! Scripts with the reply to each line, and with their raw calls.
+use crate::texts::call_text;
 use histar_shell::{Counted, Options, run};
 use std::alloc::{AllocError, Global};
 use std::process::Abort;
 use std::test::Fail;
 
-/// A line of a script, and its reply, or nothing where the line is a user's.
+/// A line of a script, and its reply, or nothing where the line is a user's or a group's.
 pub type Line = (&'static str, &'static str);
 
 /// A script that grows by a line a time, and what it is to be answered.
@@ -16,14 +17,14 @@ pub struct Session {
 }
 
 impl Session {
-    /// A session with these users.
-    pub fn new(alloc: Global, users: &[Line]) -> Result<Session, AllocError> {
+    /// A session with these users and groups.
+    pub fn new(alloc: Global, declared: &[Line]) -> Result<Session, AllocError> {
         let mut session = Session {
             script: Vec::new(alloc),
             replies: Vec::new(alloc),
             lines: 0,
         };
-        session.extend(users)?;
+        session.extend(declared)?;
         Ok(session)
     }
 
@@ -50,6 +51,11 @@ impl Session {
         Ok(())
     }
 
+    /// The script so far.
+    pub fn script(&self) -> &[u8] {
+        self.script.as_slice()
+    }
+
     /// Runs the script, and compares what it writes with the replies.
     pub fn check(&self, rt: &impl Abort, alloc: Global) -> Result<(), Fail> {
         let mut reader = Counted::new(self.script.as_slice());
@@ -68,5 +74,26 @@ fn push_number(text: &mut Vec<u8>, number: usize) -> Result<(), AllocError> {
             text.push(b"0123456789"[number / unit % 10])?;
         }
     }
+    Ok(())
+}
+
+/// What the lines of a script have for raw calls, behind those of boot, each with its line.
+pub fn check_trace(
+    rt: &impl Abort,
+    alloc: Global,
+    script: &[u8],
+    calls: &[(u32, &'static str)],
+) -> Result<(), Fail> {
+    let mut reader = Counted::new(script);
+    let mut writer = Counted::new(Vec::new(alloc));
+    let trace = run(alloc, &mut reader, &mut writer, Options {})?;
+    let mut entries = trace.entries().iter().filter(|entry| entry.line > 0);
+    for &(line, call) in calls {
+        let entry = entries.next().ok_or("a raw call more")?;
+        assert_eq!(rt; call_text(alloc, &entry.call)?.as_str(), call);
+        assert_eq!(rt; entry.line, line);
+        assert_eq!(rt; entry.thread.number(), 10);
+    }
+    assert!(rt; entries.next().is_none());
     Ok(())
 }
