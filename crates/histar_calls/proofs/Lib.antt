@@ -1,4 +1,5 @@
 pub mod LabellingLemmas
+pub mod Scanning
 pub mod OneUser
 pub mod OwnersOf
 pub mod UserOf

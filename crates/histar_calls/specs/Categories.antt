@@ -1,5 +1,5 @@
 -- The categories of users, the user of a thread, and the labels of files.
-use Rattle.std.specs.Prelude.{◌≡◌, ℕ, zero, suc, ◌+◌, ◌*◌, ◌<◌, ◌≤◌, Bool, true, false, List, ◌∷◌, length, map, None, Some, if◌then◌else◌}
+use Rattle.std.specs.Prelude.{◌≡◌, ℕ, zero, suc, ◌+◌, ◌*◌, ◌<◌, ◌≤◌, Bool, true, false, List, [], ◌∷◌, length, map, None, Some, if◌then◌else◌}
 use Rattle.histar_flat.specs.declared.calls.Mode.{Mode}
 use Rattle.histar_flat.specs.declared.calls.Mode.TheVariants.{Private, Readable, Open, Group}
 use Rattle.histar_flat.specs.Words.{Name}
@@ -7,7 +7,8 @@ use Rattle.histar_flat.specs.Sessions.{Session, group_number, groups_of}
 use Rattle.histar_label.specs.Level.{is_star}
 use Rattle.histar_label.specs.declared.levels.Level.TheVariants.{L1}
 use Rattle.histar_label.specs.Levels.{Levels, constant, level_of}
-use Rattle.histar_calls.specs.Labelling.{written_by, secret_of}
+use Rattle.histar_calls.specs.Jobs.{is_empty, jobs_in}
+use Rattle.histar_calls.specs.Labelling.{guarded_by, written_by, secret_of}
 
 -- boot makes two categories for nobody, who is number 0, two for each user in turn, and then two for each group; this is the first of them
 abbrev pub read_category : ℕ → ℕ
@@ -58,6 +59,12 @@ owner_from own k (suc n) = if owns own k then k else owner_from own (suc k) n
 unfoldable pub user_of : Levels → ℕ → ℕ
 user_of own users = owner_from own 1 users
 
--- the label of a file that a thread of this label makes: it is a file of the thread's user
+-- the label of what a user makes in jobs with these categories: the user alone reads it, and only in these jobs or holding them
+abbrev pub scratch_label : ℕ → List ℕ → Levels
+scratch_label user jobs = guarded_by (read_category user ∷ jobs) []
+
+-- the label of what a thread of this label makes: what is its user's in this mode, and in jobs what is for these
 abbrev pub label_made : Session → Levels → Mode → Levels
-label_made session own mode = file_label session mode (user_of own (length session.users))
+label_made session own mode =
+    if is_empty (jobs_in own) then file_label session mode (user_of own (length session.users))
+    else scratch_label (user_of own (length session.users)) (jobs_in own)

@@ -1,4 +1,5 @@
 pub mod Labelling
+pub mod Jobs
 pub mod Categories
 pub mod Refusals
 pub mod Replies

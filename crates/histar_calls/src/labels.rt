@@ -1,8 +1,9 @@
 //! Labels by their exceptions, and the labels of files.
 ghost use Rattle.std.specs.Prelude.{◌≡◌, ℕ, IfOk, length};
-ghost use Rattle.histar_calls.specs.Categories.{IsUserOf, label_made, read_category, write_category};
+ghost use Rattle.histar_calls.specs.Categories.{IsUserOf, file_label, label_made, read_category, scratch_label, write_category};
 ghost use Rattle.histar_calls.specs.Labelling.{cleared_at, each_at, guarded_by, labelled, owning, secret_of, with_levels};
 
+use crate::jobs::{is_in_job, jobs_in};
 use crate::owners::owner_of_group;
 use crate::places::{read_category, write_category};
 use histar_flat::{Mode, Session};
@@ -84,8 +85,29 @@ fn secret_of(alloc: Global, owner: u8) -> Result<Label, AllocError>
     label_of(alloc, Level::L1, &[(read, Level::L3), (write, Level::L0)])
 }
 
-/// The label of a file that a thread of this label makes. Nobody's categories are owned by no thread, so
+/// The label of what a user makes in jobs with these categories.
+fn scratch_label(alloc: Global, user: u8, jobs: &[Category]) -> Result<Label, AllocError>
+    ensures { IfOk result (λ label. label ≡ scratch_label user jobs.now) }
+{
+    let mut secret = Vec::from_slice(alloc, &[read_category(user)])?;
+    secret.extend_from_slice(jobs)?;
+    guarded_by(alloc, secret.as_slice(), &[])
+}
+
+/// The label of what a user makes in no job, in this mode. Nobody's categories are owned by no thread, so
 /// nobody may make no file with them, and nobody makes a file for a group that is not declared.
+fn file_label(alloc: Global, session: &Session, mode: Mode, user: u8) -> Result<Label, AllocError>
+    ensures { IfOk result (λ label. label ≡ file_label session.now mode user) }
+{
+    match mode {
+        Mode::Readable => label_of(alloc, Level::L1, &[(write_category(user), Level::L0)]),
+        Mode::Private => secret_of(alloc, user),
+        Mode::Open => label_of(alloc, Level::L1, &[]),
+        Mode::Group(name) => secret_of(alloc, owner_of_group(session, name)),
+    }
+}
+
+/// The label of a file that a thread of this label makes. In jobs no mode counts: it is for the jobs.
 pub fn label_made(
     alloc: Global,
     own: &Label,
@@ -95,10 +117,9 @@ pub fn label_made(
     ensures { IfOk result (λ label. label ≡ label_made session.now own.now mode) }
 {
     let user = user_of(own, session);
-    match mode {
-        Mode::Readable => label_of(alloc, Level::L1, &[(write_category(user), Level::L0)]),
-        Mode::Private => secret_of(alloc, user),
-        Mode::Open => label_of(alloc, Level::L1, &[]),
-        Mode::Group(name) => secret_of(alloc, owner_of_group(session, name)),
+    if !is_in_job(own) {
+        return file_label(alloc, session, mode, user);
     }
+    let jobs = jobs_in(alloc, own)?;
+    scratch_label(alloc, user, jobs.as_slice())
 }

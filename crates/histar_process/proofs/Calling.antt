@@ -17,7 +17,8 @@ use Rattle.histar_calls.specs.declared.places.Home.{Home}
 use Rattle.histar_calls.proofs.Running.{before_ask}
 use Rattle.histar_calls.proofs.UserOf.{user_is}
 use Rattle.histar_process.specs.Birth.{birth}
-use Rattle.histar_process.specs.Kin.{Kin, is_empty, jobs_in, kin_of, owned_by}
+use Rattle.histar_process.specs.Kin.{Kin, kin_of, owned_by}
+use Rattle.histar_calls.specs.Jobs.{is_empty, jobs_in}
 use Rattle.histar_process.proofs.Births.{no_read, without_categories}
 use Rattle.histar_process.proofs.Segments.{child_looked}
 

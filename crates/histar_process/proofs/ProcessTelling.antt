@@ -20,7 +20,8 @@ use Rattle.histar_calls.proofs.TellingPrograms.{ask_tells}
 use Rattle.histar_process.specs.Birth.{birth, inner_label, outer_label, thread_clearance, thread_label}
 use Rattle.histar_process.specs.ExitCall.{exit_program}
 use Rattle.histar_process.specs.KillCall.{kill_program}
-use Rattle.histar_process.specs.Kin.{Kin, is_empty, jobs_in, kin_of, user_name}
+use Rattle.histar_process.specs.Kin.{Kin, kin_of, user_name}
+use Rattle.histar_calls.specs.Jobs.{is_empty, jobs_in}
 use Rattle.histar_process.specs.Laws.{ProcessCallsTellRefusals}
 use Rattle.histar_process.specs.Parts.{find_home, home_of, must_be_there, read_status, write_status}
 use Rattle.histar_process.specs.SpawnCall.{must_have_room, spawn_program}

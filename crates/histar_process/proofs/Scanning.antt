@@ -1,7 +1,7 @@
 -- Going over the exceptions of a label, and over users.
 use Rattle.std.proofs.Common.{◌≡◌, ℕ, zero, suc, ◌-◌, ◌<◌, ◌≤◌, Bool, List, [], ◌∷◌, length, get_or, Option, refl, ap, ◌∙◌, arith}
-use Rattle.std.specs.Prelude.{map, option_map}
-use Rattle.std.specs.List.{filter, find}
+use Rattle.std.specs.Prelude.{option_map}
+use Rattle.std.specs.List.{find}
 use Rattle.histar_flat.specs.declared.calls.User.{User}
 use Rattle.histar_flat.specs.Classes.{nobody}
 use Rattle.histar_label.specs.declared.levels.Level.{Level}
@@ -12,10 +12,6 @@ abbrev pub Exception : Type 0
 Exception = ℕ × Level
 
 module _ (test : Exception → Bool) where
-  -- the categories of those that pass
-  abbrev pub passed : List Exception → List ℕ
-  passed es = map (λ e. e.0) (filter test es)
-
   -- the category of the first that passes
   abbrev pub first_passed : List Exception → Option ℕ
   first_passed es = option_map (λ e. e.0) (find test es)

@@ -3,12 +3,13 @@ use Rattle.std.specs.Prelude.{ℕ, Bool, true, false, not, ◌&&◌, [], ◌∷�
 use Rattle.std.specs.List.{find}
 use Rattle.histar_flat.specs.Words.{ProcName}
 use Rattle.histar_label.specs.declared.levels.Level.{Level}
-use Rattle.histar_label.specs.declared.levels.Level.TheVariants.{L0, L3}
+use Rattle.histar_label.specs.declared.levels.Level.TheVariants.{L0}
 use Rattle.histar_label.specs.Levels.{Levels, level_of, exceptions_of}
 use Rattle.histar_object.specs.Objects.{bytes_in, label_there}
 use Rattle.histar_object.specs.State.{State}
 use Rattle.histar_layout.specs.Reading.{◌>>=◌}
 use Rattle.histar_layout.specs.Status.{ProcessStatus, child_at, status_in}
+use Rattle.histar_calls.specs.Jobs.{is_three}
 use Rattle.histar_calls.specs.declared.places.Home.{Home}
 use Rattle.histar_process.specs.declared.caller.Caller.{Caller}
 
@@ -16,11 +17,6 @@ use Rattle.histar_process.specs.declared.caller.Caller.{Caller}
 abbrev pub is_zero : Level → Bool
 is_zero L0 = true
 is_zero level = false
-
--- level 3
-abbrev pub is_three : Level → Bool
-is_three L3 = true
-is_three level = false
 
 -- the category by which a process writes: the one that the label of its container has at 0
 abbrev pub write_category_in : Levels → Option ℕ

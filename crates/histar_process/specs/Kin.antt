@@ -1,22 +1,12 @@
--- What a thread's own label tells of its process: whose it is, and which jobs it is in.
+-- What a process owns as its user, and what a child gets from its parent.
 use Rattle.std.specs.Prelude.{ℕ, zero, suc, Bool, true, false, List, [], ◌∷◌, ◌++◌, length, map, if◌then◌else◌}
-use Rattle.std.specs.List.{filter}
 use Rattle.histar_flat.specs.Words.{Name}
 use Rattle.histar_flat.specs.declared.calls.User.{User}
 use Rattle.histar_flat.specs.Sessions.{Session}
 use Rattle.histar_flat.specs.Classes.{nobody}
-use Rattle.histar_label.specs.Levels.{Levels, exceptions_of}
+use Rattle.histar_label.specs.Levels.{Levels}
+use Rattle.histar_calls.specs.Jobs.{jobs_in, is_empty}
 use Rattle.histar_calls.specs.Categories.{read_category, write_category, owners_of, user_of}
-use Rattle.histar_process.specs.Caller.{is_three}
-
--- the categories of the jobs that a process is in: those that its thread has at 3
-abbrev pub jobs_in : Levels → List ℕ
-jobs_in own = map (λ e. e.0) (filter (λ e. is_three e.1) (exceptions_of own))
-
--- there are none
-abbrev pub is_empty : List ℕ → Bool
-is_empty [] = true
-is_empty (c ∷ cs) = false
 
 -- the name of the user of this number, from 1 on; number 0 is nobody
 abbrev pub user_name : List User → ℕ → Name

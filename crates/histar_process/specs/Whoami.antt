@@ -7,7 +7,8 @@ use Rattle.histar_calls.specs.Categories.{user_of}
 use Rattle.histar_calls.specs.Programs.{Program}
 use Rattle.histar_calls.specs.Programs.Program.{Answers}
 use Rattle.histar_calls.specs.Parts.{◌>>=◌, ask}
-use Rattle.histar_process.specs.Kin.{jobs_in, is_empty, user_name}
+use Rattle.histar_process.specs.Kin.{user_name}
+use Rattle.histar_calls.specs.Jobs.{jobs_in, is_empty}
 
 -- the thread asks for its own label, which tells the user and whether the process is in a job
 unfoldable pub whoami_program : Session → Program

@@ -1,48 +1,13 @@
-//! What a thread's own label tells of its process.
-ghost use Rattle.std.specs.Prelude.{◌≡◌, ◌++◌, map, not, IfOk};
+//! What a process owns as its user.
+ghost use Rattle.std.specs.Prelude.{◌≡◌, ◌++◌, map, IfOk};
 ghost use Rattle.histar_flat.specs.Classes.{nobody};
-ghost use Rattle.histar_process.specs.Caller.{is_three};
 ghost use Rattle.histar_calls.specs.Categories.{read_category, write_category};
-ghost use Rattle.histar_process.specs.Kin.{categories_of, is_empty, jobs_in, owned_by, user_name};
+ghost use Rattle.histar_process.specs.Kin.{categories_of, owned_by, user_name};
 
 use histar_calls::{owners_of, read_category, write_category};
 use histar_flat::{Name, Session, User, read_name};
-use histar_label::{Category, Label, Level};
+use histar_label::Category;
 use std::alloc::{AllocError, Global};
-
-/// Whether it is level 3.
-pub fn is_three(level: Level) -> bool
-    ensures { result ≡ is_three level }
-{
-    matches!(level, Level::L3)
-}
-
-/// Whether the process of a thread is in a job.
-pub fn is_in_job(own: &Label) -> bool
-    ensures { result ≡ not (is_empty (jobs_in own.now)) }
-{
-    let exceptions = own.exceptions();
-    for &(_, level) in exceptions {
-        if is_three(level) {
-            return true;
-        }
-    }
-    false
-}
-
-/// The categories of the jobs that the process of a thread is in.
-pub fn jobs_in(alloc: Global, own: &Label) -> Result<Vec<Category>, AllocError>
-    ensures { IfOk result (λ jobs. jobs.items ≡ jobs_in own.now) }
-{
-    let mut jobs = Vec::new(alloc);
-    let exceptions = own.exceptions();
-    for &(category, level) in exceptions {
-        if is_three(level) {
-            jobs.push(category)?;
-        }
-    }
-    Ok(jobs)
-}
 
 /// The categories that a process owns as the user of this number, if it is free of jobs or not.
 pub fn owned_by(

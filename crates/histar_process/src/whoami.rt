@@ -3,8 +3,8 @@ ghost use Rattle.histar_calls.specs.Programs.{Runs};
 ghost use Rattle.histar_calls.specs.Refusals.{settled};
 ghost use Rattle.histar_process.specs.Whoami.{whoami_program};
 
-use crate::kin::{is_in_job, user_name};
-use histar_calls::{Ending, Stopped, settle, user_of};
+use crate::kin::user_name;
+use histar_calls::{Ending, Stopped, is_in_job, settle, user_of};
 use histar_flat::{Reply, Session};
 use histar_label::LabelStore;
 use histar_object::ObjId;

@@ -1,26 +1,17 @@
-use Rattle.std.proofs.Common.{sym, ap, ◌∙◌}
-use Rattle.histar_flat.specs.declared.calls.Mode.{Mode}
-use Rattle.histar_calls.specs.Categories.{file_label, read_category, write_category}
-use Rattle.histar_calls.specs.Labelling.{written_by, secret_of}
-use Rattle.histar_calls.proofs.UserOf.{made_as}
+use Rattle.std.proofs.Common.{◌≡◌, List, ℕ, true, false, not, subst, ap, ◌∙◌}
+use Rattle.std.specs.Prelude.{IfOk}
+use Rattle.histar_calls.specs.Categories.{scratch_label}
+use Rattle.histar_calls.specs.Jobs.{is_empty, jobs_in}
+use Rattle.histar_calls.proofs.UserOf.{made_free, made_in_jobs, not_twice}
 use Rattle.histar_calls.proofs.labels.label_made.Goals as goal
 
-pub returns-in-Readable : goal.returns-in-Readable
-returns-in-Readable c =
-    made_as c.label_of.result c.args.own.now _ c.args.session.now c.user_of-user.result c.args.mode c.user_of-user.ensures
-    (ap written_by c.write_category.ensures ∙ ap (λ (m : Mode). file_label c.args.session.now m c.user_of-user.result) (sym c.in-Readable.is)) c.label_of.ensures
+pub returns-then-not-is_in_job : goal.returns-then-not-is_in_job
+returns-then-not-is_in_job c =
+    made_free c.file_label.result c.args.own.now c.args.session.now c.user_of-user.result c.args.mode c.user_of-user.ensures
+    (not_twice (is_empty (jobs_in c.args.own.now)) c.is_in_job.result true c.is_in_job.ensures (ap not c.if-not-is_in_job.true)) c.file_label.ensures
 
-pub returns-in-Private : goal.returns-in-Private
-returns-in-Private c =
-    made_as c.secret_of.result c.args.own.now _ c.args.session.now c.user_of-user.result c.args.mode c.user_of-user.ensures
-    (ap (λ (m : Mode). file_label c.args.session.now m c.user_of-user.result) (sym c.in-Private.is)) c.secret_of.ensures
-
-pub returns-in-Open : goal.returns-in-Open
-returns-in-Open c =
-    made_as c.label_of-in-Open.result c.args.own.now _ c.args.session.now c.user_of-user.result c.args.mode c.user_of-user.ensures
-    (ap (λ (m : Mode). file_label c.args.session.now m c.user_of-user.result) (sym c.in-Open.is)) c.label_of-in-Open.ensures
-
-pub returns-in-Group : goal.returns-in-Group
-returns-in-Group c =
-    made_as c.secret_of-in-Group.result c.args.own.now _ c.args.session.now c.user_of-user.result c.args.mode c.user_of-user.ensures
-    ((λ i. secret_of (read_category (c.owner_of_group.ensures i)) (write_category (c.owner_of_group.ensures i))) ∙ ap (λ (m : Mode). file_label c.args.session.now m c.user_of-user.result) (sym c.in-Group.is)) c.secret_of-in-Group.ensures
+pub returns : goal.returns
+returns c =
+    made_in_jobs c.scratch_label.result c.args.own.now c.args.session.now c.user_of-user.result c.args.mode c.user_of-user.ensures
+    (not_twice (is_empty (jobs_in c.args.own.now)) c.is_in_job.result false c.is_in_job.ensures (ap not c.if-not-is_in_job.false))
+    (subst (λ (jobs : List ℕ). IfOk c.scratch_label.result (λ label. label ≡ scratch_label c.user_of-user.result jobs)) (c.as_slice.ensures.value ∙ c.in_ok-jobs.ensures) c.scratch_label.ensures)
