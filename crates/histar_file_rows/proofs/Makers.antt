@@ -23,10 +23,10 @@ use Rattle.histar_refinement.specs.Labels.{class_guard, private_guard, readable_
 use Rattle.histar_refinement.specs.Processes.{or_zero}
 use Rattle.histar_refinement.proofs.SessionLemmas.{user_range, no_member, is_number, equal_names, equal_tested}
 use Rattle.histar_refinement.proofs.ClassTests.{member as is_member_of}
-use Rattle.histar_refinement.proofs.JobLabels.{all_has_itself, sees_itself, jobs_are, none_if_free}
+use Rattle.histar_refinement.proofs.JobLabels.{jobs_are, none_if_free}
 use Rattle.histar_refinement.proofs.Levelled.{same_guarded}
 use Rattle.histar_refinement.specs.Categories.CategoryName.{OfJob}
-use Rattle.histar_refinement.proofs.MakingRanges.{is_made_within, private_range, readable_range, group_range as made_of_group, made_in_range}
+use Rattle.histar_refinement.proofs.MakingRanges.{is_made_within, private_range, readable_range, group_range as made_of_group, all_had, all_known, made_in_range}
 use Rattle.histar_refinement.proofs.FileRows.{ClassFits, AreKnown, made_fits, made_known}
 use Rattle.histar_refinement.proofs.CallLabels.{reads_numbered, private_label, readable_label, group_label, user_of_thread}
 use Rattle.histar_rows.specs.Rows.{IsReady}
@@ -291,8 +291,8 @@ module _ (session : Session) (ok : IsSession session) (s : State) (f : Flat) (me
       within = made_in_range session ready.lays_out.laid.category ready.lays_out.laid.different me p ok mode (Scratch p.user p.chain) (scratch_guard p.chain (user number refl).0) class_in_jobs class_guarded;
       fits = made_fits session s f ready.lays_out.laid me p ready.caller.stands (Scratch p.user p.chain) (λ none. let k : None ≡ Some (scratch_guard p.chain (user number refl).0) = sym none ∙ class_guarded in absurd cc) of_chain;
       known = made_known session s f ready.lays_out.laid me p ready.caller.stands (Scratch p.user p.chain) of_chain;
-      reads = λ j. equal_tested p.user p.user refl j && sees_itself p j;
-      writes = λ j. (equal_tested p.user p.user refl j && sees_itself p j) && all_has_itself p.chain j;
+      reads = λ j. equal_tested p.user p.user refl j && all_known p j;
+      writes = λ j. (equal_tested p.user p.user refl j && all_known p j) && all_had p.chain j;
     }
 
   -- The label that the thread hands in for a mode: it makes what the process makes by the flat rules, or nothing where they make nothing.

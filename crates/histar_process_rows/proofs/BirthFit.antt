@@ -18,7 +18,8 @@ use Rattle.histar_layout.specs.Status.{ProcessStatus}
 use Rattle.histar_calls.specs.Categories.{user_of}
 use Rattle.histar_calls.specs.declared.places.Home.{Home}
 use Rattle.histar_process.specs.Birth.{outer_label, inner_label, thread_label, thread_clearance}
-use Rattle.histar_process.specs.Kin.{Kin, jobs_in, is_empty, user_name, kin_of}
+use Rattle.histar_process.specs.Kin.{Kin, user_name, kin_of}
+use Rattle.histar_calls.specs.Jobs.{jobs_in, is_empty}
 use Rattle.histar_refinement.specs.Sessions.{IsSession}
 use Rattle.histar_refinement.proofs.Counting.{boot_used}
 use Rattle.histar_refinement.specs.Categories.CategoryName.{ReadsProcess, WritesProcess, OfJob}
@@ -35,7 +36,8 @@ use Rattle.histar_refinement.proofs.Members.{is_in}
 use Rattle.histar_refinement.proofs.Spawned.{births, state_spawned, lays_out_spawned}
 use Rattle.histar_refinement.proofs.Spawning.{keeps, reads_number, writes_number}
 use Rattle.histar_refinement.proofs.Uses.{rights_used}
-use Rattle.histar_process_rows.proofs.OwnLabels.{jobs_are, none_if_free, own_user_is, name_of_number}
+use Rattle.histar_process_rows.proofs.OwnLabels.{own_user_is, name_of_number}
+use Rattle.histar_refinement.proofs.JobLabels.{jobs_are, none_if_free}
 use Rattle.histar_process_rows.proofs.BirthChecks.{IsModified, IsLesser}
 use Rattle.histar_process_rows.proofs.BirthRights.{chain_used, chain_free, names, owner, owner_most, around_before, around_owner, home_modified, outer_modified, inner_modified, thread_lesser, own_taken}
 use Rattle.histar_process_rows.proofs.BirthRun.{IsFit, spawned}

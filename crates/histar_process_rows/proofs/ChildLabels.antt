@@ -8,7 +8,8 @@ use Rattle.histar_flat.specs.Classes.{Process, is_free}
 use Rattle.histar_label.specs.Levels.{Levels}
 use Rattle.histar_calls.specs.Categories.{owners_of, user_of}
 use Rattle.histar_calls.specs.Labelling.{guarded_by, owning, cleared_at}
-use Rattle.histar_process.specs.Kin.{jobs_in, is_empty, user_name, categories_of, owned_by, kin_of}
+use Rattle.histar_process.specs.Kin.{user_name, categories_of, owned_by, kin_of}
+use Rattle.histar_calls.specs.Jobs.{jobs_in, is_empty}
 use Rattle.histar_process.specs.Birth.{outer_label, inner_label, thread_label, thread_clearance}
 use Rattle.histar_refinement.specs.Categories.{CategoryName, Categories, boot_category}
 use Rattle.histar_refinement.specs.Categories.CategoryName.{ReadsProcess, WritesProcess, OfJob}

@@ -20,7 +20,8 @@ use Rattle.histar_calls.specs.declared.ending.Stopped.{Stopped}
 use Rattle.histar_calls.specs.Categories.{user_of}
 use Rattle.histar_calls.specs.Programs.{Runs}
 use Rattle.histar_calls.specs.Programs.Program.{Answers}
-use Rattle.histar_process.specs.Kin.{jobs_in, is_empty, user_name}
+use Rattle.histar_process.specs.Kin.{user_name}
+use Rattle.histar_calls.specs.Jobs.{jobs_in, is_empty}
 use Rattle.histar_process.specs.Whoami.{whoami_program}
 use Rattle.histar_refinement.specs.Sessions.{IsSession}
 use Rattle.histar_refinement.specs.Guards.{rights_label, rights_clearance}
@@ -31,7 +32,8 @@ use Rattle.histar_refinement.proofs.Standing.{thread_found}
 use Rattle.histar_rows.specs.Rows.{IsReady}
 use Rattle.histar_rows.proofs.Steps.{Goal, granted_step, answered_step}
 use Rattle.histar_process_rows.specs.Laws.{WhoamisAreRows}
-use Rattle.histar_process_rows.proofs.OwnLabels.{none_if_free, own_user_is, name_of_number}
+use Rattle.histar_process_rows.proofs.OwnLabels.{own_user_is, name_of_number}
+use Rattle.histar_refinement.proofs.JobLabels.{none_if_free}
 use Rattle.histar_process_rows.proofs.Searches.{runs_as}
 
 module _ (session : Session) (ok : IsSession session) (old new : KernelModel) (f : Flat) (me : ProcName) (t : ℕ) (ready : IsReady session (state old) f me t) (result : Result Reply Stopped) where

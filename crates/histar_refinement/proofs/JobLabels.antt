@@ -1,14 +1,13 @@
 -- What its thread's own label tells of the jobs of a process.
 use Rattle.std.proofs.Common.{◌≡◌, ◌≢◌, ℕ, zero, suc, ◌<◌, ◌==◌, ◌||◌, inl, inr, Bool, true, false, cond, Contains, List, [], ◌∷◌, ◌++◌, length, get_or, arith, refl, sym, ap, ◌∙◌}
 use Rattle.std.specs.Prelude.{map}
-use Rattle.std.specs.List.{filter, list_all}
+use Rattle.std.specs.List.{filter}
 use Rattle.std.proofs.lemmas.Bool.Decides.{eqb_tells}
 use Rattle.std.proofs.lemmas.List.{get_or_default}
 use mathlib.Core.Bool.{true≢false}
-use Rattle.histar_flat.specs.PathOrder.{same}
 use Rattle.histar_flat.specs.Words.{ProcName}
-use Rattle.histar_flat.specs.Sessions.{Session, has}
-use Rattle.histar_flat.specs.Classes.{Process, is_free, knows, sees}
+use Rattle.histar_flat.specs.Sessions.{Session}
+use Rattle.histar_flat.specs.Classes.{Process, is_free}
 use Rattle.histar_label.specs.declared.levels.Level.{Level}
 use Rattle.histar_label.specs.declared.levels.Level.TheVariants.{Star, L1, L3}
 use Rattle.histar_label.specs.Levels.{Levels, constant, default_of, default_of-constant, exceptions_of}
@@ -21,8 +20,7 @@ use Rattle.histar_refinement.specs.Guards.{rights_label}
 use Rattle.histar_refinement.specs.Labels.{thread_rights}
 use Rattle.histar_refinement.proofs.CallerLabels.{default_kept}
 use Rattle.histar_refinement.proofs.Levelled.{owning_level, at_owning}
-use Rattle.histar_refinement.proofs.Members.{is_in, and_both, same_truth, or_first, or_second, equal_itself}
-use Rattle.histar_refinement.proofs.SessionLemmas.{equal_tested}
+use Rattle.histar_refinement.proofs.Members.{is_in, same_truth, or_first, or_second, equal_itself}
 
 -- the categories that have level 3
 abbrev picked : List (ℕ × Level) → List ℕ
@@ -103,19 +101,3 @@ none_if_free category session me p = empty_alike _ (map category (map OfJob p.ch
     by : (chain : List ProcName) → is_empty (map category (map OfJob chain)) ≡ elim chain as (λ _. Bool) [ [] ↦ true | job ∷ jobs ↦ false ]
     by [] = refl
     by (job ∷ jobs) = refl
-
--- ---- a process among its own jobs
-
--- what each of the jobs passes, each job of these passes
-each_passes : (test : ProcName → Bool) (jobs : List ProcName) → ((job : ProcName) → has jobs job ≡ true → test job ≡ true) → list_all test jobs ≡ true
-each_passes test [] passes = refl
-each_passes test (job ∷ jobs) passes =
-    and_both (passes job (or_first (same job job) (has jobs job) (equal_tested job job refl))) (each_passes test jobs (λ other there. passes other (or_second (same other job) (has jobs other) there)))
-
--- a list of jobs has each of these
-pub all_has_itself : (jobs : List ProcName) → list_all (has jobs) jobs ≡ true
-all_has_itself jobs = each_passes (has jobs) jobs (λ job there. there)
-
--- a process sees itself, since it knows each of its jobs
-pub sees_itself : (p : Process) → sees p p ≡ true
-sees_itself p = each_passes (knows p) p.chain (λ job there. or_first (has p.chain job) (has p.held job) there)

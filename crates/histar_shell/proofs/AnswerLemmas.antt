@@ -13,7 +13,7 @@ use Rattle.histar_devices.proofs.WritingLemmas.{sent_none}
 use Rattle.histar_flat.specs.Meaning.{Answered}
 use Rattle.histar_shell.specs.Answers.{answer_text, answers_text, calls_of, line_text}
 use Rattle.histar_shell.specs.Machine.{MachineModel, AnswersLine}
-use Rattle.histar_shell.specs.Session.{Session, AnswersCall, AnswersCalls, BeginsAnswer, BeginsAnswers}
+use Rattle.histar_shell.specs.AnsweredCalls.{AnswersInTurn, AnswersCall, AnswersCalls, BeginsAnswer, BeginsAnswers}
 
 -- a whole text is a beginning of itself
 whole_front : (a b : Option (List ℕ)) (text : List ℕ) → Appends a b text → AppendsFront a b text
@@ -30,10 +30,10 @@ front_after a b c text next rest whole begun = (
   },
 )
 
--- one more call line of a session
-session_more : (first mid last : MachineModel) (answers : List Answered) (a : Answered) → Session first answers mid → AnswersLine mid last a.call.line a.call.process a.call.call (Ok a.reply) → Session first (answers ++ a ∷ []) last
-session_more first mid last [] a same one = (last, subst (λ (m : MachineModel). AnswersLine m last a.call.line a.call.process a.call.call (Ok a.reply)) same one, refl)
-session_more first mid last (b ∷ answers) a done one = (done.0, done.1, session_more done.0 mid last answers a done.2 one)
+-- one more call line
+in_turn_more : (first mid last : MachineModel) (answers : List Answered) (a : Answered) → AnswersInTurn first answers mid → AnswersLine mid last a.call.line a.call.process a.call.call (Ok a.reply) → AnswersInTurn first (answers ++ a ∷ []) last
+in_turn_more first mid last [] a same one = (last, subst (λ (m : MachineModel). AnswersLine m last a.call.line a.call.process a.call.call (Ok a.reply)) same one, refl)
+in_turn_more first mid last (b ∷ answers) a done one = (done.0, done.1, in_turn_more done.0 mid last answers a done.2 one)
 
 -- the text of one more answer
 text_more : (answers : List Answered) (a : Answered) → answers_text (answers ++ a ∷ []) ≡ answers_text answers ++ answer_text a
@@ -45,7 +45,7 @@ calls_more answers a = map-append (λ (x : Answered). x.call) answers (a ∷ [])
 
 -- before the first call line nothing is written
 pub answers_none : (m : MachineModel) (a : Option (List ℕ)) → AnswersCalls m m a a []
-answers_none m a = record { answers = []; each = refl; session = refl; written = Appends-nil a }
+answers_none m a = record { answers = []; each = refl; in_turn = refl; written = Appends-nil a }
 
 -- one more call line is answered
 pub answers_more : (first mid last : MachineModel) (a b c : Option (List ℕ)) (calls : List CallLine) (call : CallLine) → AnswersCalls first mid a b calls → AnswersCall mid last b c call → AnswersCalls first last a c (calls ++ call ∷ [])
@@ -53,7 +53,7 @@ answers_more first mid last a b c calls call done one =
     let next : Answered = record { call = call; reply = one.reply } in record {
       answers = done.answers ++ next ∷ [];
       each = calls_more done.answers next ∙ ap (λ (l : List CallLine). l ++ call ∷ []) done.each;
-      session = session_more first mid last done.answers next done.session one.answered;
+      in_turn = in_turn_more first mid last done.answers next done.in_turn one.answered;
       written = subst (Appends a c) (sym (text_more done.answers next)) (Appends-trans a b c (answers_text done.answers) (answer_text next) done.written one.written);
     }
 
@@ -64,7 +64,7 @@ begins_stopped first mid a b c calls front rest parts done keeps = record {
   rest = rest;
   parts = parts ∙ ap (λ (l : List CallLine). l ++ rest) (sym done.each);
   end = mid;
-  session = done.session;
+  in_turn = done.in_turn;
   written = whole_front a c (answers_text done.answers) (Appends-kept a b c (answers_text done.answers) done.written keeps);
 }
 
@@ -78,7 +78,7 @@ begins_next first mid last a b c calls front rest call reply parts done answered
       rest = rest;
       parts = parts ∙ sym (append_assoc front (call ∷ []) rest) ∙ ap (λ (l : List CallLine). l ++ rest) (sym each);
       end = last;
-      session = session_more first mid last done.answers next done.session answered;
+      in_turn = in_turn_more first mid last done.answers next done.in_turn answered;
       written = subst (AppendsFront a c) (sym text) (front_after a b c (answers_text done.answers) (answer_text next) [] done.written begun);
     }
 

@@ -2,7 +2,6 @@ pub mod AnswerLemmas
 pub mod RunLemmas
 pub mod Lines
 pub mod Users
-pub mod Jobless
 pub mod SmallFiles
 pub mod RowRuns
 pub mod TraceRuns

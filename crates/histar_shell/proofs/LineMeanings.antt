@@ -30,11 +30,11 @@ use Rattle.histar_refinement.specs.Sessions.{IsSession}
 use Rattle.histar_refinement.proofs.CallerFound.{caller_found, caller_there}
 use Rattle.histar_refinement.proofs.Renaming.{nothing_under}
 use Rattle.histar_refinement.proofs.StatusFound.{thread_led}
-use Rattle.histar_rows.specs.Rows.{IsScriptable, IsLine, IsReady, HasReadsOf, DoesItsRow, AreFilesSmall}
+use Rattle.histar_rows.specs.Rows.{IsScriptable, IsLine, IsReady, HasReadsOf, DoesItsRow, IsFirstFree, AreFilesSmall}
+use Rattle.histar_rows.proofs.FirstFree.{first_free_after}
 use Rattle.histar_shell.specs.Machine.{MachineModel, on_line, Makes, HasMade, AnswersFound, AnswersRunning, AnswersIf, AnswersLine}
-use Rattle.histar_shell.specs.Meaning.{AreJobless, Shows, EndsAsMeant, FollowsMeaning}
+use Rattle.histar_shell.specs.Meaning.{Shows, EndsAsMeant, FollowsMeaning}
 use Rattle.histar_shell.proofs.CallRows.{LinesAreRows}
-use Rattle.histar_shell.proofs.Jobless.{jobless_after}
 use Rattle.histar_shell.proofs.SmallFiles.{small_after}
 use Rattle.histar_shell.proofs.Users.{is_session}
 
@@ -59,11 +59,10 @@ module _ (rows : LinesAreRows) (old new : MachineModel) (f : Flat) (shows : Show
     ready =
         let p = running_as.0 in
         let runs = running_as.1 in
-        let none = shows.jobless me p runs.runs.0 in
         record {
           lays_out = shows.lays_out;
-          caller = record { process = p; stands = runs.runs.0; runs = runs.runs.1; free = none.in_none; holds_none = none.holds_none };
-          first = λ q at. (shows.jobless [] q at).in_none;
+          caller = record { process = p; stands = runs.runs.0; runs = runs.runs.1 };
+          first = shows.first;
           small = shows.small;
           thread = thread_led old.session (state old.kernel) f shows.lays_out.laid me p caller.thread runs.runs.0 runs.runs.1 runs.runs.2;
         }
@@ -107,12 +106,12 @@ module _ (rows : LinesAreRows) (old new : MachineModel) (f : Flat) (shows : Show
         (subst (λ (places : Places). Makes old.session places me caller (on_line line old.kernel) new.kernel call result) shows.places h.made)
 
     -- the machine after it shows what its kernel lays out
-    still_shows : (line : ℕ) (call : UnixCall) (result : Result Reply Stopped) (g : Flat) → HasMade old new line me caller call result → LaysOut old.session (state new.kernel) g → AreJobless g → AreFilesSmall g → Shows new g
-    still_shows line call result g h lays jobless small = record {
+    still_shows : (line : ℕ) (call : UnixCall) (result : Result Reply Stopped) (g : Flat) → HasMade old new line me caller call result → LaysOut old.session (state new.kernel) g → IsFirstFree g → AreFilesSmall g → Shows new g
+    still_shows line call result g h lays first small = record {
       declared = subst IsDeclared (sym h.session) shows.declared;
       places = h.places ∙ shows.places ∙ ap (λ (declared : Session). places_of (length declared.users)) (sym h.session);
       lays_out = subst (λ (declared : Session). LaysOut declared (state new.kernel) g) (sym h.session) lays;
-      jobless = jobless;
+      first = first;
       small = small;
     }
 
@@ -131,7 +130,7 @@ module _ (rows : LinesAreRows) (old new : MachineModel) (f : Flat) (shows : Show
           trace = row.1.trace;
           row = row.1.row;
           shows = still_shows line call (Ok reply) (flat_after old.session f me call) h row.1.row.lays_out
-              (jobless_after old.session f shows.jobless me call can)
+              (first_free_after old.session f shows.first me call)
               (small_after f shows.small old.session me (nothing_under old.session (state old.kernel) f shows.lays_out.laid) call can);
         }
     made_ends line call (Err stopped) can h =

@@ -19,7 +19,7 @@ use Rattle.histar_shell.specs.Outcome.{IsOutputFault, IsFaultAt, AgreesWith, Ans
 use Rattle.histar_shell.specs.Meaning.{RunsAsMeant}
 use Rattle.histar_shell.specs.Run.{RunsText, RunsTaken, StopsReading, RunsInput, LeavesSink}
 use Rattle.histar_shell.specs.Machine.{MachineModel, IsStart}
-use Rattle.histar_shell.specs.Session.{AnswersCalls, BeginsAnswers}
+use Rattle.histar_shell.specs.AnsweredCalls.{AnswersCalls, BeginsAnswers}
 use Rattle.histar_syscall.specs.declared.trace.TraceEntry.{TraceEntry}
 use Rattle.histar_flat.specs.declared.calls.CallLine.{CallLine}
 use Rattle.histar_shell.proofs.CallRows.{LinesAreRows}

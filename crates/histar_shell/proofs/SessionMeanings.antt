@@ -4,7 +4,7 @@ use Rattle.std.specs.List.{AllByRecursion}
 use Rattle.std.specs.Io.KnownBytes.{Appends}
 use Rattle.std.proofs.lemmas.Grind.{flat_map-append}
 use Rattle.histar_flat.specs.declared.replies.Reply.{Reply}
-use Rattle.histar_flat.specs.Sessions.{Session as Declared}
+use Rattle.histar_flat.specs.Sessions.{Session}
 use Rattle.histar_flat.specs.FlatState.{Flat}
 use Rattle.histar_flat.specs.FlatCalls.{reply_to, flat_after}
 use Rattle.histar_flat.specs.Meaning.{boot, answered_from, flat_end, meaning, Answered}
@@ -26,7 +26,7 @@ use Rattle.histar_rows.proofs.Chains.{entries_of, chain_run, chain_own, granted_
 use Rattle.histar_devices.specs.Writing.{AppendsFront}
 use Rattle.histar_shell.specs.Answers.{answer_text, answers_text, calls_of, line_text}
 use Rattle.histar_shell.specs.Machine.{MachineModel, IsStart, IsTraced}
-use Rattle.histar_shell.specs.Session.{Session, AnswersCalls, BeginsAnswers}
+use Rattle.histar_shell.specs.AnsweredCalls.{AnswersInTurn, AnswersCalls, BeginsAnswers}
 use Rattle.histar_shell.specs.Outcome.{BeginsScript, WritesAtFault, WritesAnswers}
 use Rattle.histar_shell.specs.Meaning.{meaning_text, Shows, AnswersAsMeant, WritesMeaning, BeginsMeaning, WritesMeaningAtFault, RunsAsMeant}
 use Rattle.histar_shell.proofs.Users.{AreScriptable, script_says}
@@ -57,17 +57,17 @@ session_first m mid f a answers end same line later =
     let g = flat_after m.session f a.call.process a.call.call in
     let asked = calls_of answers in
     record {
-      text = (λ i. line_text a.call.line (line.told i) ++ later.text i) ∙ ap (λ (declared : Declared). line_text a.call.line (reply_of line) ++ answers_text (answered_from declared g asked)) same;
+      text = (λ i. line_text a.call.line (line.told i) ++ later.text i) ∙ ap (λ (declared : Session). line_text a.call.line (reply_of line) ++ answers_text (answered_from declared g asked)) same;
       entries = line.entries ++ later.entries;
       trace = later.trace ∙ ap (λ (es : List TraceEntry). es ++ later.entries) line.trace ∙ append_assoc m.kernel.trace line.entries later.entries;
-      rows = (line.entries, later.entries, state mid.kernel, refl, line.row, subst (λ (declared : Declared). AreRows declared (state mid.kernel) g asked later.entries (state end.kernel)) same later.rows);
+      rows = (line.entries, later.entries, state mid.kernel, refl, line.row, subst (λ (declared : Session). AreRows declared (state mid.kernel) g asked later.entries (state end.kernel)) same later.rows);
     }
   where
     reply_of : AnswersAsMeant m mid f a.call a.reply → Reply
     reply_of l = reply_to m.session f a.call.process a.call.call
 
 -- a session of lines that a script can have
-pub session_means : (rows : LinesAreRows) (m : MachineModel) (f : Flat) (answers : List Answered) (end : MachineModel) → Session m answers end → Shows m f → AreScriptable (calls_of answers) → IsMeantSession m f answers end
+pub session_means : (rows : LinesAreRows) (m : MachineModel) (f : Flat) (answers : List Answered) (end : MachineModel) → AnswersInTurn m answers end → Shows m f → AreScriptable (calls_of answers) → IsMeantSession m f answers end
 session_means rows m f [] end session shows can = session_none m f end session
 session_means rows m f (a ∷ answers) end session shows can =
     let line = line_follows rows m session.0 a.call.line a.call.process a.call.call (Ok a.reply) session.1 f shows can.0 in
@@ -75,21 +75,21 @@ session_means rows m f (a ∷ answers) end session shows can =
     (session_means rows session.0 (flat_after m.session f a.call.process a.call.call) answers end session.2 line.shows can.1)
 
 -- the raw calls of boot
-record IsBootTrace (session : Declared) (m : MachineModel) : Type 0 where
+record IsBootTrace (session : Session) (m : MachineModel) : Type 0 where
   pub entries : List TraceEntry
   pub trace : m.kernel.trace ≡ entries
   pub run : IsRun empty_state entries (state m.kernel)
   pub own : AllByRecursion (IsBy 0 boot_thread_number) entries
 
 -- a machine that was booted by its raw calls alone has a trace of them
-pub booted_traced : (session : Declared) (kernel : KernelModel) → IsBooted session kernel → IsTraced kernel
+pub booted_traced : (session : Session) (kernel : KernelModel) → IsBooted session kernel → IsTraced kernel
 booted_traced session kernel booted =
     let granted = granted_run boot_thread_number booted.first kernel (boot_calls session) booted.made in
     let part = chain_run boot_thread_number booted.first kernel granted.0 granted.1 in
     let entries = entries_of booted.first.line boot_thread_number granted.0 in
     subst (λ (es : List TraceEntry). IsRun empty_state es (state kernel)) (sym (part.trace ∙ ap (λ (es : List TraceEntry). es ++ entries) booted.no_trace)) (subst (λ (s : State). IsRun s entries (state kernel)) booted.empty part.run)
 
-boot_trace : (session : Declared) (m : MachineModel) → IsBooted session m.kernel → IsBootTrace session m
+boot_trace : (session : Session) (m : MachineModel) → IsBooted session m.kernel → IsBootTrace session m
 boot_trace session m booted =
     let granted = granted_run boot_thread_number booted.first m.kernel (boot_calls session) booted.made in
     let part = chain_run boot_thread_number booted.first m.kernel granted.0 granted.1 in
@@ -103,26 +103,26 @@ boot_trace session m booted =
 
 module _ (rows : LinesAreRows) (script : Reading) (declared : IsDeclared script.session) (can : AreScriptable script.calls) (start : MachineModel) (starts : IsStart script.session start) where
   -- the session from the start on
-  from_start : (answers : List Answered) (end : MachineModel) → AreScriptable (calls_of answers) → Session start answers end → IsMeantSession start (boot script.session) answers end
+  from_start : (answers : List Answered) (end : MachineModel) → AreScriptable (calls_of answers) → AnswersInTurn start answers end → IsMeantSession start (boot script.session) answers end
   from_start answers end these session = session_means rows start (boot script.session) answers end session (start_shows script.session declared start starts) these
 
   -- the text of the lines that were answered
-  text_is : (answers : List Answered) (end : MachineModel) → AreScriptable (calls_of answers) → Session start answers end → answers_text answers ≡ answers_text (meaning script.session (calls_of answers))
-  text_is answers end these session = (from_start answers end these session).text ∙ ap (λ (us : Declared). answers_text (answered_from us (boot script.session) (calls_of answers))) starts.session
+  text_is : (answers : List Answered) (end : MachineModel) → AreScriptable (calls_of answers) → AnswersInTurn start answers end → answers_text answers ≡ answers_text (meaning script.session (calls_of answers))
+  text_is answers end these session = (from_start answers end these session).text ∙ ap (λ (us : Session). answers_text (answered_from us (boot script.session) (calls_of answers))) starts.session
 
   -- all lines were answered
   pub writes_meaning : (old new : Option (List ℕ)) (read : Result Reading Fault) → read ≡ Ok script → (trace : List TraceEntry) (end : MachineModel) → AnswersCalls start end old new script.calls → trace ≡ end.kernel.trace → WritesMeaning old new read trace
   writes_meaning old new read is_read trace end answered recorded =
       let these : AreScriptable (calls_of answered.answers) = subst AreScriptable (sym answered.each) can in
-      let session = from_start answered.answers end these answered.session in
+      let session = from_start answered.answers end these answered.in_turn in
       let of_boot = boot_trace script.session start starts.booted in
       let parts = recorded ∙ session.trace ∙ ap (λ (es : List TraceEntry). es ++ session.entries) of_boot.trace in
       let of_lines = subst (λ (calls : List CallLine). AreRows script.session (state start.kernel) (boot script.session) calls session.entries (state end.kernel)) answered.each
-      (subst (λ (us : Declared). AreRows us (state start.kernel) (boot script.session) (calls_of answered.answers) session.entries (state end.kernel)) starts.session session.rows) in
+      (subst (λ (us : Session). AreRows us (state start.kernel) (boot script.session) (calls_of answered.answers) session.entries (state end.kernel)) starts.session session.rows) in
       record {
         script = script;
         is_read = is_read;
-        written = subst (Appends old new) (text_is answered.answers end these answered.session ∙ ap (λ (calls : List CallLine). answers_text (meaning script.session calls)) answered.each) answered.written;
+        written = subst (Appends old new) (text_is answered.answers end these answered.in_turn ∙ ap (λ (calls : List CallLine). answers_text (meaning script.session calls)) answered.each) answered.written;
         recorded = record {
           of_boot = of_boot.entries;
           of_lines = session.entries;
@@ -155,7 +155,7 @@ module _ (rows : LinesAreRows) (script : Reading) (declared : IsDeclared script.
       let these : AreScriptable front = front_can front begun.rest (subst AreScriptable begun.parts can) in
       let asked = front in
       let more = begun.rest in
-      let text = text_is begun.answers begun.end these begun.session in
+      let text = text_is begun.answers begun.end these begun.in_turn in
       let rest_text = answers_text (answered_from script.session (flat_end script.session (boot script.session) asked) more) in
       let whole : meaning_text script ≡ answers_text begun.answers ++ rest_text =
       ap (λ (calls : List CallLine). answers_text (meaning script.session calls)) begun.parts

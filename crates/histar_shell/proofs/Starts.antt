@@ -10,10 +10,10 @@ use Rattle.histar_login.specs.Start.{start_state, places_of}
 use Rattle.histar_refinement.specs.LaysOut.{LaysOut}
 use Rattle.histar_refinement.proofs.Start.{start_lays_out}
 use Rattle.histar_refinement.proofs.StartTable.{length_start}
+use Rattle.histar_rows.proofs.FirstFree.{first_free_at_start}
 use Rattle.histar_shell.specs.Machine.{MachineModel, IsStart}
 use Rattle.histar_shell.specs.Meaning.{Shows}
 use Rattle.histar_shell.proofs.SmallFiles.{small_at_start}
-use Rattle.histar_shell.proofs.Jobless.{jobless_at_start}
 use Rattle.histar_shell.proofs.Users.{is_session}
 
 module _ (session : Session) (declared : IsDeclared session) where
@@ -33,6 +33,6 @@ module _ (session : Session) (declared : IsDeclared session) where
     lays_out =
         subst (λ (x : Session). LaysOut x (state m.kernel) (boot session)) (sym start.session)
         (subst (λ (s : State). LaysOut session s (boot session)) (sym start.state) start_is_laid);
-    jobless = jobless_at_start session;
+    first = first_free_at_start session;
     small = small_at_start session;
   }

@@ -1,6 +1,6 @@
 pub mod Answers
 pub mod Outcome
 pub mod Machine
-pub mod Session
+pub mod AnsweredCalls
 pub mod Meaning
 pub mod Run

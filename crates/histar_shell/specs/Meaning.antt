@@ -6,9 +6,7 @@ use Rattle.histar_flat.specs.declared.replies.Reply.{Reply}
 use Rattle.histar_flat.specs.declared.calls.UnixCall.{UnixCall}
 use Rattle.histar_flat.specs.Words.{ProcName}
 use Rattle.histar_flat.specs.Sessions.{Session}
-use Rattle.histar_flat.specs.Classes.{Process}
 use Rattle.histar_flat.specs.FlatState.{Flat}
-use Rattle.histar_flat.specs.Laws.{HasNoJob}
 use Rattle.histar_flat.specs.FlatCalls.{reply_to, flat_after}
 use Rattle.histar_flat.specs.Meaning.{boot, meaning}
 use Rattle.histar_object.specs.State.{State, empty_state}
@@ -24,7 +22,7 @@ use Rattle.histar_login.specs.Boot.{boot_thread_number}
 use Rattle.histar_login.specs.Start.{places_of}
 use Rattle.histar_refinement.specs.LaysOut.{LaysOut}
 use Rattle.histar_refinement.specs.Lines.{IsThreadOf}
-use Rattle.histar_rows.specs.Rows.{IsScriptable, IsRow, AreRows, AreFilesSmall, IsRunUnlessExhausted}
+use Rattle.histar_rows.specs.Rows.{IsScriptable, IsRow, AreRows, IsFirstFree, AreFilesSmall, IsRunUnlessExhausted}
 use Rattle.histar_devices.specs.Writing.{AppendsFront}
 use Rattle.histar_shell.specs.Answers.{answers_text}
 use Rattle.histar_shell.specs.Machine.{MachineModel}
@@ -33,17 +31,13 @@ use Rattle.histar_shell.specs.Machine.{MachineModel}
 abbrev pub meaning_text : Reading → List ℕ
 meaning_text script = answers_text (meaning script.session script.calls)
 
--- no process is in a job or holds one, since no line of a script can start a job yet
-abbrev pub AreJobless : Flat → Type 0
-AreJobless f = (me : ProcName) (p : Process) → f.processes me ≡ Some p → HasNoJob p
-
--- A machine lays out a flat state, in which there are no jobs: its kernel does, its users and groups are those of a script, and it
+-- A machine lays out a flat state, in which process 0 is in no job: its kernel does, its users and groups are those of a script, and it
 -- knows of `/` and of process 0 what boot told it.
 pub record Shows (m : MachineModel) (f : Flat) : Type 0 where
   pub declared : IsDeclared m.session
   pub places : m.places ≡ places_of (length m.session.users)
   pub lays_out : LaysOut m.session (state m.kernel) f
-  pub jobless : AreJobless f
+  pub first : IsFirstFree f
   pub small : AreFilesSmall f
 
 -- The line was answered what the flat state says. The new end of the trace are its raw calls, which are its row, and the machine lays

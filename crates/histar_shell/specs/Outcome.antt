@@ -5,7 +5,7 @@ use Rattle.histar_script.specs.declared.fault.Fault.{Fault}
 use Rattle.histar_script.specs.declared.fault.Fault.TheVariants.{BadScript, TooLong, OutOfMemory, ReadFailed, WriteFailed}
 use Rattle.histar_script.specs.Script.{Reading}
 use Rattle.histar_shell.specs.Machine.{MachineModel, IsStart}
-use Rattle.histar_shell.specs.Session.{AnswersCalls, BeginsAnswers}
+use Rattle.histar_shell.specs.AnsweredCalls.{AnswersCalls, BeginsAnswers}
 use Rattle.histar_syscall.specs.declared.trace.TraceEntry.{TraceEntry}
 
 -- the answer is that a read failed

@@ -1,5 +1,5 @@
 use Rattle.std.proofs.Common.{◌≡◌}
-use Rattle.histar_shell.specs.Session.{AnswersCalls}
+use Rattle.histar_shell.specs.AnsweredCalls.{AnswersCalls}
 use Rattle.histar_shell.proofs.session.answer_calls.Given as goal
 
 abbrev pub invariant-calls : goal.invariant-calls

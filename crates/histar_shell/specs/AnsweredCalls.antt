@@ -11,9 +11,9 @@ use Rattle.histar_shell.specs.Machine.{MachineModel, AnswersLine}
 
 -- A machine answered these call lines one after another, each as the one before had left it, and each with the reply that it
 -- is listed with.
-abbrev pub Session : MachineModel → List Answered → MachineModel → Type 0
-Session m [] end = end ≡ m
-Session m (a ∷ answers) end = (mid : MachineModel) × AnswersLine m mid a.call.line a.call.process a.call.call (Ok a.reply) × Session mid answers end
+abbrev pub AnswersInTurn : MachineModel → List Answered → MachineModel → Type 0
+AnswersInTurn m [] end = end ≡ m
+AnswersInTurn m (a ∷ answers) end = (mid : MachineModel) × AnswersLine m mid a.call.line a.call.process a.call.call (Ok a.reply) × AnswersInTurn mid answers end
 
 -- the machine answered this call line with a reply, and the line that tells this reply was written
 pub record AnswersCall (before after : MachineModel) (old new : Option (List ℕ)) (call : CallLine) : Type 0 where
@@ -32,7 +32,7 @@ pub record BeginsAnswer (before after : MachineModel) (old new : Option (List �
 pub record AnswersCalls (before after : MachineModel) (old new : Option (List ℕ)) (calls : List CallLine) : Type 0 where
   pub answers : List Answered
   pub each : calls_of answers ≡ calls
-  pub session : Session before answers after
+  pub in_turn : AnswersInTurn before answers after
   pub written : Appends old new (answers_text answers)
 
 -- the machine answered the first of these call lines, in their order, and a beginning of the lines that tell its replies was
@@ -42,5 +42,5 @@ pub record BeginsAnswers (before : MachineModel) (old new : Option (List ℕ)) (
   pub rest : List CallLine
   pub parts : calls ≡ calls_of answers ++ rest
   pub end : MachineModel
-  pub session : Session before answers end
+  pub in_turn : AnswersInTurn before answers end
   pub written : AppendsFront old new (answers_text answers)
