@@ -115,14 +115,14 @@ pub rmdir_that_tells_of_a_job : two_runs three_users (1 ∷ 1 ∷ []) (tmp_made 
     line_of 11 (1 ∷ 1 ∷ []) (Create (codes "out" ∷ codes "j" ∷ codes "tmp" ∷ []) modes.Open) ∷
     line_of 12 (1 ∷ []) (Rmdir (codes "j" ∷ codes "tmp" ∷ [])) ∷
     line_of 13 (2 ∷ []) (ListCall (codes "tmp" ∷ [])) ∷ []) ≡ record {
-  is_started = true;
-  lines_apart = 13 ∷ [];
-  paths_apart = (codes "j" ∷ codes "tmp" ∷ []) ∷ [];
-  printed_with = tmp_printed ++ codes "10 ok 0.1.1\n11 ok\n12 ENOTEMPTY\n13 ok j/\n";
-  printed_without = tmp_printed ++ codes "10 ok 0.1.1\n12 ok\n13 ok\n";
-  tree_with = codes "/ dir root readable\n/tmp dir - open\n/tmp/j dir alice scratch\n/tmp/j/out file alice scratch = \n";
-  tree_without = codes "/ dir root readable\n/tmp dir - open\n";
-}
+      is_started = true;
+      lines_apart = 13 ∷ [];
+      paths_apart = (codes "j" ∷ codes "tmp" ∷ []) ∷ [];
+      printed_with = tmp_printed ++ codes "10 ok 0.1.1\n11 ok\n12 ENOTEMPTY\n13 ok j/\n";
+      printed_without = tmp_printed ++ codes "10 ok 0.1.1\n12 ok\n13 ok\n";
+      tree_with = codes "/ dir root readable\n/tmp dir - open\n/tmp/j dir alice scratch\n/tmp/j/out file alice scratch = \n";
+      tree_without = codes "/ dir root readable\n/tmp dir - open\n";
+    }
 unfolding digits
 rmdir_that_tells_of_a_job = refl
 
@@ -131,14 +131,14 @@ pub rmdir_that_the_tree_tells_of : two_runs three_users (1 ∷ 1 ∷ []) (tmp_ma
     line_of 10 (1 ∷ []) (Wrap (codes "j" ∷ codes "tmp" ∷ [])) ∷
     line_of 11 (1 ∷ 1 ∷ []) (Create (codes "a" ∷ codes "j" ∷ codes "tmp" ∷ []) modes.Open) ∷
     line_of 12 (1 ∷ []) (Rmdir (codes "j" ∷ codes "tmp" ∷ [])) ∷ []) ≡ record {
-  is_started = true;
-  lines_apart = [];
-  paths_apart = (codes "j" ∷ codes "tmp" ∷ []) ∷ [];
-  printed_with = tmp_printed ++ codes "10 ok 0.1.1\n11 ok\n12 ENOTEMPTY\n";
-  printed_without = tmp_printed ++ codes "10 ok 0.1.1\n12 ok\n";
-  tree_with = codes "/ dir root readable\n/tmp dir - open\n/tmp/j dir alice scratch\n/tmp/j/a file alice scratch = \n";
-  tree_without = codes "/ dir root readable\n/tmp dir - open\n";
-}
+      is_started = true;
+      lines_apart = [];
+      paths_apart = (codes "j" ∷ codes "tmp" ∷ []) ∷ [];
+      printed_with = tmp_printed ++ codes "10 ok 0.1.1\n11 ok\n12 ENOTEMPTY\n";
+      printed_without = tmp_printed ++ codes "10 ok 0.1.1\n12 ok\n";
+      tree_with = codes "/ dir root readable\n/tmp dir - open\n/tmp/j dir alice scratch\n/tmp/j/a file alice scratch = \n";
+      tree_without = codes "/ dir root readable\n/tmp dir - open\n";
+    }
 unfolding digits
 rmdir_that_the_tree_tells_of = refl
 
@@ -149,14 +149,14 @@ pub wrap_that_tells_of_a_job : two_runs three_users (1 ∷ 1 ∷ []) (tmp_made +
     line_of 11 (1 ∷ 1 ∷ []) (Create (codes "out" ∷ codes "j" ∷ codes "tmp" ∷ []) modes.Open) ∷
     line_of 12 (1 ∷ []) (Wrap (codes "out" ∷ codes "j" ∷ codes "tmp" ∷ [])) ∷
     line_of 13 (2 ∷ []) (Status (2 ∷ 1 ∷ [])) ∷ []) ≡ record {
-  is_started = true;
-  lines_apart = 13 ∷ [];
-  paths_apart = [];
-  printed_with = tmp_printed ++ codes "10 ok 0.1.1\n11 ok\n12 EEXIST\n13 ESRCH\n";
-  printed_without = tmp_printed ++ codes "10 ok 0.1.1\n12 ok 0.1.2\n13 EACCES\n";
-  tree_with = codes "/ dir root readable\n/tmp dir - open\n/tmp/j dir alice scratch\n/tmp/j/out file alice scratch = \n";
-  tree_without = codes "/ dir root readable\n/tmp dir - open\n/tmp/j dir alice scratch\n/tmp/j/out dir alice scratch\n";
-}
+      is_started = true;
+      lines_apart = 13 ∷ [];
+      paths_apart = [];
+      printed_with = tmp_printed ++ codes "10 ok 0.1.1\n11 ok\n12 EEXIST\n13 ESRCH\n";
+      printed_without = tmp_printed ++ codes "10 ok 0.1.1\n12 ok 0.1.2\n13 EACCES\n";
+      tree_with = codes "/ dir root readable\n/tmp dir - open\n/tmp/j dir alice scratch\n/tmp/j/out file alice scratch = \n";
+      tree_without = codes "/ dir root readable\n/tmp dir - open\n/tmp/j dir alice scratch\n/tmp/j/out dir alice scratch\n";
+    }
 unfolding digits
 wrap_that_tells_of_a_job = refl
 
@@ -173,14 +173,14 @@ pub output_used_by_who_started_the_job : two_runs three_users (1 ∷ 1 ∷ []) (
     line_of 17 (1 ∷ []) (Rmtree (codes "j" ∷ codes "tmp" ∷ [])) ∷
     line_of 18 (2 ∷ []) (ListCall (codes "tmp" ∷ [])) ∷
     line_of 19 (1 ∷ []) (Kill (1 ∷ 1 ∷ [])) ∷ []) ≡ record {
-  is_started = true;
-  lines_apart = [];
-  paths_apart = [];
-  printed_with = tmp_printed ++ codes "10 ok 0.1.1\n11 ok\n12 ok\n13 = \n14 ok\n15 ok\n16 ok exited 3\n17 ok\n18 ok\n19 ok\n";
-  printed_without = tmp_printed ++ codes "10 ok 0.1.1\n13 ENOENT\n14 ENOENT\n15 ENOENT\n16 ok running\n17 ok\n18 ok\n19 ok\n";
-  tree_with = codes "/ dir root readable\n/tmp dir - open\n";
-  tree_without = codes "/ dir root readable\n/tmp dir - open\n";
-}
+      is_started = true;
+      lines_apart = [];
+      paths_apart = [];
+      printed_with = tmp_printed ++ codes "10 ok 0.1.1\n11 ok\n12 ok\n13 = \n14 ok\n15 ok\n16 ok exited 3\n17 ok\n18 ok\n19 ok\n";
+      printed_without = tmp_printed ++ codes "10 ok 0.1.1\n13 ENOENT\n14 ENOENT\n15 ENOENT\n16 ok running\n17 ok\n18 ok\n19 ok\n";
+      tree_with = codes "/ dir root readable\n/tmp dir - open\n";
+      tree_without = codes "/ dir root readable\n/tmp dir - open\n";
+    }
 unfolding digits
 output_used_by_who_started_the_job = refl
 
@@ -191,14 +191,14 @@ pub unnoticed_inner_job : two_runs three_users (1 ∷ 1 ∷ 1 ∷ []) (tmp_made 
     line_of 12 (1 ∷ 1 ∷ 1 ∷ []) (Create (codes "o" ∷ codes "k" ∷ codes "j" ∷ codes "tmp" ∷ []) modes.Open) ∷
     line_of 13 (1 ∷ 1 ∷ []) (ListCall (codes "k" ∷ codes "j" ∷ codes "tmp" ∷ [])) ∷
     line_of 14 (1 ∷ []) (ListCall (codes "j" ∷ codes "tmp" ∷ [])) ∷ []) ≡ record {
-  is_started = true;
-  lines_apart = [];
-  paths_apart = [];
-  printed_with = tmp_printed ++ codes "10 ok 0.1.1\n11 ok 0.1.1.1\n12 ok\n13 ok o\n14 ok k/\n";
-  printed_without = tmp_printed ++ codes "10 ok 0.1.1\n11 ok 0.1.1.1\n13 ok\n14 ok k/\n";
-  tree_with = codes "/ dir root readable\n/tmp dir - open\n/tmp/j dir alice scratch\n/tmp/j/k dir alice scratch\n/tmp/j/k/o file alice scratch = \n";
-  tree_without = codes "/ dir root readable\n/tmp dir - open\n/tmp/j dir alice scratch\n/tmp/j/k dir alice scratch\n";
-}
+      is_started = true;
+      lines_apart = [];
+      paths_apart = [];
+      printed_with = tmp_printed ++ codes "10 ok 0.1.1\n11 ok 0.1.1.1\n12 ok\n13 ok o\n14 ok k/\n";
+      printed_without = tmp_printed ++ codes "10 ok 0.1.1\n11 ok 0.1.1.1\n13 ok\n14 ok k/\n";
+      tree_with = codes "/ dir root readable\n/tmp dir - open\n/tmp/j dir alice scratch\n/tmp/j/k dir alice scratch\n/tmp/j/k/o file alice scratch = \n";
+      tree_without = codes "/ dir root readable\n/tmp dir - open\n/tmp/j dir alice scratch\n/tmp/j/k dir alice scratch\n";
+    }
 unfolding digits
 unnoticed_inner_job = refl
 
@@ -209,14 +209,14 @@ pub rmdir_that_tells_of_an_inner_job : two_runs three_users (1 ∷ 1 ∷ 1 ∷ [
     line_of 12 (1 ∷ 1 ∷ 1 ∷ []) (Create (codes "o" ∷ codes "k" ∷ codes "j" ∷ codes "tmp" ∷ []) modes.Open) ∷
     line_of 13 (1 ∷ 1 ∷ []) (Rmdir (codes "k" ∷ codes "j" ∷ codes "tmp" ∷ [])) ∷
     line_of 14 (1 ∷ []) (ListCall (codes "j" ∷ codes "tmp" ∷ [])) ∷ []) ≡ record {
-  is_started = true;
-  lines_apart = 14 ∷ [];
-  paths_apart = (codes "k" ∷ codes "j" ∷ codes "tmp" ∷ []) ∷ [];
-  printed_with = tmp_printed ++ codes "10 ok 0.1.1\n11 ok 0.1.1.1\n12 ok\n13 ENOTEMPTY\n14 ok k/\n";
-  printed_without = tmp_printed ++ codes "10 ok 0.1.1\n11 ok 0.1.1.1\n13 ok\n14 ok\n";
-  tree_with = codes "/ dir root readable\n/tmp dir - open\n/tmp/j dir alice scratch\n/tmp/j/k dir alice scratch\n/tmp/j/k/o file alice scratch = \n";
-  tree_without = codes "/ dir root readable\n/tmp dir - open\n/tmp/j dir alice scratch\n";
-}
+      is_started = true;
+      lines_apart = 14 ∷ [];
+      paths_apart = (codes "k" ∷ codes "j" ∷ codes "tmp" ∷ []) ∷ [];
+      printed_with = tmp_printed ++ codes "10 ok 0.1.1\n11 ok 0.1.1.1\n12 ok\n13 ENOTEMPTY\n14 ok k/\n";
+      printed_without = tmp_printed ++ codes "10 ok 0.1.1\n11 ok 0.1.1.1\n13 ok\n14 ok\n";
+      tree_with = codes "/ dir root readable\n/tmp dir - open\n/tmp/j dir alice scratch\n/tmp/j/k dir alice scratch\n/tmp/j/k/o file alice scratch = \n";
+      tree_without = codes "/ dir root readable\n/tmp dir - open\n/tmp/j dir alice scratch\n";
+    }
 unfolding digits
 rmdir_that_tells_of_an_inner_job = refl
 
@@ -239,14 +239,14 @@ pub unnoticed_job_with_a_job_in_it : two_runs three_users (1 ∷ 1 ∷ []) (tmp_
     line_of 23 (1 ∷ 1 ∷ 1 ∷ []) (Login (codes "bob") (codes "bb")) ∷
     line_of 24 (1 ∷ []) (Kill (1 ∷ 1 ∷ [])) ∷
     line_of 25 (1 ∷ []) (Rmtree (codes "j" ∷ codes "tmp" ∷ [])) ∷ []) ≡ record {
-  is_started = true;
-  lines_apart = [];
-  paths_apart = [];
-  printed_with = tmp_printed ++ codes "10 ok 0.1.1\n11 ok 0.1.1.1\n12 ok\n13 ok file alice scratch\n14 ok k/\n15 EACCES\n16 EACCES\n17 ok\n18 = \n19 EACCES\n20 EACCES\n21 ok running\n22 EACCES\n23 EACCES\n24 ok\n25 ok\n";
-  printed_without = tmp_printed ++ codes "10 ok 0.1.1\n14 ok\n15 ENOENT\n20 ESRCH\n24 ok\n25 ok\n";
-  tree_with = codes "/ dir root readable\n/tmp dir - open\n";
-  tree_without = codes "/ dir root readable\n/tmp dir - open\n";
-}
+      is_started = true;
+      lines_apart = [];
+      paths_apart = [];
+      printed_with = tmp_printed ++ codes "10 ok 0.1.1\n11 ok 0.1.1.1\n12 ok\n13 ok file alice scratch\n14 ok k/\n15 EACCES\n16 EACCES\n17 ok\n18 = \n19 EACCES\n20 EACCES\n21 ok running\n22 EACCES\n23 EACCES\n24 ok\n25 ok\n";
+      printed_without = tmp_printed ++ codes "10 ok 0.1.1\n14 ok\n15 ENOENT\n20 ESRCH\n24 ok\n25 ok\n";
+      tree_with = codes "/ dir root readable\n/tmp dir - open\n";
+      tree_without = codes "/ dir root readable\n/tmp dir - open\n";
+    }
 unfolding digits
 unnoticed_job_with_a_job_in_it = refl
 
@@ -261,13 +261,13 @@ pub unnoticed_job_of_a_member : two_runs with_a_team (1 ∷ 2 ∷ []) (logins ++
     line_of 20 (2 ∷ []) (ListCall (codes "j" ∷ codes "tmp" ∷ [])) ∷
     line_of 21 (1 ∷ []) (Read (codes "g" ∷ codes "tmp" ∷ [])) ∷
     line_of 22 (3 ∷ []) (ListCall (codes "tmp" ∷ [])) ∷ []) ≡ record {
-  is_started = true;
-  lines_apart = [];
-  paths_apart = [];
-  printed_with = logins_printed ++ codes "14 ok\n15 ok\n16 ok 0.2.1\n17 = hi\n18 EACCES\n19 ok\n20 ok o\n21 = hi\n22 ok g j/\n";
-  printed_without = logins_printed ++ codes "14 ok\n15 ok\n16 ok 0.2.1\n20 ok\n21 = hi\n22 ok g j/\n";
-  tree_with = codes "/ dir root readable\n/tmp dir - open\n/tmp/g file - group:team = hi\n/tmp/j dir bob scratch\n/tmp/j/o file bob scratch = \n";
-  tree_without = codes "/ dir root readable\n/tmp dir - open\n/tmp/g file - group:team = hi\n/tmp/j dir bob scratch\n";
-}
+      is_started = true;
+      lines_apart = [];
+      paths_apart = [];
+      printed_with = logins_printed ++ codes "14 ok\n15 ok\n16 ok 0.2.1\n17 = hi\n18 EACCES\n19 ok\n20 ok o\n21 = hi\n22 ok g j/\n";
+      printed_without = logins_printed ++ codes "14 ok\n15 ok\n16 ok 0.2.1\n20 ok\n21 = hi\n22 ok g j/\n";
+      tree_with = codes "/ dir root readable\n/tmp dir - open\n/tmp/g file - group:team = hi\n/tmp/j dir bob scratch\n/tmp/j/o file bob scratch = \n";
+      tree_without = codes "/ dir root readable\n/tmp dir - open\n/tmp/g file - group:team = hi\n/tmp/j dir bob scratch\n";
+    }
 unfolding digits
 unnoticed_job_of_a_member = refl

@@ -1,5 +1,5 @@
 -- What a process owns as its user, and what a child gets from its parent.
-use Rattle.std.specs.Prelude.{ℕ, zero, suc, Bool, true, false, List, [], ◌∷◌, ◌++◌, length, map, if◌then◌else◌}
+use Rattle.std.specs.Prelude.{ℕ, zero, suc, Bool, List, [], ◌∷◌, ◌++◌, length, map, if◌then◌else◌}
 use Rattle.histar_flat.specs.Words.{Name}
 use Rattle.histar_flat.specs.declared.calls.User.{User}
 use Rattle.histar_flat.specs.Sessions.{Session}

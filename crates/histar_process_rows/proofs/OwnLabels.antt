@@ -1,38 +1,23 @@
 -- What its thread's own label tells of a process: whose it is.
-use Rattle.std.proofs.Common.{◌≡◌, ◌≢◌, ℕ, zero, suc, ◌<◌, ◌==◌, ◌||◌, ◌⊎◌, inl, inr, Bool, true, false, cond, Contains, List, [], ◌∷◌, ◌++◌, length, get_or, Option, Some, arith, refl, sym, ap, ◌∙◌}
-use Rattle.std.specs.Prelude.{map, is_some, slice_get}
-use Rattle.std.specs.List.{filter}
-use Rattle.std.proofs.lemmas.Bool.Decides.{eqb_tells}
-use Rattle.std.proofs.lemmas.List.{get_or_default}
+use Rattle.std.proofs.Common.{◌≡◌, ℕ, zero, suc, ◌⊎◌, inl, inr, true, List, [], ◌∷◌, length, Option, Some, arith, sym, ap, ◌∙◌}
+use Rattle.std.specs.Prelude.{is_some, slice_get}
 use Rattle.std.proofs.lemmas.Option.{none-some, same_Some}
-use mathlib.Core.Bool.{true≢false}
 use Rattle.histar_flat.specs.declared.calls.User.{User}
 use Rattle.histar_flat.specs.Words.{Name, ProcName}
 use Rattle.histar_flat.specs.Sessions.{Session, user_number}
-use Rattle.histar_flat.specs.Classes.{Process, nobody, is_free}
+use Rattle.histar_flat.specs.Classes.{Process, nobody}
 use Rattle.histar_flat.specs.FlatState.{Flat}
-use Rattle.histar_label.specs.declared.levels.Level.{Level}
-use Rattle.histar_label.specs.declared.levels.Level.TheVariants.{Star, L1, L3}
-use Rattle.histar_label.specs.Levels.{Levels, constant, default_of, default_of-constant, exceptions_of}
-use Rattle.histar_label.proofs.Listed.{ListsExceptions-exceptions_of}
 use Rattle.histar_object.specs.State.{State}
 use Rattle.histar_calls.specs.Categories.{user_of}
-use Rattle.histar_calls.specs.Labelling.{each_at, owning}
 use Rattle.histar_calls.proofs.UserOf.{user_is}
 use Rattle.histar_process.specs.Kin.{user_name}
-use Rattle.histar_calls.specs.Jobs.{jobs_in, is_empty}
 use Rattle.histar_refinement.specs.Sessions.{IsSession}
-use Rattle.histar_refinement.specs.Categories.{Categories}
-use Rattle.histar_refinement.specs.Categories.CategoryName.{OfJob}
 use Rattle.histar_refinement.specs.Guards.{rights_label}
 use Rattle.histar_refinement.specs.Labels.{thread_rights}
 use Rattle.histar_refinement.specs.LaysOut.{Laid}
 use Rattle.histar_refinement.specs.Processes.{or_zero}
 use Rattle.histar_refinement.proofs.CallLabels.{user_of_thread}
-use Rattle.histar_refinement.proofs.CallerLabels.{default_kept}
 use Rattle.histar_refinement.proofs.LeftObjects.{numbered_user}
-use Rattle.histar_refinement.proofs.Levelled.{owning_level, at_owning}
-use Rattle.histar_refinement.proofs.Members.{is_in, same_truth, or_first, or_second, equal_itself}
 use Rattle.histar_refinement.proofs.Standing.{some_of}
 
 -- The own label of the thread of a process tells the number of its user.

@@ -171,7 +171,7 @@ module _ (session : Session) (category : Categories) (different : AreDifferent c
       (λ j low high. unnamed_user g j (omega (arith, known, number, high)) (h.no_other j (omega (arith, high, number))))
       (ap (is_unnamed label) number ∙ unnamed_by g i (ReadsUser i) (WritesUser i) reads_is writes_is read write h.owner.at_reads h.owner.at_writes ∙ h.owner.named)
       ∙ (λ k. class_at (u.3 k) ((ap (λ n. level_of label (read_category n)) number ∙ at_read g i (ReadsUser i) (WritesUser i) reads_is writes_is ∙ h.owner.at_reads) k)
-          ((ap (λ n. level_of label (write_category n)) number ∙ at_write g i (ReadsUser i) (WritesUser i) reads_is writes_is ∙ h.owner.at_writes) k))
+      ((ap (λ n. level_of label (write_category n)) number ∙ at_write g i (ReadsUser i) (WritesUser i) reads_is writes_is ∙ h.owner.at_writes) k))
 
   private_names : (i : ℕ) → NamesUser (private_guard i) i L3 L0
   private_names i = record {
@@ -230,7 +230,7 @@ module _ (session : Session) (category : Categories) (different : AreDifferent c
       (λ j low high. before j low (omega (arith, high, at.5)) range.1)
       (ap (is_unnamed label) number ∙ unnamed_by g (group_owner (length session.users) k) (ReadsGroup k) (WritesGroup k) reads_is writes_is L3 L0 reads writes)
       ∙ (λ i. group_class_at (at.3 i) ((ap (λ n. level_of label (read_category n)) number ∙ at_read g (group_owner (length session.users) k) (ReadsGroup k) (WritesGroup k) reads_is writes_is ∙ reads) i)
-          ((ap (λ n. level_of label (write_category n)) number ∙ at_write g (group_owner (length session.users) k) (ReadsGroup k) (WritesGroup k) reads_is writes_is ∙ writes) i))
+      ((ap (λ n. level_of label (write_category n)) number ∙ at_write g (group_owner (length session.users) k) (ReadsGroup k) (WritesGroup k) reads_is writes_is ∙ writes) i))
     where
       -- a group before it is not named
       before : (j : ℕ) → 1 + length session.users ≤ j → j < length session.users + k → k ≤ length session.groups → is_unnamed (guard_label category (group_guard k)) j ≡ true

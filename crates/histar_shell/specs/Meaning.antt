@@ -1,5 +1,5 @@
 -- A run against the flat meaning of its script.
-use Rattle.std.specs.Prelude.{◌≡◌, ℕ, ◌⊎◌, List, ◌++◌, length, Option, Some, Result, Ok, Err, MatchResult}
+use Rattle.std.specs.Prelude.{◌≡◌, ℕ, ◌⊎◌, List, ◌++◌, length, Option, Result, Ok, Err, MatchResult}
 use Rattle.std.specs.List.{AllByRecursion}
 use Rattle.std.specs.Io.KnownBytes.{Appends, Keeps}
 use Rattle.histar_flat.specs.declared.replies.Reply.{Reply}
