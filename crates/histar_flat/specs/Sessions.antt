@@ -41,7 +41,7 @@ with_user session user = record { users = session.users ++ user ∷ []; groups =
 abbrev pub with_group : Session → Group → Session
 with_group session group = record { users = session.users; groups = session.groups ++ group ∷ [] }
 
--- there are no more users, groups and members than a script may have
+-- there are no more users and groups than a script may have
 pub record IsSmall (session : Session) : Type 0 where
   pub users : length session.users ≤ most_users
   pub groups : length session.groups ≤ most_groups
