@@ -6,8 +6,9 @@ use Rattle.histar_flat.specs.declared.replies.Errno.{Errno}
 use Rattle.histar_flat.specs.declared.replies.Errno.TheVariants.{EAGAIN}
 use Rattle.histar_flat.specs.declared.replies.Reply.TheVariants as replies
 use Rattle.histar_rules.specs.declared.raw.RawCall.TheVariants.{OwnLabel, SetLabel, SetClearance}
+use Rattle.histar_layout.specs.Status.{ProcessStatus}
 use Rattle.histar_calls.specs.declared.places.Home.{Home}
-use Rattle.histar_calls.specs.Programs.{Program}
+use Rattle.histar_calls.specs.Programs.{Program, Part}
 use Rattle.histar_calls.specs.Programs.Program.{Answers}
 use Rattle.histar_calls.specs.Parts.{◌>>=◌, ◌>>◌, ask, given}
 use Rattle.histar_process.specs.Kin.{kin_of}
@@ -20,12 +21,18 @@ must_have_room true = Ok tt
 must_have_room false = Err EAGAIN
 
 -- A name of 8 numbers has no room for one more, which is known without a raw call. The process's own segment is read: fewer than 64
--- children may have been born. The thread asks for its own labels, the child is born, and the thread takes its own labels again.
-unfoldable pub spawn_program : Session → ProcName → Home → Program
-spawn_program session name me = do
+-- children may have been born.
+abbrev pub room_for_child : ProcName → Home → Part ProcessStatus
+room_for_child name me rest = do
   given (must_have_room (nat_lt (length name) most_numbers))
   status ← read_status me
   given (must_have_room (nat_lt status.born most_children))
+  rest status
+
+-- There is room for a child. The thread asks for its own labels, the child is born, and the thread takes its own labels again.
+unfoldable pub spawn_program : Session → ProcName → Home → Program
+spawn_program session name me = do
+  status ← room_for_child name me
   own ← ask OwnLabel
   birth me status (kin_of session own.0)
   ask (SetLabel own.0)

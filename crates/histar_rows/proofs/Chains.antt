@@ -1,8 +1,9 @@
 -- Raw calls that were made, one after another, each with its outcome.
-use Rattle.std.proofs.Common.{◌≡◌, ℕ, false, List, [], ◌∷◌, ◌++◌, ◌⊎◌, Option, None, Some, refl, sym, ap, ◌∙◌, subst, append_assoc}
+use Rattle.std.proofs.Common.{◌≡◌, ℕ, false, true, inl, inr, List, [], ◌∷◌, ◌++◌, ◌⊎◌, Option, None, Some, refl, sym, ap, ◌∙◌, subst, append_assoc}
 use Rattle.std.proofs.lemmas.List.{append-nil}
 use Rattle.std.specs.Prelude.{map}
 use Rattle.std.specs.List.{AllByRecursion}
+use Rattle.histar_flat.specs.declared.replies.Reply.{Reply}
 use Rattle.histar_object.specs.State.{State}
 use Rattle.histar_rules.specs.declared.raw.Denied.{Denied}
 use Rattle.histar_rules.specs.declared.raw.Denied.TheVariants.{TooBig}
@@ -12,7 +13,8 @@ use Rattle.histar_syscall.specs.declared.trace.TraceEntry.{TraceEntry}
 use Rattle.histar_syscall.specs.KernelModel.{KernelModel, state, Called, IsUnchanged}
 use Rattle.histar_syscall.specs.Runs.{IsBy, IsRun, GoesOn, Made}
 use Rattle.histar_syscall.proofs.Runs.{entry_of, still_same, call_after}
-use Rattle.histar_rows.specs.Rows.{has_category, IsRunUnlessExhausted}
+use Rattle.histar_calls.specs.Replies.{IsRestoring, sets_labels}
+use Rattle.histar_rows.specs.Rows.{has_category, IsBrokenOff, IsDenialTold}
 
 -- a raw call with its outcome
 abbrev pub Step : Type 0
@@ -56,6 +58,11 @@ module _ (t : ℕ) where
   chain_own line [] = tt
   chain_own line (s ∷ steps) = ((refl, refl), chain_own line steps)
 
+  -- entries of granted calls that give the thread labels
+  pub all_restoring : (line : ℕ) (calls : List RawCall) → AllByRecursion (λ (c : RawCall). sets_labels c ≡ true) calls → AllByRecursion IsRestoring (entries_of line t (all_granted calls))
+  all_restoring line [] sets = tt
+  all_restoring line (call ∷ calls) sets = ((refl, sets.0), all_restoring line calls sets.1)
+
   -- a chain of a kernel that is as it was
   chain_from : (old mid new : KernelModel) (steps : List Step) → IsUnchanged old mid → Chain mid t steps new → Chain old t steps new
   chain_from old mid new [] same later = still_same old mid new same later
@@ -79,15 +86,26 @@ module _ (t : ℕ) where
   pub granted_chain : (old new : KernelModel) (calls : List RawCall) → Made old new t calls None → Chain old t (all_granted calls) new
   granted_chain old new calls made = let granted = granted_run old new calls made in subst (λ (steps : List Step). Chain old t steps new) granted.2 granted.1
 
-  -- a run of granted calls is refused nowhere
-  pub granted_unless : (old new : KernelModel) (line : ℕ) (calls : List RawCall) → Chain old t (all_granted calls) new → IsRunUnlessExhausted (state old) (entries_of line t (all_granted calls)) (state new)
-  granted_unless old new line [] same = same.state
-  granted_unless old new line (call ∷ calls) chain = (state chain.0, chain.1.outcome, chain.1.state, tt, granted_unless chain.0 new line calls chain.2)
+  module _ (reply : Reply) where
+    -- a run of granted calls may be broken off
+    pub granted_broken_off : (old new : KernelModel) (line : ℕ) (calls : List RawCall) → Chain old t (all_granted calls) new → IsBrokenOff reply (state old) (entries_of line t (all_granted calls)) (state new)
+    granted_broken_off old new line [] same = same.state
+    granted_broken_off old new line (call ∷ calls) chain = (state chain.0, chain.1.outcome, chain.1.state, inl tt, granted_broken_off chain.0 new line calls chain.2)
 
-  -- nor is one whose last raw call was refused since the next object or the next category has no number
-  pub exhausted_unless : (old mid new : KernelModel) (line : ℕ) (calls : List RawCall) (last : RawCall) → Chain old t (all_granted calls) mid → Chain mid t ((last, Some TooBig) ∷ []) new → (has_number (state mid) ≡ false) ⊎ (has_category (state mid) ≡ false)
-      → IsRunUnlessExhausted (state old) (entries_of line t (all_granted calls ++ (last, Some TooBig) ∷ [])) (state new)
-  exhausted_unless old mid new line [] last same later greatest =
-      let end = chain_from old mid new ((last, Some TooBig) ∷ []) same later in
-      (state end.0, end.1.outcome, end.1.state, (refl, subst (λ (s : State). (has_number s ≡ false) ⊎ (has_category s ≡ false)) same.state greatest), end.2.state)
-  exhausted_unless old mid new line (call ∷ calls) last chain later greatest = (state chain.0, chain.1.outcome, chain.1.state, tt, exhausted_unless chain.0 mid new line calls last chain.2 later greatest)
+    -- and so may one whose last raw call was refused since the next object or the next category has no number
+    pub exhausted_broken_off : (old mid new : KernelModel) (line : ℕ) (calls : List RawCall) (last : RawCall) → Chain old t (all_granted calls) mid → Chain mid t ((last, Some TooBig) ∷ []) new → (has_number (state mid) ≡ false) ⊎ (has_category (state mid) ≡ false)
+        → IsBrokenOff reply (state old) (entries_of line t (all_granted calls ++ (last, Some TooBig) ∷ [])) (state new)
+    exhausted_broken_off old mid new line [] last same later greatest =
+        let end = chain_from old mid new ((last, Some TooBig) ∷ []) same later in
+        (state end.0, end.1.outcome, end.1.state, inl (refl, subst (λ (s : State). (has_number s ≡ false) ⊎ (has_category s ≡ false)) same.state greatest), end.2.state)
+    exhausted_broken_off old mid new line (call ∷ calls) last chain later greatest = (state chain.0, chain.1.outcome, chain.1.state, inl tt, exhausted_broken_off chain.0 mid new line calls last chain.2 later greatest)
+
+    -- and one whose last raw calls give the thread labels, behind one whose denial the reply tells
+    pub refused_broken_off : (old new : KernelModel) (line : ℕ) (calls : List RawCall) (last : RawCall) (denied : Denied) (restoring : List RawCall)
+        → IsDenialTold reply (Some denied) → AllByRecursion (λ (c : RawCall). sets_labels c ≡ true) restoring
+        → Chain old t (all_granted calls ++ (last, Some denied) ∷ all_granted restoring) new
+        → IsBrokenOff reply (state old) (entries_of line t (all_granted calls ++ (last, Some denied) ∷ all_granted restoring)) (state new)
+    refused_broken_off old new line [] last denied restoring told sets chain =
+        (state chain.0, chain.1.outcome, chain.1.state, inr (told, all_restoring line restoring sets), granted_broken_off chain.0 new line restoring chain.2)
+    refused_broken_off old new line (call ∷ calls) last denied restoring told sets chain =
+        (state chain.0, chain.1.outcome, chain.1.state, inl tt, refused_broken_off chain.0 new line calls last denied restoring told sets chain.2)

@@ -28,20 +28,8 @@ use Rattle.histar_calls.specs.Refusals.{errno_for, errno_of, write_errno_of}
 use Rattle.histar_calls.specs.Replies.{is_access, is_permission, is_no_access, is_no_permission, IsRefusedOnce}
 use Rattle.histar_refinement.specs.LaysOut.{LaysOut}
 use Rattle.histar_refinement.specs.Lines.{IsThreadOf}
-use Rattle.histar_rows.specs.Rows.{IsRunning, IsDenialTold, EndsWithRead, HasReads, HasReadsOf, IsLine, IsUnanswered, IsRunUnlessExhausted, DoesItsRow}
+use Rattle.histar_rows.specs.Rows.{IsRunning, IsDenialTold, EndsWithRead, HasReads, HasReadsOf, IsLine, IsUnanswered, IsBrokenOff, DoesItsRow}
 use Rattle.histar_rows.proofs.Chains.{Step, all_granted, entries_of, Chain, chain_run, chain_own}
-
--- a chain that was refused nowhere else ends without a reply
-pub chain_unanswered : (old new : KernelModel) (t : ℕ) (steps : List Step) → Chain old t steps new → IsRunUnlessExhausted (state old) (entries_of old.line t steps) (state new) → IsUnanswered old new t
-chain_unanswered old new t steps chain run =
-    let part = chain_run t old new steps chain in
-    record {
-      entries = entries_of old.line t steps;
-      trace = part.trace;
-      line = part.line;
-      run = run;
-      own = chain_own t old.line steps;
-    }
 
 -- what a reply needs where no raw call was refused: bytes were read last, an errno is neither EACCES nor EPERM, and it is not `gone`
 abbrev pub IsBacked : State → List TraceEntry → Reply → Type 0
@@ -131,6 +119,18 @@ module _ (session : Session) (f : Flat) (me : ProcName) (caller : IsRunning f me
 
   after_is : (refusal : Option Errno) → refused session f me caller.process call ≡ refusal → flat_after session f me call ≡ flat_or refusal f (changed session f me caller.process call)
   after_is refusal e = ap (λ (r : Option Process). flat_by session f me r call) runs ∙ ap (λ (r : Option Errno). flat_or r f (changed session f me caller.process call)) e
+
+  -- a chain that was broken off before that reply ends without one
+  pub chain_unanswered : (steps : List Step) → Chain old t steps new → IsBrokenOff (reply_to session f me call) (state old) (entries_of old.line t steps) (state new) → IsUnanswered session f me call old new t
+  chain_unanswered steps chain run =
+      let part = chain_run t old new steps chain in
+      record {
+        entries = entries_of old.line t steps;
+        trace = part.trace;
+        line = part.line;
+        run = run;
+        own = chain_own t old.line steps;
+      }
 
   -- the reads that the call cannot do without, where it is answered so, are among these raw calls
   abbrev pub ReadsAmong : List Step → Reply → Type 0

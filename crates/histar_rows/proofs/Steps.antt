@@ -10,7 +10,7 @@ use Rattle.histar_flat.specs.Words.{ProcName}
 use Rattle.histar_flat.specs.Sessions.{Session}
 use Rattle.histar_flat.specs.FlatState.{Flat}
 use Rattle.histar_flat.specs.FlatCalls as flat
-use Rattle.histar_flat.specs.FlatCalls.{refused, changed}
+use Rattle.histar_flat.specs.FlatCalls.{refused, changed, reply_to}
 use Rattle.histar_object.specs.State.{State}
 use Rattle.histar_rules.specs.declared.raw.Denied.{Denied}
 use Rattle.histar_rules.specs.declared.raw.Denied.TheVariants.{TooBig}
@@ -29,7 +29,7 @@ use Rattle.histar_calls.specs.Parts.{refused_with, or_refused, ask, if_there, li
 use Rattle.histar_refinement.specs.LaysOut.{LaysOut}
 use Rattle.histar_refinement.specs.Lines.{IsThreadOf}
 use Rattle.histar_rows.specs.Rows.{IsRunning, has_category, DoesItsRow}
-use Rattle.histar_rows.proofs.Chains.{Step, all_granted, entries_of, Chain, chain_after, granted_unless, exhausted_unless}
+use Rattle.histar_rows.proofs.Chains.{Step, all_granted, entries_of, Chain, chain_after, granted_broken_off, exhausted_broken_off}
 use Rattle.histar_rows.proofs.Endings.{IsBacked, ReadsAmong, told_shown, chain_unanswered, granted_row, unchanged_row, refused_row}
 
 -- the call ended here without a reply
@@ -140,7 +140,7 @@ module _ (session : Session) (f : Flat) (me : ProcName) (caller : IsRunning f me
 
         by : (r : Result Reply Stopped) → IsErr r → DoesItsRow session f me call old new t r
         by (Ok reply) err = absurd cc
-        by (Err stopped) err = chain_unanswered old new t (all_granted calls) chain (granted_unless t old new old.line calls chain)
+        by (Err stopped) err = chain_unanswered session f me caller call old new t named (all_granted calls) chain (granted_broken_off t (reply_to session f me call) old new old.line calls chain)
 
     -- a raw call that the rules grant
     pub granted_step : (next : RawCall) (rest : AnswerOf next → Program) → check (state mid) t next ≡ None → Runs (ask next rest) mid new t result
@@ -163,7 +163,7 @@ module _ (session : Session) (f : Flat) (me : ProcName) (caller : IsRunning f me
           let here = stopped_here t end.mid new result (subst (λ (o : Option Errno). Runs (refused_with o) end.mid new t result) untold end.runs) in
           let last : Chain mid t ((next, Some TooBig) ∷ []) new = (end.mid, end.called, here.unchanged) in
           let chain = chain_after t old mid new (all_granted calls) ((next, Some TooBig) ∷ []) so_far last in
-          by result here.unanswered (chain_unanswered old new t (all_granted calls ++ (next, Some TooBig) ∷ []) chain (exhausted_unless t old mid new old.line calls next so_far last greatest))
+          by result here.unanswered (chain_unanswered session f me caller call old new t named (all_granted calls ++ (next, Some TooBig) ∷ []) chain (exhausted_broken_off t (reply_to session f me call) old mid new old.line calls next so_far last greatest))
     ]
       where
         by : (r : Result Reply Stopped) → IsErr r → DoesItsRow session f me call old new t (Err (record {})) → DoesItsRow session f me call old new t r

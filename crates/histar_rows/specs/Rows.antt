@@ -4,7 +4,7 @@ use Rattle.std.specs.List.{AllByRecursion}
 use Rattle.histar_flat.specs.declared.calls.CallLine.{CallLine}
 use Rattle.histar_flat.specs.declared.calls.UnixCall.{UnixCall}
 use Rattle.histar_flat.specs.declared.calls.UnixCall.TheVariants.{Create, Mkdir, Write, Append, Read, List as ListCall, Stat, Unlink, Rmdir, Rmtree, Rename, Spawn, Exit, Status, Kill, Whoami, Login, Wrap}
-use Rattle.histar_flat.specs.declared.replies.Errno.TheVariants.{EAUTH}
+use Rattle.histar_flat.specs.declared.replies.Errno.TheVariants.{EAGAIN, EAUTH}
 use Rattle.histar_flat.specs.declared.replies.Reply.{Reply}
 use Rattle.histar_flat.specs.declared.replies.Reply.TheVariants.{Done, Data, Stats, Refused, Gone}
 use Rattle.histar_flat.specs.Words.{Path, ProcName, greatest_status, is_name, is_path}
@@ -28,7 +28,7 @@ use Rattle.histar_syscall.specs.KernelModel.{KernelModel, state}
 use Rattle.histar_syscall.specs.Runs.{IsBy, IsRun, some_label_refusal, some_range_refusal}
 use Rattle.histar_calls.specs.declared.ending.Stopped.{Stopped}
 use Rattle.histar_calls.specs.Refusals.{write_errno_of}
-use Rattle.histar_calls.specs.Replies.{is_no_access, is_no_permission, IsRefusedOnce}
+use Rattle.histar_calls.specs.Replies.{is_no_access, is_no_permission, IsRefusedOnce, IsRestoring}
 use Rattle.histar_login.specs.Login.{place_of, password_of}
 use Rattle.histar_refinement.specs.LaysOut.{LaysOut}
 use Rattle.histar_refinement.specs.Lines.{IsStatusSegment, IsThreadOf, IsDirectoryAt, IsObjectAt}
@@ -46,13 +46,9 @@ IsScriptable (Unlink path) = IsTrue (is_path path)
 IsScriptable (Rmdir path) = IsTrue (is_path path)
 IsScriptable (Rmtree path) = IsTrue (is_path path)
 IsScriptable (Rename path name) = IsTrue (is_path path) × IsTrue (is_name name)
-IsScriptable Spawn = Unit {0}
 IsScriptable (Exit n) = n ≤ greatest_status
-IsScriptable (Status name) = Unit {0}
-IsScriptable (Kill name) = Unit {0}
-IsScriptable Whoami = Unit {0}
-IsScriptable (Login name password) = Unit {0}
-IsScriptable (Wrap path) = ⊥
+IsScriptable (Wrap path) = IsTrue (is_path path)
+IsScriptable _ = Unit {0}
 
 -- The process that makes a call runs.
 pub record IsRunning (f : Flat) (me : ProcName) : Type 0 where
@@ -109,6 +105,11 @@ module _ (session : Session) where
     walked f p [] = []
     walked f p (n ∷ d) = tested f p d
 
+    -- a wrap that has no room for a child makes no walk
+    abbrev pub HasWalkUnlessFull : Flat → Process → Path → Reply → List TraceEntry → Type 0
+    HasWalkUnlessFull f p q (Refused EAGAIN) entries = Unit {0}
+    HasWalkUnlessFull f p q _ entries = HasWalk f p q entries
+
     -- a raw call that asks for the label of what stands at a path, where the reply tells of it
     abbrev pub AreLabelCalls : Path → Reply → List RawCall → Type 0
     AreLabelCalls q (Stats stat) calls = (container : ℕ) × (object : ℕ) × IsObjectAt session s q container object × (calls ≡ raw.LabelOf container object ∷ [])
@@ -160,13 +161,12 @@ module _ (session : Session) where
   HasReads s f p (Rmdir path) reply entries = HasWayUnlessSlash s f p path entries
   HasReads s f p (Rmtree path) reply entries = HasWalk s f p path entries
   HasReads s f p (Rename path name) reply entries = HasWalk s f p path entries
-  HasReads s f p Spawn reply entries = Unit {0}
-  HasReads s f p (Exit n) reply entries = Unit {0}
   HasReads s f p (Status name) reply entries = HasSearch s f p name entries
   HasReads s f p (Kill name) reply entries = HasSearch s f p name entries
   HasReads s f p Whoami reply entries = AreAmong (raw.OwnLabel ∷ []) entries
   HasReads s f p (Login name password) reply entries = AreAmong (reads_of_login (place_of session.users name) (is_compared reply)) entries
-  HasReads s f p (Wrap path) reply entries = Unit {0}
+  HasReads s f p (Wrap path) reply entries = HasWalkUnlessFull s f p path reply entries
+  HasReads s f p _ reply entries = Unit {0}
 
   -- the same of a process that runs
   abbrev pub HasReadsOf : State → Flat → Option Process → UnixCall → Reply → List TraceEntry → Type 0
@@ -216,11 +216,13 @@ abbrev pub IsExhausted : State → Option Denied → Type 0
 IsExhausted s None = Unit {0}
 IsExhausted s (Some denied) = (denied ≡ TooBig) × ((has_number s ≡ false) ⊎ (has_category s ≡ false))
 
--- the entries are a run of the kernel, of which none is refused but where a counter has its greatest value
-abbrev pub IsRunUnlessExhausted : State → List TraceEntry → State → Type 0
-IsRunUnlessExhausted s [] end = end ≡ s
-IsRunUnlessExhausted s (e ∷ entries) end =
-    (mid : State) × (check s e.thread e.call ≡ e.denied) × Leaves e.denied s e.thread e.call mid × IsExhausted s e.denied × IsRunUnlessExhausted mid entries end
+-- The entries are a run of the kernel that was broken off before this reply. A denial comes from a counter that has its greatest value;
+-- or the reply tells it, and after it the thread is only given labels.
+abbrev pub IsBrokenOff : Reply → State → List TraceEntry → State → Type 0
+IsBrokenOff reply s [] end = end ≡ s
+IsBrokenOff reply s (e ∷ entries) end =
+    (mid : State) × (check s e.thread e.call ≡ e.denied) × Leaves e.denied s e.thread e.call mid
+    × (IsExhausted s e.denied ⊎ (IsDenialTold reply e.denied × AllByRecursion IsRestoring entries)) × IsBrokenOff reply mid entries end
 
 -- A call of a process has added these entries to the trace, on the line that was begun; they are the row of the call.
 pub record IsAnswered (session : Session) (f : Flat) (me : ProcName) (call : UnixCall) (old new : KernelModel) : Type 0 where
@@ -229,19 +231,18 @@ pub record IsAnswered (session : Session) (f : Flat) (me : ProcName) (call : Uni
   pub line : new.line ≡ old.line
   pub row : IsRow session (state old) f (record { line = old.line; process = me; call = call }) entries (state new)
 
--- The raw calls that were made are a run of the kernel by the thread, of which none was refused but where a counter has its greatest
--- value.
-pub record IsUnanswered (old new : KernelModel) (t : ℕ) : Type 0 where
+-- The raw calls that were made are a run of the kernel by the thread, broken off before the reply of the flat rules.
+pub record IsUnanswered (session : Session) (f : Flat) (me : ProcName) (call : UnixCall) (old new : KernelModel) (t : ℕ) : Type 0 where
   pub entries : List TraceEntry
   pub trace : new.trace ≡ old.trace ++ entries
   pub line : new.line ≡ old.line
-  pub run : IsRunUnlessExhausted (state old) entries (state new)
+  pub run : IsBrokenOff (reply_to session f me call) (state old) entries (state new)
   pub own : AllByRecursion (IsBy old.line t) entries
 
 -- a call of a process, which its thread makes, does what its flat rule says, or it ends without a reply
 abbrev pub DoesItsRow : Session → Flat → ProcName → UnixCall → KernelModel → KernelModel → ℕ → Result Reply Stopped → Type 0
 DoesItsRow session f me call old new t (Ok reply) = (reply ≡ reply_to session f me call) × IsAnswered session f me call old new
-DoesItsRow session f me call old new t (Err stopped) = IsUnanswered old new t
+DoesItsRow session f me call old new t (Err stopped) = IsUnanswered session f me call old new t
 
 -- each file holds as many bytes as a segment can hold
 abbrev pub AreFilesSmall : Flat → Type 0

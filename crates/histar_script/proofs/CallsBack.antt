@@ -189,7 +189,9 @@ on_takes word rest path c is =
     word_takes (codes "stat") word rest c _ _ (spells (codes "stat") (Stat path) (part (codes "stat"))) (
     word_takes (codes "unlink") word rest c _ _ (spells (codes "unlink") (Unlink path) (part (codes "unlink"))) (
     word_takes (codes "rmdir") word rest c _ _ (spells (codes "rmdir") (Rmdir path) (part (codes "rmdir"))) (
-    word_takes (codes "rmtree") word rest c _ _ (spells (codes "rmtree") (Rmtree path) (part (codes "rmtree"))) (λ e. absurd cc)
+    word_takes (codes "rmtree") word rest c _ _ (spells (codes "rmtree") (Rmtree path) (part (codes "rmtree"))) (
+    word_takes (codes "wrap") word rest c _ _ (spells (codes "wrap") (Wrap path) (part (codes "wrap"))) (λ e. absurd cc)
+    )
     )
     )
     )
@@ -263,4 +265,4 @@ call_again text (Exit status) h = ap call_of h.0 ∙ ap (option_map (λ n. Exit 
 call_again text (Status process) h = ap call_of h.0 ∙ ap (option_map (λ p. Status p)) (process_again process h.1)
 call_again text (Kill process) h = ap call_of h.0 ∙ ap (option_map (λ p. Kill p)) (process_again process h.1)
 call_again text Whoami h = ap call_of h
-call_again text (Wrap path) h = absurd h
+call_again text (Wrap path) h = ap call_of h.0 ∙ ap (λ o. o >>= call_on (codes "wrap")) (path_again path h.1)

@@ -48,9 +48,8 @@ SpellsPath text word path = (text ≡ word space path_text path) × IsTrue (is_p
 abbrev pub SpellsProcess : List ℕ → List ℕ → ProcName → Type 0
 SpellsProcess text word name = (text ≡ word space process_text name) × IsTrue (is_process name)
 
--- `create` and `mkdir PATH MODE`, `write` and `append PATH BYTES`, `read`, `list`, `stat`, `unlink`, `rmdir` and `rmtree PATH`,
--- `rename PATH NAME`, `spawn`, `exit` and a status, `status` and `kill PROC`, `whoami`, or `login NAME PASSWORD` with any name; no
--- other call has a line
+-- `create` and `mkdir PATH MODE`, `write` and `append PATH BYTES`, `read`, `list`, `stat`, `unlink`, `rmdir`, `rmtree` and `wrap PATH`,
+-- `rename PATH NAME`, `spawn`, `exit` and a status, `status` and `kill PROC`, `whoami`, or `login NAME PASSWORD` with any name
 abbrev pub IsCallText : List ℕ → UnixCall → Type 0
 IsCallText text (Create path mode) = SpellsMode text (codes "create") path mode
 IsCallText text (Mkdir path mode) = SpellsMode text (codes "mkdir") path mode
@@ -69,7 +68,7 @@ IsCallText text (Exit status) = (text ≡ codes "exit" space decimal status) × 
 IsCallText text (Status name) = SpellsProcess text (codes "status") name
 IsCallText text (Kill name) = SpellsProcess text (codes "kill") name
 IsCallText text Whoami = text ≡ codes "whoami"
-IsCallText text (Wrap path) = ⊥
+IsCallText text (Wrap path) = SpellsPath text (codes "wrap") path
 
 -- what a line that is not empty says: `#..`, `user NAME PASSWORD`, `group NAME USER..` or `PROC CALL`
 abbrev pub SaysInWords : List ℕ → Item → Type 0

@@ -5,7 +5,7 @@ use Rattle.std.specs.Str.{bytes_eq}
 use Rattle.histar_flat.specs.declared.calls.Mode.{Mode}
 use Rattle.histar_flat.specs.declared.calls.User.{User}
 use Rattle.histar_flat.specs.declared.calls.UnixCall.{UnixCall}
-use Rattle.histar_flat.specs.declared.calls.UnixCall.TheVariants.{Create, Mkdir, Write, Append, Read, List as ListCall, Stat, Unlink, Rmdir, Rmtree, Rename, Spawn, Exit, Status, Kill, Whoami, Login}
+use Rattle.histar_flat.specs.declared.calls.UnixCall.TheVariants.{Create, Mkdir, Write, Append, Read, List as ListCall, Stat, Unlink, Rmdir, Rmtree, Rename, Spawn, Exit, Status, Kill, Whoami, Login, Wrap}
 use Rattle.histar_flat.specs.Words.{Name, Path, name_of, user_name_of, password_of, path_of, process_of, status_of}
 use Rattle.histar_flat.specs.Modes.{mode_of}
 use Rattle.histar_flat.specs.Sessions.{Session, Group, most_users, most_groups, most_members, with_user, with_group, has, is_group}
@@ -87,7 +87,8 @@ call_on word path =
     else (if bytes_eq word (codes "unlink") then Some (Unlink path)
     else (if bytes_eq word (codes "rmdir") then Some (Rmdir path)
     else (if bytes_eq word (codes "rmtree") then Some (Rmtree path)
-    else None)))))
+    else (if bytes_eq word (codes "wrap") then Some (Wrap path)
+    else None))))))
 
 -- the call of this word, which stands alone
 abbrev pub call_alone : List ℕ → Option UnixCall

@@ -3,7 +3,7 @@ use Rattle.std.specs.Prelude.{◌≡◌, ◌≢◌, ℕ, ◌<◌, ◌≤◌, Boo
 use Rattle.std.specs.List.{Any}
 use Rattle.histar_flat.specs.declared.calls.User.{User}
 use Rattle.histar_flat.specs.declared.calls.UnixCall.{UnixCall}
-use Rattle.histar_flat.specs.declared.calls.UnixCall.TheVariants.{Create, Mkdir, Write, Append, Read, List as ListCall, Stat, Unlink, Rmdir, Rmtree, Rename, Spawn, Exit, Status, Kill, Whoami, Login, Wrap}
+use Rattle.histar_flat.specs.declared.calls.UnixCall.TheVariants.{Create, Mkdir}
 use Rattle.histar_flat.specs.declared.calls.CallLine.{CallLine}
 use Rattle.histar_flat.specs.Words.{Name, is_user_name}
 use Rattle.histar_flat.specs.Sessions.{Session, Group, most_users, most_groups, most_members, no_session, is_declared_mode}
@@ -52,22 +52,7 @@ pub record IsDeclared (session : Session) : Type 0 where
 abbrev pub is_declared_call : Session → UnixCall → Bool
 is_declared_call session (Create path mode) = is_declared_mode session mode
 is_declared_call session (Mkdir path mode) = is_declared_mode session mode
-is_declared_call session (Write path bytes) = true
-is_declared_call session (Append path bytes) = true
-is_declared_call session (Read path) = true
-is_declared_call session (ListCall path) = true
-is_declared_call session (Stat path) = true
-is_declared_call session (Unlink path) = true
-is_declared_call session (Rmdir path) = true
-is_declared_call session (Rmtree path) = true
-is_declared_call session (Rename path name) = true
-is_declared_call session Spawn = true
-is_declared_call session (Exit status) = true
-is_declared_call session (Status process) = true
-is_declared_call session (Kill process) = true
-is_declared_call session Whoami = true
-is_declared_call session (Login name password) = true
-is_declared_call session (Wrap path) = true
+is_declared_call session call = true
 
 -- the calls of a script of so many lines: their numbers rise, and are numbers of lines
 pub record IsNumbered (lines : ℕ) (calls : List CallLine) : Type 0 where

@@ -89,6 +89,8 @@ fn call_on(word: &[u8], path: Path) -> Option<UnixCall>
         Some(UnixCall::Rmdir(path))
     } else if word == b"rmtree".as_slice() {
         Some(UnixCall::Rmtree(path))
+    } else if word == b"wrap".as_slice() {
+        Some(UnixCall::Wrap(path))
     } else {
         None
     }

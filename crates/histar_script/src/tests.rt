@@ -452,7 +452,13 @@ fn reads_each_call_in_its_form(rt: HostRuntime) -> Result<(), Fail> {
         (b"kill 0.2.1".as_slice(), true),
         (b"kill 0.2.01".as_slice(), false),
         (b"kill".as_slice(), false),
-        (b"wrap /a".as_slice(), false),
+        (b"wrap /a".as_slice(), true),
+        (b"wrap /a/b.c".as_slice(), true),
+        (b"wrap /".as_slice(), true),
+        (b"wrap a".as_slice(), false),
+        (b"wrap /a/".as_slice(), false),
+        (b"wrap /a b".as_slice(), false),
+        (b"wrap".as_slice(), false),
     ];
     for (line, is_right) in lines {
         let fault = call_fault(rt.alloc(), line)?;

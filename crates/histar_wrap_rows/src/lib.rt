@@ -1,0 +1,2 @@
+//! Wraps are the rows of the flat rules.
+#![tactic(auto)]
