@@ -15,4 +15,5 @@ pub mod ChildBytes
 pub mod ChildLabels
 pub mod BirthRights
 pub mod BirthFit
+pub mod ChildRoom
 pub mod SpawnCall
