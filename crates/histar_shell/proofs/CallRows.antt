@@ -19,12 +19,15 @@ use Rattle.histar_process_rows.proofs.ExitCall.{exits_are_rows}
 use Rattle.histar_process_rows.proofs.StatusCall.{statuses_are_rows}
 use Rattle.histar_process_rows.proofs.KillCall.{kills_are_rows}
 use Rattle.histar_process_rows.proofs.Whoami.{whoamis_are_rows}
+use Rattle.histar_wrap_rows.specs.Laws.{WrapsAreRows}
+use Rattle.histar_wrap_rows.proofs.WrapCall.{wraps_are_rows}
 
 -- each call that a line can make is a row
 pub record LinesAreRows : Type 0 where
   pub calls : CallsAreRows
   pub moves : MovesAreRows
   pub processes : ProcessCallsAreRows
+  pub wraps : WrapsAreRows
 
 pub lines_are_rows : LinesAreRows
 lines_are_rows = record {
@@ -51,4 +54,5 @@ lines_are_rows = record {
     kill = kills_are_rows;
     whoami = whoamis_are_rows;
   };
+  wraps = wraps_are_rows;
 }

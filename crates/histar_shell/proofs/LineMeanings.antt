@@ -96,7 +96,7 @@ module _ (rows : LinesAreRows) (old new : MachineModel) (f : Flat) (shows : Show
         by (Kill name) can made = rows.processes.kill session ok name me k new.kernel f caller.thread result there made
         by Whoami can made = rows.processes.whoami session ok me k new.kernel f caller.thread result there made
         by (Login name password) can made = rows.calls.login session ok name password me caller k new.kernel f result there at made
-        by (Wrap path) can made = absurd can
+        by (Wrap path) can made = rows.wraps session ok path can me caller k new.kernel f result there at made
 
     -- at the places that boot told the machine
     row_of_made : (line : ℕ) (call : UnixCall) (result : Result Reply Stopped) → IsScriptable call → HasMade old new line me caller call result

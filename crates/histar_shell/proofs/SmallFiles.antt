@@ -88,7 +88,7 @@ module _ (f : Flat) (small : AreFilesSmall f) where
     after_change p (Kill name) can passes = small
     after_change p Whoami can passes = small
     after_change p (Login name password) can passes = small
-    after_change p (Wrap q) can passes = absurd can
+    after_change p (Wrap q) can passes = small_put q _ Dir tt
 
     by_refusal : (p : Process) (call : UnixCall) → IsScriptable call → (refusal : Option Errno) → refused session f me p call ≡ refusal → AreFilesSmall (flat_or refusal f (changed session f me p call))
     by_refusal p call can None is = after_change p call can is

@@ -126,7 +126,7 @@ spelled_scriptable text (Status name) h = tt
 spelled_scriptable text (Kill name) h = tt
 spelled_scriptable text Whoami h = tt
 spelled_scriptable text (Login name password) h = tt
-spelled_scriptable text (Wrap path) h = absurd h
+spelled_scriptable text (Wrap path) h = h.1
 
 -- a call line says a call that a line can make
 said_scriptable : (line process : List ℕ) (c : UnixCall) → Says line (items.Call process c) → IsScriptable c

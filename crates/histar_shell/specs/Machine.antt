@@ -14,7 +14,6 @@ use Rattle.histar_syscall.specs.Runs.{IsRun}
 use Rattle.histar_calls.specs.declared.places.Places.{Places}
 use Rattle.histar_calls.specs.contracts.places.Places as where_is
 use Rattle.histar_calls.specs.Programs.{Program, Runs}
-use Rattle.histar_calls.specs.Programs.Program.{Stops}
 use Rattle.histar_calls.specs.Create.{create_program}
 use Rattle.histar_calls.specs.Mkdir.{mkdir_program}
 use Rattle.histar_calls.specs.Append.{append_program}
@@ -28,6 +27,7 @@ use Rattle.histar_moves.specs.Rmtree.{rmtree_program}
 use Rattle.histar_moves.specs.Rename.{rename_program}
 use Rattle.histar_login.specs.Boot.{IsBooted}
 use Rattle.histar_login.specs.Login.{login_program}
+use Rattle.histar_wrap.specs.WrapCall.{wrap_program}
 use Rattle.histar_process.specs.declared.caller.Caller.{Caller}
 use Rattle.histar_process.specs.Caller.{caller_at}
 use Rattle.histar_process.specs.SpawnCall.{spawn_program}
@@ -66,7 +66,7 @@ pub record IsStart (declared : Session) (m : MachineModel) : Type 0 where
 abbrev pub on_line : ℕ → KernelModel → KernelModel
 on_line line k = record { kept = k.kept; line = line; trace = k.trace }
 
--- the program of raw calls that a call of a process runs; a call that no line can hold stops before its first
+-- the program of raw calls that a call of a process runs
 abbrev pub program_of : Session → Places → ProcName → Caller → UnixCall → Program
 program_of session places me caller (Create path mode) = create_program session places path mode
 program_of session places me caller (Mkdir path mode) = mkdir_program session places path mode
@@ -85,7 +85,7 @@ program_of session places me caller (Status name) = status_program places name
 program_of session places me caller (Kill name) = kill_program places name
 program_of session places me caller Whoami = whoami_program session
 program_of session places me caller (Login name password) = login_program session caller name password
-program_of session places me caller (Wrap path) = Stops
+program_of session places me caller (Wrap path) = wrap_program session places me caller.home path
 
 -- a call of a process runs its program, by the process's thread on the line that was begun
 abbrev pub Makes : Session → Places → ProcName → Caller → KernelModel → KernelModel → UnixCall → Result Reply Stopped → Type 0

@@ -22,7 +22,7 @@ use Rattle.histar_login.specs.Boot.{boot_thread_number}
 use Rattle.histar_login.specs.Start.{places_of}
 use Rattle.histar_refinement.specs.LaysOut.{LaysOut}
 use Rattle.histar_refinement.specs.Lines.{IsThreadOf}
-use Rattle.histar_rows.specs.Rows.{IsScriptable, IsRow, AreRows, IsFirstFree, AreFilesSmall, IsRunUnlessExhausted}
+use Rattle.histar_rows.specs.Rows.{IsScriptable, IsRow, AreRows, IsFirstFree, AreFilesSmall, IsBrokenOff}
 use Rattle.histar_devices.specs.Writing.{AppendsFront}
 use Rattle.histar_shell.specs.Answers.{answers_text}
 use Rattle.histar_shell.specs.Machine.{MachineModel}
@@ -49,18 +49,18 @@ pub record AnswersAsMeant (old new : MachineModel) (f : Flat) (asked : CallLine)
   pub row : IsRow old.session (state old.kernel) f asked entries (state new.kernel)
   pub shows : Shows new (flat_after old.session f asked.process asked.call)
 
--- The line ended without an answer: its raw calls are a run of the kernel by the thread of its process, of which none was refused but
--- where a counter has its greatest value.
-pub record StopsUnrefused (old new : MachineModel) (line : ℕ) (process : ProcName) : Type 0 where
+-- The line ended without an answer: its raw calls are a run of the kernel by the thread of its process, broken off before the reply that
+-- the flat state says.
+pub record StopsAsMeant (old new : MachineModel) (f : Flat) (asked : CallLine) : Type 0 where
   pub entries : List TraceEntry
   pub trace : new.kernel.trace ≡ old.kernel.trace ++ entries
-  pub run : IsRunUnlessExhausted (state old.kernel) entries (state new.kernel)
-  pub own : AllByRecursion (λ e. (e.line ≡ line) × IsThreadOf old.session (state old.kernel) process e.thread) entries
+  pub run : IsBrokenOff (reply_to old.session f asked.process asked.call) (state old.kernel) entries (state new.kernel)
+  pub own : AllByRecursion (λ e. (e.line ≡ asked.line) × IsThreadOf old.session (state old.kernel) asked.process e.thread) entries
 
 -- a line that ends so
 abbrev pub EndsAsMeant : MachineModel → MachineModel → Flat → CallLine → Result Reply Stopped → Type 0
 EndsAsMeant old new f asked (Ok reply) = AnswersAsMeant old new f asked reply
-EndsAsMeant old new f asked (Err stopped) = StopsUnrefused old new asked.line asked.process
+EndsAsMeant old new f asked (Err stopped) = StopsAsMeant old new f asked
 
 -- Whatever flat state the machine lays out before the line, the line ends as that says.
 abbrev pub FollowsMeaning : MachineModel → MachineModel → ℕ → ProcName → UnixCall → Result Reply Stopped → Type 0

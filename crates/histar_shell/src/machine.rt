@@ -11,6 +11,7 @@ use histar_login::{boot, login};
 use histar_moves::{rename, rmdir, rmtree, unlink};
 use histar_process::{Caller, exit, find_caller, kill, spawn, status, whoami};
 use histar_syscall::{Kernel, TraceEntry};
+use histar_wrap::wrap;
 use std::alloc::Global;
 use std::marker::Model;
 
@@ -124,7 +125,7 @@ impl<S: LabelStore + Drop> Machine<S> {
     }
 }
 
-/// Does one call of a process on the line that was begun. A call that no line can hold yet is not done.
+/// Does one call of a process on the line that was begun.
 fn make<S: LabelStore + Drop>(
     kernel: &mut Kernel<S>,
     alloc: Global,
@@ -163,6 +164,6 @@ fn make<S: LabelStore + Drop>(
         UnixCall::Login(name, password) => login::login(
             kernel, alloc, session, caller, name, password,
         ),
-        UnixCall::Wrap(_) => Err(Stopped),
+        UnixCall::Wrap(path) => wrap::wrap(kernel, alloc, places, session, me, caller, &path),
     }
 }
