@@ -25,6 +25,7 @@ pub mod Unread
 pub mod GivenNames
 pub mod Jobs
 pub mod ProcessLaws
+pub mod JobLaws
 pub mod FirstProcess
 pub mod WorkedScripts
 pub mod Worked

@@ -15,3 +15,4 @@ pub mod Texts
 pub mod Laws
 pub mod FileLaws
 pub mod ProcessLaws
+pub mod JobLaws

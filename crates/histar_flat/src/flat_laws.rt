@@ -5,6 +5,7 @@ ghost use Rattle.histar_flat.specs.Laws.{PrivateBytesAreUntold, GroupBytesAreUnt
 ghost use Rattle.histar_flat.specs.Laws.{PathsAreATree, NamesAreGivenOnce, NobodyHasAJob};
 ghost use Rattle.histar_flat.specs.FileLaws.{ListingsTellWhatStands, RemovalsTakeWhatIsBelow, RenamesKeepWhatStands};
 ghost use Rattle.histar_flat.specs.FileLaws.{WritersTakePrivateFiles, UnreadDirectoriesAreUntold};
+ghost use Rattle.histar_flat.specs.JobLaws.{JobsStayInside, CallsChangeTheirOwnTree, JobsReadAsTheirUser};
 ghost use Rattle.histar_flat.specs.ProcessLaws.{KillsTakeTheirTree, ExitsLeaveChildren, GoneChangeNothing, GoneStayGone};
 
 /// A call that is refused changes nothing.
@@ -115,4 +116,22 @@ pub fn who_is_gone_changes_nothing()
 /// Who was born and doesn't run never runs again: no name of a process is used twice.
 pub fn who_is_gone_stays_gone()
     ensures { GoneStayGone }
+{}
+
+/// Whatever the processes of a job call, nothing changes outside the job's scratch directories: what
+/// stands at a path stays as it is where neither it nor a directory above it is of the job.
+pub fn a_job_stays_inside()
+    ensures { JobsStayInside }
+{}
+
+/// A call changes no process but the caller and those below it, in a job or not: a child that is born, the
+/// caller that exits, logs in or holds one job more, and a child that is killed with all below it.
+pub fn a_call_changes_its_own_tree()
+    ensures { CallsChangeTheirOwnTree }
+{}
+
+/// Outside all scratch directories a process in jobs that reads a file has the reply that it had as a
+/// process of its user that is in none.
+pub fn a_job_reads_as_its_user()
+    ensures { JobsReadAsTheirUser }
 {}

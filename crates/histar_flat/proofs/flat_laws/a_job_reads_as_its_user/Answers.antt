@@ -1,0 +1,5 @@
+use Rattle.histar_flat.proofs.JobLaws.{jobs_read_as_their_user}
+use Rattle.histar_flat.proofs.flat_laws.a_job_reads_as_its_user.Goals as goal
+
+pub returns : goal.returns
+returns c = jobs_read_as_their_user
