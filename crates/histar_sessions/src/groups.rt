@@ -28,13 +28,25 @@ const ALL_AT_WORK: [Line; 8] = [
 ];
 
 /// A file that the members of a group alone read and write: others are told its mode, and may make none.
-const A_FILE_OF_A_GROUP: [Line; 6] = [
+const A_FILE_OF_A_GROUP: [Line; 5] = [
     ("0.1 create /tmp/g group:team", "ok"),
     ("0.2 write /tmp/g hi", "ok"),
     ("0.3 read /tmp/g", "EACCES"),
     ("0.3 stat /tmp/g", "ok file - group:team"),
     ("0.3 create /tmp/h group:team", "EPERM"),
-    ("0.2 read /tmp/g", "= hi"),
+];
+
+/// A member's job reads what the group's members may read, and writes it not; what it makes is for the job
+/// and its user, and no other member reads it.
+const A_JOB_OF_A_MEMBER: [Line; 8] = [
+    ("0.2 wrap /tmp/j", "ok 0.2.1"),
+    ("0.2.1 read /tmp/g", "= hi"),
+    ("0.2.1 append /tmp/g x", "EACCES"),
+    ("0.2.1 create /tmp/j/o group:team", "ok"),
+    ("0.2 stat /tmp/j/o", "ok file bob scratch"),
+    ("0.1 read /tmp/j/o", "EACCES"),
+    ("0.2 login carol cc", "ok"),
+    ("0.2 read /tmp/g", "EACCES"),
 ];
 
 /// A directory that the members of a group alone list and fill.
@@ -47,7 +59,8 @@ const A_DIRECTORY_OF_A_GROUP: [Line; 5] = [
 ];
 
 /// A child of a member is a member's process, and stays one where its parent becomes another user's.
-const A_CHILD_OF_A_MEMBER: [Line; 7] = [
+const A_CHILD_OF_A_MEMBER: [Line; 8] = [
+    ("0.2 read /tmp/g", "= hi"),
     ("0.2 spawn", "ok 0.2.1"),
     ("0.2.1 read /tmp/g", "= hi"),
     ("0.2.1 append /tmp/g !", "ok"),
@@ -151,6 +164,15 @@ fn team_session(alloc: Global) -> Result<Session, AllocError> {
     session.extend(&A_CHILD_OF_A_MEMBER)?;
     session.extend(&THE_FIRST_USER)?;
     Ok(session)
+}
+
+#[test]
+fn a_job_of_a_member_has_its_replies(rt: HostRuntime) -> Result<(), Fail> {
+    let mut session = Session::new(rt.alloc(), &A_TEAM)?;
+    session.extend(&ALL_AT_WORK)?;
+    session.extend(&A_FILE_OF_A_GROUP)?;
+    session.extend(&A_JOB_OF_A_MEMBER)?;
+    session.check(&rt, rt.alloc())
 }
 
 #[test]

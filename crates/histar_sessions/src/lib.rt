@@ -9,6 +9,8 @@ mod files;
 #[cfg(test)]
 mod groups;
 #[cfg(test)]
+mod jobs;
+#[cfg(test)]
 mod processes;
 #[cfg(test)]
 mod raw_confined;

@@ -1,5 +1,5 @@
 //! Sessions of several processes: the reply to each line of a script.
-use crate::session::{Line, Session, check_trace};
+use crate::session::{Line, Session, THREE, TWO_USERS_AT_WORK, check_trace};
 use std::alloc::{AllocError, Global};
 use std::test::Fail;
 
@@ -8,23 +8,6 @@ const ROOT: [Line; 1] = [("user root rr", "")];
 
 /// Two users.
 const TWO: [Line; 2] = [("user root rr", ""), ("user bob bb", "")];
-
-/// Three users.
-const THREE: [Line; 3] = [
-    ("user root rr", ""),
-    ("user alice aa", ""),
-    ("user bob bb", ""),
-];
-
-/// Two processes of two users, and a directory for everyone.
-const TWO_USERS_AT_WORK: [Line; 6] = [
-    ("0 spawn", "ok 0.1"),
-    ("0 spawn", "ok 0.2"),
-    ("0 login root rr", "ok"),
-    ("0 mkdir /tmp open", "ok"),
-    ("0.1 login alice aa", "ok"),
-    ("0.2 login bob bb", "ok"),
-];
 
 /// Births, exits and kills: numbers are never used again, who exits leaves its children, who is killed
 /// takes them along, and a kill is the parent's alone.

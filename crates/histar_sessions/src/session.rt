@@ -8,6 +8,23 @@ use std::test::Fail;
 /// A line of a script, and its reply, or nothing where the line is a user's or a group's.
 pub type Line = (&'static str, &'static str);
 
+/// Three users.
+pub const THREE: [Line; 3] = [
+    ("user root rr", ""),
+    ("user alice aa", ""),
+    ("user bob bb", ""),
+];
+
+/// Two processes of two users, and a directory for everyone.
+pub const TWO_USERS_AT_WORK: [Line; 6] = [
+    ("0 spawn", "ok 0.1"),
+    ("0 spawn", "ok 0.2"),
+    ("0 login root rr", "ok"),
+    ("0 mkdir /tmp open", "ok"),
+    ("0.1 login alice aa", "ok"),
+    ("0.2 login bob bb", "ok"),
+];
+
 /// A script that grows by a line a time, and what it is to be answered.
 #[derive(Drop)]
 pub struct Session {
