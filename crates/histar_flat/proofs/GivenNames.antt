@@ -279,7 +279,7 @@ module _ (f : Flat) (given : NamesAreGiven f) (tree : IsTree f) (me : ProcName) 
       ]
 
 -- so does each line
-given_after : (session : Session) (f : Flat) (me : ProcName) (call : UnixCall) → IsTree f → NamesAreGiven f → NamesAreGiven (flat_after session f me call)
+pub given_after : (session : Session) (f : Flat) (me : ProcName) (call : UnixCall) → IsTree f → NamesAreGiven f → NamesAreGiven (flat_after session f me call)
 given_after session f me call tree given = by_line session f me call NamesAreGiven given (λ p runs. given_changes f given tree me p (runs_is_there (f.processes me) p runs) session call)
 
 -- and so do all lines

@@ -5,7 +5,6 @@ use Rattle.std.specs.List.{list_all}
 use Rattle.std.proofs.Common.{ap, inl, inr, sym, ◌∙◌, subst}
 use Rattle.std.proofs.lemmas.Bool.{true≢false, and_parts}
 use Rattle.histar_base.specs.Refusals.{◌orelse◌, unless}
-use Rattle.histar_flat.specs.declared.calls.CallLine.{CallLine}
 use Rattle.histar_flat.specs.declared.calls.UnixCall.{UnixCall}
 use Rattle.histar_flat.specs.declared.calls.UnixCall.TheVariants.{Read}
 use Rattle.histar_flat.specs.declared.replies.Errno.{Errno}
@@ -16,12 +15,11 @@ use Rattle.histar_flat.specs.Sessions.{Session, has, is_member}
 use Rattle.histar_flat.specs.Files.{get}
 use Rattle.histar_flat.specs.Classes.{Class, Process, carries, is_free, knows, may_read, may_write}
 use Rattle.histar_flat.specs.Classes.Class.{Open, Private, Readable, Scratch, Grouped}
-use Rattle.histar_flat.specs.FlatState.{Flat, IsTree, Node, is_some_and, is_there, is_dir_at, is_file_at, reads, writes, into, moved, with_process, bytes_at}
+use Rattle.histar_flat.specs.FlatState.{Flat, IsTree, Node, is_some_and, is_there, is_dir_at, is_file_at, reads, writes, into, moved, with_process}
 use Rattle.histar_flat.specs.FlatCalls.{inner_chain, next_child, refused, reply_or, reply_by, reply_to, flat_after, if_running, running}
 use Rattle.histar_flat.specs.FlatCalls as flat
-use Rattle.histar_flat.specs.Meaning.{flat_end}
-use Rattle.histar_flat.specs.JobLaws.{lies_in_scratch, runs_in, AreOfJob, JobsStayInside, CallsChangeTheirOwnTree, is_scratch, lies_in_some_scratch, out_of_jobs, JobsReadAsTheirUser}
-use Rattle.histar_flat.proofs.FileLemmas.{Found, same_itself, same_name_found, same_path_found, get_other, get-keep}
+use Rattle.histar_flat.specs.JobLaws.{lies_in_scratch, runs_in, JobsStayInside, CallsChangeTheirOwnTree, is_scratch, lies_in_some_scratch, out_of_jobs, JobsReadAsTheirUser}
+use Rattle.histar_flat.proofs.FileLemmas.{same_itself, same_name_found, same_path_found, get_other, get-keep}
 use Rattle.histar_flat.proofs.Under.{true_or_false, or_true, under_itself, under_child}
 use Rattle.histar_flat.proofs.Renaming.{stays, get_renamed}
 use Rattle.histar_flat.proofs.Changes.{EachChange, by_line, runs_is_there}
@@ -268,8 +266,8 @@ jobs_read_as_their_user session f me p q runs outside =
     let there = runs_is_there (f.processes me) p runs in
     let alive = not_exited p (sym (ap if_running there) ∙ runs) in
     let free : running (with_process f me (out_of_jobs p)) me ≡ Some (out_of_jobs p) =
-        ap (λ b. if_running (cond b (Some (out_of_jobs p)) (f.processes me))) (same_itself me)
-        ∙ ap (λ (x : Option ℕ). let r : Option Process = elim x [ None ↦ Some (out_of_jobs p) | Some k ↦ None ] in r) alive in
+    ap (λ b. if_running (cond b (Some (out_of_jobs p)) (f.processes me))) (same_itself me)
+    ∙ ap (λ (x : Option ℕ). let r : Option Process = elim x [ None ↦ Some (out_of_jobs p) | Some k ↦ None ] in r) alive in
     ap (λ (o : Option Process). reply_by session f me o (Read q)) runs
     ∙ ap (λ (r : Option Errno). reply_or r (flat.answer f me p (Read q))) (refused_alike session f me p q outside)
     ∙ sym (ap (λ (o : Option Process). reply_by session (with_process f me (out_of_jobs p)) me o (Read q)) free)

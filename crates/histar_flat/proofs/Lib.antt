@@ -26,6 +26,7 @@ pub mod GivenNames
 pub mod Jobs
 pub mod ProcessLaws
 pub mod JobLaws
+pub mod WrappedJobs
 pub mod FirstProcess
 pub mod WorkedScripts
 pub mod Worked

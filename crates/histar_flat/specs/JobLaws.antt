@@ -1,17 +1,19 @@
 -- What a job may do: its processes change nothing outside its scratch directories, and read there what their user may read.
-use Rattle.std.specs.Prelude.{◌≡◌, ◌⊎◌, Bool, true, false, ◌||◌, List, [], ◌∷◌, Some, None}
+use Rattle.std.specs.Prelude.{◌≡◌, ◌⊎◌, Bool, true, false, ◌||◌, List, [], ◌∷◌, ◌++◌, Some, None}
+use Rattle.std.specs.List.{list_all}
 use Rattle.histar_flat.specs.declared.calls.CallLine.{CallLine}
 use Rattle.histar_flat.specs.declared.calls.UnixCall.{UnixCall}
-use Rattle.histar_flat.specs.declared.calls.UnixCall.TheVariants.{Read}
+use Rattle.histar_flat.specs.declared.calls.UnixCall.TheVariants.{Read, Wrap}
+use Rattle.histar_flat.specs.declared.replies.Reply.TheVariants.{Child}
 use Rattle.histar_flat.specs.Words.{Path, ProcName}
-use Rattle.histar_flat.specs.PathOrder.{under_process}
+use Rattle.histar_flat.specs.PathOrder.{under_path, under_process}
 use Rattle.histar_flat.specs.Sessions.{Session, has}
 use Rattle.histar_flat.specs.Files.{get}
 use Rattle.histar_flat.specs.Classes.{Class, Process, carries}
 use Rattle.histar_flat.specs.Classes.Class.{Scratch}
 use Rattle.histar_flat.specs.FlatState.{Flat, IsTree, is_some_and, with_process}
 use Rattle.histar_flat.specs.FlatCalls.{running, reply_to, flat_after}
-use Rattle.histar_flat.specs.Meaning.{flat_end}
+use Rattle.histar_flat.specs.Meaning.{boot, flat_end}
 
 -- A path lies in a scratch directory of the job: what stands there, or at a directory above it, is of the job.
 abbrev pub lies_in_scratch : Flat → ProcName → Path → Bool
@@ -31,6 +33,17 @@ AreOfJob session job f (c ∷ calls) = ((running f c.process ≡ None) ⊎ (runs
 abbrev pub JobsStayInside : Type 0
 JobsStayInside = (session : Session) (f : Flat) → IsTree f → (job : ProcName) (calls : List CallLine) → AreOfJob session job f calls
     → (q : Path) → lies_in_scratch f job q ≡ false → get (flat_end session f calls).files q ≡ get f.files q
+
+-- each of these calls is of the process of this name, or of one below it
+abbrev pub all_under : ProcName → List CallLine → Bool
+all_under name calls = list_all (λ (c : CallLine). under_process name c.process) calls
+
+-- After any calls, a wrap of a path that is answered with the name of its job, and whatever the job's processes call then, leave each path
+-- as it was but the path itself and those below it.
+abbrev pub WrappedJobsStayInside : Type 0
+WrappedJobsStayInside = (session : Session) (before : List CallLine) (wrap : CallLine) (path : Path) (job : ProcName) (calls : List CallLine) → wrap.call ≡ Wrap path
+    → reply_to session (flat_end session (boot session) before) wrap.process (Wrap path) ≡ Child job → all_under job calls ≡ true
+    → (q : Path) → under_path path q ≡ false → get (flat_end session (boot session) (before ++ wrap ∷ calls)).files q ≡ get (flat_end session (boot session) before).files q
 
 -- a call of a process changes no process but itself and those below it
 abbrev pub CallsChangeTheirOwnTree : Type 0

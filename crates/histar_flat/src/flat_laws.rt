@@ -5,7 +5,8 @@ ghost use Rattle.histar_flat.specs.Laws.{PrivateBytesAreUntold, GroupBytesAreUnt
 ghost use Rattle.histar_flat.specs.Laws.{PathsAreATree, NamesAreGivenOnce, NobodyHasAJob};
 ghost use Rattle.histar_flat.specs.FileLaws.{ListingsTellWhatStands, RemovalsTakeWhatIsBelow, RenamesKeepWhatStands};
 ghost use Rattle.histar_flat.specs.FileLaws.{WritersTakePrivateFiles, UnreadDirectoriesAreUntold};
-ghost use Rattle.histar_flat.specs.JobLaws.{JobsStayInside, CallsChangeTheirOwnTree, JobsReadAsTheirUser};
+ghost use Rattle.histar_flat.specs.JobLaws.{WrappedJobsStayInside, JobsStayInside};
+ghost use Rattle.histar_flat.specs.JobLaws.{CallsChangeTheirOwnTree, JobsReadAsTheirUser};
 ghost use Rattle.histar_flat.specs.ProcessLaws.{KillsTakeTheirTree, ExitsLeaveChildren, GoneChangeNothing, GoneStayGone};
 
 /// A call that is refused changes nothing.
@@ -116,6 +117,12 @@ pub fn who_is_gone_changes_nothing()
 /// Who was born and doesn't run never runs again: no name of a process is used twice.
 pub fn who_is_gone_stays_gone()
     ensures { GoneStayGone }
+{}
+
+/// In any session, from a wrap on, whatever the job's processes call, nothing changes outside the
+/// directory that the wrap made: each other path has what it had before the wrap, unless it lies below.
+pub fn a_wrapped_job_stays_in_its_directory()
+    ensures { WrappedJobsStayInside }
 {}
 
 /// Whatever the processes of a job call, nothing changes outside the job's scratch directories: what
