@@ -22,7 +22,7 @@ returns-in_err-head g c =
     let session = c.args.session.now in
     let old = c.args.kernel.now in
     let k1 = c.room_for_child.new.kernel in
-    call_fails_so t (spawn_program session name me) old k1 c.in_err-head.field-0.0 _ c.from_residual-in_err-head.ensures.1
+    call_fails_so t (spawn_program session name me) old k1 c.in_err-head.field-0.0 _ c.from_residual.ensures.1
     (call_fails t (room_for_child name me) old k1 _ c.in_err-head.field-0.0 c.in_err-head.ensures.runs)
 
 pub returns-in_err-own : goal.returns-in_err-own
