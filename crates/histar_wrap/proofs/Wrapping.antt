@@ -29,13 +29,18 @@ use Rattle.histar_wrap.specs.Scratch.{ask_or_give_back, directory_label, hold_jo
 use Rattle.histar_wrap.specs.WrapCall.{wrap_program}
 use Rattle.histar_wrap.proofs.Scratching.{without_container}
 
--- memory ran out before a scratch directory was made
-pub before_scratch : (t : ℕ) (own : Levels × Levels) (label : Levels) (room : Room) (k : KernelModel) → RunsPart (make_scratch own label room) k k t (Err HasStopped)
-before_scratch t own label room k = without_container t own label room k k HasStopped (before t own label room k)
-  where
-    before : (t : ℕ) (own : Levels × Levels) (label : Levels) (room : Room) (k : KernelModel) → RunsPart (ask_or_give_back own (MakeContainer room.place.container label)) k k t (Err HasStopped)
-    unfolding RunsPart
-    before t own label room k = λ rest. inl (same_kernel k)
+module _ (t : ℕ) (own : Levels × Levels) (label : Levels) (room : Room) (k : KernelModel) where
+  before_container : RunsPart (ask_or_give_back own (MakeContainer room.place.container label)) k k t (Err HasStopped)
+  unfolding RunsPart
+  before_container = λ rest. inl (same_kernel k)
+
+  -- memory ran out before a scratch directory was made
+  pub before_scratch : RunsPart (make_scratch own label room) k k t (Err HasStopped)
+  before_scratch = without_container t own label room k k HasStopped before_container
+
+-- a scratch directory with the label that is due
+pub scratch_so : (t : ℕ) (old new : KernelModel) (own : Levels × Levels) (room : Room) (label due : Levels) → label ≡ due → (result : Result (Unit {0}) Ending) → RunsPart (make_scratch own label room) old new t result → RunsPart (make_scratch own due room) old new t result
+scratch_so t old new own room label due same result runs = subst (λ (l : Levels). RunsPart {A = Unit {0}} (make_scratch own l room) old new t result) same runs
 
 module _ (session : Session) (own : Levels) (job user : ℕ) (jobs : List ℕ) (is : IsUserOf own (length session.users) user) (jobs_are : jobs ≡ jobs_with own job) where
   -- the label of the scratch directory is what the thread's own label tells
