@@ -21,18 +21,18 @@ use Rattle.histar_calls.specs.Parts.{refused_with, or_refused, ask, if_there, li
 
 module _ (t : ℕ) where
   -- a program leads to itself
-  here : (p : Program) (k : KernelModel) → LeadsTo p k p k t
+  pub here : (p : Program) (k : KernelModel) → LeadsTo p k p k t
   here p k = record { completes = λ new reply c. c; begins = λ new b. b }
 
   -- and on from where it leads
-  onward : {a b c : Program} {k l m : KernelModel} → LeadsTo a k b l t → LeadsTo b l c m t → LeadsTo a k c m t
+  pub onward : {a b c : Program} {k l m : KernelModel} → LeadsTo a k b l t → LeadsTo b l c m t → LeadsTo a k c m t
   onward first second = record {
     completes = λ new reply c. first.completes new reply (second.completes new reply c);
     begins = λ new b. first.begins new (second.begins new b);
   }
 
   -- a raw call leads to what comes after its outcome
-  asked : (call : RawCall) (next : Outcome call → Program) (old mid : KernelModel) (outcome : Outcome call) → Asked old mid t call outcome → LeadsTo (Asks call next) old (next outcome) mid t
+  pub asked : (call : RawCall) (next : Outcome call → Program) (old mid : KernelModel) (outcome : Outcome call) → Asked old mid t call outcome → LeadsTo (Asks call next) old (next outcome) mid t
   asked call next old mid outcome is = record {
     completes = λ new reply c. (mid, outcome, is, c);
     begins = λ new b. inr (mid, outcome, is, b);

@@ -86,7 +86,7 @@ fn secret_of(alloc: Global, owner: u8) -> Result<Label, AllocError>
 }
 
 /// The label of what a user makes in jobs with these categories.
-fn scratch_label(alloc: Global, user: u8, jobs: &[Category]) -> Result<Label, AllocError>
+pub fn scratch_label(alloc: Global, user: u8, jobs: &[Category]) -> Result<Label, AllocError>
     ensures { IfOk result (λ label. label ≡ scratch_label user jobs.now) }
 {
     let mut secret = Vec::from_slice(alloc, &[read_category(user)])?;

@@ -2,4 +2,5 @@ pub mod Segments
 pub mod Scanning
 pub mod ProcessTelling
 pub mod Births
+pub mod Rooms
 pub mod Calling

@@ -24,7 +24,7 @@ use Rattle.histar_process.specs.Kin.{Kin, kin_of, user_name}
 use Rattle.histar_calls.specs.Jobs.{is_empty, jobs_in}
 use Rattle.histar_process.specs.Laws.{ProcessCallsTellRefusals}
 use Rattle.histar_process.specs.Parts.{find_home, home_of, must_be_there, read_status, write_status}
-use Rattle.histar_process.specs.SpawnCall.{must_have_room, spawn_program}
+use Rattle.histar_process.specs.SpawnCall.{must_have_room, room_for_child, spawn_program}
 use Rattle.histar_process.specs.StatusCall.{life_told, status_program}
 use Rattle.histar_process.specs.Whoami.{whoami_program}
 
@@ -103,7 +103,8 @@ module _ (parent : Home) (status : ProcessStatus) (kin : Kin) (rest : Unit {0} �
   abbrev at_read : ℕ → Program
   at_read read = ask MakeCategory (at_write read)
 
-  birth_tells : TellsRefusals (rest tt) → TellsRefusals (birth parent status kin rest)
+  -- a birth tells, where what comes after it does
+  pub birth_tells : TellsRefusals (rest tt) → TellsRefusals (birth parent status kin rest)
   unfolding birth
   birth_tells tells =
       ask_tells MakeCategory at_read (λ read. ask_tells MakeCategory (at_write read) (λ write.
@@ -112,6 +113,21 @@ module _ (parent : Home) (status : ProcessStatus) (kin : Kin) (rest : Unit {0} �
       ask_tells (MakeThread internal (thread_label kin read write) (thread_clearance kin read write)) (at_thread write container internal) (λ thread.
       ask_tells (MakeSegment container (outer_label kin write) (status_bytes (started internal thread))) (at_segment container) (λ segment.
       written_tells parent (with_child container segment status) (rest tt) tells))))))
+
+-- ---- room for a child
+
+module _ (name : ProcName) (me : Home) (rest : ProcessStatus → Program) (tells : (status : ProcessStatus) → TellsRefusals (rest status)) where
+  children_tell : (status : ProcessStatus) (room : Bool) → TellsRefusals (given (must_have_room room) (λ _. rest status))
+  children_tell status false = (refl, refl)
+  children_tell status true = tells status
+
+  depth_tells : (room : Bool) → TellsRefusals (given (must_have_room room) (λ _. read_status me (λ status. given (must_have_room (nat_lt status.born most_children)) (λ _. rest status))))
+  depth_tells false = (refl, refl)
+  depth_tells true = status_tells me _ (λ status. children_tell status (nat_lt status.born most_children))
+
+  -- what looks for room for a child tells, where what comes after it does
+  pub child_tells : TellsRefusals (room_for_child name me rest)
+  child_tells = depth_tells (nat_lt (length name) most_numbers)
 
 module _ (session : Session) (name : ProcName) (me : Home) where
   -- what comes after the birth
@@ -127,17 +143,12 @@ module _ (session : Session) (name : ProcName) (me : Home) where
   abbrev born : ProcessStatus → Levels × Levels → Program
   born status own = birth me status (kin_of session own.0) (λ _. restored status own)
 
-  room_tells : (status : ProcessStatus) (room : Bool) → TellsRefusals (given (must_have_room room) (λ _. ask OwnLabel (born status)))
-  room_tells status false = (refl, refl)
-  room_tells status true = ask_tells OwnLabel (born status) (λ own. birth_tells me status (kin_of session own.0) (λ _. restored status own) (restored_tells status own))
-
-  depth_tells : (room : Bool) → TellsRefusals (given (must_have_room room) (λ _. read_status me (λ status. given (must_have_room (nat_lt status.born most_children)) (λ _. ask OwnLabel (born status)))))
-  depth_tells false = (refl, refl)
-  depth_tells true = status_tells me _ (λ status. room_tells status (nat_lt status.born most_children))
+  born_tells : (status : ProcessStatus) → TellsRefusals (ask OwnLabel (born status))
+  born_tells status = ask_tells OwnLabel (born status) (λ own. birth_tells me status (kin_of session own.0) (λ _. restored status own) (restored_tells status own))
 
   spawn_program_tells : TellsRefusals (spawn_program session name me)
   unfolding spawn_program
-  spawn_program_tells = depth_tells (nat_lt (length name) most_numbers)
+  spawn_program_tells = child_tells name me (λ status. ask OwnLabel (born status)) born_tells
 
 -- the programs of the calls tell their refusals
 pub process_calls_tell_refusals : ProcessCallsTellRefusals

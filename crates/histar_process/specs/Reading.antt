@@ -1,5 +1,6 @@
 -- What the code that reads and writes process segments does of a program.
 use Rattle.std.specs.Prelude.{◌≡◌, ℕ, List, Option, Some, Result, Ok, Err}
+use Rattle.histar_flat.specs.Words.{ProcName}
 use Rattle.histar_syscall.specs.KernelModel.{KernelModel}
 use Rattle.histar_rules.specs.declared.raw.RawCall.TheVariants.{Write}
 use Rattle.histar_layout.specs.Status.{ProcessStatus, child_at, head_of, status_in}
@@ -10,6 +11,7 @@ use Rattle.histar_calls.specs.declared.places.Home.{Home}
 use Rattle.histar_calls.specs.Programs.{Part, RunsPart}
 use Rattle.histar_calls.specs.Parts.{◌>>=◌, ask}
 use Rattle.histar_process.specs.Parts.{read_status}
+use Rattle.histar_process.specs.SpawnCall.{room_for_child}
 use Rattle.histar_process.specs.declared.find.Segment.{Segment}
 
 -- a process segment is read, and its head is handed on
@@ -33,6 +35,11 @@ pub record IsSegment (segment : Segment) (status : ProcessStatus) : Type 0 where
 abbrev pub RunsReading : Home → KernelModel → KernelModel → ℕ → Result Segment Ending → Type 0
 RunsReading home old new thread (Ok segment) = (status : ProcessStatus) × IsSegment segment status × RunsPart (read_status home) old new thread (Ok status)
 RunsReading home old new thread (Err ending) = RunsPart (read_status home) old new thread (Err ending)
+
+-- there is room for a child more of the process of this name, and the code has what the process segment tells
+abbrev pub RunsRoom : ProcName → Home → KernelModel → KernelModel → ℕ → Result Segment Ending → Type 0
+RunsRoom name home old new thread (Ok segment) = (status : ProcessStatus) × IsSegment segment status × RunsPart (room_for_child name home) old new thread (Ok status)
+RunsRoom name home old new thread (Err ending) = RunsPart (room_for_child name home) old new thread (Err ending)
 
 -- these bytes are written in a process segment
 abbrev pub IsRewritten : Home → List ℕ → KernelModel → KernelModel → ℕ → Result (Unit {0}) Ending → Type 0

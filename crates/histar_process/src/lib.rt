@@ -16,5 +16,8 @@ pub mod spawn;
 pub mod status;
 pub mod whoami;
 
+pub use birth::give_birth;
 pub use caller::{Caller, find_caller};
-pub use kin::{categories_of, joined};
+pub use find::Segment;
+pub use kin::{categories_of, joined, owned_by};
+pub use spawn::room_for_child;

@@ -1,16 +1,19 @@
 //! Giving birth to a child.
-ghost use Rattle.std.specs.Prelude.{◌≡◌};
+ghost use Rattle.std.specs.Prelude.{◌≡◌, ◌<◌, length, IfOk};
+ghost use Rattle.histar_flat.specs.Words.{most_children, most_numbers};
 ghost use Rattle.histar_calls.specs.Programs.{Runs};
 ghost use Rattle.histar_calls.specs.Refusals.{settled};
+ghost use Rattle.histar_process.specs.Reading.{RunsRoom};
 ghost use Rattle.histar_process.specs.SpawnCall.{must_have_room, spawn_program};
 
 use crate::birth::give_birth;
 use crate::caller::Caller;
 use crate::find::{Segment, read_segment};
 use crate::kin::owned_by;
-use histar_calls::{Ending, Stopped, is_in_job, jobs_in, settle, user_of};
+use histar_calls::{Ending, Home, Stopped, is_in_job, jobs_in, settle, user_of};
 use histar_flat::{Errno, ProcName, Reply, Session};
 use histar_label::LabelStore;
+use histar_object::ObjId;
 use histar_syscall::Kernel;
 use std::alloc::Global;
 
@@ -44,10 +47,8 @@ fn spawn_child<S: LabelStore + Drop>(
 ) -> Result<Reply, Ending>
     ensures { Runs (spawn_program session.now name.now caller.now.home) kernel.old kernel.new caller.now.thread (settled result) }
 {
-    must_have_room(name.numbers().len() < MOST_NUMBERS)?;
     let (home, thread) = (&caller.home, caller.thread);
-    let Segment { head, bytes } = read_segment(kernel, alloc, thread, home)?;
-    must_have_room(head.born < MOST_CHILDREN)?;
+    let Segment { head, bytes } = room_for_child(kernel, alloc, thread, name, home)?;
     let (own, most) = kernel.own_label(thread)?;
     let jobs = jobs_in(alloc, &own)?;
     let owned = owned_by(alloc, session, user_of(&own, session), !is_in_job(&own))?;
@@ -63,6 +64,26 @@ fn spawn_child<S: LabelStore + Drop>(
     kernel.set_label(thread, own)?;
     kernel.set_clearance(thread, most)?;
     Ok(Reply::Child(name.child(head.born + 1)))
+}
+
+/// The segment of the process of this name, to which a child more may be born. EAGAIN where the name has
+/// no room for one number more or 64 children were born already, EACCES where the kernel doesn't let the
+/// thread observe the segment.
+pub fn room_for_child<S: LabelStore + Drop>(
+    kernel: &mut Kernel<S>,
+    alloc: Global,
+    thread: ObjId,
+    name: &ProcName,
+    home: &Home,
+) -> Result<Segment, Ending>
+    ensures runs { RunsRoom name.now home.now kernel.old kernel.new thread result }
+    ensures name { IfOk result (λ segment. length name.now < most_numbers) }
+    ensures born { IfOk result (λ segment. segment.head.born < most_children) }
+{
+    must_have_room(name.numbers().len() < MOST_NUMBERS)?;
+    let segment = read_segment(kernel, alloc, thread, home)?;
+    must_have_room(segment.head.born < MOST_CHILDREN)?;
+    Ok(segment)
 }
 
 /// Whether there is room for one child more. EAGAIN where there is none.

@@ -1,2 +1,4 @@
 pub mod Scratch
 pub mod WrapCall
+pub mod Steps
+pub mod Laws

@@ -3,3 +3,7 @@
 //! The call runs its program, of the same name in `specs/`: what it asks the kernel, one raw call after
 //! another, and what it replies.
 #![tactic(auto)]
+
+pub mod program_laws;
+mod scratch;
+pub mod wrap;

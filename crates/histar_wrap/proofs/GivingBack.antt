@@ -1,0 +1,123 @@
+-- How the code that gives back what a thread took runs its parts.
+use Rattle.std.proofs.Common.{◌≡◌, ℕ, Option, None, Some, Result, Ok, Err, inl, refl, sym, ap, ◌∙◌, subst}
+use Rattle.histar_flat.specs.declared.replies.Errno.{Errno}
+use Rattle.histar_flat.specs.declared.replies.Reply.TheVariants as replies
+use Rattle.histar_label.specs.Levels.{Levels}
+use Rattle.histar_rules.specs.declared.raw.Denied.{Denied}
+use Rattle.histar_rules.specs.declared.raw.RawCall.{RawCall}
+use Rattle.histar_rules.specs.declared.raw.RawCall.TheVariants.{SetLabel, SetClearance}
+use Rattle.histar_rules.specs.declared.raw.Refusal.{Refusal}
+use Rattle.histar_rules.specs.declared.raw.Refusal.TheVariants as refusals
+use Rattle.histar_syscall.specs.KernelModel.{KernelModel, state, Called, Answered}
+use Rattle.histar_syscall.proofs.Runs.{same_kernel}
+use Rattle.histar_calls.specs.declared.ending.Ending.{Ending}
+use Rattle.histar_calls.specs.declared.ending.Ending.TheVariants.{Refused, Stopped}
+use Rattle.histar_calls.specs.Refusals.{errno_for, ending_of, ending_with}
+use Rattle.histar_calls.specs.Programs.{AnswerOf, IsAnswer, Program, Part, LeadsTo, RunsPart}
+use Rattle.histar_calls.specs.Programs.Program.{Answers}
+use Rattle.histar_calls.proofs.Running.{asked, onward, then_part, part_fails}
+use Rattle.histar_wrap.specs.Scratch.{ask_or_give_back, give_back, gives_back_with, or_given_back, or_stops}
+use Rattle.histar_wrap.specs.Steps.{ask_or_stop, restore, stopping}
+
+-- an ending with an errno comes of that errno
+of_errno : (o : Option Errno) (errno : Errno) → ending_with o ≡ Refused errno → o ≡ Some errno
+of_errno None errno e = absurd cc
+of_errno (Some other) errno e = ap Some (ap errno_in e)
+  where
+    errno_in : Ending → Errno
+    errno_in (Refused found) = found
+    errno_in Stopped = other
+
+-- an ending without one comes of none
+of_none : (o : Option Errno) → ending_with o ≡ Stopped → o ≡ None
+of_none None e = refl
+of_none (Some errno) e = absurd cc
+
+module _ (t : ℕ) (call : RawCall) (old new : KernelModel) where
+  -- ---- a raw call that may not be refused
+
+  -- it was granted
+  pub is_granted : (answer : AnswerOf call) → Called old new t call None → IsAnswer (state old) t call answer → RunsPart (ask_or_stop call) old new t (Ok answer)
+  unfolding RunsPart
+  is_granted answer called right = λ rest. asked t call (or_stops rest) old new (Ok answer) (called, right)
+
+  -- it was refused
+  pub is_refused : {A : Type 0} (P : A → Type 0) (refusal : Refusal) → Answered {A = A} old new t call (Err refusal) P → RunsPart (ask_or_stop call) old new t (Err Stopped)
+  unfolding RunsPart
+  is_refused P (refusals.Denied denied) called = λ rest. (asked t call (or_stops rest) old new (Err denied) called).begins new (same_kernel new)
+  is_refused P refusals.OutOfMemory same = λ rest. inl same
+
+  module _ (own : Levels × Levels) where
+    -- ---- a raw call at whose denial what was taken is given back
+
+    -- it was granted
+    pub goes_on : (answer : AnswerOf call) → Called old new t call None → IsAnswer (state old) t call answer → RunsPart (ask_or_give_back own call) old new t (Ok answer)
+    unfolding RunsPart
+    goes_on answer called right = λ rest. asked t call (or_given_back own (errno_for call) rest) old new (Ok answer) (called, right)
+
+    -- it was denied, and what follows is known by the errno
+    to_give_back : (rest : AnswerOf call → Program) (denied : Denied) (o : Option Errno) → errno_for call denied ≡ o → Called old new t call (Some denied) → LeadsTo (ask_or_give_back own call rest) old (gives_back_with own o) new t
+    to_give_back rest denied o is called =
+        subst (λ (e : Option Errno). LeadsTo (ask_or_give_back own call rest) old (gives_back_with own e) new t) is (asked t call (or_given_back own (errno_for call) rest) old new (Err denied) called)
+
+    -- it was refused, and there is no errno to tell
+    pub stops_there : {A : Type 0} (P : A → Type 0) (refusal : Refusal) → Answered {A = A} old new t call (Err refusal) P → ending_of (errno_for call) refusal ≡ Stopped → RunsPart (ask_or_give_back own call) old new t (Err Stopped)
+    unfolding RunsPart
+    stops_there P (refusals.Denied denied) called is = λ rest. (to_give_back rest denied None (of_none (errno_for call denied) is) called).begins new (same_kernel new)
+    stops_there P refusals.OutOfMemory same is = λ rest. inl same
+
+    -- it was denied with this errno
+    pub leads_back : {A : Type 0} (P : A → Type 0) (refusal : Refusal) (errno : Errno) → Answered {A = A} old new t call (Err refusal) P → ending_of (errno_for call) refusal ≡ Refused errno → (rest : AnswerOf call → Program) → LeadsTo (ask_or_give_back own call rest) old (give_back own errno) new t
+    leads_back P (refusals.Denied denied) errno called is = λ rest. to_give_back rest denied (Some errno) (of_errno (errno_for call denied) errno is) called
+    leads_back P refusals.OutOfMemory errno same is = absurd cc
+
+-- memory ran out before a raw call that may not be refused
+pub before_asking : (t : ℕ) (call : RawCall) (k : KernelModel) → RunsPart (ask_or_stop call) k k t (Err Stopped)
+unfolding RunsPart
+before_asking t call k = λ rest. inl (same_kernel k)
+
+-- ---- the thread's own label and clearance
+
+module _ (t : ℕ) (old new : KernelModel) where
+  -- the thread was given the label that is due
+  pub label_given : (label due : Levels) → label ≡ due → (answer : Result (Unit {0}) Refusal) → Answered old new t (SetLabel label) answer (λ _. Unit {0}) → (result : Result (Unit {0}) Ending) → result ≡ stopping answer → RunsPart (ask_or_stop (SetLabel due)) old new t result
+  label_given label due same answer answered result is =
+      subst (λ (l : Levels). RunsPart {A = Unit {0}} (ask_or_stop (SetLabel l)) old new t result) same
+      (subst (RunsPart {A = Unit {0}} (ask_or_stop (SetLabel label)) old new t) (sym is) (by answer answered))
+    where
+      by : (outcome : Result (Unit {0}) Refusal) → Answered old new t (SetLabel label) outcome (λ _. Unit {0}) → RunsPart {A = Unit {0}} (ask_or_stop (SetLabel label)) old new t (stopping outcome)
+      by (Ok done) given = is_granted t (SetLabel label) old new done given.0 tt
+      by (Err refusal) given = is_refused t (SetLabel label) old new (λ _. Unit {0}) refusal given
+
+  -- and the clearance
+  pub clearance_given : (clearance due : Levels) → clearance ≡ due → (answer : Result (Unit {0}) Refusal) → Answered old new t (SetClearance clearance) answer (λ _. Unit {0}) → (result : Result (Unit {0}) Ending) → result ≡ stopping answer → RunsPart (ask_or_stop (SetClearance due)) old new t result
+  clearance_given clearance due same answer answered result is =
+      subst (λ (l : Levels). RunsPart {A = Unit {0}} (ask_or_stop (SetClearance l)) old new t result) same
+      (subst (RunsPart {A = Unit {0}} (ask_or_stop (SetClearance clearance)) old new t) (sym is) (by answer answered))
+    where
+      by : (outcome : Result (Unit {0}) Refusal) → Answered old new t (SetClearance clearance) outcome (λ _. Unit {0}) → RunsPart {A = Unit {0}} (ask_or_stop (SetClearance clearance)) old new t (stopping outcome)
+      by (Ok done) given = is_granted t (SetClearance clearance) old new done given.0 tt
+      by (Err refusal) given = is_refused t (SetClearance clearance) old new (λ _. Unit {0}) refusal given
+
+  module _ (own : Levels × Levels) where
+    -- what comes after the label
+    abbrev after_label : Unit {0} → Part (Unit {0})
+    after_label done = ask_or_stop (SetClearance own.1)
+
+    -- the label was not given
+    pub label_fails : (ending : Ending) → RunsPart (ask_or_stop (SetLabel own.0)) old new t (Err ending) → RunsPart (restore own) old new t (Err ending)
+    label_fails ending first = part_fails t (ask_or_stop (SetLabel own.0)) old new after_label ending first
+
+    -- it was
+    pub label_then : (mid : KernelModel) → RunsPart (ask_or_stop (SetLabel own.0)) old mid t (Ok tt) → (result : Result (Unit {0}) Ending) → RunsPart (ask_or_stop (SetClearance own.1)) mid new t result → RunsPart (restore own) old new t result
+    label_then mid first result second = then_part t (ask_or_stop (SetLabel own.0)) old new after_label mid tt first result second
+
+    -- what was taken was given back, or that stopped the call
+    pub gives_back : (A : Type 0) (part : Part A) (mid : KernelModel) (errno : Errno) → ((rest : A → Program) → LeadsTo (part rest) old (give_back own errno) mid t) → RunsPart (restore own) mid new t (Ok tt) → RunsPart part old new t (Err (Refused errno))
+    unfolding RunsPart
+    gives_back A part mid errno first second = λ rest. onward t (first rest) (second (λ _. Answers (replies.Refused errno)))
+
+    pub gives_back_not : (A : Type 0) (part : Part A) (mid : KernelModel) (errno : Errno) → ((rest : A → Program) → LeadsTo (part rest) old (give_back own errno) mid t) → (ending : Ending) → RunsPart (restore own) mid new t (Err ending) → RunsPart part old new t (Err ending)
+    unfolding RunsPart
+    gives_back_not A part mid errno first (Refused other) second = λ rest. onward t (first rest) (second (λ _. Answers (replies.Refused errno)))
+    gives_back_not A part mid errno first Stopped second = λ rest. (first rest).begins new (second (λ _. Answers (replies.Refused errno)))

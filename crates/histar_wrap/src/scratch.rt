@@ -1,0 +1,112 @@
+//! The scratch directory of a job, and who holds the job.
+ghost use Rattle.std.specs.Prelude.{◌<◌, ◌≡◌, IfOk};
+ghost use Rattle.std.specs.FinMap as map;
+ghost use Rattle.histar_rules.specs.declared.raw.RawCall.TheVariants as calls;
+ghost use Rattle.histar_layout.specs.Directory.{most_entries};
+ghost use Rattle.histar_calls.specs.Programs.{RunsPart};
+ghost use Rattle.histar_wrap.specs.Scratch.{ask_or_give_back, hold_job, make_scratch};
+ghost use Rattle.histar_wrap.specs.Steps.{restore, stopping};
+
+use histar_base::Bytes;
+use histar_calls::{Ending, Room, write_entries};
+use histar_label::{Category, Label, LabelStore, Level};
+use histar_layout::Target;
+use histar_object::ObjId;
+use histar_syscall::{Kernel, Refusal};
+use std::alloc::Global;
+
+/// Makes a scratch directory: a container and in it an empty directory segment, both with this label, and
+/// the entry in the directory above. Where the kernel denies the container the thread takes its own label
+/// and clearance again: EACCES where the directory above may not be written, EPERM where the label is
+/// beyond the clearance. When memory runs out inside the giving back, the call ends without a reply.
+pub fn make_scratch<S: LabelStore + Drop>(
+    kernel: &mut Kernel<S>,
+    alloc: Global,
+    thread: ObjId,
+    own: &Label,
+    most: &Label,
+    label: Label,
+    room: Room,
+) -> Result<(), Ending>
+    requires { map.len room.entries < most_entries }
+    ensures { RunsPart (make_scratch (own.now, most.now) label room) kernel.old kernel.new thread result }
+{
+    let Room {
+        place,
+        mut entries,
+        name,
+    } = room;
+    let same = label.copy()?;
+    let above = place.container;
+    let container = make_or_give_back(kernel, alloc, thread, own, most, above, label)?;
+    let empty = Bytes::new(alloc);
+    let listing = kernel.make_segment(alloc, thread, container, same, empty)?;
+    entries.insert(name, Target::Directory(container, listing))?;
+    write_entries(kernel, alloc, thread, place, &entries)
+}
+
+// Makes a container with this label. Where the kernel denies it the thread takes its own label and
+// clearance again, and the denial ends the call.
+fn make_or_give_back<S: LabelStore + Drop>(
+    kernel: &mut Kernel<S>,
+    alloc: Global,
+    thread: ObjId,
+    own: &Label,
+    most: &Label,
+    above: ObjId,
+    label: Label,
+) -> Result<ObjId, Ending>
+    ensures runs { RunsPart (ask_or_give_back (own.now, most.now) (calls.MakeContainer above label)) kernel.old kernel.new thread result }
+    ensures number { IfOk result (λ container. 0 < container) }
+{
+    let refusal = match kernel.make_container(alloc, thread, above, label) {
+        Ok(container) => return Ok(container),
+        Err(refusal) => refusal,
+    };
+    let Ending::Refused(errno) = Ending::from(refusal) else {
+        return Err(Ending::Stopped);
+    };
+    restore(kernel, thread, own, most)?;
+    Err(Ending::Refused(errno))
+}
+
+// The thread takes its own label and clearance again.
+fn restore<S: LabelStore + Drop>(
+    kernel: &mut Kernel<S>,
+    thread: ObjId,
+    own: &Label,
+    most: &Label,
+) -> Result<(), Ending>
+    ensures { RunsPart (restore (own.now, most.now)) kernel.old kernel.new thread result }
+{
+    stopping(kernel.set_label(thread, own.copy()?))?;
+    stopping(kernel.set_clearance(thread, most.copy()?))
+}
+
+// What a raw call was answered that may not be refused: a refusal ends the call without a reply.
+fn stopping(answer: Result<(), Refusal>) -> Result<(), Ending>
+    ensures { result ≡ stopping answer }
+{
+    match answer {
+        Ok(()) => Ok(()),
+        Err(_) => Err(Ending::Stopped),
+    }
+}
+
+/// The thread takes its own label and clearance again, but owns the job's category and may have its
+/// secrets.
+pub fn hold_job<S: LabelStore + Drop>(
+    kernel: &mut Kernel<S>,
+    thread: ObjId,
+    own: &Label,
+    most: &Label,
+    job: Category,
+) -> Result<(), Ending>
+    ensures { RunsPart (hold_job (own.now, most.now) job) kernel.old kernel.new thread result }
+{
+    let label = own.with(job, Level::Star)?;
+    kernel.set_label(thread, label)?;
+    let clearance = most.with(job, Level::L3)?;
+    kernel.set_clearance(thread, clearance)?;
+    Ok(())
+}

@@ -1,0 +1,83 @@
+//! Wrapping: a new job, with a scratch directory and a first process.
+ghost use Rattle.std.specs.Prelude.{◌≡◌, IfOk};
+ghost use Rattle.histar_calls.specs.Programs.{Runs};
+ghost use Rattle.histar_calls.specs.Refusals.{settled};
+ghost use Rattle.histar_wrap.specs.Scratch.{jobs_with};
+ghost use Rattle.histar_wrap.specs.WrapCall.{wrap_program};
+
+use crate::scratch::{hold_job, make_scratch};
+use histar_calls::{Ending, Places, Stopped, find_room, jobs_in, scratch_label, settle, user_of};
+use histar_flat::{Path, ProcName, Reply, Session};
+use histar_label::{Category, Label, LabelStore};
+use histar_process::{Caller, Segment, give_birth, owned_by, room_for_child};
+use histar_syscall::Kernel;
+use std::alloc::{AllocError, Global};
+
+/// Wraps a program that its user doesn't trust: makes a job of the user's, with an empty scratch directory
+/// at this path, and the job's first process, which is a child of the caller. This is HiStar's `wrap` (OSDI
+/// 2006): the user hands a program its files by it, a scanner for viruses say, which may read them all and
+/// leak nothing. The process reads what the user reads, but has every file's secrets at the job's, and
+/// writes only in the scratch directory; the caller holds the job, and so reads what it left there.
+///
+/// EAGAIN where the name has no room for one number more or 64 children were born already. Then it is
+/// refused as `mkdir` is: EEXIST for `/`, ENOENT, ENOTDIR and EACCES on the way, EEXIST where something
+/// stands there, ENOSPC at 64 entries, and EACCES where the directory may not be written. EPERM for
+/// nobody, who may have no secrets of a user's.
+pub fn wrap<S: LabelStore + Drop>(
+    kernel: &mut Kernel<S>,
+    alloc: Global,
+    places: &Places,
+    session: &Session,
+    name: &ProcName,
+    caller: &Caller,
+    path: &Path,
+) -> Result<Reply, Stopped>
+    ensures { Runs (wrap_program session.now places.now name.now caller.now.home path.now) kernel.old kernel.new caller.now.thread result }
+{
+    settle(start_job(
+        kernel, alloc, places, session, name, caller, path,
+    ))
+}
+
+fn start_job<S: LabelStore + Drop>(
+    kernel: &mut Kernel<S>,
+    alloc: Global,
+    places: &Places,
+    session: &Session,
+    name: &ProcName,
+    caller: &Caller,
+    path: &Path,
+) -> Result<Reply, Ending>
+    ensures { Runs (wrap_program session.now places.now name.now caller.now.home path.now) kernel.old kernel.new caller.now.thread (settled result) }
+{
+    let (home, thread) = (&caller.home, caller.thread);
+    let Segment { head, bytes } = room_for_child(kernel, alloc, thread, name, home)?;
+    let room = find_room(kernel, alloc, places, thread, path)?;
+    let (own, most) = kernel.own_label(thread)?;
+    let job = kernel.make_category(thread)?;
+    let user = user_of(&own, session);
+    let jobs = jobs_with(alloc, &own, job)?;
+    let label = scratch_label(alloc, user, jobs.as_slice())?;
+    make_scratch(kernel, alloc, thread, &own, &most, label, room)?;
+    let owned = owned_by(alloc, session, user, false)?;
+    give_birth(
+        kernel,
+        alloc,
+        thread,
+        home,
+        bytes.as_slice(),
+        owned.as_slice(),
+        jobs.as_slice(),
+    )?;
+    hold_job(kernel, thread, &own, &most, job)?;
+    Ok(Reply::Child(name.child(head.born + 1)))
+}
+
+// The jobs that a thread of this label is in, and one more.
+fn jobs_with(alloc: Global, own: &Label, job: Category) -> Result<Vec<Category>, AllocError>
+    ensures { IfOk result (λ jobs. jobs.items ≡ jobs_with own.now job) }
+{
+    let mut jobs = jobs_in(alloc, own)?;
+    jobs.push(job)?;
+    Ok(jobs)
+}
