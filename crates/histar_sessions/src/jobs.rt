@@ -188,6 +188,48 @@ const REFUSED_WRAPS: [Line; 9] = [
     ("0.1 list /tmp", "ok f q/"),
 ];
 
+/// The raw calls of a wrap that is refused, of a login and of a wrap that is granted, in a session of one
+/// user. The first gives its category 8 back; the job of the other is 9.
+const WRAPS: [(u32, &str); 28] = [
+    (2, "read 8 11"),
+    (2, "read 6 7"),
+    (2, "self"),
+    (2, "make category"),
+    (2, "make container 6 {2:3,8:3,1}"),
+    (2, "set label {6:*,7:*,1}"),
+    (2, "set clearance {6:3,7:3,2}"),
+    (3, "self"),
+    (
+        3,
+        "enter 1 4 {4:*,5:*,6:*,7:*,1} {4:3,5:3,6:3,7:3,2} {6:*,7:*,1}",
+    ),
+    (3, "read 1 3"),
+    (3, "set label {4:*,5:*,6:*,7:*,1}"),
+    (3, "set clearance {4:3,5:3,6:3,7:3,2}"),
+    (4, "read 8 11"),
+    (4, "read 6 7"),
+    (4, "self"),
+    (4, "make category"),
+    (4, "make container 6 {4:3,9:3,1}"),
+    (4, "make segment 12 {4:3,9:3,1} "),
+    (4, "write 6 7 0 016a64000000000000000c000000000000000d"),
+    (4, "make category"),
+    (4, "make category"),
+    (4, "make container 8 {9:3,11:0,1}"),
+    (4, "make container 14 {9:3,10:3,11:0,1}"),
+    (4, "make thread 15 {4:*,9:3,10:*,11:*,1} {4:3,9:3,10:3,11:3,2}"),
+    (
+        4,
+        "make segment 14 {9:3,11:0,1} 720000000000000000000f0000000000000010",
+    ),
+    (
+        4,
+        "write 8 11 0 7200010000000000000009000000000000000a01000000000000000e0000000000000011",
+    ),
+    (4, "set label {4:*,5:*,6:*,7:*,9:*,1}"),
+    (4, "set clearance {4:3,5:3,6:3,7:3,9:3,2}"),
+];
+
 #[test]
 fn jobs_have_their_replies(rt: HostRuntime) -> Result<(), Fail> {
     let sessions: [&[Line]; 11] = [
@@ -224,4 +266,13 @@ fn jobs_are_seven_deep(rt: HostRuntime) -> Result<(), Fail> {
     let mut session = Session::new(rt.alloc(), &ROOT)?;
     session.extend(&SEVEN_DEEP)?;
     session.check(&rt, rt.alloc())
+}
+
+#[test]
+fn a_wrap_has_its_raw_calls(rt: HostRuntime) -> Result<(), Fail> {
+    let script = b"user root rr\n\
+        0 wrap /j\n\
+        0 login root rr\n\
+        0 wrap /j\n";
+    check_trace(&rt, rt.alloc(), script.as_slice(), WRAPS.as_slice())
 }
