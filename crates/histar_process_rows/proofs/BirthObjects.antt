@@ -90,10 +90,10 @@ module _ (T C S : ℕ) (own most label : Levels) (held : List ℕ) (s : State) (
   }
 
   -- neither of them is the thread
-  home_apart : C ≢ T
+  pub home_apart : C ≢ T
   home_apart e = true≢false (sym (ap (λ (q : ℕ). is_thread (s.objects q)) e ∙ ap is_thread a.thread) ∙ ap is_thread a.home.1)
 
-  segment_apart : S ≢ T
+  pub segment_apart : S ≢ T
   segment_apart e = true≢false (sym (ap (λ (q : ℕ). is_thread (s.objects q)) e ∙ ap is_thread a.thread) ∙ ap is_thread a.segment)
 
   -- where the thread makes a category it owns that too
