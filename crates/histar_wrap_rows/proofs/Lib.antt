@@ -1,1 +1,2 @@
+pub mod JobRights
 pub mod GrantedWrap
