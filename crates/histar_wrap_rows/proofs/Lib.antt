@@ -1,2 +1,3 @@
 pub mod JobRights
+pub mod JobFit
 pub mod GrantedWrap
