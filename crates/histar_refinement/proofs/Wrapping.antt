@@ -17,6 +17,7 @@ use Rattle.histar_object.specs.declared.objects.Object.{Object}
 use Rattle.histar_rules.specs.Rules.{greatest}
 use Rattle.histar_object.specs.Rights.{with_category}
 use Rattle.histar_object.specs.State.{State, added, with_bytes, counting}
+use Rattle.histar_container.specs.Tree.{Naming}
 use Rattle.histar_flat.specs.Sessions.{Session, has, user_number}
 use Rattle.histar_flat.specs.Classes.{Class, Process}
 use Rattle.histar_flat.specs.Classes.Class.{Scratch}
@@ -27,7 +28,7 @@ use Rattle.histar_refinement.specs.Categories.{CategoryName, Categories, IsMade,
 use Rattle.histar_refinement.specs.Categories.CategoryName.{OfJob}
 use Rattle.histar_refinement.specs.Guards.{Guard, guard_label}
 use Rattle.histar_refinement.specs.Labels.{class_guard, scratch_guard}
-use Rattle.histar_refinement.specs.Addresses.{address_of, home_of}
+use Rattle.histar_refinement.specs.Addresses.{Step, address_of, home_of}
 use Rattle.histar_refinement.specs.Addresses.Step.{Listing, Status, Inside, Runner}
 use Rattle.histar_refinement.specs.Directories.{directory_of}
 use Rattle.histar_refinement.specs.LaysOut.{AreInOrder, LaysOut, Laid}
@@ -165,14 +166,18 @@ module _ (session : Session) (s : State) (f : Flat) (l : LaysOut session s f) (m
     abbrev pub k : Laid session made_state with_directory
     k = made.0
 
+    -- what processes have keeps its numbers
+    pub k_numbers : SameNumbers l.laid.naming.number k.naming.number
+    k_numbers = subst (λ (x : Naming Step × Naming Step). SameNumbers x.0.number x.1.number) (λ j. (named.1 j, sym made.1 j)) numbers
+
     pub k_home : k.naming.number (home_of me) ≡ Some C
-    k_home = ap (λ nm. nm.number (home_of me)) made.1 ∙ sym (numbers.home me) ∙ ap (λ nm. nm.number (home_of me)) named.1 ∙ at_home
+    k_home = sym (k_numbers.home me) ∙ at_home
 
     pub k_status : k.naming.number (Status ∷ home_of me) ≡ Some S
-    k_status = ap (λ nm. nm.number (Status ∷ home_of me)) made.1 ∙ sym (numbers.status me) ∙ ap (λ nm. nm.number (Status ∷ home_of me)) named.1 ∙ at_status
+    k_status = sym (k_numbers.status me) ∙ at_status
 
     pub k_thread : k.naming.number (Runner ∷ Inside ∷ home_of me) ≡ Some T
-    k_thread = ap (λ nm. nm.number (Runner ∷ Inside ∷ home_of me)) made.1 ∙ sym (numbers.runner me) ∙ ap (λ nm. nm.number (Runner ∷ Inside ∷ home_of me)) named.1 ∙ at_thread
+    k_thread = sym (k_numbers.runner me) ∙ at_thread
 
     pub is_declared : is_some (user_number session p.user) ≡ true
     is_declared = ap is_some declared
