@@ -1,3 +1,4 @@
+pub mod ScratchLabels
 pub mod JobRights
 pub mod JobFit
 pub mod GrantedWrap
