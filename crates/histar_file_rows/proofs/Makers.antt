@@ -21,7 +21,7 @@ use Rattle.histar_refinement.specs.Sessions.{IsSession}
 use Rattle.histar_refinement.specs.Guards.{Guard, guard_label, rights_label}
 use Rattle.histar_refinement.specs.Labels.{class_guard, private_guard, readable_guard, scratch_guard, group_guard, open_guard, thread_rights}
 use Rattle.histar_refinement.specs.Processes.{or_zero}
-use Rattle.histar_refinement.proofs.SessionLemmas.{user_range, no_member, is_number, equal_names, equal_tested}
+use Rattle.histar_refinement.proofs.SessionLemmas.{user_range, no_member, is_number, not_nobody, equal_tested}
 use Rattle.histar_refinement.proofs.ClassTests.{member as is_member_of}
 use Rattle.histar_refinement.proofs.JobLabels.{jobs_are, none_if_free}
 use Rattle.histar_refinement.proofs.Levelled.{same_guarded}
@@ -151,10 +151,6 @@ module _ (session : Session) (ok : IsSession session) (s : State) (f : Flat) (me
       nothing = ap (λ (x : Bool). is_some (if x then Some (Grouped group) else None)) member;
     })
 
-    is_someone : (i : ℕ) → number ≡ Some i → (b : Bool) → same p.user nobody ≡ b → b ≡ false
-    is_someone i is true e = let k : None ≡ Some i = sym ok.no_one ∙ ap (user_number session) (sym (equal_names p.user nobody e)) ∙ is in absurd cc
-    is_someone i is false e = refl
-
     -- what everyone may read and write is made by everyone
     makes_open : (i : ℕ) → CanMake modes.Open i
     makes_open i = record { made = refl; guarded = refl; reads = refl; writes = free }
@@ -162,13 +158,13 @@ module _ (session : Session) (ok : IsSession session) (s : State) (f : Flat) (me
     -- a user makes its own
     by_user : (i : ℕ) → number ≡ Some i → (x : Mode) → CanMake x i ⊎ CannotMake x i
     by_user i is modes.Private = inl (record {
-      made = ap (λ (b : Bool). if b then None else Some (Private p.user)) (is_someone i is (same p.user nobody) refl);
+      made = ap (λ (b : Bool). if b then None else Some (Private p.user)) (not_nobody session ok p.user i is);
       guarded = ap (λ (o : Option ℕ). option_map private_guard o) is;
       reads = equal_tested p.user p.user refl;
       writes = λ j. equal_tested p.user p.user refl j && free j;
     })
     by_user i is modes.Readable = inl (record {
-      made = ap (λ (b : Bool). if b then None else Some (Readable p.user)) (is_someone i is (same p.user nobody) refl);
+      made = ap (λ (b : Bool). if b then None else Some (Readable p.user)) (not_nobody session ok p.user i is);
       guarded = ap (λ (o : Option ℕ). option_map readable_guard o) is;
       reads = refl;
       writes = λ j. equal_tested p.user p.user refl j && free j;

@@ -18,8 +18,8 @@ use Rattle.histar_layout.specs.Status.{ProcessStatus}
 use Rattle.histar_calls.specs.Categories.{user_of}
 use Rattle.histar_calls.specs.declared.places.Home.{Home}
 use Rattle.histar_process.specs.Birth.{outer_label, inner_label, thread_label, thread_clearance}
-use Rattle.histar_process.specs.Kin.{Kin, user_name, kin_of}
-use Rattle.histar_calls.specs.Jobs.{jobs_in, is_empty}
+use Rattle.histar_process.specs.Kin.{Kin, user_name, owned_by, kin_of}
+use Rattle.histar_calls.specs.Jobs.{jobs_in}
 use Rattle.histar_refinement.specs.Sessions.{IsSession}
 use Rattle.histar_refinement.proofs.Counting.{boot_used}
 use Rattle.histar_refinement.specs.Categories.CategoryName.{ReadsProcess, WritesProcess, OfJob}
@@ -86,8 +86,8 @@ module _ (session : Session) (ok : IsSession session) (s : State) (f : Flat) (la
   alike : (q : ℕ) → is_in (jobs_in own) q ≡ is_in (map then_names (map OfJob p.chain)) q
   alike q = ap (λ (label : Levels). is_in (jobs_in label) q) (sym own_kept) ∙ jobs_are then_names session me p q
 
-  alone : is_empty (jobs_in own) ≡ is_free p
-  alone = none_if_free lays_out.laid.category session me p
+  owned_told : kin.owned ≡ owned_by session (or_zero (user_number session p.user)) (is_free p)
+  owned_told = λ i. owned_by session (told i) (none_if_free lays_out.laid.category session me p i)
 
   named : user_name session.users (or_zero (user_number session p.user)) ≡ p.user
   named = name_of_number session ok p.user ((lays_out.laid.processes me p here).someone runs)
@@ -106,16 +106,16 @@ module _ (session : Session) (ok : IsSession session) (s : State) (f : Flat) (la
   newborn = record { user = p.user; chain = p.chain; held = []; exited = None; born = 0 }
 
   outer_same : outer_label kin (s.next_category + 1) ≡ guard_label then_names (process_guard child newborn)
-  outer_same = outer_is session then_names p as_made named own alike alone told ((p.born + 1) ∷ me) s.next_category (s.next_category + 1) reads_is writes_is
+  outer_same = outer_is session then_names p as_made named kin alike owned_told ((p.born + 1) ∷ me) s.next_category (s.next_category + 1) reads_is writes_is
 
   inner_same : inner_label kin s.next_category (s.next_category + 1) ≡ guard_label then_names (inside_guard child newborn)
-  inner_same = inner_is session then_names p as_made named own alike alone told ((p.born + 1) ∷ me) s.next_category (s.next_category + 1) reads_is writes_is
+  inner_same = inner_is session then_names p as_made named kin alike owned_told ((p.born + 1) ∷ me) s.next_category (s.next_category + 1) reads_is writes_is
 
   label_same : thread_label kin s.next_category (s.next_category + 1) ≡ rights_label then_names (thread_rights session child newborn)
-  label_same = label_is session then_names p as_made named own alike alone told ((p.born + 1) ∷ me) s.next_category (s.next_category + 1) reads_is writes_is
+  label_same = label_is session then_names p as_made named kin alike owned_told ((p.born + 1) ∷ me) s.next_category (s.next_category + 1) reads_is writes_is
 
   clearance_same : thread_clearance kin s.next_category (s.next_category + 1) ≡ rights_clearance then_names (thread_rights session child newborn)
-  clearance_same = clearance_is session then_names p as_made named own alike alone told ((p.born + 1) ∷ me) s.next_category (s.next_category + 1) reads_is writes_is
+  clearance_same = clearance_is session then_names p as_made named kin alike owned_told ((p.born + 1) ∷ me) s.next_category (s.next_category + 1) reads_is writes_is
 
   abbrev grown : Levels
   grown = owner session s f lays_out.laid me p here runs room C S at_home at_status

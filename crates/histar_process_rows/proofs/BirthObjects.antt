@@ -42,7 +42,7 @@ linked_links true n x label q is = (set.insert is.0 n, ap (option_map (linking n
 linked_links false n x label q is = is
 
 -- other bytes change no thread
-held_thread : (b : Bool) (bytes : List ℕ) (x : Found) (label clearance : Levels) → x ≡ object label (Thread clearance) → (if b then option_map (holding bytes) x else x) ≡ object label (Thread clearance)
+pub held_thread : (b : Bool) (bytes : List ℕ) (x : Found) (label clearance : Levels) → x ≡ object label (Thread clearance) → (if b then option_map (holding bytes) x else x) ≡ object label (Thread clearance)
 held_thread true bytes x label clearance is = ap (option_map (holding bytes)) is
 held_thread false bytes x label clearance is = is
 
@@ -90,10 +90,10 @@ module _ (T C S : ℕ) (own most label : Levels) (held : List ℕ) (s : State) (
   }
 
   -- neither of them is the thread
-  home_apart : C ≢ T
+  pub home_apart : C ≢ T
   home_apart e = true≢false (sym (ap (λ (q : ℕ). is_thread (s.objects q)) e ∙ ap is_thread a.thread) ∙ ap is_thread a.home.1)
 
-  segment_apart : S ≢ T
+  pub segment_apart : S ≢ T
   segment_apart e = true≢false (sym (ap (λ (q : ℕ). is_thread (s.objects q)) e ∙ ap is_thread a.thread) ∙ ap is_thread a.segment)
 
   -- where the thread makes a category it owns that too

@@ -1,5 +1,5 @@
--- The nine raw calls of a spawn that change something, one after another, from the making of the child's two categories to the parent's own
--- labels again.
+-- The raw calls of a birth and the two that set the parent's own labels behind them, one after another, from the making of the child's two
+-- categories on.
 use Rattle.std.proofs.Common.{◌≡◌, ℕ, ◌+◌, ◌<◌, true, List, [], ◌∷◌, ◌++◌, Result, arith, refl, sym, ap, ◌∙◌, subst, length}
 use Rattle.std.specs.Prelude.{min, option_map}
 use Rattle.std.proofs.lemmas.Bool.{ltb-true}
@@ -34,9 +34,10 @@ use Rattle.histar_refinement.specs.Lines.{IsThreadOf}
 use Rattle.histar_refinement.proofs.RawChecks.{object}
 use Rattle.histar_refinement.proofs.Spawned.{births}
 use Rattle.histar_refinement.proofs.Beside.{own_set}
-use Rattle.histar_rows.specs.Rows.{IsRunning, has_category}
-use Rattle.histar_rows.proofs.Chains.{all_granted, Chain}
+use Rattle.histar_rows.specs.Rows.{IsRunning, AreAmong, has_category}
+use Rattle.histar_rows.proofs.Chains.{all_granted, entries_of, Chain}
 use Rattle.histar_rows.proofs.Steps.{Goal, granted_step}
+use Rattle.histar_rows.proofs.Walks.{among_then}
 use Rattle.histar_process_rows.proofs.BirthObjects.{Around}
 use Rattle.histar_process_rows.proofs.BirthChecks as checks
 use Rattle.histar_process_rows.proofs.BirthChecks.{IsModified, IsLesser, IsTaken, category_said}
@@ -71,7 +72,7 @@ spawned s t home status kin own most =
     (status_bytes (with_child s.next_object (s.next_object + 1 + 1 + 1) status))) own most
 
 module _ (session : Session) (f : Flat) (me : ProcName) (caller : IsRunning f me) (call : UnixCall) (old new : KernelModel) (t : ℕ) (named : IsThreadOf session (state old) me t) (result : Result Reply Stopped)
-    (s : State) (home : Home) (status : ProcessStatus) (kin : Kin) (own most : Levels) (fit : IsFit s t home status kin own most) (reply : Reply) where
+    (s : State) (home : Home) (status : ProcessStatus) (kin : Kin) (own most : Levels) (fit : IsFit s t home status kin own most) (reply : Reply) (wanted : List RawCall) where
   abbrev Row : Type 0
   Row = Goal session f me caller call old new t named result
 
@@ -151,89 +152,96 @@ module _ (session : Session) (f : Flat) (me : ProcName) (caller : IsRunning f me
   abbrev after_category : ℕ → Program
   after_category r = ask MakeCategory (after_categories r)
 
+  -- these raw calls were made before the birth, and so they are among all
+  abbrev AreKept : List RawCall → Type 0
+  AreKept calls = AreAmong wanted (entries_of old.line t (all_granted calls))
+
+  kept_then : (calls : List RawCall) (next : RawCall) → AreKept calls → AreKept (calls ++ next ∷ [])
+  kept_then calls next kept = among_then old.line t wanted calls (next ∷ []) kept
+
   -- what comes after all of them
   abbrev pub Ends : Type 0
-  Ends = (calls : List RawCall) (later : KernelModel) → Chain old t (all_granted calls) later → state later ≡ spawned s t home status kin own most → s.next_object + 3 < greatest → Runs (Answers reply) later new t result → Goal session f me caller call old new t named result
+  Ends = (calls : List RawCall) (later : KernelModel) → AreAmong wanted (entries_of old.line t (all_granted calls)) → Chain old t (all_granted calls) later → state later ≡ spawned s t home status kin own most → s.next_object + 3 < greatest → Runs (Answers reply) later new t result → Goal session f me caller call old new t named result
 
   module _ (ends : Ends) where
-    clearance_set : s.next_object + 3 < greatest → (calls : List RawCall) (mid : KernelModel) → Chain old t (all_granted calls) mid → state mid ≡ eighth → Runs after_label mid new t result → Row
-    clearance_set few calls mid chain at runs =
+    clearance_set : s.next_object + 3 < greatest → (calls : List RawCall) (mid : KernelModel) → AreKept calls → Chain old t (all_granted calls) mid → state mid ≡ eighth → Runs after_label mid new t result → Row
+    clearance_set few calls mid kept chain at runs =
         granted_step session f me caller call old new t named result calls mid chain (SetClearance most) (λ _. Answers reply)
         (ap (λ (x : State). check x t (SetClearance most)) at ∙ checks.set_clearance_said t home.container home.segment fit.owner fit.owner_most fit.label fit.held u fit.around outer inner label clearance own most child_bytes own_bytes fit.under fit.seen fit.outer fit.inner fit.lesser fit.taken) runs
-        (λ later done called right longer goes. ends (calls ++ SetClearance most ∷ []) later longer (called.state ∙ ap (λ (x : State). with_changed x t (clearing most)) at) few goes)
+        (λ later done called right longer goes. ends (calls ++ SetClearance most ∷ []) later (kept_then calls (SetClearance most) kept) longer (called.state ∙ ap (λ (x : State). with_changed x t (clearing most)) at) few goes)
 
-    label_set : s.next_object + 3 < greatest → (calls : List RawCall) (mid : KernelModel) → Chain old t (all_granted calls) mid → state mid ≡ seventh → Runs after_write mid new t result → Row
-    label_set few calls mid chain at runs =
+    label_set : s.next_object + 3 < greatest → (calls : List RawCall) (mid : KernelModel) → AreKept calls → Chain old t (all_granted calls) mid → state mid ≡ seventh → Runs after_write mid new t result → Row
+    label_set few calls mid kept chain at runs =
         granted_step session f me caller call old new t named result calls mid chain (SetLabel own) (λ _. after_label)
         (ap (λ (x : State). check x t (SetLabel own)) at ∙ checks.set_label_said t home.container home.segment fit.owner fit.owner_most fit.label fit.held u fit.around outer inner label clearance own most child_bytes own_bytes fit.under fit.seen fit.outer fit.inner fit.lesser fit.taken) runs
-        (λ later done called right longer goes. clearance_set few (calls ++ SetLabel own ∷ []) later longer (called.state ∙ ap (λ (x : State). with_changed x t (relabelled own)) at) goes)
+        (λ later done called right longer goes. clearance_set few (calls ++ SetLabel own ∷ []) later (kept_then calls (SetLabel own) kept) longer (called.state ∙ ap (λ (x : State). with_changed x t (relabelled own)) at) goes)
 
-    segment_written : s.next_object + 3 < greatest → (calls : List RawCall) (mid : KernelModel) → Chain old t (all_granted calls) mid → state mid ≡ sixth → Runs (after_segment m (m + 1 + 1 + 1)) mid new t result → Row
-    segment_written few calls mid chain at runs =
+    segment_written : s.next_object + 3 < greatest → (calls : List RawCall) (mid : KernelModel) → AreKept calls → Chain old t (all_granted calls) mid → state mid ≡ sixth → Runs (after_segment m (m + 1 + 1 + 1)) mid new t result → Row
+    segment_written few calls mid kept chain at runs =
         let next : RawCall = Write home.container home.segment 0 own_bytes in
         granted_step session f me caller call old new t named result calls mid chain next (λ _. after_write)
         (ap (λ (x : State). check x t next) at ∙ checks.write_said t home.container home.segment fit.owner fit.owner_most fit.label fit.held u fit.around outer inner label clearance own most child_bytes own_bytes fit.under fit.seen fit.outer fit.inner fit.lesser fit.taken fit.own_few) runs
-        (λ later done called right longer goes. label_set few (calls ++ next ∷ []) later longer (called.state ∙ ap (λ (x : State). with_bytes x home.segment own_bytes) at) goes)
+        (λ later done called right longer goes. label_set few (calls ++ next ∷ []) later (kept_then calls next kept) longer (called.state ∙ ap (λ (x : State). with_bytes x home.segment own_bytes) at) goes)
 
-    segment_made : (calls : List RawCall) (mid : KernelModel) → Chain old t (all_granted calls) mid → state mid ≡ fifth → Runs (after_thread write m (m + 1) (m + 1 + 1)) mid new t result → Row
-    segment_made calls mid chain at runs =
+    segment_made : (calls : List RawCall) (mid : KernelModel) → AreKept calls → Chain old t (all_granted calls) mid → state mid ≡ fifth → Runs (after_thread write m (m + 1) (m + 1 + 1)) mid new t result → Row
+    segment_made calls mid kept chain at runs =
         let next : RawCall = MakeSegment m outer child_bytes in
         numbered_step session f me caller call old new t named result calls mid chain next (after_segment m) refl
         (subst (λ (x : State). check x t next ≡ unless (has_number x) TooBig) (sym at) (checks.make_segment_said t home.container home.segment fit.owner fit.owner_most fit.label fit.held u fit.around outer inner label clearance own most child_bytes own_bytes fit.under fit.seen fit.outer fit.inner fit.lesser fit.taken fit.child_few)) runs
         (λ more later number called right longer goes.
         let few = ltb-true (m + 1 + 1 + 1) greatest (sym (ap has_number at) ∙ more) in
-        segment_written (omega (arith, few)) (calls ++ next ∷ []) later longer (called.state ∙ ap (λ (x : State). added x m (record { label = outer; kind = Segment child_bytes })) at)
+        segment_written (omega (arith, few)) (calls ++ next ∷ []) later (kept_then calls next kept) longer (called.state ∙ ap (λ (x : State). added x m (record { label = outer; kind = Segment child_bytes })) at)
         (subst (λ (q : ℕ). Runs (after_segment m q) later new t result) (right ∙ ap (λ (x : State). x.next_object) at) goes))
 
-    thread_made : (calls : List RawCall) (mid : KernelModel) → Chain old t (all_granted calls) mid → state mid ≡ fourth → Runs (after_internal read write m (m + 1)) mid new t result → Row
-    thread_made calls mid chain at runs =
+    thread_made : (calls : List RawCall) (mid : KernelModel) → AreKept calls → Chain old t (all_granted calls) mid → state mid ≡ fourth → Runs (after_internal read write m (m + 1)) mid new t result → Row
+    thread_made calls mid kept chain at runs =
         let next : RawCall = MakeThread (m + 1) label clearance in
         numbered_step session f me caller call old new t named result calls mid chain next (after_thread write m (m + 1)) refl
         (subst (λ (x : State). check x t next ≡ unless (has_number x) TooBig) (sym at) (checks.make_thread_said t home.container home.segment fit.owner fit.owner_most fit.label fit.held u fit.around outer inner label clearance own most child_bytes own_bytes fit.under fit.seen fit.outer fit.inner fit.lesser fit.taken)) runs
         (λ more later number called right longer goes.
-        segment_made (calls ++ next ∷ []) later longer (called.state ∙ ap (λ (x : State). added x (m + 1) (thread_of label clearance)) at)
+        segment_made (calls ++ next ∷ []) later (kept_then calls next kept) longer (called.state ∙ ap (λ (x : State). added x (m + 1) (thread_of label clearance)) at)
         (subst (λ (q : ℕ). Runs (after_thread write m (m + 1) q) later new t result) (right ∙ ap (λ (x : State). x.next_object) at) goes))
 
-    internal_made : (calls : List RawCall) (mid : KernelModel) → Chain old t (all_granted calls) mid → state mid ≡ third → Runs (after_container read write m) mid new t result → Row
-    internal_made calls mid chain at runs =
+    internal_made : (calls : List RawCall) (mid : KernelModel) → AreKept calls → Chain old t (all_granted calls) mid → state mid ≡ third → Runs (after_container read write m) mid new t result → Row
+    internal_made calls mid kept chain at runs =
         let next : RawCall = MakeContainer m inner in
         numbered_step session f me caller call old new t named result calls mid chain next (after_internal read write m) refl
         (subst (λ (x : State). check x t next ≡ unless (has_number x) TooBig) (sym at) (checks.make_internal_said t home.container home.segment fit.owner fit.owner_most fit.label fit.held u fit.around outer inner label clearance own most child_bytes own_bytes fit.under fit.seen fit.outer fit.inner fit.lesser fit.taken)) runs
         (λ more later number called right longer goes.
-        thread_made (calls ++ next ∷ []) later longer (called.state ∙ ap (λ (x : State). added x m (record { label = inner; kind = Container set.empty })) at)
+        thread_made (calls ++ next ∷ []) later (kept_then calls next kept) longer (called.state ∙ ap (λ (x : State). added x m (record { label = inner; kind = Container set.empty })) at)
         (subst (λ (q : ℕ). Runs (after_internal read write m q) later new t result) (right ∙ ap (λ (x : State). x.next_object) at) goes))
 
-    container_made : (calls : List RawCall) (mid : KernelModel) → Chain old t (all_granted calls) mid → state mid ≡ u → Runs (after_categories read write) mid new t result → Row
-    container_made calls mid chain at runs =
+    container_made : (calls : List RawCall) (mid : KernelModel) → AreKept calls → Chain old t (all_granted calls) mid → state mid ≡ u → Runs (after_categories read write) mid new t result → Row
+    container_made calls mid kept chain at runs =
         let next : RawCall = MakeContainer home.container outer in
         numbered_step session f me caller call old new t named result calls mid chain next (after_container read write) refl
         (subst (λ (x : State). check x t next ≡ unless (has_number x) TooBig) (sym at) (checks.make_container_said t home.container home.segment fit.owner fit.owner_most fit.label fit.held u fit.around outer inner label clearance own most child_bytes own_bytes fit.under fit.seen fit.outer fit.inner fit.lesser fit.taken)) runs
         (λ more later number called right longer goes.
-        internal_made (calls ++ next ∷ []) later longer (called.state ∙ ap (λ (x : State). added x home.container (record { label = outer; kind = Container set.empty })) at)
+        internal_made (calls ++ next ∷ []) later (kept_then calls next kept) longer (called.state ∙ ap (λ (x : State). added x home.container (record { label = outer; kind = Container set.empty })) at)
         (subst (λ (q : ℕ). Runs (after_container read write q) later new t result) (right ∙ ap (λ (x : State). x.next_object) at) goes))
 
     -- the thread with the first category
     thread_then : (with_category s t).objects t ≡ object (with_level own s.next_category Star) (Thread (with_level most s.next_category L3))
     thread_then = changed_here s.objects t (owning s.next_category) ∙ ap (option_map (owning s.next_category)) fit.thread
 
-    write_made : (calls : List RawCall) (mid : KernelModel) → Chain old t (all_granted calls) mid → state mid ≡ with_category s t → Runs (after_category read) mid new t result → Row
-    write_made calls mid chain at runs =
+    write_made : (calls : List RawCall) (mid : KernelModel) → AreKept calls → Chain old t (all_granted calls) mid → state mid ≡ with_category s t → Runs (after_category read) mid new t result → Row
+    write_made calls mid kept chain at runs =
         category_step session f me caller call old new t named result calls mid chain MakeCategory (after_categories read) refl
         (subst (λ (x : State). check x t MakeCategory ≡ unless (has_category x) TooBig) (sym at) (category_said (with_category s t) t (with_level own s.next_category Star) (with_level most s.next_category L3) thread_then)) runs
         (λ later number called right longer goes.
-        container_made (calls ++ MakeCategory ∷ []) later longer (called.state ∙ ap (λ (x : State). with_category x t) at)
+        container_made (calls ++ MakeCategory ∷ []) later (kept_then calls MakeCategory kept) longer (called.state ∙ ap (λ (x : State). with_category x t) at)
         (subst (λ (q : ℕ). Runs (after_categories read q) later new t result) (right ∙ ap (λ (x : State). x.next_category) at) goes))
 
-    read_made : (calls : List RawCall) (mid : KernelModel) → Chain old t (all_granted calls) mid → state mid ≡ s → Runs (ask MakeCategory after_category) mid new t result → Row
-    read_made calls mid chain at runs =
+    read_made : (calls : List RawCall) (mid : KernelModel) → AreKept calls → Chain old t (all_granted calls) mid → state mid ≡ s → Runs (ask MakeCategory after_category) mid new t result → Row
+    read_made calls mid kept chain at runs =
         category_step session f me caller call old new t named result calls mid chain MakeCategory after_category refl
         (subst (λ (x : State). check x t MakeCategory ≡ unless (has_category x) TooBig) (sym at) (category_said s t own most fit.thread)) runs
         (λ later number called right longer goes.
-        write_made (calls ++ MakeCategory ∷ []) later longer (called.state ∙ ap (λ (x : State). with_category x t) at)
+        write_made (calls ++ MakeCategory ∷ []) later (kept_then calls MakeCategory kept) longer (called.state ∙ ap (λ (x : State). with_category x t) at)
         (subst (λ (q : ℕ). Runs (after_category q) later new t result) (right ∙ ap (λ (x : State). x.next_category) at) goes))
 
     -- The birth, and the thread's own labels again.
-    pub birth_made : (calls : List RawCall) (mid : KernelModel) → Chain old t (all_granted calls) mid → state mid ≡ s
+    pub birth_made : (calls : List RawCall) (mid : KernelModel) → AreAmong wanted (entries_of old.line t (all_granted calls)) → Chain old t (all_granted calls) mid → state mid ≡ s
         → Runs (birth home status kin (λ _. ask (SetLabel own) (λ _. ask (SetClearance most) (λ _. Answers reply)))) mid new t result → Row
     unfolding birth
-    birth_made calls mid chain at runs = read_made calls mid chain at runs
+    birth_made calls mid kept chain at runs = read_made calls mid kept chain at runs

@@ -49,8 +49,8 @@ use Rattle.histar_refinement.proofs.ClassTests.{sees_process}
 use Rattle.histar_refinement.proofs.MakingRanges.{all_known}
 use Rattle.histar_refinement.proofs.RawChecks.{read_check}
 use Rattle.histar_refinement.proofs.StatusFound.{thread_back}
-use Rattle.histar_rows.specs.Rows.{IsReady, DoesItsRow}
-use Rattle.histar_rows.proofs.Chains.{all_granted, Chain}
+use Rattle.histar_rows.specs.Rows.{IsReady, DoesItsRow, AreAmong}
+use Rattle.histar_rows.proofs.Chains.{all_granted, entries_of, Chain}
 use Rattle.histar_rows.proofs.Steps.{Goal, answered_step}
 use Rattle.histar_process_rows.specs.Laws.{SpawnsAreRows}
 use Rattle.histar_process_rows.proofs.BirthFit.{fit, spawned_laid}
@@ -112,9 +112,9 @@ module _ (session : Session) (ok : IsSession session) (me : ProcName) (caller : 
     refused_nowhere = λ i. unless (room i) EAGAIN orelse unless (long i) EAGAIN
 
     -- with all raw calls the call is answered
-    answered : (calls : List RawCall) (later : KernelModel) → Chain old t (all_granted calls) later → state later ≡ spawned (state old) t caller.home status (kin_of session own) own most → (state old).next_object + 3 < greatest
+    answered : (calls : List RawCall) (later : KernelModel) → AreAmong [] (entries_of old.line t (all_granted calls)) → Chain old t (all_granted calls) later → state later ≡ spawned (state old) t caller.home status (kin_of session own) own most → (state old).next_object + 3 < greatest
         → Runs (Answers reply) later new t result → Row
-    answered calls later chain is few runs =
+    answered calls later kept chain is few runs =
         answered_step session f me ready.caller Spawn old new t ready.thread result calls later chain reply refl refused_nowhere tt tt
         (subst (λ (s : State). LaysOut session s (flat.with_child f me p p.chain)) (sym is)
         (spawned_laid session ok (state old) f ready.lays_out me p ready.caller.stands ready.caller.runs few_born caller.home.container caller.home.segment
@@ -125,8 +125,8 @@ module _ (session : Session) (ok : IsSession session) (me : ProcName) (caller : 
     born mid chain stays runs =
         birth_made session f me ready.caller Spawn old new t ready.thread result (state old) caller.home status (kin_of session own) own most
         (fit session ok (state old) f ready.lays_out me p ready.caller.stands ready.caller.runs few_born caller.home.container caller.home.segment
-        (at_home session me caller old new f result ready found) (at_status session me caller old new f result ready found) t (at_thread session me caller old new f result ready found)) reply
-        answered (before ++ OwnLabel ∷ []) mid chain stays runs
+        (at_home session me caller old new f result ready found) (at_status session me caller old new f result ready found) t (at_thread session me caller old new f result ready found)) reply []
+        answered (before ++ OwnLabel ∷ []) mid tt chain stays runs
 
     asked : (mid : KernelModel) → Chain old t (all_granted before) mid → state mid ≡ state old → Runs (in_room status) mid new t result → Row
     asked mid chain stays runs = own_label_step session me caller old new f result ready found Spawn before mid chain stays (with_labels status) runs born

@@ -9,6 +9,7 @@ use Rattle.histar_flat.specs.Words.{Name, Path, ProcName}
 use Rattle.histar_flat.specs.Files.{Files, get}
 use Rattle.histar_label.specs.Levels.{Levels}
 use Rattle.histar_layout.specs.Directory.{IsListable, spelling}
+use Rattle.histar_layout.specs.Status.{status_bytes}
 use Rattle.histar_layout.specs.declared.entry.Target.{Target}
 use Rattle.histar_layout.specs.declared.entry.Target.TheVariants as targets
 use Rattle.histar_layout.proofs.MapLemmas.{antisymmetric}
@@ -32,12 +33,12 @@ use Rattle.histar_refinement.specs.Guards.{Guard, guard_label}
 use Rattle.histar_refinement.specs.Labels.{class_guard, process_guard}
 use Rattle.histar_refinement.specs.Addresses.{Step, Numbers, same_step, address_of, home_of, path_at, boot_number}
 use Rattle.histar_refinement.specs.Addresses.Step.{Listing, Named, Status, Inside, Runner}
-use Rattle.histar_refinement.specs.Processes.{process_bytes}
+use Rattle.histar_refinement.specs.Processes.{status_by, process_bytes}
 use Rattle.histar_refinement.specs.Directories.{both_numbers, target_for, directory_of}
 use Rattle.histar_refinement.specs.Stands.{Stands}
 use Rattle.histar_refinement.specs.Expected.{segment, guarded_object, content_kind, node_object, listing_object, status_object, bytes_for, status_at, expected}
 use Rattle.histar_refinement.specs.LaysOut.{IsInOrder, AreJobsGiven, Laid}
-use Rattle.histar_refinement.proofs.ProcessBytes.{alike_bytes}
+use Rattle.histar_refinement.proofs.ProcessBytes.{alike_status}
 use Rattle.histar_refinement.proofs.Members.{or_first}
 use Rattle.histar_refinement.proofs.Places.{path_address, AsksAlikeAt, asked_alike_at, asked_path, asked_listing}
 use Rattle.histar_refinement.proofs.Steps.{step_tells}
@@ -56,10 +57,14 @@ pub record SameNumbers (number numbers : Numbers) : Type 0 where
   pub inside : (q : ProcName) → number (Inside ∷ home_of q) ≡ numbers (Inside ∷ home_of q)
   pub runner : (q : ProcName) → number (Runner ∷ Inside ∷ home_of q) ≡ numbers (Runner ∷ Inside ∷ home_of q)
 
--- they tell the bytes of each process segment
+-- they tell the same of each process
+pub same_process_status : (number numbers : Numbers) → SameNumbers number numbers → (processes : ProcName → Option Process) (q : ProcName) (x : Process) → status_by processes number q x ≡ status_by processes numbers q x
+same_process_status number numbers same processes q x =
+    alike_status processes processes number numbers q x (same.inside q) (same.runner q) (λ k. same.home (k ∷ q)) (λ k. same.status (k ∷ q)) (λ k. refl)
+
+-- and so the bytes of its segment
 pub same_process_bytes : (number numbers : Numbers) → SameNumbers number numbers → (processes : ProcName → Option Process) (q : ProcName) (x : Process) → process_bytes processes number q x ≡ process_bytes processes numbers q x
-same_process_bytes number numbers same processes q x =
-    alike_bytes processes processes number numbers q x (same.inside q) (same.runner q) (λ k. same.home (k ∷ q)) (λ k. same.status (k ∷ q)) (λ k. refl)
+same_process_bytes number numbers same processes q x = ap status_bytes (same_process_status number numbers same processes q x)
 
 -- ---- addresses of paths
 

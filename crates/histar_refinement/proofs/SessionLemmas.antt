@@ -10,6 +10,7 @@ use Rattle.histar_flat.specs.Words.{Name}
 use Rattle.histar_flat.specs.PathOrder.{same}
 use Rattle.histar_flat.proofs.FileLemmas.{same_name_found}
 use Rattle.histar_flat.specs.Sessions.{Group, Session, has, user_number, group_number, numbers_with, groups_of, is_member}
+use Rattle.histar_flat.specs.Classes.{nobody}
 use Rattle.histar_refinement.proofs.Members.{same_truth, and_both, first_of, second_of, or_first, or_second, or_either, mapped_from}
 use Rattle.histar_refinement.specs.Sessions.{IsSession}
 
@@ -18,6 +19,14 @@ equal_names a b h = elim (same_name_found a b) [ inl e ↦ e.1 | inr e ↦ absur
 
 pub equal_tested : (a b : Name) → a ≡ b → same a b ≡ true
 equal_tested a b h = elim (same_name_found a b) [ inl e ↦ e.0 | inr e ↦ absurd (e.1 h) ]
+
+-- who is declared is not nobody
+pub not_nobody : (session : Session) → IsSession session → (name : Name) (i : ℕ) → user_number session name ≡ Some i → same name nobody ≡ false
+not_nobody session ok name i is = by (same name nobody) refl
+  where
+    by : (b : Bool) → same name nobody ≡ b → b ≡ false
+    by true e = let k : None ≡ Some i = sym ok.no_one ∙ ap (user_number session) (sym (equal_names name nobody e)) ∙ is in absurd cc
+    by false e = refl
 
 module _ {A : Type 0} (test : A → Bool) where
   -- what stands at the first place passes the test

@@ -72,7 +72,7 @@ all_of test [] each = refl
 all_of test (x ∷ names) each = and_both (each x (at_head x names)) (all_of test names (λ c e. each c (later x names c e)))
 
 -- in some job no one is free
-not_free : (chain : List ProcName) (child : ProcName) → elim (chain ++ child ∷ []) as (λ _. Bool) [ [] ↦ true | job ∷ jobs ↦ false ] ≡ false
+pub not_free : (chain : List ProcName) (child : ProcName) → elim (chain ++ child ∷ []) as (λ _. Bool) [ [] ↦ true | job ∷ jobs ↦ false ] ≡ false
 not_free [] child = refl
 not_free (j ∷ chain) child = refl
 

@@ -17,6 +17,7 @@ use Rattle.histar_object.specs.declared.objects.Object.{Object}
 use Rattle.histar_rules.specs.Rules.{greatest}
 use Rattle.histar_object.specs.Rights.{with_category}
 use Rattle.histar_object.specs.State.{State, added, with_bytes, counting}
+use Rattle.histar_container.specs.Tree.{Naming}
 use Rattle.histar_flat.specs.Sessions.{Session, has, user_number}
 use Rattle.histar_flat.specs.Classes.{Class, Process}
 use Rattle.histar_flat.specs.Classes.Class.{Scratch}
@@ -27,7 +28,7 @@ use Rattle.histar_refinement.specs.Categories.{CategoryName, Categories, IsMade,
 use Rattle.histar_refinement.specs.Categories.CategoryName.{OfJob}
 use Rattle.histar_refinement.specs.Guards.{Guard, guard_label}
 use Rattle.histar_refinement.specs.Labels.{class_guard, scratch_guard}
-use Rattle.histar_refinement.specs.Addresses.{address_of, home_of}
+use Rattle.histar_refinement.specs.Addresses.{Step, address_of, home_of}
 use Rattle.histar_refinement.specs.Addresses.Step.{Listing, Status, Inside, Runner}
 use Rattle.histar_refinement.specs.Directories.{directory_of}
 use Rattle.histar_refinement.specs.LaysOut.{AreInOrder, LaysOut, Laid}
@@ -44,7 +45,7 @@ use Rattle.histar_refinement.proofs.JobBorn.{after, state_held, given_after, giv
 module _ (session : Session) (s : State) (f : Flat) (l : LaysOut session s f) (me : ProcName) (p : Process) (here : f.processes me ≡ Some p) (runs : p.exited ≡ None) (room : p.born < 64)
     (i : ℕ) (declared : user_number session p.user ≡ Some i) (d : Path) (n : Name) (absent : get f.files (n ∷ d) ≡ None) (above : Class) (at_parent : get f.files d ≡ Some (record { class = above; content = Dir }))
     (C S T D N : ℕ) (at_home : l.laid.naming.number (home_of me) ≡ Some C) (at_status : l.laid.naming.number (Status ∷ home_of me) ≡ Some S) (at_thread : l.laid.naming.number (Runner ∷ Inside ∷ home_of me) ≡ Some T)
-    (at_D : l.laid.naming.number (address_of d) ≡ Some D) (at_N : l.laid.naming.number (Listing ∷ address_of d) ≡ Some N) (few : s.next_object + 5 < greatest) where
+    (at_D : l.laid.naming.number (address_of d) ≡ Some D) (at_N : l.laid.naming.number (Listing ∷ address_of d) ≡ Some N) (few : s.next_object + 1 < greatest) where
   abbrev child : ProcName
   child = (p.born + 1) ∷ me
 
@@ -58,7 +59,7 @@ module _ (session : Session) (s : State) (f : Flat) (l : LaysOut session s f) (m
   class = Scratch p.user chain
 
   -- the job's name was not used
-  unused : ¬ IsUsed session f (OfJob child)
+  pub unused : ¬ IsUsed session f (OfJob child)
   unused u = never_given f me p here (l.jobs_given child u)
 
   pub stranger : has p.chain child ≡ false
@@ -85,10 +86,12 @@ module _ (session : Session) (s : State) (f : Flat) (l : LaysOut session s f) (m
   abbrev pub m : Laid session (counting s) f
   m = named.0
 
-  job_number : m.category (OfJob child) ≡ s.next_category
+  -- which has the next number
+  pub job_number : m.category (OfJob child) ≡ s.next_category
   job_number = ap (λ (c : Categories). c (OfJob child)) named.2 ∙ number_named session s f l.laid (OfJob child) unused
 
-  keeps : (c : CategoryName) → IsUsed session f c → m.category c ≡ l.laid.category c
+  -- and used names keep theirs
+  pub keeps : (c : CategoryName) → IsUsed session f c → m.category c ≡ l.laid.category c
   keeps c used = ap (λ (k : Categories). k c) named.2 ∙ keeps_named session s f l.laid (OfJob child) unused c used
 
   -- jobs that were used have smaller numbers
@@ -163,17 +166,18 @@ module _ (session : Session) (s : State) (f : Flat) (l : LaysOut session s f) (m
     abbrev pub k : Laid session made_state with_directory
     k = made.0
 
+    -- what processes have keeps its numbers
+    pub k_numbers : SameNumbers l.laid.naming.number k.naming.number
+    k_numbers = subst (λ (x : Naming Step × Naming Step). SameNumbers x.0.number x.1.number) (λ j. (named.1 j, sym made.1 j)) numbers
+
     pub k_home : k.naming.number (home_of me) ≡ Some C
-    k_home = ap (λ nm. nm.number (home_of me)) made.1 ∙ sym (numbers.home me) ∙ ap (λ nm. nm.number (home_of me)) named.1 ∙ at_home
+    k_home = sym (k_numbers.home me) ∙ at_home
 
     pub k_status : k.naming.number (Status ∷ home_of me) ≡ Some S
-    k_status = ap (λ nm. nm.number (Status ∷ home_of me)) made.1 ∙ sym (numbers.status me) ∙ ap (λ nm. nm.number (Status ∷ home_of me)) named.1 ∙ at_status
+    k_status = sym (k_numbers.status me) ∙ at_status
 
     pub k_thread : k.naming.number (Runner ∷ Inside ∷ home_of me) ≡ Some T
-    k_thread = ap (λ nm. nm.number (Runner ∷ Inside ∷ home_of me)) made.1 ∙ sym (numbers.runner me) ∙ ap (λ nm. nm.number (Runner ∷ Inside ∷ home_of me)) named.1 ∙ at_thread
-
-    pub few_born : made_state.next_object + 3 < greatest
-    few_born = omega (arith, few)
+    k_thread = sym (k_numbers.runner me) ∙ at_thread
 
     pub is_declared : is_some (user_number session p.user) ≡ true
     is_declared = ap is_some declared
@@ -207,63 +211,65 @@ module _ (session : Session) (s : State) (f : Flat) (l : LaysOut session s f) (m
     pub counted : made_state.next_category ≤ state_directory.next_category
     counted = omega arith
 
-    abbrev pub state_wrapped : State
-    state_wrapped = state_held session made_state with_directory k me p here runs room is_declared served stranger k_chain k_held C S T k_home k_status k_thread few_born own most state_directory beside counted
+    -- And once there are numbers for what the birth makes.
+    module _ (few_born : made_state.next_object + 3 < greatest) where
+      abbrev pub state_wrapped : State
+      state_wrapped = state_held session made_state with_directory k me p here runs room is_declared served stranger k_chain k_held C S T k_home k_status k_thread few_born own most state_directory beside counted
 
-    -- the flat state after it
-    abbrev pub wrapped : Flat
-    wrapped = with_child with_directory me (record { user = p.user; chain = p.chain; held = held; exited = p.exited; born = p.born }) chain
+      -- the flat state after it
+      abbrev pub wrapped : Flat
+      wrapped = with_child with_directory me (record { user = p.user; chain = p.chain; held = held; exited = p.exited; born = p.born }) chain
 
-    abbrev newborn : Process
-    newborn = record { user = p.user; chain = chain; held = []; exited = None; born = 0 }
+      abbrev newborn : Process
+      newborn = record { user = p.user; chain = chain; held = []; exited = None; born = 0 }
 
-    abbrev wrapper : Process
-    wrapper = record { user = p.user; chain = p.chain; held = held; exited = p.exited; born = p.born + 1 }
+      abbrev wrapper : Process
+      wrapper = record { user = p.user; chain = p.chain; held = held; exited = p.exited; born = p.born + 1 }
 
-    same_process : (x : ProcName) (a b : Bool) → same me x ≡ a → same child x ≡ b → (o q : Option Process) → cond a (Some wrapper) (cond b (Some newborn) (cond a o q)) ≡ cond b (Some newborn) (cond a (Some wrapper) q)
-    same_process x true true e u o q = elim (same_name_found me x) [
-      | inl t ↦ elim (same_name_found child x) [
-        | inl r ↦ let w : length me ≡ length child = ap length (t.1 ∙ sym r.1) in absurd (omega (arith, w))
-        | inr r ↦ absurd (true≢false (sym u ∙ r.0))
+      same_process : (x : ProcName) (a b : Bool) → same me x ≡ a → same child x ≡ b → (o q : Option Process) → cond a (Some wrapper) (cond b (Some newborn) (cond a o q)) ≡ cond b (Some newborn) (cond a (Some wrapper) q)
+      same_process x true true e u o q = elim (same_name_found me x) [
+        | inl t ↦ elim (same_name_found child x) [
+          | inl r ↦ let w : length me ≡ length child = ap length (t.1 ∙ sym r.1) in absurd (omega (arith, w))
+          | inr r ↦ absurd (true≢false (sym u ∙ r.0))
+        ]
+        | inr t ↦ absurd (true≢false (sym e ∙ t.0))
       ]
-      | inr t ↦ absurd (true≢false (sym e ∙ t.0))
-    ]
-    same_process x true false e u o q = refl
-    same_process x false true e u o q = refl
-    same_process x false false e u o q = refl
+      same_process x true false e u o q = refl
+      same_process x false true e u o q = refl
+      same_process x false false e u o q = refl
 
-    same_flat : after session made_state with_directory k me p here runs room is_declared served stranger k_chain k_held C S T k_home k_status k_thread few_born ≡ wrapped
-    same_flat = λ j. record { files = with_directory.files; processes = λ x. same_process x (same me x) (same child x) refl refl (Some (record { user = p.user; chain = p.chain; held = p.held; exited = p.exited; born = p.born + 1 })) (f.processes x) j }
+      same_flat : after session made_state with_directory k me p here runs room is_declared served stranger k_chain k_held C S T k_home k_status k_thread few_born ≡ wrapped
+      same_flat = λ j. record { files = with_directory.files; processes = λ x. same_process x (same me x) (same child x) refl refl (Some (record { user = p.user; chain = p.chain; held = p.held; exited = p.exited; born = p.born + 1 })) (f.processes x) j }
 
-    -- a job that is known or served then was, or is one of the child's
-    old_or_new : (job : ProcName) → IsUsed session with_directory (OfJob job) → IsUsed session f (OfJob job) ⊎ (has chain job ≡ true)
-    old_or_new job (inl known) = inl (inl known)
-    old_or_new job (inr at) = elim (same_path_found at.0 (n ∷ d)) [
-      | inl e ↦
-          let is = same_Some (record { class = class; content = Dir }) at.1 (sym (get_new f.files (n ∷ d) (record { class = class; content = Dir })) ∙ ap (get with_directory.files) (sym e.1) ∙ at.2) in
-          inr (ap (λ (x : Node). is_for x.class job) is ∙ at.3)
-      | inr e ↦ inl (inr (at.0, at.1, sym (get_other f.files (n ∷ d) (record { class = class; content = Dir }) at.0 e.1) ∙ at.2, at.3))
-    ]
+      -- a job that is known or served then was, or is one of the child's
+      old_or_new : (job : ProcName) → IsUsed session with_directory (OfJob job) → IsUsed session f (OfJob job) ⊎ (has chain job ≡ true)
+      old_or_new job (inl known) = inl (inl known)
+      old_or_new job (inr at) = elim (same_path_found at.0 (n ∷ d)) [
+        | inl e ↦
+            let is = same_Some (record { class = class; content = Dir }) at.1 (sym (get_new f.files (n ∷ d) (record { class = class; content = Dir })) ∙ ap (get with_directory.files) (sym e.1) ∙ at.2) in
+            inr (ap (λ (x : Node). is_for x.class job) is ∙ at.3)
+        | inr e ↦ inl (inr (at.0, at.1, sym (get_other f.files (n ∷ d) (record { class = class; content = Dir }) at.0 e.1) ∙ at.2, at.3))
+      ]
 
-    old_given : (job : ProcName) → IsUsed session f (OfJob job) → is_given (after session made_state with_directory k me p here runs room is_declared served stranger k_chain k_held C S T k_home k_status k_thread few_born).processes job ≡ true
-    old_given job u = given_after session made_state with_directory k me p here runs room is_declared served stranger k_chain k_held C S T k_home k_status k_thread few_born job (l.jobs_given job u)
+      old_given : (job : ProcName) → IsUsed session f (OfJob job) → is_given (after session made_state with_directory k me p here runs room is_declared served stranger k_chain k_held C S T k_home k_status k_thread few_born).processes job ≡ true
+      old_given job u = given_after session made_state with_directory k me p here runs room is_declared served stranger k_chain k_held C S T k_home k_status k_thread few_born job (l.jobs_given job u)
 
-    given_now : (job : ProcName) → has chain job ≡ true → is_given (after session made_state with_directory k me p here runs room is_declared served stranger k_chain k_held C S T k_home k_status k_thread few_born).processes job ≡ true
-    given_now job e = elim (has_added p.chain child job e) [
-      | inl old ↦ old_given job (chain_known job old)
-      | inr is ↦ subst (λ (j : ProcName). is_given (after session made_state with_directory k me p here runs room is_declared served stranger k_chain k_held C S T k_home k_status k_thread few_born).processes j ≡ true) (sym is) (given_child session made_state with_directory k me p here runs room is_declared served stranger k_chain k_held C S T k_home k_status k_thread few_born)
-    ]
+      given_now : (job : ProcName) → has chain job ≡ true → is_given (after session made_state with_directory k me p here runs room is_declared served stranger k_chain k_held C S T k_home k_status k_thread few_born).processes job ≡ true
+      given_now job e = elim (has_added p.chain child job e) [
+        | inl old ↦ old_given job (chain_known job old)
+        | inr is ↦ subst (λ (j : ProcName). is_given (after session made_state with_directory k me p here runs room is_declared served stranger k_chain k_held C S T k_home k_status k_thread few_born).processes j ≡ true) (sym is) (given_child session made_state with_directory k me p here runs room is_declared served stranger k_chain k_held C S T k_home k_status k_thread few_born)
+      ]
 
-    jobs_given_then : (job : ProcName) → IsKnown (after session made_state with_directory k me p here runs room is_declared served stranger k_chain k_held C S T k_home k_status k_thread few_born) job ⊎ IsServed (after session made_state with_directory k me p here runs room is_declared served stranger k_chain k_held C S T k_home k_status k_thread few_born) job → is_given (after session made_state with_directory k me p here runs room is_declared served stranger k_chain k_held C S T k_home k_status k_thread few_born).processes job ≡ true
-    jobs_given_then job u = elim (old_or_new job (used_before session made_state with_directory k me p here runs room is_declared served stranger k_chain k_held C S T k_home k_status k_thread few_born job u)) [
-      | inl old ↦ old_given job old
-      | inr e ↦ given_now job e
-    ]
+      jobs_given_then : (job : ProcName) → IsKnown (after session made_state with_directory k me p here runs room is_declared served stranger k_chain k_held C S T k_home k_status k_thread few_born) job ⊎ IsServed (after session made_state with_directory k me p here runs room is_declared served stranger k_chain k_held C S T k_home k_status k_thread few_born) job → is_given (after session made_state with_directory k me p here runs room is_declared served stranger k_chain k_held C S T k_home k_status k_thread few_born).processes job ≡ true
+      jobs_given_then job u = elim (old_or_new job (used_before session made_state with_directory k me p here runs room is_declared served stranger k_chain k_held C S T k_home k_status k_thread few_born job u)) [
+        | inl old ↦ old_given job old
+        | inr e ↦ given_now job e
+      ]
 
-    -- The state after all calls of the wrap lays out the flat state with the directory and the job's first process, whose wrapper holds the job.
-    pub lays_out_wrapped : LaysOut session state_wrapped wrapped
-    lays_out_wrapped = subst (LaysOut session state_wrapped) same_flat
-        (record {
-          laid = laid_held session made_state with_directory k me p here runs room is_declared served stranger k_chain k_held C S T k_home k_status k_thread few_born own most state_directory beside counted;
-          jobs_given = jobs_given_then;
-        })
+      -- The state after all calls of the wrap lays out the flat state with the directory and the job's first process, whose wrapper holds the job.
+      pub lays_out_wrapped : LaysOut session state_wrapped wrapped
+      lays_out_wrapped = subst (LaysOut session state_wrapped) same_flat
+          (record {
+            laid = laid_held session made_state with_directory k me p here runs room is_declared served stranger k_chain k_held C S T k_home k_status k_thread few_born own most state_directory beside counted;
+            jobs_given = jobs_given_then;
+          })

@@ -1,1 +1,5 @@
+pub mod ScratchLabels
+pub mod ScratchCalls
+pub mod JobRights
+pub mod JobFit
 pub mod GrantedWrap
