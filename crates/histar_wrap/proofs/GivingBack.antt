@@ -1,5 +1,5 @@
 -- How the code that gives back what a thread took runs its parts.
-use Rattle.std.proofs.Common.{◌≡◌, ℕ, Option, None, Some, Result, Ok, Err, inl, refl, sym, ap, ◌∙◌, subst}
+use Rattle.std.proofs.Common.{◌≡◌, ℕ, Option, None, Some, Result, Ok, Err, inl, refl, sym, ap, subst}
 use Rattle.histar_flat.specs.declared.replies.Errno.{Errno}
 use Rattle.histar_flat.specs.declared.replies.Reply.TheVariants as replies
 use Rattle.histar_label.specs.Levels.{Levels}

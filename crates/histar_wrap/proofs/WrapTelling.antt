@@ -1,20 +1,19 @@
 -- The program of a wrap tells its refusals.
-use Rattle.std.proofs.Common.{ℕ, ◌+◌, Bool, true, false, [], ◌∷◌, length, refl}
-use Rattle.std.specs.Prelude.{nat_lt}
+use Rattle.std.proofs.Common.{ℕ, ◌+◌, [], ◌∷◌, refl}
 use Rattle.std.specs.FinMap as map
 use Rattle.histar_flat.specs.Sessions.{Session}
-use Rattle.histar_flat.specs.Words.{Path, ProcName, most_children, most_numbers}
+use Rattle.histar_flat.specs.Words.{Path, ProcName}
 use Rattle.histar_flat.specs.declared.replies.Reply.TheVariants.{Child}
 use Rattle.histar_label.specs.declared.levels.Level.TheVariants.{Star, L3}
 use Rattle.histar_label.specs.Levels.{Levels, with_level}
 use Rattle.histar_rules.specs.declared.raw.Denied.{Denied}
 use Rattle.histar_rules.specs.declared.raw.Denied.TheVariants.{Observe, Modify, Range, Gate, NoEntry, NoThread, BadKind, TooBig}
-use Rattle.histar_rules.specs.declared.raw.RawCall.TheVariants.{MakeCategory, MakeContainer, MakeSegment, OwnLabel, SetLabel, SetClearance, Write}
+use Rattle.histar_rules.specs.declared.raw.RawCall.TheVariants.{MakeCategory, MakeSegment, OwnLabel, SetLabel, SetClearance, Write}
 use Rattle.histar_layout.specs.Directory.{spelling}
 use Rattle.histar_layout.specs.Status.{ProcessStatus}
 use Rattle.histar_layout.specs.declared.entry.Target.TheVariants.{Directory}
 use Rattle.histar_calls.specs.Laws.{TellsDenial, TellsRefusals}
-use Rattle.histar_calls.specs.Parts.{ask, find_room, given, write_entries}
+use Rattle.histar_calls.specs.Parts.{ask, find_room, write_entries}
 use Rattle.histar_calls.specs.Programs.{Program}
 use Rattle.histar_calls.specs.Programs.Program.{Answers}
 use Rattle.histar_calls.specs.Refusals.{errno_of}
@@ -23,8 +22,6 @@ use Rattle.histar_calls.specs.declared.places.Home.{Home}
 use Rattle.histar_calls.specs.declared.places.Places.{Places}
 use Rattle.histar_calls.proofs.TellingPrograms.{ask_tells, room_tells}
 use Rattle.histar_process.specs.Birth.{birth}
-use Rattle.histar_process.specs.Parts.{read_status}
-use Rattle.histar_process.specs.SpawnCall.{must_have_room, room_for_child}
 use Rattle.histar_process.proofs.ProcessTelling.{birth_tells, child_tells}
 use Rattle.histar_wrap.specs.Laws.{WrapsTellRefusals}
 use Rattle.histar_wrap.specs.Scratch.{directory_label, gives_back_with, hold_job, kin_in, make_scratch}
@@ -50,9 +47,11 @@ module _ (own : Levels × Levels) (rest : Program) (tells : TellsRefusals rest) 
     -- the making of a scratch directory tells, where what comes after it does
     scratch_tells : TellsRefusals (make_scratch own label room (λ _. rest))
     unfolding make_scratch
-    scratch_tells =
-        ((λ container. ask_tells (MakeSegment container label []) (listed container) (λ listing.
-            ask_tells (Write room.place.container room.place.listing 0 (spelling (map.insert room.entries room.name (Directory container listing)))) (λ _. rest) (λ _. tells))), told_back own)
+    scratch_tells = (
+      (λ container. ask_tells (MakeSegment container label []) (listed container) (λ listing.
+          ask_tells (Write room.place.container room.place.listing 0 (spelling (map.insert room.entries room.name (Directory container listing)))) (λ _. rest) (λ _. tells))),
+      told_back own,
+    )
 
   -- and so does the holding of a job
   hold_tells : (job : ℕ) → TellsRefusals (hold_job own job (λ _. rest))

@@ -16,9 +16,9 @@ use histar_syscall::{Kernel, Refusal};
 use std::alloc::Global;
 
 /// Makes a scratch directory: a container and in it an empty directory segment, both with this label, and
-/// the entry in the directory above. Where the kernel denies the container the thread takes its own label
-/// and clearance again: EACCES where the directory above may not be written, EPERM where the label is
-/// beyond the clearance. When memory runs out inside the giving back, the call ends without a reply.
+/// the entry in the directory above. EACCES where the directory above may not be written, EPERM where the
+/// label is beyond the thread's clearance: these come at the container, and the thread takes its own label
+/// and clearance again first.
 pub fn make_scratch<S: LabelStore + Drop>(
     kernel: &mut Kernel<S>,
     alloc: Global,
@@ -46,7 +46,8 @@ pub fn make_scratch<S: LabelStore + Drop>(
 }
 
 // Makes a container with this label. Where the kernel denies it the thread takes its own label and
-// clearance again, and the denial ends the call.
+// clearance again, and the denial ends the call; where memory runs out inside that, the call ends without
+// a reply.
 fn make_or_give_back<S: LabelStore + Drop>(
     kernel: &mut Kernel<S>,
     alloc: Global,

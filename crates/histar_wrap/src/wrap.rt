@@ -13,16 +13,17 @@ use histar_process::{Caller, Segment, give_birth, owned_by, room_for_child};
 use histar_syscall::Kernel;
 use std::alloc::{AllocError, Global};
 
-/// Wraps a program that its user doesn't trust: makes a job of the user's, with an empty scratch directory
-/// at this path, and the job's first process, which is a child of the caller. This is HiStar's `wrap` (OSDI
-/// 2006): the user hands a program its files by it, a scanner for viruses say, which may read them all and
-/// leak nothing. The process reads what the user reads, but has every file's secrets at the job's, and
-/// writes only in the scratch directory; the caller holds the job, and so reads what it left there.
+/// Makes a job: an empty scratch directory at this path, and the job's first process, a child of the
+/// caller. This is HiStar's `wrap` (OSDI 2006), by which a user runs a program that may read its files and
+/// leak nothing, as a virus scanner: the process reads by its user's categories but writes by none of
+/// them, and what it makes is secret to the job. The caller holds the job, and so reads what the process
+/// leaves in the scratch directory.
 ///
 /// EAGAIN where the name has no room for one number more or 64 children were born already. Then it is
 /// refused as `mkdir` is: EEXIST for `/`, ENOENT, ENOTDIR and EACCES on the way, EEXIST where something
 /// stands there, ENOSPC at 64 entries, and EACCES where the directory may not be written. EPERM for
-/// nobody, who may have no secrets of a user's.
+/// nobody, whose categories no thread owns. Where the directory is denied, the thread gives the job's
+/// category back first; the call ends without a reply where memory runs out inside that.
 pub fn wrap<S: LabelStore + Drop>(
     kernel: &mut Kernel<S>,
     alloc: Global,
@@ -34,9 +35,7 @@ pub fn wrap<S: LabelStore + Drop>(
 ) -> Result<Reply, Stopped>
     ensures { Runs (wrap_program session.now places.now name.now caller.now.home path.now) kernel.old kernel.new caller.now.thread result }
 {
-    settle(start_job(
-        kernel, alloc, places, session, name, caller, path,
-    ))
+    settle(start_job(kernel, alloc, places, session, name, caller, path))
 }
 
 fn start_job<S: LabelStore + Drop>(

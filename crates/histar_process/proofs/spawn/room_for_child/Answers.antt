@@ -1,4 +1,4 @@
-use Rattle.std.proofs.Common.{ℕ, List, length, Ok, Err, ap, ◌∙◌}
+use Rattle.std.proofs.Common.{ℕ, List, length, ap, ◌∙◌}
 use Rattle.std.specs.Prelude.{nat_lt}
 use Rattle.histar_flat.specs.Words.{most_children, most_numbers}
 use Rattle.histar_layout.specs.declared.status.StatusHead.{StatusHead}

@@ -1,5 +1,5 @@
 use Rattle.std.proofs.Common.{Err, sym, ap}
-use Rattle.histar_rules.specs.declared.raw.RawCall.TheVariants.{MakeContainer, MakeSegment, Write}
+use Rattle.histar_rules.specs.declared.raw.RawCall.TheVariants.{MakeSegment, Write}
 use Rattle.histar_layout.specs.Directory.{spelling}
 use Rattle.histar_calls.specs.declared.ending.Ending.TheVariants.{Stopped}
 use Rattle.histar_calls.specs.Parts.{write_entries}
