@@ -23,7 +23,7 @@ use Rattle.histar_label.specs.Levels.{Levels, with_level}
 use Rattle.histar_object.specs.declared.objects.Kind.TheVariants.{Segment, Container, Thread}
 use Rattle.histar_object.specs.declared.objects.Object.{Object}
 use Rattle.histar_object.specs.Rights.{with_category}
-use Rattle.histar_object.specs.State.{State, added, with_bytes}
+use Rattle.histar_object.specs.State.{State, added, with_bytes, counting}
 use Rattle.histar_rules.specs.declared.raw.Denied.TheVariants.{TooBig}
 use Rattle.histar_rules.specs.declared.raw.RawCall.{RawCall}
 use Rattle.histar_rules.specs.declared.raw.RawCall.TheVariants.{MakeSegment, SetLabel, SetClearance, Write}
@@ -48,7 +48,7 @@ use Rattle.histar_refinement.specs.Sessions.{IsSession}
 use Rattle.histar_refinement.specs.Categories.{naming_next, IsServed, IsUsed}
 use Rattle.histar_refinement.specs.Categories.CategoryName.{OfJob}
 use Rattle.histar_refinement.specs.Guards.{guard_label, rights_label, rights_clearance}
-use Rattle.histar_refinement.specs.Labels.{scratch_guard, thread_rights}
+use Rattle.histar_refinement.specs.Labels.{scratch_guard}
 use Rattle.histar_refinement.specs.Addresses.{address_of, home_of}
 use Rattle.histar_refinement.specs.Addresses.Step.{Listing, Status, Inside, Runner}
 use Rattle.histar_refinement.specs.Directories.{directory_of}
@@ -204,61 +204,90 @@ module _ (session : Session) (ok : IsSession session) (me : ProcName) (caller : 
     module _ (few : (state old).next_object + 1 < greatest) where
       -- the state with the directory in it, which lays out the flat state with the directory but for the thread
       abbrev made_state : State
-      made_state = wrapping.made_state session (state old) f ready.lays_out me p ready.caller.stands ready.caller.runs few_children i declared d m absent above at_parent caller.home.container caller.home.segment t place.container place.listing home_there segment_there thread_there container_there listing_there few
+      made_state = wrapping.made_state session (state old) f ready.lays_out me p ready.caller.stands ready.caller.runs few_children i declared d m absent above at_parent
+          caller.home.container caller.home.segment t place.container place.listing home_there segment_there thread_there container_there listing_there few
 
       abbrev with_directory : Flat
-      with_directory = wrapping.with_directory session (state old) f ready.lays_out me p ready.caller.stands ready.caller.runs few_children i declared d m absent above at_parent caller.home.container caller.home.segment t place.container place.listing home_there segment_there thread_there container_there listing_there few
+      with_directory = wrapping.with_directory session (state old) f ready.lays_out me p ready.caller.stands ready.caller.runs few_children i declared d m absent above at_parent
+          caller.home.container caller.home.segment t place.container place.listing home_there segment_there thread_there container_there listing_there few
 
       abbrev later : Laid session made_state with_directory
-      later = wrapping.k session (state old) f ready.lays_out me p ready.caller.stands ready.caller.runs few_children i declared d m absent above at_parent caller.home.container caller.home.segment t place.container place.listing home_there segment_there thread_there container_there listing_there few named few_entries
+      later = wrapping.k session (state old) f ready.lays_out me p ready.caller.stands ready.caller.runs few_children i declared d m absent above at_parent
+          caller.home.container caller.home.segment t place.container place.listing home_there segment_there thread_there container_there listing_there few named few_entries
 
       abbrev before : State
-      before = wrapping.state_directory session (state old) f ready.lays_out me p ready.caller.stands ready.caller.runs few_children i declared d m absent above at_parent caller.home.container caller.home.segment t place.container place.listing home_there segment_there thread_there container_there listing_there few named few_entries
+      before = wrapping.state_directory session (state old) f ready.lays_out me p ready.caller.stands ready.caller.runs few_children i declared d m absent above at_parent
+          caller.home.container caller.home.segment t place.container place.listing home_there segment_there thread_there container_there listing_there few named few_entries
+
+      -- the category of the job has its name in it, and what is made for the job the label that is due
+      abbrev job_named : Laid session (counting (state old)) f
+      job_named = wrapping.m session (state old) f ready.lays_out me p ready.caller.stands ready.caller.runs few_children i declared d m absent above at_parent
+          caller.home.container caller.home.segment t place.container place.listing home_there segment_there thread_there container_there listing_there few
+
+      naming_is : job_named.naming ≡ ready.lays_out.laid.naming
+      naming_is = (wrapping.named session (state old) f ready.lays_out me p ready.caller.stands ready.caller.runs few_children i declared d m absent above at_parent
+          caller.home.container caller.home.segment t place.container place.listing home_there segment_there thread_there container_there listing_there few).1
+
+      category_is : job_named.category ≡ naming_next ready.lays_out.laid.category (state old).next_category (OfJob ((p.born + 1) ∷ me))
+      category_is = (wrapping.named session (state old) f ready.lays_out me p ready.caller.stands ready.caller.runs few_children i declared d m absent above at_parent
+          caller.home.container caller.home.segment t place.container place.listing home_there segment_there thread_there container_there listing_there few).2
 
       names_are : later.category ≡ naming_next ready.lays_out.laid.category (state old).next_category (OfJob ((p.born + 1) ∷ me))
-      names_are = (wrapping.made session (state old) f ready.lays_out me p ready.caller.stands ready.caller.runs few_children i declared d m absent above at_parent caller.home.container caller.home.segment t place.container place.listing home_there segment_there thread_there container_there listing_there few named few_entries).2 ∙ (wrapping.named session (state old) f ready.lays_out me p ready.caller.stands ready.caller.runs few_children i declared d m absent above at_parent caller.home.container caller.home.segment t place.container place.listing home_there segment_there thread_there container_there listing_there few).2
+      names_are = (wrapping.made session (state old) f ready.lays_out me p ready.caller.stands ready.caller.runs few_children i declared d m absent above at_parent
+          caller.home.container caller.home.segment t place.container place.listing home_there segment_there thread_there container_there listing_there few named few_entries).2 ∙ category_is
 
-      due_is : due ≡ guard_label (wrapping.m session (state old) f ready.lays_out me p ready.caller.stands ready.caller.runs few_children i declared d m absent above at_parent caller.home.container caller.home.segment t place.container place.listing home_there segment_there thread_there container_there listing_there few).category (scratch_guard (p.chain ++ child ∷ []) i)
-      due_is = directory_by session (state old) f ready.lays_out.laid me p ready.caller.stands unused (wrapping.m session (state old) f ready.lays_out me p ready.caller.stands ready.caller.runs few_children i declared d m absent above at_parent caller.home.container caller.home.segment t place.container place.listing home_there segment_there thread_there container_there listing_there few).category (wrapping.named session (state old) f ready.lays_out me p ready.caller.stands ready.caller.runs few_children i declared d m absent above at_parent caller.home.container caller.home.segment t place.container place.listing home_there segment_there thread_there container_there listing_there few).2 i declared
+      due_is : due ≡ guard_label job_named.category (scratch_guard (p.chain ++ child ∷ []) i)
+      due_is = directory_by session (state old) f ready.lays_out.laid me p ready.caller.stands unused job_named.category category_is i declared
 
       state_is : with_bytes (with_segment session ok (state old) f me t ready d open_so_far unused i declared) place.listing written ≡ before
       state_is = λ j. with_bytes (added (added (with_category (state old) t) place.container (record { label = due_is j; kind = Container set.empty })) number (record { label = due_is j; kind = Segment [] }))
-          place.listing (spelling (map.insert (directory_of f.files (sym (wrapping.named session (state old) f ready.lays_out me p ready.caller.stands ready.caller.runs few_children i declared d m absent above at_parent caller.home.container caller.home.segment t place.container place.listing home_there segment_there thread_there container_there listing_there few).1 j).number d) m target))
+          place.listing (spelling (map.insert (directory_of f.files (sym naming_is j).number d) m target))
 
       -- what its process and its job are there
       is_declared : is_some (user_number session p.user) ≡ true
-      is_declared = wrapping.is_declared session (state old) f ready.lays_out me p ready.caller.stands ready.caller.runs few_children i declared d m absent above at_parent caller.home.container caller.home.segment t place.container place.listing home_there segment_there thread_there container_there listing_there few named few_entries
+      is_declared = wrapping.is_declared session (state old) f ready.lays_out me p ready.caller.stands ready.caller.runs few_children i declared d m absent above at_parent
+          caller.home.container caller.home.segment t place.container place.listing home_there segment_there thread_there container_there listing_there few named few_entries
 
       is_served : IsServed with_directory ((p.born + 1) ∷ me)
-      is_served = wrapping.served session (state old) f ready.lays_out me p ready.caller.stands ready.caller.runs few_children i declared d m absent above at_parent caller.home.container caller.home.segment t place.container place.listing home_there segment_there thread_there container_there listing_there few named few_entries
+      is_served = wrapping.served session (state old) f ready.lays_out me p ready.caller.stands ready.caller.runs few_children i declared d m absent above at_parent
+          caller.home.container caller.home.segment t place.container place.listing home_there segment_there thread_there container_there listing_there few named few_entries
 
       stranger : has p.chain ((p.born + 1) ∷ me) ≡ false
-      stranger = wrapping.stranger session (state old) f ready.lays_out me p ready.caller.stands ready.caller.runs few_children i declared d m absent above at_parent caller.home.container caller.home.segment t place.container place.listing home_there segment_there thread_there container_there listing_there few
+      stranger = wrapping.stranger session (state old) f ready.lays_out me p ready.caller.stands ready.caller.runs few_children i declared d m absent above at_parent
+          caller.home.container caller.home.segment t place.container place.listing home_there segment_there thread_there container_there listing_there few
 
       chain_ordered : AreInOrder later.category (p.chain ++ ((p.born + 1) ∷ me) ∷ [])
-      chain_ordered = wrapping.k_chain session (state old) f ready.lays_out me p ready.caller.stands ready.caller.runs few_children i declared d m absent above at_parent caller.home.container caller.home.segment t place.container place.listing home_there segment_there thread_there container_there listing_there few named few_entries
+      chain_ordered = wrapping.k_chain session (state old) f ready.lays_out me p ready.caller.stands ready.caller.runs few_children i declared d m absent above at_parent
+          caller.home.container caller.home.segment t place.container place.listing home_there segment_there thread_there container_there listing_there few named few_entries
 
       held_ordered : AreInOrder later.category (p.held ++ ((p.born + 1) ∷ me) ∷ [])
-      held_ordered = wrapping.k_held session (state old) f ready.lays_out me p ready.caller.stands ready.caller.runs few_children i declared d m absent above at_parent caller.home.container caller.home.segment t place.container place.listing home_there segment_there thread_there container_there listing_there few named few_entries
+      held_ordered = wrapping.k_held session (state old) f ready.lays_out me p ready.caller.stands ready.caller.runs few_children i declared d m absent above at_parent
+          caller.home.container caller.home.segment t place.container place.listing home_there segment_there thread_there container_there listing_there few named few_entries
 
       home_later : later.naming.number (home_of me) ≡ Some caller.home.container
-      home_later = wrapping.k_home session (state old) f ready.lays_out me p ready.caller.stands ready.caller.runs few_children i declared d m absent above at_parent caller.home.container caller.home.segment t place.container place.listing home_there segment_there thread_there container_there listing_there few named few_entries
+      home_later = wrapping.k_home session (state old) f ready.lays_out me p ready.caller.stands ready.caller.runs few_children i declared d m absent above at_parent
+          caller.home.container caller.home.segment t place.container place.listing home_there segment_there thread_there container_there listing_there few named few_entries
 
       segment_later : later.naming.number (Status ∷ home_of me) ≡ Some caller.home.segment
-      segment_later = wrapping.k_status session (state old) f ready.lays_out me p ready.caller.stands ready.caller.runs few_children i declared d m absent above at_parent caller.home.container caller.home.segment t place.container place.listing home_there segment_there thread_there container_there listing_there few named few_entries
+      segment_later = wrapping.k_status session (state old) f ready.lays_out me p ready.caller.stands ready.caller.runs few_children i declared d m absent above at_parent
+          caller.home.container caller.home.segment t place.container place.listing home_there segment_there thread_there container_there listing_there few named few_entries
 
       thread_later : later.naming.number (Runner ∷ Inside ∷ home_of me) ≡ Some t
-      thread_later = wrapping.k_thread session (state old) f ready.lays_out me p ready.caller.stands ready.caller.runs few_children i declared d m absent above at_parent caller.home.container caller.home.segment t place.container place.listing home_there segment_there thread_there container_there listing_there few named few_entries
+      thread_later = wrapping.k_thread session (state old) f ready.lays_out me p ready.caller.stands ready.caller.runs few_children i declared d m absent above at_parent
+          caller.home.container caller.home.segment t place.container place.listing home_there segment_there thread_there container_there listing_there few named few_entries
 
       stands_beside : Beside t own most before made_state
-      stands_beside = wrapping.beside session (state old) f ready.lays_out me p ready.caller.stands ready.caller.runs few_children i declared d m absent above at_parent caller.home.container caller.home.segment t place.container place.listing home_there segment_there thread_there container_there listing_there few named few_entries
+      stands_beside = wrapping.beside session (state old) f ready.lays_out me p ready.caller.stands ready.caller.runs few_children i declared d m absent above at_parent
+          caller.home.container caller.home.segment t place.container place.listing home_there segment_there thread_there container_there listing_there few named few_entries
 
       counted : made_state.next_category ≤ before.next_category
-      counted = wrapping.counted session (state old) f ready.lays_out me p ready.caller.stands ready.caller.runs few_children i declared d m absent above at_parent caller.home.container caller.home.segment t place.container place.listing home_there segment_there thread_there container_there listing_there few named few_entries
+      counted = wrapping.counted session (state old) f ready.lays_out me p ready.caller.stands ready.caller.runs few_children i declared d m absent above at_parent
+          caller.home.container caller.home.segment t place.container place.listing home_there segment_there thread_there container_there listing_there few named few_entries
 
       -- what the process segment of the parent tells, and what its thread has
       status_is : status ≡ status_by f.processes later.naming.number me p
-      status_is = same_process_status ready.lays_out.laid.naming.number later.naming.number (wrapping.k_numbers session (state old) f ready.lays_out me p ready.caller.stands ready.caller.runs few_children i declared d m absent above at_parent caller.home.container caller.home.segment t place.container place.listing home_there segment_there thread_there container_there listing_there few named few_entries) f.processes me p
+      status_is = same_process_status ready.lays_out.laid.naming.number later.naming.number (wrapping.k_numbers session (state old) f ready.lays_out me p ready.caller.stands ready.caller.runs few_children i declared d m absent above at_parent
+          caller.home.container caller.home.segment t place.container place.listing home_there segment_there thread_there container_there listing_there few named few_entries) f.processes me p
 
       abbrev own_then : Levels
       own_then = rights_label later.category (rights_with_job session me p)
@@ -286,7 +315,8 @@ module _ (session : Session) (ok : IsSession session) (me : ProcName) (caller : 
           let held = held_is session ok made_state with_directory later me p ready.caller.stands ready.caller.runs few_children is_declared is_served chain_ordered caller.home.container caller.home.segment home_later segment_later t thread_later
               before.objects own most stands_beside thread_has_job kin (jobs_by session (state old) f ready.lays_out.laid me p ready.caller.stands unused later.category names_are) (owned_told session (state old) f ready.lays_out.laid me p ready.caller.stands unused)
               stranger held_ordered few_born counted in
-          subst (λ (s : State). LaysOut session s (changed session f me p call)) (sym held) (wrapping.lays_out_wrapped session (state old) f ready.lays_out me p ready.caller.stands ready.caller.runs few_children i declared d m absent above at_parent caller.home.container caller.home.segment t place.container place.listing home_there segment_there thread_there container_there listing_there few named few_entries few_born)
+          subst (λ (s : State). LaysOut session s (changed session f me p call)) (sym held) (wrapping.lays_out_wrapped session (state old) f ready.lays_out me p ready.caller.stands ready.caller.runs few_children i declared d m absent above at_parent
+              caller.home.container caller.home.segment t place.container place.listing home_there segment_there thread_there container_there listing_there few named few_entries few_born)
 
       -- with all raw calls the call is answered
       answered : (calls : List RawCall) (end : KernelModel) → AreAmong reads (entries_of old.line t (all_granted calls)) → Chain old t (all_granted calls) end
@@ -319,7 +349,8 @@ module _ (session : Session) (ok : IsSession session) (me : ProcName) (caller : 
       directory_written calls mid kept chain at runs =
           let write : RawCall = Write place.container place.listing 0 written in
           let guard = directory_guard session ok (state old) f me t ready d open_so_far in
-          let apart = wrapping.not_named session (state old) f ready.lays_out me p ready.caller.stands ready.caller.runs few_children i declared d m absent above at_parent caller.home.container caller.home.segment t place.container place.listing home_there segment_there thread_there container_there listing_there few d (record { class = above; content = Dir }) guard.0 at_parent guard.1 in
+          let apart = wrapping.not_named session (state old) f ready.lays_out me p ready.caller.stands ready.caller.runs few_children i declared d m absent above at_parent
+              caller.home.container caller.home.segment t place.container place.listing home_there segment_there thread_there container_there listing_there few d (record { class = above; content = Dir }) guard.0 at_parent guard.1 in
           granted_step session f me ready.caller call old new t ready.thread result calls mid chain write (λ _. birth_then status (with_level own job Star) (with_level most job L3))
           (ap (λ (s : State). check s t write) at ∙ write_said session ok (state old) f me t ready d open_so_far unused i declared may stranger apart.0 apart.1 written few_written) runs
           (λ end done called right longer goes.

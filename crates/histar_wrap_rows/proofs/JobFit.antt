@@ -1,5 +1,5 @@
 -- The birth of a job's first process: what its raw calls need is there, and they leave the state in which its parent holds the job.
-use Rattle.std.proofs.Common.{◌≡◌, ℕ, ◌+◌, ◌<◌, ◌≤◌, inr, true, false, List, [], ◌∷◌, ◌++◌, length, None, Some, arith, sym, ap, ◌∙◌, subst}
+use Rattle.std.proofs.Common.{◌≡◌, ℕ, ◌+◌, ◌<◌, ◌≤◌, inr, true, false, List, [], ◌∷◌, ◌++◌, None, Some, arith, sym, ap, ◌∙◌, subst}
 use Rattle.std.specs.Prelude.{is_some, map}
 use Rattle.std.specs.FinSet as set
 use Rattle.histar_flat.specs.Words.{ProcName}
