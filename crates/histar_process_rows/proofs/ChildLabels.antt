@@ -1,11 +1,10 @@
 -- The labels that a birth hands in are those of the child by the names of its categories.
-use Rattle.std.proofs.Common.{◌≡◌, ℕ, zero, suc, ◌==◌, ◌||◌, List, [], ◌∷◌, ◌++◌, length, Option, None, Some, arith, refl, sym, ap, ◌∙◌}
+use Rattle.std.proofs.Common.{◌≡◌, ℕ, zero, suc, ◌==◌, ◌||◌, List, [], ◌∷◌, ◌++◌, Option, None, Some, arith, refl, sym, ap, ◌∙◌}
 use Rattle.std.specs.Prelude.{map}
 use Rattle.std.proofs.lemmas.List.{append-nil, map-append}
 use Rattle.histar_flat.specs.Words.{Name, ProcName}
 use Rattle.histar_flat.specs.Sessions.{Session, user_number}
 use Rattle.histar_flat.specs.Classes.{Process, is_free}
-use Rattle.histar_label.specs.Levels.{Levels}
 use Rattle.histar_calls.specs.Categories.{owners_of}
 use Rattle.histar_calls.specs.Labelling.{guarded_by, owning, cleared_at}
 use Rattle.histar_process.specs.Kin.{Kin, user_name, categories_of, owned_by}

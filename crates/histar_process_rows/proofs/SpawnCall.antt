@@ -1,8 +1,7 @@
 -- A spawn is the row of its call: it is refused as the flat rules say, or the child is born.
-use Rattle.std.proofs.Common.{◌≡◌, ℕ, ◌+◌, ◌<◌, true, List, [], ◌∷◌, ◌++◌, length, Option, None, Some, Result, refl, sym, ap, ◌∙◌, subst}
+use Rattle.std.proofs.Common.{◌≡◌, ℕ, ◌+◌, ◌<◌, true, List, [], ◌∷◌, ◌++◌, length, Option, None, Some, Result, refl, sym, subst}
 use Rattle.std.specs.Prelude.{nat_lt}
 use Rattle.std.proofs.lemmas.Bool.{ltb-true}
-use Rattle.std.proofs.lemmas.Option.{same_Some}
 use Rattle.histar_base.specs.Refusals.{◌orelse◌, unless}
 use Rattle.histar_flat.specs.declared.calls.UnixCall.TheVariants.{Spawn}
 use Rattle.histar_flat.specs.declared.replies.Errno.{Errno}
@@ -15,47 +14,30 @@ use Rattle.histar_flat.specs.Classes.{Process}
 use Rattle.histar_flat.specs.FlatState.{Flat}
 use Rattle.histar_flat.specs.FlatState as flat
 use Rattle.histar_flat.specs.FlatCalls.{no_child, refused}
-use Rattle.histar_label.specs.Levels.{Levels, is_below_raised}
-use Rattle.histar_object.specs.Objects.{is_thread, label_there, clearance_there, bytes_in}
+use Rattle.histar_label.specs.Levels.{Levels}
 use Rattle.histar_object.specs.State.{State}
-use Rattle.histar_rules.specs.declared.raw.Denied.TheVariants.{NoThread, Observe}
 use Rattle.histar_rules.specs.declared.raw.RawCall.{RawCall}
-use Rattle.histar_rules.specs.declared.raw.RawCall.TheVariants.{OwnLabel, SetLabel, SetClearance, Read}
-use Rattle.histar_rules.specs.Rules.{check, greatest}
+use Rattle.histar_rules.specs.declared.raw.RawCall.TheVariants.{OwnLabel, SetLabel, SetClearance}
+use Rattle.histar_rules.specs.Rules.{greatest}
 use Rattle.histar_syscall.specs.KernelModel.{KernelModel, state}
-use Rattle.histar_syscall.proofs.Runs.{same_kernel}
-use Rattle.histar_layout.specs.Status.{ProcessStatus, status_in}
+use Rattle.histar_layout.specs.Status.{ProcessStatus}
 use Rattle.histar_calls.specs.declared.ending.Stopped.{Stopped}
 use Rattle.histar_calls.specs.Programs.{Program, Runs}
 use Rattle.histar_calls.specs.Programs.Program.{Answers}
-use Rattle.histar_calls.specs.Parts.{ask, given, if_there}
+use Rattle.histar_calls.specs.Parts.{ask}
 use Rattle.histar_process.specs.declared.caller.Caller.{Caller}
 use Rattle.histar_process.specs.Birth.{birth}
-use Rattle.histar_process.specs.Caller.{status_at, caller_at}
+use Rattle.histar_process.specs.Caller.{caller_at}
 use Rattle.histar_process.specs.Kin.{kin_of}
-use Rattle.histar_process.specs.Parts.{read_status}
-use Rattle.histar_process.specs.SpawnCall.{must_have_room, spawn_program}
+use Rattle.histar_process.specs.SpawnCall.{spawn_program}
 use Rattle.histar_login.specs.Start.{places_of}
 use Rattle.histar_refinement.specs.Sessions.{IsSession}
-use Rattle.histar_refinement.specs.Guards.{guard_label, rights_label, rights_clearance}
-use Rattle.histar_refinement.specs.Labels.{process_guard, thread_rights}
-use Rattle.histar_refinement.specs.Addresses.{home_of}
-use Rattle.histar_refinement.specs.Addresses.Step.{Status, Inside, Runner}
-use Rattle.histar_refinement.specs.LaysOut.{Laid, LaysOut}
-use Rattle.histar_refinement.specs.Laws.{IsCallerOf}
-use Rattle.histar_refinement.specs.Processes.{or_zero, process_bytes, status_by}
-use Rattle.histar_refinement.proofs.CallerFound.{caller_found, status_is}
-use Rattle.histar_refinement.proofs.ClassTests.{sees_process}
-use Rattle.histar_refinement.proofs.MakingRanges.{all_known}
-use Rattle.histar_refinement.proofs.RawChecks.{read_check}
-use Rattle.histar_refinement.proofs.StatusFound.{thread_back}
-use Rattle.histar_rows.specs.Rows.{IsReady, DoesItsRow, AreAmong}
+use Rattle.histar_refinement.specs.LaysOut.{LaysOut}
+use Rattle.histar_rows.specs.Rows.{IsReady, AreAmong}
 use Rattle.histar_rows.proofs.Chains.{all_granted, entries_of, Chain}
 use Rattle.histar_rows.proofs.Steps.{Goal, answered_step}
 use Rattle.histar_process_rows.specs.Laws.{SpawnsAreRows}
 use Rattle.histar_process_rows.proofs.BirthFit.{fit, spawned_laid}
-use Rattle.histar_process_rows.proofs.BirthObjects.{Around}
-use Rattle.histar_process_rows.proofs.BirthRights.{around_before}
 use Rattle.histar_process_rows.proofs.BirthRun.{spawned, birth_made}
 use Rattle.histar_process_rows.proofs.ChildRoom.{NeedsChild, own_of, most_of, status_of, reads, at_home, at_status, at_thread, child_room_step, own_label_step}
 

@@ -1,7 +1,7 @@
 -- A wrap that is granted: once the container of its scratch directory is made, the directory is made, the job's first process is born, and the
 -- thread holds the job.
-use Rattle.std.proofs.Common.{◌≡◌, ℕ, ◌+◌, ◌<◌, ◌≤◌, true, List, [], ◌∷◌, ◌++◌, Some, None, Result, arith, refl, sym, ap, ◌∙◌, subst}
-use Rattle.std.specs.Prelude.{IsTrue, nat_lt, not, length}
+use Rattle.std.proofs.Common.{◌≡◌, ℕ, ◌+◌, ◌<◌, ◌≤◌, true, false, List, [], ◌∷◌, ◌++◌, Some, None, Result, arith, refl, sym, ap, ◌∙◌, subst}
+use Rattle.std.specs.Prelude.{IsTrue, is_some, nat_lt, not, length}
 use Rattle.std.proofs.lemmas.Bool.{ltb-true}
 use Rattle.std.specs.FinMap as map
 use Rattle.std.specs.FinSet as set
@@ -12,7 +12,7 @@ use Rattle.histar_flat.specs.declared.replies.Errno.TheVariants.{EACCES, EPERM, 
 use Rattle.histar_flat.specs.declared.replies.Reply.{Reply}
 use Rattle.histar_flat.specs.declared.replies.Reply.TheVariants.{Child}
 use Rattle.histar_flat.specs.Words.{Name, Path, ProcName, is_name, most_children, most_numbers}
-use Rattle.histar_flat.specs.Sessions.{Session, user_number}
+use Rattle.histar_flat.specs.Sessions.{Session, has, user_number}
 use Rattle.histar_flat.specs.Classes.{Class, Process, may_write}
 use Rattle.histar_flat.specs.Files.{get}
 use Rattle.histar_flat.specs.FlatState.{Flat, entries_in, into, is_some_and, writes}
@@ -23,7 +23,7 @@ use Rattle.histar_label.specs.Levels.{Levels, with_level}
 use Rattle.histar_object.specs.declared.objects.Kind.TheVariants.{Segment, Container, Thread}
 use Rattle.histar_object.specs.declared.objects.Object.{Object}
 use Rattle.histar_object.specs.Rights.{with_category}
-use Rattle.histar_object.specs.State.{State, added, with_bytes}
+use Rattle.histar_object.specs.State.{State, added, with_bytes, counting}
 use Rattle.histar_rules.specs.declared.raw.Denied.TheVariants.{TooBig}
 use Rattle.histar_rules.specs.declared.raw.RawCall.{RawCall}
 use Rattle.histar_rules.specs.declared.raw.RawCall.TheVariants.{MakeSegment, SetLabel, SetClearance, Write}
@@ -45,15 +45,16 @@ use Rattle.histar_process.specs.Caller.{caller_at}
 use Rattle.histar_process.specs.Kin.{Kin}
 use Rattle.histar_login.specs.Start.{places_of}
 use Rattle.histar_refinement.specs.Sessions.{IsSession}
-use Rattle.histar_refinement.specs.Categories.{naming_next, IsUsed}
+use Rattle.histar_refinement.specs.Categories.{naming_next, IsServed, IsUsed}
 use Rattle.histar_refinement.specs.Categories.CategoryName.{OfJob}
 use Rattle.histar_refinement.specs.Guards.{guard_label, rights_label, rights_clearance}
-use Rattle.histar_refinement.specs.Labels.{scratch_guard, thread_rights}
+use Rattle.histar_refinement.specs.Labels.{scratch_guard}
 use Rattle.histar_refinement.specs.Addresses.{address_of, home_of}
 use Rattle.histar_refinement.specs.Addresses.Step.{Listing, Status, Inside, Runner}
 use Rattle.histar_refinement.specs.Directories.{directory_of}
-use Rattle.histar_refinement.specs.LaysOut.{Laid, LaysOut}
+use Rattle.histar_refinement.specs.LaysOut.{AreInOrder, Laid, LaysOut}
 use Rattle.histar_refinement.specs.Processes.{status_by}
+use Rattle.histar_refinement.proofs.Beside.{Beside}
 use Rattle.histar_refinement.proofs.DirectoryLaws.{spelling_fits}
 use Rattle.histar_refinement.proofs.FileRows.{same_process_status}
 use Rattle.histar_refinement.proofs.JobLists.{never_given}
@@ -66,11 +67,11 @@ use Rattle.histar_rows.proofs.Chains.{all_granted, entries_of, Chain}
 use Rattle.histar_rows.proofs.Steps.{Goal, granted_step, answered_step}
 use Rattle.histar_rows.proofs.Walks.{place_at, walk_reads, holds, among_then, has_walk}
 use Rattle.histar_file_rows.proofs.FoundObjects.{directory_class, directory_stands, directory_guard, entries, is_dir, below, container_numbered, listing_numbered, writes_as_class}
-use Rattle.histar_process_rows.proofs.BirthRun.{spawned, birth_made}
+use Rattle.histar_process_rows.proofs.BirthRun.{IsFit, spawned, birth_made}
 use Rattle.histar_process_rows.proofs.BirthSteps.{numbered_step}
 use Rattle.histar_process_rows.proofs.ChildRoom.{own_of, most_of, status_of, at_home, at_status, at_thread}
 use Rattle.histar_wrap.specs.Scratch.{directory_label, hold_job, kin_in}
-use Rattle.histar_wrap_rows.proofs.ScratchLabels.{label_by, clearance_by, jobs_by, directory_by, owned_told}
+use Rattle.histar_wrap_rows.proofs.ScratchLabels.{rights_with_job, label_by, clearance_by, jobs_by, directory_by, owned_told}
 use Rattle.histar_wrap_rows.proofs.ScratchCalls.{with_segment, make_said, write_said, thread_then}
 use Rattle.histar_wrap_rows.proofs.JobFit.{fit, held_is}
 
@@ -203,36 +204,96 @@ module _ (session : Session) (ok : IsSession session) (me : ProcName) (caller : 
     module _ (few : (state old).next_object + 1 < greatest) where
       -- the state with the directory in it, which lays out the flat state with the directory but for the thread
       abbrev made_state : State
-      made_state = wrapping.made_state session (state old) f ready.lays_out me p ready.caller.stands ready.caller.runs few_children i declared d m absent above at_parent caller.home.container caller.home.segment t place.container place.listing home_there segment_there thread_there container_there listing_there few
+      made_state = wrapping.made_state session (state old) f ready.lays_out me p ready.caller.stands ready.caller.runs few_children i declared d m absent above at_parent
+          caller.home.container caller.home.segment t place.container place.listing home_there segment_there thread_there container_there listing_there few
 
       abbrev with_directory : Flat
-      with_directory = wrapping.with_directory session (state old) f ready.lays_out me p ready.caller.stands ready.caller.runs few_children i declared d m absent above at_parent caller.home.container caller.home.segment t place.container place.listing home_there segment_there thread_there container_there listing_there few
+      with_directory = wrapping.with_directory session (state old) f ready.lays_out me p ready.caller.stands ready.caller.runs few_children i declared d m absent above at_parent
+          caller.home.container caller.home.segment t place.container place.listing home_there segment_there thread_there container_there listing_there few
 
       abbrev later : Laid session made_state with_directory
-      later = wrapping.k session (state old) f ready.lays_out me p ready.caller.stands ready.caller.runs few_children i declared d m absent above at_parent caller.home.container caller.home.segment t place.container place.listing home_there segment_there thread_there container_there listing_there few named few_entries
+      later = wrapping.k session (state old) f ready.lays_out me p ready.caller.stands ready.caller.runs few_children i declared d m absent above at_parent
+          caller.home.container caller.home.segment t place.container place.listing home_there segment_there thread_there container_there listing_there few named few_entries
 
       abbrev before : State
-      before = wrapping.state_directory session (state old) f ready.lays_out me p ready.caller.stands ready.caller.runs few_children i declared d m absent above at_parent caller.home.container caller.home.segment t place.container place.listing home_there segment_there thread_there container_there listing_there few named few_entries
+      before = wrapping.state_directory session (state old) f ready.lays_out me p ready.caller.stands ready.caller.runs few_children i declared d m absent above at_parent
+          caller.home.container caller.home.segment t place.container place.listing home_there segment_there thread_there container_there listing_there few named few_entries
+
+      -- the category of the job has its name in it, and what is made for the job the label that is due
+      abbrev job_named : Laid session (counting (state old)) f
+      job_named = wrapping.m session (state old) f ready.lays_out me p ready.caller.stands ready.caller.runs few_children i declared d m absent above at_parent
+          caller.home.container caller.home.segment t place.container place.listing home_there segment_there thread_there container_there listing_there few
+
+      naming_is : job_named.naming ≡ ready.lays_out.laid.naming
+      naming_is = (wrapping.named session (state old) f ready.lays_out me p ready.caller.stands ready.caller.runs few_children i declared d m absent above at_parent
+          caller.home.container caller.home.segment t place.container place.listing home_there segment_there thread_there container_there listing_there few).1
+
+      category_is : job_named.category ≡ naming_next ready.lays_out.laid.category (state old).next_category (OfJob ((p.born + 1) ∷ me))
+      category_is = (wrapping.named session (state old) f ready.lays_out me p ready.caller.stands ready.caller.runs few_children i declared d m absent above at_parent
+          caller.home.container caller.home.segment t place.container place.listing home_there segment_there thread_there container_there listing_there few).2
 
       names_are : later.category ≡ naming_next ready.lays_out.laid.category (state old).next_category (OfJob ((p.born + 1) ∷ me))
-      names_are = (wrapping.made session (state old) f ready.lays_out me p ready.caller.stands ready.caller.runs few_children i declared d m absent above at_parent caller.home.container caller.home.segment t place.container place.listing home_there segment_there thread_there container_there listing_there few named few_entries).2 ∙ (wrapping.named session (state old) f ready.lays_out me p ready.caller.stands ready.caller.runs few_children i declared d m absent above at_parent caller.home.container caller.home.segment t place.container place.listing home_there segment_there thread_there container_there listing_there few).2
+      names_are = (wrapping.made session (state old) f ready.lays_out me p ready.caller.stands ready.caller.runs few_children i declared d m absent above at_parent
+          caller.home.container caller.home.segment t place.container place.listing home_there segment_there thread_there container_there listing_there few named few_entries).2 ∙ category_is
 
-      due_is : due ≡ guard_label (wrapping.m session (state old) f ready.lays_out me p ready.caller.stands ready.caller.runs few_children i declared d m absent above at_parent caller.home.container caller.home.segment t place.container place.listing home_there segment_there thread_there container_there listing_there few).category (scratch_guard (p.chain ++ child ∷ []) i)
-      due_is = directory_by session (state old) f ready.lays_out.laid me p ready.caller.stands unused (wrapping.m session (state old) f ready.lays_out me p ready.caller.stands ready.caller.runs few_children i declared d m absent above at_parent caller.home.container caller.home.segment t place.container place.listing home_there segment_there thread_there container_there listing_there few).category (wrapping.named session (state old) f ready.lays_out me p ready.caller.stands ready.caller.runs few_children i declared d m absent above at_parent caller.home.container caller.home.segment t place.container place.listing home_there segment_there thread_there container_there listing_there few).2 i declared
+      due_is : due ≡ guard_label job_named.category (scratch_guard (p.chain ++ child ∷ []) i)
+      due_is = directory_by session (state old) f ready.lays_out.laid me p ready.caller.stands unused job_named.category category_is i declared
 
       state_is : with_bytes (with_segment session ok (state old) f me t ready d open_so_far unused i declared) place.listing written ≡ before
       state_is = λ j. with_bytes (added (added (with_category (state old) t) place.container (record { label = due_is j; kind = Container set.empty })) number (record { label = due_is j; kind = Segment [] }))
-          place.listing (spelling (map.insert (directory_of f.files (sym (wrapping.named session (state old) f ready.lays_out me p ready.caller.stands ready.caller.runs few_children i declared d m absent above at_parent caller.home.container caller.home.segment t place.container place.listing home_there segment_there thread_there container_there listing_there few).1 j).number d) m target))
+          place.listing (spelling (map.insert (directory_of f.files (sym naming_is j).number d) m target))
+
+      -- what its process and its job are there
+      is_declared : is_some (user_number session p.user) ≡ true
+      is_declared = wrapping.is_declared session (state old) f ready.lays_out me p ready.caller.stands ready.caller.runs few_children i declared d m absent above at_parent
+          caller.home.container caller.home.segment t place.container place.listing home_there segment_there thread_there container_there listing_there few named few_entries
+
+      is_served : IsServed with_directory ((p.born + 1) ∷ me)
+      is_served = wrapping.served session (state old) f ready.lays_out me p ready.caller.stands ready.caller.runs few_children i declared d m absent above at_parent
+          caller.home.container caller.home.segment t place.container place.listing home_there segment_there thread_there container_there listing_there few named few_entries
+
+      stranger : has p.chain ((p.born + 1) ∷ me) ≡ false
+      stranger = wrapping.stranger session (state old) f ready.lays_out me p ready.caller.stands ready.caller.runs few_children i declared d m absent above at_parent
+          caller.home.container caller.home.segment t place.container place.listing home_there segment_there thread_there container_there listing_there few
+
+      chain_ordered : AreInOrder later.category (p.chain ++ ((p.born + 1) ∷ me) ∷ [])
+      chain_ordered = wrapping.k_chain session (state old) f ready.lays_out me p ready.caller.stands ready.caller.runs few_children i declared d m absent above at_parent
+          caller.home.container caller.home.segment t place.container place.listing home_there segment_there thread_there container_there listing_there few named few_entries
+
+      held_ordered : AreInOrder later.category (p.held ++ ((p.born + 1) ∷ me) ∷ [])
+      held_ordered = wrapping.k_held session (state old) f ready.lays_out me p ready.caller.stands ready.caller.runs few_children i declared d m absent above at_parent
+          caller.home.container caller.home.segment t place.container place.listing home_there segment_there thread_there container_there listing_there few named few_entries
+
+      home_later : later.naming.number (home_of me) ≡ Some caller.home.container
+      home_later = wrapping.k_home session (state old) f ready.lays_out me p ready.caller.stands ready.caller.runs few_children i declared d m absent above at_parent
+          caller.home.container caller.home.segment t place.container place.listing home_there segment_there thread_there container_there listing_there few named few_entries
+
+      segment_later : later.naming.number (Status ∷ home_of me) ≡ Some caller.home.segment
+      segment_later = wrapping.k_status session (state old) f ready.lays_out me p ready.caller.stands ready.caller.runs few_children i declared d m absent above at_parent
+          caller.home.container caller.home.segment t place.container place.listing home_there segment_there thread_there container_there listing_there few named few_entries
+
+      thread_later : later.naming.number (Runner ∷ Inside ∷ home_of me) ≡ Some t
+      thread_later = wrapping.k_thread session (state old) f ready.lays_out me p ready.caller.stands ready.caller.runs few_children i declared d m absent above at_parent
+          caller.home.container caller.home.segment t place.container place.listing home_there segment_there thread_there container_there listing_there few named few_entries
+
+      stands_beside : Beside t own most before made_state
+      stands_beside = wrapping.beside session (state old) f ready.lays_out me p ready.caller.stands ready.caller.runs few_children i declared d m absent above at_parent
+          caller.home.container caller.home.segment t place.container place.listing home_there segment_there thread_there container_there listing_there few named few_entries
+
+      counted : made_state.next_category ≤ before.next_category
+      counted = wrapping.counted session (state old) f ready.lays_out me p ready.caller.stands ready.caller.runs few_children i declared d m absent above at_parent
+          caller.home.container caller.home.segment t place.container place.listing home_there segment_there thread_there container_there listing_there few named few_entries
 
       -- what the process segment of the parent tells, and what its thread has
       status_is : status ≡ status_by f.processes later.naming.number me p
-      status_is = same_process_status ready.lays_out.laid.naming.number later.naming.number (wrapping.k_numbers session (state old) f ready.lays_out me p ready.caller.stands ready.caller.runs few_children i declared d m absent above at_parent caller.home.container caller.home.segment t place.container place.listing home_there segment_there thread_there container_there listing_there few named few_entries) f.processes me p
+      status_is = same_process_status ready.lays_out.laid.naming.number later.naming.number (wrapping.k_numbers session (state old) f ready.lays_out me p ready.caller.stands ready.caller.runs few_children i declared d m absent above at_parent
+          caller.home.container caller.home.segment t place.container place.listing home_there segment_there thread_there container_there listing_there few named few_entries) f.processes me p
 
       abbrev own_then : Levels
-      own_then = rights_label later.category (record { owned = OfJob child ∷ (thread_rights session me p).owned; tainted = (thread_rights session me p).tainted })
+      own_then = rights_label later.category (rights_with_job session me p)
 
       abbrev most_then : Levels
-      most_then = rights_clearance later.category (record { owned = OfJob child ∷ (thread_rights session me p).owned; tainted = (thread_rights session me p).tainted })
+      most_then = rights_clearance later.category (rights_with_job session me p)
 
       own_is : with_level own job Star ≡ own_then
       own_is = label_by session (state old) f ready.lays_out.laid me p ready.caller.stands unused later.category names_are
@@ -243,25 +304,32 @@ module _ (session : Session) (ok : IsSession session) (me : ProcName) (caller : 
       thread_has_job : before.objects t ≡ object own_then (Thread most_then)
       thread_has_job = sym (ap (λ (s : State). s.objects t) state_is) ∙ thread_then session ok (state old) f me t ready d open_so_far unused i declared written ∙ (λ j. object (own_is j) (Thread (most_is j)))
 
+      -- what the birth needs is there
+      fits : IsFit before t caller.home (status_by f.processes later.naming.number me p) kin own_then most_then
+      fits = fit session ok made_state with_directory later me p ready.caller.stands ready.caller.runs few_children is_declared is_served chain_ordered caller.home.container caller.home.segment home_later segment_later t thread_later
+          before.objects own most stands_beside thread_has_job kin (jobs_by session (state old) f ready.lays_out.laid me p ready.caller.stands unused later.category names_are) (owned_told session (state old) f ready.lays_out.laid me p ready.caller.stands unused)
+
+      -- and in the state after it the flat state of the row is laid out
+      laid_then : (few_born : before.next_object + 3 < greatest) → LaysOut session (spawned before t caller.home (status_by f.processes later.naming.number me p) kin own_then most_then) (changed session f me p call)
+      laid_then few_born =
+          let held = held_is session ok made_state with_directory later me p ready.caller.stands ready.caller.runs few_children is_declared is_served chain_ordered caller.home.container caller.home.segment home_later segment_later t thread_later
+              before.objects own most stands_beside thread_has_job kin (jobs_by session (state old) f ready.lays_out.laid me p ready.caller.stands unused later.category names_are) (owned_told session (state old) f ready.lays_out.laid me p ready.caller.stands unused)
+              stranger held_ordered few_born counted in
+          subst (λ (s : State). LaysOut session s (changed session f me p call)) (sym held) (wrapping.lays_out_wrapped session (state old) f ready.lays_out me p ready.caller.stands ready.caller.runs few_children i declared d m absent above at_parent
+              caller.home.container caller.home.segment t place.container place.listing home_there segment_there thread_there container_there listing_there few named few_entries few_born)
+
       -- with all raw calls the call is answered
       answered : (calls : List RawCall) (end : KernelModel) → AreAmong reads (entries_of old.line t (all_granted calls)) → Chain old t (all_granted calls) end
           → state end ≡ spawned before t caller.home (status_by f.processes later.naming.number me p) kin own_then most_then → before.next_object + 3 < greatest → Runs (Answers (Child child)) end new t result → Row
       answered calls end kept chain is few_born runs =
-          let held = held_is session ok made_state with_directory later me p ready.caller.stands ready.caller.runs few_children (wrapping.is_declared session (state old) f ready.lays_out me p ready.caller.stands ready.caller.runs few_children i declared d m absent above at_parent caller.home.container caller.home.segment t place.container place.listing home_there segment_there thread_there container_there listing_there few named few_entries) (wrapping.served session (state old) f ready.lays_out me p ready.caller.stands ready.caller.runs few_children i declared d m absent above at_parent caller.home.container caller.home.segment t place.container place.listing home_there segment_there thread_there container_there listing_there few named few_entries) (wrapping.k_chain session (state old) f ready.lays_out me p ready.caller.stands ready.caller.runs few_children i declared d m absent above at_parent caller.home.container caller.home.segment t place.container place.listing home_there segment_there thread_there container_there listing_there few named few_entries)
-          caller.home.container caller.home.segment (wrapping.k_home session (state old) f ready.lays_out me p ready.caller.stands ready.caller.runs few_children i declared d m absent above at_parent caller.home.container caller.home.segment t place.container place.listing home_there segment_there thread_there container_there listing_there few named few_entries) (wrapping.k_status session (state old) f ready.lays_out me p ready.caller.stands ready.caller.runs few_children i declared d m absent above at_parent caller.home.container caller.home.segment t place.container place.listing home_there segment_there thread_there container_there listing_there few named few_entries) t (wrapping.k_thread session (state old) f ready.lays_out me p ready.caller.stands ready.caller.runs few_children i declared d m absent above at_parent caller.home.container caller.home.segment t place.container place.listing home_there segment_there thread_there container_there listing_there few named few_entries)
-          before.objects own most (wrapping.beside session (state old) f ready.lays_out me p ready.caller.stands ready.caller.runs few_children i declared d m absent above at_parent caller.home.container caller.home.segment t place.container place.listing home_there segment_there thread_there container_there listing_there few named few_entries) thread_has_job kin (jobs_by session (state old) f ready.lays_out.laid me p ready.caller.stands unused later.category names_are) (owned_told session (state old) f ready.lays_out.laid me p ready.caller.stands unused)
-              (wrapping.stranger session (state old) f ready.lays_out me p ready.caller.stands ready.caller.runs few_children i declared d m absent above at_parent caller.home.container caller.home.segment t place.container place.listing home_there segment_there thread_there container_there listing_there few) (wrapping.k_held session (state old) f ready.lays_out me p ready.caller.stands ready.caller.runs few_children i declared d m absent above at_parent caller.home.container caller.home.segment t place.container place.listing home_there segment_there thread_there container_there listing_there few named few_entries) few_born (wrapping.counted session (state old) f ready.lays_out me p ready.caller.stands ready.caller.runs few_children i declared d m absent above at_parent caller.home.container caller.home.segment t place.container place.listing home_there segment_there thread_there container_there listing_there few named few_entries) in
           answered_step session f me ready.caller call old new t ready.thread result calls end chain (Child child) refl refused_nowhere tt (has_walk session ok (state old) f me t ready m d (entries_of old.line t (all_granted calls)) kept)
-          (subst (λ (s : State). LaysOut session s (changed session f me p call)) (sym (is ∙ held)) (wrapping.lays_out_wrapped session (state old) f ready.lays_out me p ready.caller.stands ready.caller.runs few_children i declared d m absent above at_parent caller.home.container caller.home.segment t place.container place.listing home_there segment_there thread_there container_there listing_there few named few_entries few_born)) runs
+          (subst (λ (s : State). LaysOut session s (changed session f me p call)) (sym is) (laid_then few_born)) runs
 
       -- the job's first process is born
       born : (calls : List RawCall) (mid : KernelModel) → AreAmong reads (entries_of old.line t (all_granted calls)) → Chain old t (all_granted calls) mid → state mid ≡ before
           → Runs (birth_then status (with_level own job Star) (with_level most job L3)) mid new t result → Row
       born calls mid kept chain at runs =
-          birth_made session f me ready.caller call old new t ready.thread result before caller.home (status_by f.processes later.naming.number me p) kin own_then most_then
-          (fit session ok made_state with_directory later me p ready.caller.stands ready.caller.runs few_children (wrapping.is_declared session (state old) f ready.lays_out me p ready.caller.stands ready.caller.runs few_children i declared d m absent above at_parent caller.home.container caller.home.segment t place.container place.listing home_there segment_there thread_there container_there listing_there few named few_entries) (wrapping.served session (state old) f ready.lays_out me p ready.caller.stands ready.caller.runs few_children i declared d m absent above at_parent caller.home.container caller.home.segment t place.container place.listing home_there segment_there thread_there container_there listing_there few named few_entries) (wrapping.k_chain session (state old) f ready.lays_out me p ready.caller.stands ready.caller.runs few_children i declared d m absent above at_parent caller.home.container caller.home.segment t place.container place.listing home_there segment_there thread_there container_there listing_there few named few_entries)
-          caller.home.container caller.home.segment (wrapping.k_home session (state old) f ready.lays_out me p ready.caller.stands ready.caller.runs few_children i declared d m absent above at_parent caller.home.container caller.home.segment t place.container place.listing home_there segment_there thread_there container_there listing_there few named few_entries) (wrapping.k_status session (state old) f ready.lays_out me p ready.caller.stands ready.caller.runs few_children i declared d m absent above at_parent caller.home.container caller.home.segment t place.container place.listing home_there segment_there thread_there container_there listing_there few named few_entries) t (wrapping.k_thread session (state old) f ready.lays_out me p ready.caller.stands ready.caller.runs few_children i declared d m absent above at_parent caller.home.container caller.home.segment t place.container place.listing home_there segment_there thread_there container_there listing_there few named few_entries)
-          before.objects own most (wrapping.beside session (state old) f ready.lays_out me p ready.caller.stands ready.caller.runs few_children i declared d m absent above at_parent caller.home.container caller.home.segment t place.container place.listing home_there segment_there thread_there container_there listing_there few named few_entries) thread_has_job kin (jobs_by session (state old) f ready.lays_out.laid me p ready.caller.stands unused later.category names_are) (owned_told session (state old) f ready.lays_out.laid me p ready.caller.stands unused))
+          birth_made session f me ready.caller call old new t ready.thread result before caller.home (status_by f.processes later.naming.number me p) kin own_then most_then fits
           (Child child) reads answered calls mid kept chain at
           (subst (λ (x : ProcessStatus × Levels × Levels). Runs (birth_then x.0 x.1 x.2) mid new t result) (λ j. (status_is j, own_is j, most_is j)) runs)
 
@@ -281,9 +349,10 @@ module _ (session : Session) (ok : IsSession session) (me : ProcName) (caller : 
       directory_written calls mid kept chain at runs =
           let write : RawCall = Write place.container place.listing 0 written in
           let guard = directory_guard session ok (state old) f me t ready d open_so_far in
-          let apart = wrapping.not_named session (state old) f ready.lays_out me p ready.caller.stands ready.caller.runs few_children i declared d m absent above at_parent caller.home.container caller.home.segment t place.container place.listing home_there segment_there thread_there container_there listing_there few d (record { class = above; content = Dir }) guard.0 at_parent guard.1 in
+          let apart = wrapping.not_named session (state old) f ready.lays_out me p ready.caller.stands ready.caller.runs few_children i declared d m absent above at_parent
+              caller.home.container caller.home.segment t place.container place.listing home_there segment_there thread_there container_there listing_there few d (record { class = above; content = Dir }) guard.0 at_parent guard.1 in
           granted_step session f me ready.caller call old new t ready.thread result calls mid chain write (λ _. birth_then status (with_level own job Star) (with_level most job L3))
-          (ap (λ (s : State). check s t write) at ∙ write_said session ok (state old) f me t ready d open_so_far unused i declared may (wrapping.stranger session (state old) f ready.lays_out me p ready.caller.stands ready.caller.runs few_children i declared d m absent above at_parent caller.home.container caller.home.segment t place.container place.listing home_there segment_there thread_there container_there listing_there few) apart.0 apart.1 written few_written) runs
+          (ap (λ (s : State). check s t write) at ∙ write_said session ok (state old) f me t ready d open_so_far unused i declared may stranger apart.0 apart.1 written few_written) runs
           (λ end done called right longer goes.
           born (calls ++ write ∷ []) end (among_then old.line t reads calls (write ∷ []) kept) longer (called.state ∙ ap (λ (s : State). with_bytes s place.listing written) at ∙ state_is) goes)
 

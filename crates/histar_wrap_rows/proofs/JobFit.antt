@@ -1,5 +1,5 @@
 -- The birth of a job's first process: what its raw calls need is there, and they leave the state in which its parent holds the job.
-use Rattle.std.proofs.Common.{◌≡◌, ℕ, ◌+◌, ◌<◌, ◌≤◌, inr, true, false, List, [], ◌∷◌, ◌++◌, length, None, Some, arith, sym, ap, ◌∙◌, subst}
+use Rattle.std.proofs.Common.{◌≡◌, ℕ, ◌+◌, ◌<◌, ◌≤◌, inr, true, false, List, [], ◌∷◌, ◌++◌, None, Some, arith, sym, ap, ◌∙◌, subst}
 use Rattle.std.specs.Prelude.{is_some, map}
 use Rattle.std.specs.FinSet as set
 use Rattle.histar_flat.specs.Words.{ProcName}
@@ -40,14 +40,14 @@ use Rattle.histar_process_rows.proofs.BirthChecks.{IsModified, IsLesser}
 use Rattle.histar_process_rows.proofs.BirthRun.{IsFit, spawned}
 use Rattle.histar_process_rows.proofs.ChildBytes.{started_fits, grown_fits, few_listed, child_bytes_are, own_bytes_are}
 use Rattle.histar_process_rows.proofs.ChildLabels.{outer_is, inner_is, label_is, clearance_is}
-use Rattle.histar_wrap_rows.proofs.JobRights.{jobs_used, jobs_free, names, kept, mine, owner, owner_most, beside_state, around_owner, home_modified, outer_modified, inner_modified, thread_lesser, own_taken, own_is, most_is}
+use Rattle.histar_wrap_rows.proofs.ScratchLabels.{rights_with_job}
+use Rattle.histar_wrap_rows.proofs.JobRights.{jobs_used, jobs_free, names, kept, owner, owner_most, around_owner, home_modified, outer_modified, inner_modified, thread_lesser, own_taken, own_is, most_is}
 
 module _ (session : Session) (ok : IsSession session) (s : State) (f : Flat) (l : Laid session s f) (me : ProcName) (p : Process) (here : f.processes me ≡ Some p) (runs : p.exited ≡ None) (room : p.born < 64)
     (declared : is_some (user_number session p.user) ≡ true) (served : IsServed f ((p.born + 1) ∷ me)) (jobs_ordered : AreInOrder l.category (p.chain ++ ((p.born + 1) ∷ me) ∷ []))
     (C S : ℕ) (at_home : l.naming.number (home_of me) ≡ Some C) (at_status : l.naming.number (Status ∷ home_of me) ≡ Some S) (T : ℕ) (at_thread : l.naming.number (Runner ∷ Inside ∷ home_of me) ≡ Some T)
     (objects : Objects Levels) (own most : Levels) (beside : Beside T own most (record { objects = objects; next_object = s.next_object; next_category = s.next_category }) s)
-    (thread : objects T ≡ object (rights_label l.category (record { owned = OfJob ((p.born + 1) ∷ me) ∷ (thread_rights session me p).owned; tainted = (thread_rights session me p).tainted }))
-    (Thread (rights_clearance l.category (record { owned = OfJob ((p.born + 1) ∷ me) ∷ (thread_rights session me p).owned; tainted = (thread_rights session me p).tainted }))))
+    (thread : objects T ≡ object (rights_label l.category (rights_with_job session me p)) (Thread (rights_clearance l.category (rights_with_job session me p))))
     (kin : Kin) (alike : (q : ℕ) → is_in kin.jobs q ≡ is_in (map l.category (map OfJob (p.chain ++ ((p.born + 1) ∷ me) ∷ []))) q) (told : kin.owned ≡ owned_by session (or_zero (user_number session p.user)) false) where
   abbrev child : ProcName
   child = (p.born + 1) ∷ me
@@ -66,10 +66,10 @@ module _ (session : Session) (ok : IsSession session) (s : State) (f : Flat) (l 
 
   -- what its thread has with the job
   abbrev pub own_with_job : Levels
-  own_with_job = rights_label l.category (mine session s f l me p here runs room declared served jobs_ordered C S at_home at_status)
+  own_with_job = rights_label l.category (rights_with_job session me p)
 
   abbrev pub most_with_job : Levels
-  most_with_job = rights_clearance l.category (mine session s f l me p here runs room declared served jobs_ordered C S at_home at_status)
+  most_with_job = rights_clearance l.category (rights_with_job session me p)
 
   -- the state before the birth
   abbrev pub before : State

@@ -1,5 +1,5 @@
 -- What the thread of a process may do once it has made the category of a job and the two of the job's first process, and what it stands by.
-use Rattle.std.proofs.Common.{◌≡◌, ◌≢◌, ℕ, ◌+◌, ◌<◌, inl, inr, true, false, List, [], ◌∷◌, ◌++◌, None, Some, arith, refl, sym, ap, ◌∙◌, subst}
+use Rattle.std.proofs.Common.{◌≡◌, ◌≢◌, ℕ, ◌+◌, ◌<◌, inl, inr, true, false, List, [], ◌∷◌, ◌++◌, None, Some, arith, sym, ap, ◌∙◌, subst}
 use Rattle.std.specs.Prelude.{is_some}
 use mathlib.Core.Bool.{true≢false}
 use Rattle.histar_flat.specs.Words.{ProcName}
@@ -33,6 +33,7 @@ use Rattle.histar_refinement.proofs.WrapTests.{grown, holding}
 use Rattle.histar_process_rows.proofs.BirthObjects.{LinksTo, Around, around_category, home_apart, segment_apart}
 use Rattle.histar_process_rows.proofs.BirthChecks.{IsModified, IsLesser, IsTaken}
 use Rattle.histar_process_rows.proofs.BirthRights.{around_before}
+use Rattle.histar_wrap_rows.proofs.ScratchLabels.{rights_with_job}
 
 module _ (session : Session) (s : State) (f : Flat) (l : Laid session s f) (me : ProcName) (p : Process) (here : f.processes me ≡ Some p) (runs : p.exited ≡ None) (room : p.born < 64)
     (declared : is_some (user_number session p.user) ≡ true) (served : IsServed f ((p.born + 1) ∷ me)) (jobs_ordered : AreInOrder l.category (p.chain ++ ((p.born + 1) ∷ me) ∷ []))
@@ -78,8 +79,8 @@ module _ (session : Session) (s : State) (f : Flat) (l : Laid session s f) (me :
   newborn = record { user = p.user; chain = jobs; held = []; exited = None; born = 0 }
 
   -- what the thread owns with the job, and with the first of the child's categories
-  abbrev pub mine : Rights
-  mine = record { owned = OfJob ((p.born + 1) ∷ me) ∷ (thread_rights session me p).owned; tainted = (thread_rights session me p).tainted }
+  abbrev mine : Rights
+  mine = rights_with_job session me p
 
   abbrev first : Rights
   first = record { owned = ReadsProcess child ∷ mine.owned; tainted = mine.tainted }
@@ -148,7 +149,7 @@ module _ (session : Session) (s : State) (f : Flat) (l : Laid session s f) (me :
 
   -- In a state with these objects, where the thread has the job and all other objects are as they are.
   module _ (T : ℕ) (at_thread : l.naming.number (Runner ∷ Inside ∷ home_of me) ≡ Some T) (objects : Objects Levels) (others : (q : ℕ) → q ≢ T → objects q ≡ s.objects q)
-      (thread : objects T ≡ object (rights_label l.category mine) (Thread (rights_clearance l.category mine))) where
+      (thread : objects T ≡ object (rights_label l.category (rights_with_job session me p)) (Thread (rights_clearance l.category (rights_with_job session me p)))) where
     abbrev pub beside_state : State
     beside_state = record { objects = objects; next_object = s.next_object; next_category = s.next_category }
 
@@ -237,10 +238,10 @@ module _ (session : Session) (s : State) (f : Flat) (l : Laid session s f) (me :
   -- ---- the labels that it takes then
 
   -- what it has with the job is what it has as the holder of the job
-  pub own_is : rights_label l.category mine ≡ rights_label names (holding session names apart me p ((p.born + 1) ∷ me))
+  pub own_is : rights_label l.category (rights_with_job session me p) ≡ rights_label names (holding session names apart me p ((p.born + 1) ∷ me))
   own_is = sym (same_rights_label l.category names mine (λ c e. kept c (used.0 c e), λ c e. kept c (used.1 c e))) ∙ tests.label_holding session names apart me p child
 
-  pub most_is : rights_clearance l.category mine ≡ rights_clearance names (holding session names apart me p ((p.born + 1) ∷ me))
+  pub most_is : rights_clearance l.category (rights_with_job session me p) ≡ rights_clearance names (holding session names apart me p ((p.born + 1) ∷ me))
   most_is = sym (same_rights_clearance l.category names mine (λ c e. kept c (used.0 c e), λ c e. kept c (used.1 c e))) ∙ tests.clearance_holding session names apart me p child
 
   taken_then : IsTaken owner owner_most (rights_label names (holding session names apart me p child)) (rights_clearance names (holding session names apart me p child)) (next + 1 + 1)
@@ -256,5 +257,5 @@ module _ (session : Session) (s : State) (f : Flat) (l : Laid session s f) (me :
       }
 
   -- it may have its own labels with the job
-  pub own_taken : IsTaken owner owner_most (rights_label l.category mine) (rights_clearance l.category mine) (s.next_category + 1 + 1)
+  pub own_taken : IsTaken owner owner_most (rights_label l.category (rights_with_job session me p)) (rights_clearance l.category (rights_with_job session me p)) (s.next_category + 1 + 1)
   own_taken = subst (λ (x : Levels × Levels). IsTaken owner owner_most x.0 x.1 (next + 1 + 1)) (λ i. (sym own_is i, sym most_is i)) taken_then

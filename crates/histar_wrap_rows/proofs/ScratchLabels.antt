@@ -18,7 +18,7 @@ use Rattle.histar_process.specs.Kin.{owned_by}
 use Rattle.histar_refinement.specs.Sessions.{IsSession}
 use Rattle.histar_refinement.specs.Categories.{CategoryName, Categories, AreDifferent, IsMade, among, naming_next, IsUsed}
 use Rattle.histar_refinement.specs.Categories.CategoryName.{ReadsUser, OfJob}
-use Rattle.histar_refinement.specs.Guards.{Guard, guard_label, rights_label, rights_clearance}
+use Rattle.histar_refinement.specs.Guards.{Guard, Rights, guard_label, rights_label, rights_clearance}
 use Rattle.histar_refinement.specs.Labels.{class_guard, scratch_guard, thread_rights}
 use Rattle.histar_refinement.specs.LaysOut.{Laid}
 use Rattle.histar_refinement.specs.Processes.{or_zero}
@@ -37,6 +37,10 @@ use Rattle.histar_refinement.proofs.WrapTests as tests
 use Rattle.histar_process_rows.proofs.OwnLabels.{own_user_is}
 use Rattle.histar_process_rows.proofs.BirthChecks.{IsModified}
 use Rattle.histar_wrap.specs.Scratch.{jobs_with, directory_label, kin_in}
+
+-- the rights of a thread that owns the category of a new job too, which is named by the next child
+abbrev pub rights_with_job : Session → ProcName → Process → Rights
+rights_with_job session me p = record { owned = OfJob ((p.born + 1) ∷ me) ∷ (thread_rights session me p).owned; tainted = (thread_rights session me p).tainted }
 
 -- a number is itself
 number_itself : (i : ℕ) → is_number (Some i) i ≡ true
@@ -82,10 +86,10 @@ module _ (session : Session) (s : State) (f : Flat) (l : Laid session s f) (me :
   own_old = let used = rights_used session f me p here in (λ c e. old c (used.0 c e), λ c e. old c (used.1 c e))
 
   -- it owns the job's category
-  label_with_job : with_level own job Star ≡ rights_label names (record { owned = OfJob child ∷ (thread_rights session me p).owned; tainted = (thread_rights session me p).tainted })
+  label_with_job : with_level own job Star ≡ rights_label names (rights_with_job session me p)
   label_with_job = made_label l.category l.different job (OfJob child) (thread_rights session me p) own_old
 
-  clearance_with_job : with_level most job L3 ≡ rights_clearance names (record { owned = OfJob child ∷ (thread_rights session me p).owned; tainted = (thread_rights session me p).tainted })
+  clearance_with_job : with_level most job L3 ≡ rights_clearance names (rights_with_job session me p)
   clearance_with_job = made_clearance l.category l.different job (OfJob child) (thread_rights session me p) own_old
 
   -- ---- the jobs
@@ -135,8 +139,8 @@ module _ (session : Session) (s : State) (f : Flat) (l : Laid session s f) (me :
     is_user : is_number (user_number session p.user) i ≡ true
     is_user = ap (λ o. is_number o i) declared ∙ number_itself i
 
-    modified_by_names : IsModified (rights_label names (record { owned = OfJob child ∷ (thread_rights session me p).owned; tainted = (thread_rights session me p).tainted }))
-        (rights_clearance names (record { owned = OfJob child ∷ (thread_rights session me p).owned; tainted = (thread_rights session me p).tainted })) (guard_label names (scratch_guard jobs i)) (job + 1)
+    modified_by_names : IsModified (rights_label names (rights_with_job session me p))
+        (rights_clearance names (rights_with_job session me p)) (guard_label names (scratch_guard jobs i)) (job + 1)
     modified_by_names = record {
       above = tests.scratch_above session names apart me p child i;
       below = tests.scratch_below session names apart me p child i ∙ is_user;
@@ -164,11 +168,11 @@ module _ (session : Session) (s : State) (f : Flat) (l : Laid session s f) (me :
   -- ---- by a naming that is this one
 
   module _ (category : Categories) (is : category ≡ naming_next l.category s.next_category (OfJob ((p.born + 1) ∷ me))) where
-    pub label_by : with_level own job Star ≡ rights_label category (record { owned = OfJob ((p.born + 1) ∷ me) ∷ (thread_rights session me p).owned; tainted = (thread_rights session me p).tainted })
-    label_by = label_with_job ∙ ap (λ (c : Categories). rights_label c (record { owned = OfJob child ∷ (thread_rights session me p).owned; tainted = (thread_rights session me p).tainted })) (sym is)
+    pub label_by : with_level own job Star ≡ rights_label category (rights_with_job session me p)
+    label_by = label_with_job ∙ ap (λ (c : Categories). rights_label c (rights_with_job session me p)) (sym is)
 
-    pub clearance_by : with_level most job L3 ≡ rights_clearance category (record { owned = OfJob ((p.born + 1) ∷ me) ∷ (thread_rights session me p).owned; tainted = (thread_rights session me p).tainted })
-    clearance_by = clearance_with_job ∙ ap (λ (c : Categories). rights_clearance c (record { owned = OfJob child ∷ (thread_rights session me p).owned; tainted = (thread_rights session me p).tainted })) (sym is)
+    pub clearance_by : with_level most job L3 ≡ rights_clearance category (rights_with_job session me p)
+    clearance_by = clearance_with_job ∙ ap (λ (c : Categories). rights_clearance c (rights_with_job session me p)) (sym is)
 
     pub jobs_by : (q : ℕ) → is_in (kin_in session own job).jobs q ≡ is_in (map category (map OfJob jobs)) q
     jobs_by q = jobs_with_job q ∙ ap (λ (c : Categories). is_in (map c (map OfJob jobs)) q) (sym is)
