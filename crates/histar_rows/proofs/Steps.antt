@@ -38,12 +38,12 @@ pub record EndsHere (old new : KernelModel) (result : Result Reply Stopped) : Ty
   pub unanswered : IsErr result
 
 -- a raw call that was granted, and the rest of the call after it
-record GoesOnAfter (old new : KernelModel) (t : ℕ) (call : RawCall) (rest : Outcome call → Program) (result : Result Reply Stopped) : Type 0 where
-  mid : KernelModel
-  answer : AnswerOf call
-  called : Called old mid t call None
-  right : IsAnswer (state old) t call answer
-  runs : Runs (rest (Ok answer)) mid new t result
+pub record GoesOnAfter (old new : KernelModel) (t : ℕ) (call : RawCall) (rest : Outcome call → Program) (result : Result Reply Stopped) : Type 0 where
+  pub mid : KernelModel
+  pub answer : AnswerOf call
+  pub called : Called old mid t call None
+  pub right : IsAnswer (state old) t call answer
+  pub runs : Runs (rest (Ok answer)) mid new t result
 
 -- a raw call that was refused, and what its denial made of the call
 record IsRefusedAt (old new : KernelModel) (t : ℕ) (call : RawCall) (rest : Outcome call → Program) (denied : Denied) (result : Result Reply Stopped) : Type 0 where
@@ -88,7 +88,7 @@ module _ (t : ℕ) (old new : KernelModel) where
     ]
 
     -- the rules grant it
-    granted_so : check (state old) t call ≡ None → (result : Result Reply Stopped) → Runs (Asks call rest) old new t result → EndsHere old new result ⊎ GoesOnAfter old new t call rest result
+    pub granted_so : check (state old) t call ≡ None → (result : Result Reply Stopped) → Runs (Asks call rest) old new t result → EndsHere old new result ⊎ GoesOnAfter old new t call rest result
     granted_so passes result runs = elim (asked_so result runs) [
       | inl ends ↦ inl ends
       | inr goes ↦ by goes.0 goes.1 goes.2 goes.3
