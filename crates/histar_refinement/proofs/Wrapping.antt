@@ -101,13 +101,7 @@ module _ (session : Session) (s : State) (f : Flat) (l : LaysOut session s f) (m
   held_ordered = in_order_last m.category child p.held (λ job e. below_job job (held_known job e)) ((m.processes me p here).held runs)
 
   class_made : (job : ProcName) → is_for class job ≡ true → IsMade (s.next_category + 1) (m.category (OfJob job))
-  class_made job e = elim (has_added p.chain child job e) [
-    | inl k ↦ m.made (OfJob job) (chain_known job k)
-    | inr is ↦
-        let first = l.laid.made CategoryName.OfBoot tt in
-        let new : m.category (OfJob job) ≡ s.next_category = ap (λ (j : ProcName). m.category (OfJob j)) is ∙ job_number in
-        (omega (arith, first.0, first.1, new), omega (arith, new))
-  ]
+  class_made = jobs.chain_made session s f l me p here
 
   pub guard_is : class_guard session class ≡ Some (scratch_guard chain i)
   guard_is = ap (option_map (scratch_guard chain)) declared

@@ -1,2 +1,3 @@
 pub mod GivenBack
+pub mod ScratchChecks
 pub mod GrantedWrap
