@@ -1,3 +1,4 @@
 pub mod GivenBack
 pub mod ScratchChecks
 pub mod GrantedWrap
+pub mod WrapCall
