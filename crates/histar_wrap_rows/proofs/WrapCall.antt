@@ -1,9 +1,7 @@
 -- A wrap is the row of its call: it is refused as the flat rules say, and then what the thread took is given back; or the container of its
 -- scratch directory is made, and the job is begun.
-use Rattle.std.proofs.Common.{◌≡◌, ℕ, ◌+◌, inl, inr, Bool, true, false, List, [], ◌∷◌, ◌++◌, length, Option, None, Some, Result, Ok, Err, refl, sym, ap, ◌∙◌, subst}
+use Rattle.std.proofs.Common.{◌≡◌, ℕ, ◌+◌, inl, inr, Bool, true, false, List, [], ◌∷◌, ◌++◌, length, Option, None, Some, Result, refl, sym, ap, ◌∙◌, subst}
 use Rattle.std.specs.Prelude.{IsTrue, is_some, nat_lt, not}
-use Rattle.std.specs.FinMap as map
-use Rattle.std.specs.FinSet as set
 use mathlib.Core.Bool.{true≢false}
 use Rattle.histar_base.specs.Refusals.{◌orelse◌, unless}
 use Rattle.histar_flat.specs.declared.calls.UnixCall.TheVariants.{Wrap}
@@ -17,27 +15,24 @@ use Rattle.histar_flat.specs.Sessions.{Session, user_number}
 use Rattle.histar_flat.specs.Classes.{Process, nobody, may_write}
 use Rattle.histar_flat.specs.Files.{get}
 use Rattle.histar_flat.specs.FlatState.{Flat, entries_in, into}
-use Rattle.histar_flat.specs.FlatCalls.{most_entries, no_child, no_room, refused}
+use Rattle.histar_flat.specs.FlatCalls.{most_entries, no_room, refused}
 use Rattle.histar_label.specs.Levels.{Levels}
-use Rattle.histar_object.specs.declared.objects.Kind.TheVariants.{Container}
 use Rattle.histar_object.specs.Rights.{with_category, relabelled, with_changed}
 use Rattle.histar_object.specs.State.{State, added}
 use Rattle.histar_rules.specs.declared.raw.Denied.{Denied}
 use Rattle.histar_rules.specs.declared.raw.Denied.TheVariants.{Modify, Range, TooBig}
 use Rattle.histar_rules.specs.declared.raw.RawCall.{RawCall}
-use Rattle.histar_rules.specs.declared.raw.RawCall.TheVariants.{MakeCategory, MakeContainer, MakeSegment, OwnLabel, SetLabel, SetClearance}
+use Rattle.histar_rules.specs.declared.raw.RawCall.TheVariants.{MakeCategory, MakeContainer, OwnLabel, SetLabel, SetClearance}
 use Rattle.histar_rules.specs.Rules.{check, has_number}
 use Rattle.histar_syscall.specs.KernelModel.{KernelModel, state}
 use Rattle.histar_syscall.specs.declared.trace.TraceEntry.{TraceEntry}
 use Rattle.histar_layout.specs.Status.{ProcessStatus}
-use Rattle.histar_layout.specs.declared.entry.Target.TheVariants as targets
 use Rattle.histar_calls.specs.declared.ending.Stopped.{Stopped}
 use Rattle.histar_calls.specs.declared.find.Room.{Room}
-use Rattle.histar_calls.specs.declared.places.Place.{Place}
 use Rattle.histar_calls.specs.Refusals.{errno_for}
 use Rattle.histar_calls.specs.Programs.{Program, Runs}
 use Rattle.histar_calls.specs.Programs.Program.{Answers}
-use Rattle.histar_calls.specs.Parts.{ask, find_room, write_entries}
+use Rattle.histar_calls.specs.Parts.{ask, find_room}
 use Rattle.histar_process.specs.declared.caller.Caller.{Caller}
 use Rattle.histar_process.specs.Birth.{birth}
 use Rattle.histar_process.specs.Caller.{caller_at}
@@ -51,7 +46,7 @@ use Rattle.histar_refinement.proofs.SessionLemmas.{equal_tested}
 use Rattle.histar_refinement.proofs.Standing.{some_of}
 use Rattle.histar_refinement.proofs.WrapRefused.{lays_out_refused}
 use Rattle.histar_rows.specs.Rows.{IsReady, AreAmong, HasWalk, HasWalkUnlessFull, has_category}
-use Rattle.histar_rows.proofs.Chains.{Step, all_granted, entries_of, Chain}
+use Rattle.histar_rows.proofs.Chains.{all_granted, entries_of, Chain}
 use Rattle.histar_rows.proofs.Steps.{Goal, allowed_step, spent_step}
 use Rattle.histar_rows.proofs.Walks.{walk_reads, among_granted_behind, among_then, among_also}
 use Rattle.histar_file_rows.proofs.FoundObjects.{container, directory_class, thread}
@@ -62,6 +57,7 @@ use Rattle.histar_process_rows.proofs.BirthSteps.{category_step}
 use Rattle.histar_process_rows.proofs.ChildRoom.{NeedsChild, own_of, most_of, status_of, reads, at_thread, child_room_step, own_label_step}
 use Rattle.histar_wrap_rows.specs.Laws.{WrapsAreRows}
 use Rattle.histar_wrap_rows.proofs.GivenBack.{given_back_step}
+use Rattle.histar_wrap_rows.proofs.GrantedWrap as granted
 use Rattle.histar_wrap_rows.proofs.GrantedWrap.{JobBegun}
 use Rattle.histar_wrap_rows.proofs.ScratchChecks.{set_label_said, set_clearance_said, scratch_said}
 
@@ -157,9 +153,7 @@ module _ (session : Session) (ok : IsSession session) (me : ProcName) (caller : 
 
       -- what is left of the program once it has a number
       abbrev within : ℕ → Program
-      within number =
-          ask (MakeSegment number (directory_label session own job) []) (λ listing. write_entries room.place (map.insert room.entries m (targets.Directory number listing))
-          (λ _. birth caller.home status (kin_in session own job) (λ _. hold_job (own, most) job (λ _. Answers (Child ((status.born + 1) ∷ me))))))
+      within = granted.within session ok me caller old new f result ready found m named d
 
       module _ (open_so_far : into session f p d ≡ None) (absent : get f.files (m ∷ d) ≡ None) (roomy : nat_lt (length (entries_in f d)) most_entries ≡ true)
           (mid : KernelModel) (counted : state mid ≡ with_category (state old) t) (chain : Chain old t (all_granted before) mid) where
@@ -192,7 +186,7 @@ module _ (session : Session) (ok : IsSession session) (me : ProcName) (caller : 
             (λ linked number called number_is longer rest.
             let user = some_of (user_number session p.user) is_declared in
             begun long few open_so_far absent roomy is_may user.0 user.1 is_has (before ++ next ∷ []) (among_then old.line t walk before (next ∷ []) among_before) linked
-            (called.state ∙ ap (λ (s : State). added s room.place.container (record { label = directory_label session own job; kind = Container set.empty })) counted) longer
+            (called.state ∙ ap (λ (s : State). added s room.place.container (granted.container session ok me caller old new f result ready found m named d)) counted) longer
             (subst (λ (q : ℕ). Runs (within q) linked new t result) (number_is ∙ ap (λ (s : State). s.next_object) counted) rest))
 
         made_step : Runs (in_job status (own, most) room job) mid new t result → Row
