@@ -1,8 +1,7 @@
 -- A wrap is the row of its call: it is refused as the flat rules say, and then what the thread took is given back; or the container of its
 -- scratch directory is made, and the job is begun.
-use Rattle.std.proofs.Common.{◌≡◌, ℕ, ◌+◌, inl, inr, Bool, true, false, List, [], ◌∷◌, ◌++◌, length, Option, None, Some, Result, refl, sym, ap, ◌∙◌, subst}
+use Rattle.std.proofs.Common.{◌≡◌, ℕ, ◌+◌, inl, Bool, true, false, List, [], ◌∷◌, ◌++◌, length, Option, None, Some, Result, refl, sym, ap, ◌∙◌, subst}
 use Rattle.std.specs.Prelude.{IsTrue, is_some, nat_lt, not}
-use mathlib.Core.Bool.{true≢false}
 use Rattle.histar_base.specs.Refusals.{◌orelse◌, unless}
 use Rattle.histar_flat.specs.declared.calls.UnixCall.TheVariants.{Wrap}
 use Rattle.histar_flat.specs.declared.replies.Errno.{Errno}
@@ -42,14 +41,13 @@ use Rattle.histar_wrap.specs.WrapCall.{wrap_program}
 use Rattle.histar_refinement.specs.Sessions.{IsSession}
 use Rattle.histar_refinement.specs.LaysOut.{LaysOut}
 use Rattle.histar_refinement.proofs.Beside.{own_set}
-use Rattle.histar_refinement.proofs.SessionLemmas.{equal_tested}
 use Rattle.histar_refinement.proofs.Standing.{some_of}
 use Rattle.histar_refinement.proofs.WrapRefused.{lays_out_refused}
 use Rattle.histar_rows.specs.Rows.{IsReady, AreAmong, HasWalk, HasWalkUnlessFull, has_category}
 use Rattle.histar_rows.proofs.Chains.{all_granted, entries_of, Chain}
 use Rattle.histar_rows.proofs.Steps.{Goal, allowed_step, spent_step}
 use Rattle.histar_rows.proofs.Walks.{walk_reads, among_granted_behind, among_then, among_also}
-use Rattle.histar_file_rows.proofs.FoundObjects.{container, directory_class, thread}
+use Rattle.histar_file_rows.proofs.FoundObjects.{container, directory_class, is_nobody, thread}
 use Rattle.histar_file_rows.proofs.FoundRoom.{NeedsRoom, slash_stands, the_room, has_reads, refused_in_room, room_step}
 use Rattle.histar_file_rows.proofs.NewEntries.{last_name}
 use Rattle.histar_process_rows.proofs.BirthChecks.{category_said}
@@ -87,13 +85,6 @@ module _ (session : Session) (ok : IsSession session) (me : ProcName) (caller : 
   -- behind the room for a child and for an entry, a wrap needs a declared user
   abbrev not_nobody : Option Errno
   not_nobody = unless (not (same p.user nobody)) EPERM
-
-  -- a user that is not declared is nobody
-  is_nobody : is_some (user_number session p.user) ≡ false → same p.user nobody ≡ true
-  is_nobody none = elim ((ready.lays_out.laid.processes me p ready.caller.stands).someone ready.caller.runs) [
-    | inl e ↦ equal_tested p.user nobody e
-    | inr e ↦ absurd (true≢false (sym e ∙ none))
-  ]
 
   -- first it needs room for a child
   needs_child : (q : Path) → NeedsChild session f me p (Wrap q) (no_room session f p q orelse not_nobody)
@@ -178,7 +169,7 @@ module _ (session : Session) (ok : IsSession session) (me : ProcName) (caller : 
         by_right : (can declared has : Bool) → may ≡ can → is_some (user_number session p.user) ≡ declared → has_number (state old) ≡ has
             → check (state mid) t next ≡ (unless can Modify orelse unless declared Range orelse unless has TooBig) → Runs (ask_or_give_back (own, most) next within) mid new t result → Row
         by_right false declared has is_may is_declared is_has said on = given_back Modify EACCES said refl (refused_is false is_may) on
-        by_right true false has is_may is_declared is_has said on = given_back Range EPERM said refl (refused_is true is_may ∙ ap (λ (b : Bool). unless (not b) EPERM) (is_nobody is_declared)) on
+        by_right true false has is_may is_declared is_has said on = given_back Range EPERM said refl (refused_is true is_may ∙ ap (λ (b : Bool). unless (not b) EPERM) (is_nobody session ok (state old) f me t ready is_declared)) on
         by_right true true false is_may is_declared is_has said on =
             spent_step session f me ready.caller (Wrap (m ∷ d)) old new t ready.thread result before mid chain next (or_given_back (own, most) (errno_for next) within) said refl (inl (ap has_number counted ∙ is_has)) on
         by_right true true true is_may is_declared is_has said on =
