@@ -23,6 +23,7 @@ use Rattle.histar_rules.specs.declared.raw.RawCall.TheVariants as raw
 use Rattle.histar_rules.specs.Rules.{greatest}
 use Rattle.histar_syscall.specs.KernelModel.{KernelModel, state}
 use Rattle.histar_layout.specs.declared.entry.Target.TheVariants as targets
+use Rattle.histar_syscall.proofs.Runs.{same_kernel}
 use Rattle.histar_calls.specs.declared.ending.Stopped.{Stopped}
 use Rattle.histar_calls.specs.declared.find.Room.{Room}
 use Rattle.histar_calls.specs.Programs.{Program, Runs}
@@ -36,12 +37,13 @@ use Rattle.histar_refinement.proofs.Creating.{laid_created}
 use Rattle.histar_rows.specs.Rows.{IsReady}
 use Rattle.histar_rows.specs.Laws.{CreatesAreRows}
 use Rattle.histar_file_rows.proofs.FoundObjects.{container, listing, directory_stands, directory_class, container_numbered, listing_numbered, below, listing_still, segment_made}
-use Rattle.histar_file_rows.proofs.MadeEntries.{MakesEntry, slash_stands, asked, among_asked, the_room, GoesOn, entry_step, entry_written}
+use Rattle.histar_file_rows.proofs.FoundRoom.{slash_stands, the_room}
+use Rattle.histar_file_rows.proofs.MadeEntries.{MakesEntry, asked, among_asked, GoesOn, entry_step, entry_written}
 use Rattle.histar_file_rows.proofs.NewEntries.{last_name}
 
 -- a create makes an empty file
 create_makes : (session : Session) (f : Flat) (me : ProcName) (p : Process) (q : Path) (mode : Mode) → MakesEntry session f me p q mode (File []) (calls.Create q mode)
-create_makes session f me p q mode = record { refuses = refl; changes = refl; answers = refl; reads = λ s reply entries walk. walk }
+create_makes session f me p q mode = record { needs = record { refuses = refl; reads = λ s reply entries walk. walk }; changes = refl; answers = refl }
 
 -- the segment of the file is made, and the directory is written
 abbrev make : ℕ → Levels → RawCall
@@ -78,7 +80,7 @@ module _ (session : Session) (ok : IsSession session) (old new : KernelModel) (f
 pub creates_are_rows : CreatesAreRows
 unfolding create_program
 creates_are_rows session ok [] mode right me old new f t result ready run =
-    slash_stands session old new f me t ready mode (File []) (calls.Create [] mode) result (create_makes session f me ready.caller.process [] mode) _ run
+    slash_stands session old new f me t ready (calls.Create [] mode) result _ (create_makes session f me ready.caller.process [] mode).needs [] old refl (same_kernel old) _ run
 creates_are_rows session ok (m ∷ d) mode right me old new f t result ready run =
     entry_step session ok old new f me t ready m d mode (File []) (calls.Create (m ∷ d) mode) result (create_makes session f me ready.caller.process (m ∷ d) mode) make within
     (λ open_so_far. segment_made session ok (state old) f me t ready d open_so_far) run (goes_on session ok old new f me t ready m (last_name m d right) d mode result)

@@ -1,12 +1,14 @@
 -- What a call finds where the way into a directory is open: the thread, the directory and its directory segment, and a file in it.
-use Rattle.std.proofs.Common.{◌≡◌, ℕ, ◌+◌, ◌<◌, ◌&&◌, Bool, true, false, List, [], ◌∷◌, Option, None, Some, refl, sym, ap, ◌∙◌, length}
-use Rattle.std.specs.Prelude.{min}
+use Rattle.std.proofs.Common.{◌≡◌, ℕ, ◌+◌, ◌<◌, ◌&&◌, inl, inr, Bool, true, false, List, [], ◌∷◌, Option, None, Some, refl, sym, ap, ◌∙◌, length}
+use Rattle.std.specs.Prelude.{min, is_some}
 use Rattle.std.specs.FinSet as set
+use mathlib.Core.Bool.{true≢false}
 use Rattle.histar_base.specs.Refusals.{◌orelse◌, unless}
 use Rattle.histar_flat.specs.Words.{Name, Path, ProcName}
-use Rattle.histar_flat.specs.Sessions.{Session}
+use Rattle.histar_flat.specs.PathOrder.{same}
+use Rattle.histar_flat.specs.Sessions.{Session, user_number}
 use Rattle.histar_flat.specs.Files.{get}
-use Rattle.histar_flat.specs.Classes.{Class, Process, may_read, may_write}
+use Rattle.histar_flat.specs.Classes.{Class, Process, nobody, may_read, may_write}
 use Rattle.histar_flat.specs.FlatState.{Flat, Node, is_some_and, is_dir_at, bytes_of, bytes_at, reads, writes, into}
 use Rattle.histar_flat.specs.FlatState.Content.{Dir, File}
 use Rattle.histar_label.specs.Levels.{Levels, is_below, is_below_raised}
@@ -37,6 +39,7 @@ use Rattle.histar_refinement.proofs.RawChecks.{object}
 use Rattle.histar_refinement.proofs.FileChecks.{read_file_said, write_file_said, make_segment_said, segment_out_of_range, make_container_said, container_out_of_range}
 use Rattle.histar_refinement.proofs.FileRows.{AreKnown}
 use Rattle.histar_refinement.proofs.MakingRanges.{is_made_within}
+use Rattle.histar_refinement.proofs.SessionLemmas.{equal_tested}
 use Rattle.histar_refinement.proofs.Standing.{thread_found, guard_at, container_found, listing_found, file_found, step_linked}
 use Rattle.histar_rows.specs.Rows.{IsReady}
 use Rattle.histar_rows.proofs.Walks.{runs, place_at, stands, at_container, at_listing, dir, seen, file_number}
@@ -68,6 +71,13 @@ module _ (session : Session) (ok : IsSession session) (s : State) (f : Flat) (me
 
   pub thread_below : t < s.next_object
   thread_below = below runner t (runs session ok s f me t ready).2
+
+  -- a user that is not declared is nobody
+  pub is_nobody : is_some (user_number session ready.caller.process.user) ≡ false → same ready.caller.process.user nobody ≡ true
+  is_nobody none = elim ((l.processes me p ready.caller.stands).someone ready.caller.runs) [
+    | inl e ↦ equal_tested p.user nobody e
+    | inr e ↦ absurd (true≢false (sym e ∙ none))
+  ]
 
   module _ (d : Path) where
     abbrev pub container : ℕ

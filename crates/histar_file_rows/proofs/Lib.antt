@@ -1,5 +1,6 @@
 pub mod Files
 pub mod FoundObjects
+pub mod FoundRoom
 pub mod MadeEntries
 pub mod Makers
 pub mod NewEntries

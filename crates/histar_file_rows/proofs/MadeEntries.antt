@@ -1,24 +1,22 @@
 -- A call that makes an entry, as `create` and `mkdir` do: there is room for it, the thread makes the object with the label of what it makes
 -- in the mode, and the directory is written with the entry; or the call is refused as the flat rules refuse it.
-use Rattle.std.proofs.Common.{◌≡◌, ℕ, ◌<◌, Bool, true, false, List, [], ◌∷◌, ◌++◌, Option, None, Some, Result, arith, refl, sym, ap, ◌∙◌, subst, length, ◌≤◌, ◌==◌}
-use Rattle.std.specs.Prelude.{IsTrue, is_some, nat_lt, not}
+use Rattle.std.proofs.Common.{◌≡◌, ℕ, ◌<◌, Bool, true, false, List, [], ◌∷◌, ◌++◌, Option, None, Some, Result, arith, refl, sym, ap, ◌∙◌, subst, length}
+use Rattle.std.specs.Prelude.{IsTrue, is_some, nat_lt}
 use Rattle.std.specs.FinMap as map
 use Rattle.std.proofs.lemmas.Bool.{ltb-true}
-use Rattle.std.proofs.lemmas.Bool.Decides.{nat_tests}
 use Rattle.std.proofs.lemmas.Option.{same_Some}
 use Rattle.histar_base.specs.Refusals.{◌orelse◌, unless}
 use Rattle.histar_flat.specs.declared.calls.Mode.{Mode}
 use Rattle.histar_flat.specs.declared.calls.UnixCall.{UnixCall}
 use Rattle.histar_flat.specs.declared.replies.Errno.{Errno}
-use Rattle.histar_flat.specs.declared.replies.Errno.TheVariants.{EACCES, EPERM, EEXIST, ENOSPC}
+use Rattle.histar_flat.specs.declared.replies.Errno.TheVariants.{EACCES, EPERM}
 use Rattle.histar_flat.specs.declared.replies.Reply.{Reply}
-use Rattle.histar_flat.specs.declared.replies.Reply.TheVariants.{Done, Refused}
+use Rattle.histar_flat.specs.declared.replies.Reply.TheVariants.{Done}
 use Rattle.histar_flat.specs.Words.{Name, Path, ProcName, is_name}
 use Rattle.histar_flat.specs.Sessions.{Session}
 use Rattle.histar_flat.specs.Files.{get}
 use Rattle.histar_flat.specs.Classes.{Class, Process, class_made, may_write}
-use Rattle.histar_flat.specs.FlatState.{Flat, Content, entries_in, with_node, into, Node, is_some_and, writes}
-use Rattle.histar_flat.specs.FlatState.Content.{Dir, File}
+use Rattle.histar_flat.specs.FlatState.{Flat, Content, entries_in, with_node, into}
 use Rattle.histar_flat.specs.FlatCalls as flat
 use Rattle.histar_flat.specs.FlatCalls.{refused, changed, most_entries, class_or_open, no_room}
 use Rattle.histar_label.specs.Levels.{Levels}
@@ -30,9 +28,7 @@ use Rattle.histar_rules.specs.declared.raw.RawCall.{RawCall}
 use Rattle.histar_rules.specs.declared.raw.RawCall.TheVariants as raw
 use Rattle.histar_rules.specs.Rules.{check, has_number}
 use Rattle.histar_syscall.specs.KernelModel.{KernelModel, state, Called}
-use Rattle.histar_syscall.specs.declared.trace.TraceEntry.{TraceEntry}
 use Rattle.histar_syscall.proofs.Runs.{same_kernel}
-use Rattle.histar_layout.specs.Directory as layout
 use Rattle.histar_layout.specs.Directory.{IsTarget, spelling, Entries}
 use Rattle.histar_layout.specs.declared.entry.Target.{Target}
 use Rattle.histar_layout.proofs.MapLemmas.{listable_insert}
@@ -41,10 +37,9 @@ use Rattle.histar_calls.specs.Refusals.{errno_of}
 use Rattle.histar_calls.specs.Categories.{label_made}
 use Rattle.histar_calls.specs.Programs.{AnswerOf, IsAnswer, Program, Runs}
 use Rattle.histar_calls.specs.Programs.Program.{Answers}
-use Rattle.histar_calls.specs.Parts.{ask, write_entries, find_room, room_at, given}
+use Rattle.histar_calls.specs.Parts.{ask, write_entries, find_room}
 use Rattle.histar_calls.specs.declared.find.Room.{Room}
 use Rattle.histar_calls.specs.declared.places.Place.{Place}
-use Rattle.histar_calls.specs.Replies.{is_access, is_permission}
 use Rattle.histar_login.specs.Start.{places_of}
 use Rattle.histar_refinement.specs.Sessions.{IsSession}
 use Rattle.histar_refinement.specs.Guards.{guard_label}
@@ -53,36 +48,25 @@ use Rattle.histar_refinement.proofs.ClassTests.{observes_class, modifies_class}
 use Rattle.histar_refinement.proofs.DirectoryLaws.{spelling_fits}
 use Rattle.histar_refinement.proofs.Making.{count_entries, jobs_made}
 use Rattle.histar_refinement.proofs.RawChecks.{caller_passes}
-use Rattle.histar_rows.specs.Rows.{IsReady, AreAmong, HasWalk, HasReads}
+use Rattle.histar_rows.specs.Rows.{IsReady, AreAmong}
 use Rattle.histar_rows.proofs.Chains.{all_granted, entries_of, Chain, Step}
 use Rattle.histar_rows.proofs.Endings.{IsBacked, ReadsAmong}
-use Rattle.histar_rows.proofs.Steps.{Goal, granted_step, refused_step, exhausted_step, answered_step, refused_at_once}
-use Rattle.histar_rows.proofs.Walks.{place_at, walk_reads, holds, among_granted_all, among_then, among_also, nothing_there, file_there, directory_there, has_walk, walk_step}
-use Rattle.histar_file_rows.proofs.FoundObjects.{label, clearance, thread, entries, is_dir, directory_class, may_look, writes_as_class, directory_guard, HasListing, MakesObject}
+use Rattle.histar_rows.proofs.Steps.{Goal, granted_step, refused_step, exhausted_step, answered_step}
+use Rattle.histar_rows.proofs.Walks.{place_at, walk_reads, holds, among_granted_all, among_then, among_also}
+use Rattle.histar_file_rows.proofs.FoundObjects.{label, clearance, thread, entries, is_dir, directory_class, may_look, directory_guard, HasListing, MakesObject}
+use Rattle.histar_file_rows.proofs.FoundRoom.{NeedsRoom, the_room, has_reads, refused_in_room, room_step}
 use Rattle.histar_file_rows.proofs.Makers.{own, MakesClass, makes}
 use Rattle.histar_file_rows.proofs.NewEntries.{segment_written}
 
--- What the flat rules say of a call that makes an entry with this content: what they refuse and change, their answer, and that it cannot do without the reads of the walk.
+-- What the flat rules say of a call that makes an entry with this content: that it needs room and a class for it, what they change, and their answer.
 pub record MakesEntry (session : Session) (f : Flat) (me : ProcName) (p : Process) (q : Path) (mode : Mode) (content : Content) (call : UnixCall) : Type 0 where
-  pub refuses : refused session f me p call ≡ (no_room session f p q orelse unless (is_some (class_made session p mode)) EPERM)
+  pub needs : NeedsRoom session f me p q call (unless (is_some (class_made session p mode)) EPERM)
   pub changes : changed session f me p call ≡ with_node f q (class_or_open (class_made session p mode)) content
   pub answers : flat.answer f me p call ≡ Done
-  pub reads : (s : State) (reply : Reply) (entries : List TraceEntry) → HasWalk session s f p q entries → HasReads session s f p call reply entries
-
--- a call that would make `/`, which stands already
-pub slash_stands : (session : Session) (old new : KernelModel) (f : Flat) (me : ProcName) (t : ℕ) (ready : IsReady session (state old) f me t) (mode : Mode) (content : Content) (call : UnixCall) (result : Result Reply Stopped)
-    → MakesEntry session f me ready.caller.process [] mode content call → (rest : Room → Program) → Runs (find_room (places_of (length session.users)) [] rest) old new t result → Goal session f me ready.caller call old new t ready.thread result
-unfolding find_room
-slash_stands session old new f me t ready mode content call result entry rest run =
-    refused_at_once session f me ready.caller call old new t ready.thread result [] old (same_kernel old) refl ready.lays_out EEXIST entry.refuses refl refl (entry.reads (state old) (Refused EEXIST) [] tt) run
 
 module _ (session : Session) (ok : IsSession session) (s : State) (f : Flat) (me : ProcName) (t : ℕ) (ready : IsReady session s f me t) (d : Path) where
   abbrev walk : List RawCall
   walk = walk_reads session ok s f me t ready d
-
-  -- the place of a new entry in the directory
-  abbrev pub the_room : Name → Room
-  the_room m = record { place = place_at session ok s f me t ready d; entries = entries session ok s f me t ready d; name = m }
 
   -- the raw calls up to the making
   abbrev pub asked : List RawCall
@@ -115,76 +99,23 @@ module _ (session : Session) (ok : IsSession session) (old new : KernelModel) (f
   abbrev room_here : Room
   room_here = the_room session ok (state old) f me t ready d m
 
+  -- behind the walk there must be a class for it
+  abbrev no_class : Option Errno
+  no_class = unless (is_some (class_made session p mode)) EPERM
+
   -- the reads of the walk are reads that the call cannot do without
-  has_reads : (steps : List Step) (reply : Reply) → AreAmong reads (entries_of old.line t steps) → ReadsAmong session f me ready.caller call old new t ready.thread steps reply
-  has_reads steps reply among = entry.reads (state old) reply (entries_of old.line t steps) (has_walk session ok (state old) f me t ready m d (entries_of old.line t steps) among)
+  has_reads_made : (steps : List Step) (reply : Reply) → AreAmong reads (entries_of old.line t steps) → ReadsAmong session f me ready.caller call old new t ready.thread steps reply
+  has_reads_made steps reply among = has_reads session ok old new f me t ready m d call result no_class entry.needs steps reply among
 
   -- the directory has room
   abbrev roomy : Bool
   roomy = nat_lt (length (entries_in f d)) most_entries
 
-  -- the tests of making an entry in the directory, in their order
-  abbrev tests : Option Node → Bool → Bool → Option Errno
-  tests o room may = unless (not (is_some_and o (λ n. true))) EEXIST orelse unless room ENOSPC orelse unless may EACCES
-
-  refused_is : (way : Option Errno) (o : Option Node) (room may : Bool) → into session f p d ≡ way → get f.files (m ∷ d) ≡ o → roomy ≡ room → writes session f p d ≡ may
-      → refused session f me p call ≡ ((way orelse tests o room may) orelse unless (is_some (class_made session p mode)) EPERM)
-  refused_is way o room may is_way is_o is_room is_may = entry.refuses ∙ (λ i. (is_way i orelse tests (is_o i) (is_room i) (is_may i)) orelse unless (is_some (class_made session p mode)) EPERM)
-
-  -- ---- there is room
-
-  module _ (rest : Room → Program) where
-    -- once the name was looked up
-    abbrev at_entry : Option Target → Bool → Program
-    at_entry target full = given (room_at target full) (λ _. rest room_here)
-
-    -- the call goes on with the room
-    abbrev GoesOnWithRoom : Type 0
-    GoesOnWithRoom = into session f p d ≡ None → get f.files (m ∷ d) ≡ None → roomy ≡ true → (mid : KernelModel) → state mid ≡ state old → Chain old t (all_granted reads) mid → Runs (rest room_here) mid new t result → Row
-
-    module _ (go_on : GoesOnWithRoom) (open_so_far : into session f p d ≡ None) (mid : KernelModel) (stays : state mid ≡ state old) (chain : Chain old t (all_granted reads) mid) (on : Runs (at_entry (map.get listed m) (map.len listed == layout.most_entries)) mid new t result) where
-      -- the directory is full exactly where it has no room
-      few : map.len listed ≤ layout.most_entries
-      few = (holds session ok (state old) f me t ready d (is_dir session ok (state old) f me t ready d open_so_far)).listable.few
-
-      full_test : (has_room : Bool) → roomy ≡ has_room → (map.len listed == layout.most_entries) ≡ not has_room
-      full_test true e = let count = count_entries session (state old) f ready.lays_out.laid d in grind (arith, nat_tests, count, few, e)
-      full_test false e = let count = count_entries session (state old) f ready.lays_out.laid d in grind (arith, nat_tests, count, few, e)
-
-      -- the call is refused with no raw call more
-      ends_here : (errno : Errno) → is_access errno ≡ false → is_permission errno ≡ false → refused session f me p call ≡ Some errno → Runs (Answers (Refused errno)) mid new t result → Row
-      ends_here errno no_access no_permission is end =
-          refused_at_once session f me ready.caller call old new t ready.thread result reads mid chain stays ready.lays_out errno is no_access no_permission (has_reads (all_granted reads) (Refused errno) (among_granted_all old.line t reads)) end
-
-      looked_up : (target : Option Target) → map.get listed m ≡ target → Runs (at_entry target (map.len listed == layout.most_entries)) mid new t result
-      looked_up target is = subst (λ (o : Option Target). Runs (at_entry o (map.len listed == layout.most_entries)) mid new t result) is on
-
-      by_content : (class : Class) (c : Content) → get f.files (m ∷ d) ≡ Some (record { class = class; content = c }) → Row
-      by_content class Dir is = ends_here EEXIST refl refl (refused_is None _ roomy (writes session f p d) open_so_far is refl refl) (looked_up _ (directory_there session ok (state old) f me t ready m d class is))
-      by_content class (File bytes) is = ends_here EEXIST refl refl (refused_is None _ roomy (writes session f p d) open_so_far is refl refl) (looked_up _ (file_there session ok (state old) f me t ready m d class bytes is))
-
-      by_room : (b : Bool) → roomy ≡ b → get f.files (m ∷ d) ≡ None → Runs (at_entry None (not b)) mid new t result → Row
-      by_room false no_room absent full = ends_here ENOSPC refl refl (refused_is None None false (writes session f p d) open_so_far absent no_room refl) full
-      by_room true room absent free = go_on open_so_far absent room mid stays chain free
-
-      by_stands : (o : Option Node) → get f.files (m ∷ d) ≡ o → Row
-      by_stands None absent =
-          by_room roomy refl absent (subst (λ (b : Bool). Runs (at_entry None b) mid new t result) (full_test roomy refl) (looked_up None (nothing_there session ok (state old) f me t ready m d absent)))
-      by_stands (Some node) is = by_content node.class node.content is
-
-    -- there is room, or the call is refused
-    room_step : Runs (find_room (places_of (length session.users)) (m ∷ d) rest) old new t result → GoesOnWithRoom → Row
-    unfolding find_room
-    room_step runs go_on =
-        walk_step session ok old new f me t ready call result d (λ directory. given (room_at (map.get directory.entries m) (map.len directory.entries == layout.most_entries)) (λ _. rest (record { place = directory.place; entries = directory.entries; name = m }))) runs
-        (λ errno is steps among. (refused_is (Some errno) (get f.files (m ∷ d)) roomy (writes session f p d) is refl refl refl, has_reads steps (Refused errno) among))
-        (λ open_so_far mid stays chain on. by_stands go_on open_so_far mid stays chain on (get f.files (m ∷ d)) refl)
-
   -- once there is room the directory may be written and the process makes something of this mode, or the call is refused
-  refused_in_room : (open_so_far : into session f p d ≡ None) → get f.files (m ∷ d) ≡ None → roomy ≡ true → (may makes : Bool) → may_write session p (directory_class session ok (state old) f me t ready d open_so_far) ≡ may → is_some (class_made session p mode) ≡ makes
+  refused_then : (open_so_far : into session f p d ≡ None) → get f.files (m ∷ d) ≡ None → roomy ≡ true → (may makes : Bool) → may_write session p (directory_class session ok (state old) f me t ready d open_so_far) ≡ may → is_some (class_made session p mode) ≡ makes
       → refused session f me p call ≡ (unless may EACCES orelse unless makes EPERM)
-  refused_in_room open_so_far absent room may makes is_may is_makes =
-      refused_is None None true may open_so_far absent room (writes_as_class session ok (state old) f me t ready d open_so_far ∙ is_may) ∙ ap (λ (b : Bool). unless may EACCES orelse unless b EPERM) is_makes
+  refused_then open_so_far absent room may makes is_may is_makes =
+      refused_in_room session ok old new f me t ready m d call result no_class entry.needs open_so_far absent room may is_may ∙ ap (λ (b : Bool). unless may EACCES orelse unless b EPERM) is_makes
 
   -- ---- the object is made
 
@@ -223,13 +154,13 @@ module _ (session : Session) (ok : IsSession session) (old new : KernelModel) (f
       denied : (x : Levels) (why : Denied) (errno : Errno) → check (state mid) t (make place.container x) ≡ Some why → errno_of why ≡ Some errno → refused session f me p call ≡ Some errno → Runs (making x) mid new t result → Row
       denied x why errno fails told is on =
           refused_step session f me ready.caller call old new t ready.thread result calls mid chain stays ready.lays_out errno is (make place.container x) (within room_here x) why fails (object.tells x why ∙ told)
-          (has_reads _ _ (among_also old.line t reads calls ((make place.container x, Some why) ∷ []) (among_then old.line t reads reads (raw.OwnLabel ∷ []) (among_granted_all old.line t reads)))) on
+          (has_reads_made _ _ (among_also old.line t reads calls ((make place.container x, Some why) ∷ []) (among_then old.line t reads reads (raw.OwnLabel ∷ []) (among_granted_all old.line t reads)))) on
 
       -- where the kernel lets the thread hand in a label as the flat rules let the process make something, the making is granted or denied as they say
       by_right : (x : Levels) (can makes has : Bool) → may ≡ can → is_some (class_made session p mode) ≡ makes → has_number (state old) ≡ has → check (state mid) t (make place.container x) ≡ (unless can Modify orelse unless makes Range orelse unless has TooBig)
           → (may ≡ true → makes ≡ true → has_number (state old) ≡ true → GoesOnWith mid x) → Runs (making x) mid new t result → Row
-      by_right x false makes has is_may is_makes is_has said go_on on = denied x Modify EACCES said refl (refused_in_room open_so_far absent room false makes is_may is_makes) on
-      by_right x true false has is_may is_makes is_has said go_on on = denied x Range EPERM said refl (refused_in_room open_so_far absent room true false is_may is_makes) on
+      by_right x false makes has is_may is_makes is_has said go_on on = denied x Modify EACCES said refl (refused_then open_so_far absent room false makes is_may is_makes) on
+      by_right x true false has is_may is_makes is_has said go_on on = denied x Range EPERM said refl (refused_then open_so_far absent room true false is_may is_makes) on
       by_right x true true false is_may is_makes is_has said go_on on =
           exhausted_step session f me ready.caller call old new t ready.thread result calls mid chain (make place.container x) (within room_here x) said (object.tells x TooBig) (ap has_number stays ∙ is_has) on
       by_right x true true true is_may is_makes is_has said go_on on = granted_step session f me ready.caller call old new t ready.thread result calls mid chain (make place.container x) (within room_here x) said on (go_on is_may refl is_has)
@@ -252,7 +183,7 @@ module _ (session : Session) (ok : IsSession session) (old new : KernelModel) (f
         → GoesOn → Row
     entry_step object run go_on =
         let there = thread session ok (state old) f me t ready in
-        room_step (λ room. ask raw.OwnLabel (λ labels. ask (make room.place.container (label_made session labels.0 mode)) (within room (label_made session labels.0 mode)))) run
+        room_step session ok old new f me t ready m d call result no_class entry.needs [] old refl (same_kernel old) (λ room. ask raw.OwnLabel (λ labels. ask (make room.place.container (label_made session labels.0 mode)) (within room (label_made session labels.0 mode)))) run
         (λ open_so_far absent room mid stays chain on.
         granted_step session f me ready.caller call old new t ready.thread result reads mid chain raw.OwnLabel (λ labels. making (label_made session labels.0 mode))
         (ap (λ (s : State). check s t raw.OwnLabel) stays ∙ caller_passes (state old) t (label session ok (state old) f me t ready) (clearance session ok (state old) f me t ready) there) on
@@ -299,6 +230,6 @@ module _ (session : Session) (ok : IsSession session) (old new : KernelModel) (f
         granted_step session f me ready.caller call old new t ready.thread result before linked chain write (λ _. Answers Done) (ap (λ (s : State). check s t write) is_later ∙ write_said) on
         (λ end done wrote right whole last.
         let end_state : state end ≡ after = wrote.state ∙ ap (λ (s : State). with_bytes s place.listing bytes) is_later in
-        answered_step session f me ready.caller call old new t ready.thread result (before ++ write ∷ []) end whole Done (sym entry.answers) (refused_in_room open_so_far absent room true true is_may (ap is_some made.class_is))
-        (subst (λ (r : Reply). IsBacked (state old) (entries_of old.line t (all_granted (before ++ write ∷ []))) r) (sym entry.answers) tt) (has_reads _ _ (among_then old.line t reads before (write ∷ []) among))
+        answered_step session f me ready.caller call old new t ready.thread result (before ++ write ∷ []) end whole Done (sym entry.answers) (refused_then open_so_far absent room true true is_may (ap is_some made.class_is))
+        (subst (λ (r : Reply). IsBacked (state old) (entries_of old.line t (all_granted (before ++ write ∷ []))) r) (sym entry.answers) tt) (has_reads_made _ _ (among_then old.line t reads before (write ∷ []) among))
         (subst (λ (s : State). LaysOut session s (changed session f me p call)) (sym end_state) (subst (LaysOut session after) (sym changed_is) lays_out)) last)

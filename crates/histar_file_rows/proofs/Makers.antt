@@ -30,6 +30,7 @@ use Rattle.histar_refinement.proofs.MakingRanges.{is_made_within, private_range,
 use Rattle.histar_refinement.proofs.FileRows.{ClassFits, AreKnown, made_fits, made_known}
 use Rattle.histar_refinement.proofs.CallLabels.{reads_numbered, private_label, readable_label, group_label, user_of_thread}
 use Rattle.histar_rows.specs.Rows.{IsReady}
+use Rattle.histar_file_rows.proofs.FoundObjects.{is_nobody}
 
 -- how what is for the group of this number is guarded; of no group, as nobody's
 abbrev guard_of_group : Option ℕ → Guard
@@ -172,21 +173,15 @@ module _ (session : Session) (ok : IsSession session) (s : State) (f : Flat) (me
     by_user i is modes.Open = inl (makes_open i)
     by_user i is (modes.Group group) = by_group group i (group_number session group) refl (is_member session p.user group) refl
 
-    is_nobody : number ≡ None → same p.user nobody ≡ true
-    is_nobody none = elim ((ready.lays_out.laid.processes me p ready.caller.stands).someone ready.caller.runs) [
-      | inl e ↦ ap (λ (u : Name). same u nobody) e
-      | inr e ↦ absurd (true≢false (sym e ∙ ap is_some none))
-    ]
-
     -- and nobody none
     by_nobody : number ≡ None → (x : Mode) → CanMake x 0 ⊎ CannotMake x 0
     by_nobody none modes.Private = inr (record {
       outside = private_range session ready.lays_out.laid.category ready.lays_out.laid.different me p 0 ∙ off;
-      nothing = ap (λ (b : Bool). is_some (if b then None else Some (Private p.user))) (is_nobody none);
+      nothing = ap (λ (b : Bool). is_some (if b then None else Some (Private p.user))) (is_nobody session ok s f me t ready (ap is_some none));
     })
     by_nobody none modes.Readable = inr (record {
       outside = readable_range session ready.lays_out.laid.category ready.lays_out.laid.different me p 0 ∙ off;
-      nothing = ap (λ (b : Bool). is_some (if b then None else Some (Readable p.user))) (is_nobody none);
+      nothing = ap (λ (b : Bool). is_some (if b then None else Some (Readable p.user))) (is_nobody session ok s f me t ready (ap is_some none));
     })
     by_nobody none modes.Open = inl (makes_open 0)
     by_nobody none (modes.Group group) = by_group group 0 (group_number session group) refl (is_member session p.user group) refl

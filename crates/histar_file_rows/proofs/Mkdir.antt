@@ -27,6 +27,7 @@ use Rattle.histar_rules.specs.declared.raw.RawCall.TheVariants as raw
 use Rattle.histar_rules.specs.Rules.{check, has_number, greatest}
 use Rattle.histar_syscall.specs.KernelModel.{KernelModel, state, Called}
 use Rattle.histar_layout.specs.declared.entry.Target.TheVariants as targets
+use Rattle.histar_syscall.proofs.Runs.{same_kernel}
 use Rattle.histar_calls.specs.declared.ending.Stopped.{Stopped}
 use Rattle.histar_calls.specs.declared.find.Room.{Room}
 use Rattle.histar_calls.specs.Programs.{Program, Runs}
@@ -48,12 +49,13 @@ use Rattle.histar_rows.proofs.Steps.{Goal, granted_step, exhausted_step}
 use Rattle.histar_rows.proofs.Walks.{runs, walk_reads, among_then}
 use Rattle.histar_file_rows.proofs.FoundObjects.{container, listing, directory_class, directory_stands, container_numbered, listing_numbered, may_look, below, listing_still, listing_then, inside_passes, container_made}
 use Rattle.histar_file_rows.proofs.Makers.{MakesClass}
-use Rattle.histar_file_rows.proofs.MadeEntries.{MakesEntry, slash_stands, asked, among_asked, the_room, GoesOn, entry_step, entry_written}
+use Rattle.histar_file_rows.proofs.FoundRoom.{slash_stands, the_room}
+use Rattle.histar_file_rows.proofs.MadeEntries.{MakesEntry, asked, among_asked, GoesOn, entry_step, entry_written}
 use Rattle.histar_file_rows.proofs.NewEntries.{last_name}
 
 -- a mkdir makes a directory
 mkdir_makes : (session : Session) (f : Flat) (me : ProcName) (p : Process) (q : Path) (mode : Mode) → MakesEntry session f me p q mode Dir (calls.Mkdir q mode)
-mkdir_makes session f me p q mode = record { refuses = refl; changes = refl; answers = refl; reads = λ s reply entries walk. walk }
+mkdir_makes session f me p q mode = record { needs = record { refuses = refl; reads = λ s reply entries walk. walk }; changes = refl; answers = refl }
 
 -- the container is made, its directory segment in it, and the directory is written
 abbrev make : ℕ → Levels → RawCall
@@ -159,7 +161,7 @@ module _ (session : Session) (ok : IsSession session) (old new : KernelModel) (f
 pub mkdirs_are_rows : MkdirsAreRows
 unfolding mkdir_program
 mkdirs_are_rows session ok [] mode right me old new f t result ready run =
-    slash_stands session old new f me t ready mode Dir (calls.Mkdir [] mode) result (mkdir_makes session f me ready.caller.process [] mode) _ run
+    slash_stands session old new f me t ready (calls.Mkdir [] mode) result _ (mkdir_makes session f me ready.caller.process [] mode).needs [] old refl (same_kernel old) _ run
 mkdirs_are_rows session ok (m ∷ d) mode right me old new f t result ready run =
     entry_step session ok old new f me t ready m d mode Dir (calls.Mkdir (m ∷ d) mode) result (mkdir_makes session f me ready.caller.process (m ∷ d) mode) make within
     (λ open_so_far. container_made session ok (state old) f me t ready d open_so_far) run (goes_on session ok old new f me t ready m (last_name m d right) d mode result)

@@ -61,6 +61,7 @@ pub mod JobLists
 pub mod JobBorn
 pub mod WrapRefused
 pub mod WrapTests
+pub mod JobNamed
 pub mod Wrapping
 pub mod Listings
 pub mod FoundCategories

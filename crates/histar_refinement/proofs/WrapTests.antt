@@ -11,7 +11,7 @@ use Rattle.histar_label.specs.Level.{rank, raised}
 use Rattle.histar_label.specs.Levels.{is_below, is_below_raised, is_below_join_raised}
 use Rattle.histar_label.proofs.Orders.{is_below-law, is_below_raised-law, is_below_join_raised-law}
 use Rattle.histar_flat.specs.Sessions.{Session, has, user_number}
-use Rattle.histar_flat.specs.Classes.{Class, Process, is_free, may_write}
+use Rattle.histar_flat.specs.Classes.{Class, Process, is_free, may_read, may_write}
 use Rattle.histar_calls.specs.Labelling.{guarded_by, owning}
 use Rattle.histar_refinement.specs.Categories.{CategoryName, Categories, AreDifferent, among}
 use Rattle.histar_refinement.specs.Categories.CategoryName.{ReadsUser, ReadsProcess, WritesProcess, OfJob}
@@ -23,7 +23,7 @@ use Rattle.histar_refinement.proofs.CategoryTests.{among-append, among_none, amo
 use Rattle.histar_refinement.proofs.Tested.{observes_by_names, below_by_names, cleared_by_names, rights_by_names, capped_by_names, clearances_by_names}
 use Rattle.histar_refinement.specs.Sessions.{IsSession}
 use Rattle.histar_refinement.proofs.SessionLemmas.{is_number}
-use Rattle.histar_refinement.proofs.ClassTests.{owns_read_of, jobs_apart, modifies_class}
+use Rattle.histar_refinement.proofs.ClassTests.{owns_read_of, jobs_apart, observes_class, modifies_class}
 use Rattle.histar_refinement.proofs.AmongNames.{covers, in_first, in_second, at_head, later, each_head, each_append}
 use Rattle.histar_refinement.proofs.Uses.{job_among}
 use Rattle.histar_refinement.proofs.JobLists.{has_added, has_last}
@@ -146,23 +146,47 @@ module _ (session : Session) (category : Categories) (different : AreDifferent c
         ]) k)
         ∙ and_true (is_number (user_number session p.user) i)
 
-  -- The parent directory and its directory segment are modified exactly where the flat rule lets them be written, since the new job is in no
-  -- label that stands.
-  pub modifies_parent : IsSession session → (class : Class) (g : Guard) → class_guard session class ≡ Some g → has p.chain child ≡ false → among g.secret (OfJob child) ≡ false → among g.written (OfJob child) ≡ false
-      → (is_below (rights_label category with_job) (guard_label category g) && is_below_raised (guard_label category g) (rights_label category with_job)) ≡ may_write session p class
-  modifies_parent ok class g is stranger secret written =
-      (λ k. more_below (map category own.owned) (map category own.tainted) (map category g.secret) (map category g.written) (category (OfJob child)) not_tainted not_secret not_written k
-      && more_seen (map category own.owned) (map category own.tainted) (map category g.secret) (map category g.written) (category (OfJob child)) not_tainted not_secret not_written k)
-      ∙ modifies_class session me p category different ok class g is
-    where
-      not_tainted : is_in (map category own.tainted) (category (OfJob child)) ≡ false
-      not_tainted = is_in_names category different own.tainted (OfJob child) ∙ among_jobs p.chain child ∙ stranger
+  -- The new job is in no label that stands, so the parent directory and its directory segment are observed and modified exactly where the
+  -- flat rule lets them be read and written.
+  module _ (ok : IsSession session) (class : Class) (g : Guard) (is : class_guard session class ≡ Some g) (stranger : has p.chain child ≡ false) (secret : among g.secret (OfJob child) ≡ false) (written : among g.written (OfJob child) ≡ false) where
+    not_tainted : is_in (map category own.tainted) (category (OfJob child)) ≡ false
+    not_tainted = is_in_names category different own.tainted (OfJob child) ∙ among_jobs p.chain child ∙ stranger
 
-      not_secret : is_in (map category g.secret) (category (OfJob child)) ≡ false
-      not_secret = is_in_names category different g.secret (OfJob child) ∙ secret
+    not_secret : is_in (map category g.secret) (category (OfJob child)) ≡ false
+    not_secret = is_in_names category different g.secret (OfJob child) ∙ secret
 
-      not_written : is_in (map category g.written) (category (OfJob child)) ≡ false
-      not_written = is_in_names category different g.written (OfJob child) ∙ written
+    not_written : is_in (map category g.written) (category (OfJob child)) ≡ false
+    not_written = is_in_names category different g.written (OfJob child) ∙ written
+
+    seen_as_before : is_below_raised (guard_label category g) (rights_label category with_job) ≡ is_below_raised (guard_label category g) (rights_label category own)
+    seen_as_before = more_seen (map category own.owned) (map category own.tainted) (map category g.secret) (map category g.written) (category (OfJob child)) not_tainted not_secret not_written
+
+    pub observes_parent : is_below_raised (guard_label category g) (rights_label category with_job) ≡ may_read session p class
+    observes_parent = seen_as_before ∙ observes_class session me p category different ok class g is
+
+    pub modifies_parent : (is_below (rights_label category with_job) (guard_label category g) && is_below_raised (guard_label category g) (rights_label category with_job)) ≡ may_write session p class
+    modifies_parent =
+        (λ k. more_below (map category own.owned) (map category own.tainted) (map category g.secret) (map category g.written) (category (OfJob child)) not_tainted not_secret not_written k && seen_as_before k)
+        ∙ modifies_class session me p category different ok class g is
+
+  -- It takes its own label and clearance again.
+  job_clears : (c : CategoryName) → among (own.owned ++ own.tainted) c ≡ true → among both c ≡ true
+  job_clears c e = later (OfJob child) (own.owned ++ own.tainted) c e
+
+  pub label_back : (is_below (rights_label category with_job) (rights_label category (thread_rights session me p)) ≡ true) × (is_below (rights_label category (thread_rights session me p)) (rights_clearance category with_job) ≡ true)
+  label_back = (
+    rights_by_names category different with_job own (covers own.tainted own.tainted (λ c e. e)) (covers with_job.owned own.owned (λ c e. later (OfJob child) own.owned c e)),
+    capped_by_names category different own both ∙ covers both own.tainted (in_second with_job.owned with_job.tainted),
+  )
+
+  pub clearance_back : (is_below (rights_label category (thread_rights session me p)) (rights_clearance category (thread_rights session me p)) ≡ true)
+      × (is_below_join_raised (rights_clearance category (thread_rights session me p)) (rights_clearance category with_job) (rights_label category (thread_rights session me p)) ≡ true)
+  clearance_back = (
+    capped_by_names category different own (own.owned ++ own.tainted) ∙ covers (own.owned ++ own.tainted) own.tainted (in_second own.owned own.tainted),
+    (is_below_join_raised-law (rights_clearance category own) (rights_clearance category with_job) (rights_label category own)).1 (λ q.
+        let under = (is_below-law (rights_clearance category own) (rights_clearance category with_job)).0 (clearances_by_names category different own with_job (covers both (own.owned ++ own.tainted) job_clears)) q in
+        omega (arith, under)),
+  )
 
   -- The birth, once the child's two categories are made.
   abbrev pub grown : Rights

@@ -33,13 +33,12 @@ use Rattle.histar_refinement.specs.Addresses.Step.{Listing, Status, Inside, Runn
 use Rattle.histar_refinement.specs.Directories.{directory_of}
 use Rattle.histar_refinement.specs.LaysOut.{AreInOrder, LaysOut, Laid}
 use Rattle.histar_refinement.proofs.Members.{or_first, or_second}
-use Rattle.histar_refinement.proofs.JobLists.{has_added, has_last, in_order_last, never_given}
-use Rattle.histar_refinement.proofs.Uses.{class_used}
+use Rattle.histar_refinement.proofs.JobLists.{has_added, has_last, in_order_last}
 use Rattle.histar_refinement.proofs.Beside.{Beside, beside_added, beside_written, beside_category}
 use Rattle.histar_refinement.proofs.Spawned.{own_label, own_clearance, beside_start}
-use Rattle.histar_refinement.proofs.Counting.{number_named, keeps_named, laid_named}
 use Rattle.histar_refinement.proofs.FileRows.{SameNumbers, ClassFits}
 use Rattle.histar_refinement.proofs.Creating.{directory_naming, laid_directory_created, directory_numbers}
+use Rattle.histar_refinement.proofs.JobNamed as jobs
 use Rattle.histar_refinement.proofs.JobBorn.{after, state_held, given_after, given_child, used_before, laid_held}
 
 module _ (session : Session) (s : State) (f : Flat) (l : LaysOut session s f) (me : ProcName) (p : Process) (here : f.processes me ≡ Some p) (runs : p.exited ≡ None) (room : p.born < 64)
@@ -60,39 +59,29 @@ module _ (session : Session) (s : State) (f : Flat) (l : LaysOut session s f) (m
 
   -- the job's name was not used
   pub unused : ¬ IsUsed session f (OfJob child)
-  unused u = never_given f me p here (l.jobs_given child u)
+  unused = jobs.unused session s f l me p here
 
   pub stranger : has p.chain child ≡ false
-  stranger = by (has p.chain child) refl
-    where
-      by : (b : Bool) → has p.chain child ≡ b → b ≡ false
-      by true e = absurd (unused (inl (me, p, here, or_first (has p.chain child) (has p.held child) e)))
-      by false e = refl
+  stranger = jobs.stranger session s f l me p here
 
   -- no class names the job yet
   pub not_named : (q : Path) (there : Node) (x : Guard) → get f.files q ≡ Some there → class_guard session there.class ≡ Some x → (among x.secret (OfJob child) ≡ false) × (among x.written (OfJob child) ≡ false)
-  not_named q there x at is =
-      let used = class_used session f q there at there.class refl x is in
-      (never (among x.secret (OfJob child)) (used.0 (OfJob child)), never (among x.written (OfJob child)) (used.1 (OfJob child)))
-    where
-      never : (b : Bool) → (b ≡ true → IsUsed session f (OfJob child)) → b ≡ false
-      never true u = absurd (unused (u refl))
-      never false u = refl
+  not_named = jobs.not_named session s f l me p here
 
   -- once the job's category is made
-  pub named : (later : Laid session (counting s) f) × (later.naming ≡ l.laid.naming) × (later.category ≡ naming_next l.laid.category s.next_category (OfJob child))
-  named = laid_named session s f l.laid (OfJob child) unused (counting s) (λ q. refl) refl (omega arith)
+  abbrev pub named : (later : Laid session (counting s) f) × (later.naming ≡ l.laid.naming) × (later.category ≡ naming_next l.laid.category s.next_category (OfJob child))
+  named = jobs.named session s f l me p here
 
   abbrev pub m : Laid session (counting s) f
   m = named.0
 
   -- which has the next number
   pub job_number : m.category (OfJob child) ≡ s.next_category
-  job_number = ap (λ (c : Categories). c (OfJob child)) named.2 ∙ number_named session s f l.laid (OfJob child) unused
+  job_number = jobs.job_number session s f l me p here
 
   -- and used names keep theirs
   pub keeps : (c : CategoryName) → IsUsed session f c → m.category c ≡ l.laid.category c
-  keeps c used = ap (λ (k : Categories). k c) named.2 ∙ keeps_named session s f l.laid (OfJob child) unused c used
+  keeps = jobs.keeps session s f l me p here
 
   -- jobs that were used have smaller numbers
   below_job : (job : ProcName) → IsUsed session f (OfJob job) → m.category (OfJob job) < m.category (OfJob child)
@@ -115,13 +104,7 @@ module _ (session : Session) (s : State) (f : Flat) (l : LaysOut session s f) (m
   held_ordered = in_order_last m.category child p.held (λ job e. below_job job (held_known job e)) ((m.processes me p here).held runs)
 
   class_made : (job : ProcName) → is_for class job ≡ true → IsMade (s.next_category + 1) (m.category (OfJob job))
-  class_made job e = elim (has_added p.chain child job e) [
-    | inl k ↦ m.made (OfJob job) (chain_known job k)
-    | inr is ↦
-        let first = l.laid.made CategoryName.OfBoot tt in
-        let new : m.category (OfJob job) ≡ s.next_category = ap (λ (j : ProcName). m.category (OfJob j)) is ∙ job_number in
-        (omega (arith, first.0, first.1, new), omega (arith, new))
-  ]
+  class_made = jobs.chain_made session s f l me p here
 
   pub guard_is : class_guard session class ≡ Some (scratch_guard chain i)
   guard_is = ap (option_map (scratch_guard chain)) declared

@@ -1,5 +1,5 @@
 -- How a call ends: it has replied what its flat rule says, or it was refused nowhere.
-use Rattle.std.proofs.Common.{◌≡◌, ◌≢◌, ℕ, false, List, [], ◌∷◌, ◌++◌, Option, None, Some, Ok, refl, sym, ap, ◌∙◌, subst}
+use Rattle.std.proofs.Common.{◌≡◌, ◌≢◌, ℕ, ◌||◌, Bool, true, false, List, [], ◌∷◌, ◌++◌, Option, None, Some, Ok, refl, sym, ap, ◌∙◌, subst}
 use Rattle.std.proofs.lemmas.List.{map-append}
 use Rattle.std.specs.Prelude.{option_map}
 use Rattle.std.specs.List.{AllByRecursion}
@@ -25,11 +25,11 @@ use Rattle.histar_syscall.specs.Runs.{is_label_refusal, is_range_refusal, some_l
 use Rattle.histar_syscall.proofs.Runs.{entry_of}
 use Rattle.histar_container.proofs.Addresses.{or_false}
 use Rattle.histar_calls.specs.Refusals.{errno_for, errno_of, write_errno_of}
-use Rattle.histar_calls.specs.Replies.{is_access, is_permission, is_no_access, is_no_permission, IsRefusedOnce}
+use Rattle.histar_calls.specs.Replies.{is_access, is_permission, is_no_access, is_no_permission, IsRefusedOnce, sets_labels}
 use Rattle.histar_refinement.specs.LaysOut.{LaysOut}
 use Rattle.histar_refinement.specs.Lines.{IsThreadOf}
 use Rattle.histar_rows.specs.Rows.{IsRunning, IsDenialTold, EndsWithRead, HasReads, HasReadsOf, IsLine, IsUnanswered, IsBrokenOff, DoesItsRow}
-use Rattle.histar_rows.proofs.Chains.{Step, all_granted, entries_of, Chain, chain_run, chain_own}
+use Rattle.histar_rows.proofs.Chains.{Step, all_granted, entries_of, Chain, chain_run, chain_own, all_restoring}
 
 -- what a reply needs where no raw call was refused: bytes were read last, an errno is neither EACCES nor EPERM, and it is not `gone`
 abbrev pub IsBacked : State → List TraceEntry → Reply → Type 0
@@ -85,15 +85,25 @@ module _ (line t : ℕ) where
   granted_agree r plain [] = record { access = sym plain.0; permission = sym plain.1; denials = tt; once = tt }
   granted_agree r plain (call ∷ calls) = after_granted r call (entries_of line t (all_granted calls)) (granted_agree r plain calls)
 
-  -- granted raw calls and behind them one that was refused agree with what that refusal is told as
-  refused_agree : (last : RawCall) (denied : Denied) (errno : Errno) → write_errno_of denied ≡ Some errno → (calls : List RawCall) → Agrees (Refused errno) (entries_of line t (all_granted calls ++ (last, Some denied) ∷ []))
-  refused_agree last denied errno told [] = record {
-    access = or_false (is_label_refusal (Some denied)) ∙ (told_by denied).0 ∙ ap (λ (o : Option Errno). is_some_and o is_access) told;
-    permission = or_false (is_range_refusal (Some denied)) ∙ (told_by denied).1 ∙ ap (λ (o : Option Errno). is_some_and o is_permission) told;
-    denials = (ap (option_map Refused) told, tt);
-    once = tt;
-  }
-  refused_agree last denied errno told (call ∷ calls) = after_granted (Refused errno) call (entries_of line t (all_granted calls ++ (last, Some denied) ∷ [])) (refused_agree last denied errno told calls)
+  -- granted raw calls are refused neither by label nor by range, and no reply has a denial of them to tell
+  none_refused : (r : Reply) (calls : List RawCall)
+      → (some_label_refusal (entries_of line t (all_granted calls)) ≡ false) × (some_range_refusal (entries_of line t (all_granted calls)) ≡ false) × AllByRecursion (λ (e : TraceEntry). IsDenialTold r e.denied) (entries_of line t (all_granted calls))
+  none_refused r [] = (refl, refl, tt)
+  none_refused r (call ∷ calls) = let later = none_refused r calls in (later.0, later.1, (tt, later.2))
+
+  -- granted raw calls, behind them one that was refused, and behind that some that give the thread labels, agree with what that refusal is told as
+  refused_agree : (last : RawCall) (denied : Denied) (errno : Errno) → write_errno_of denied ≡ Some errno → (restoring : List RawCall) → AllByRecursion (λ (c : RawCall). sets_labels c ≡ true) restoring
+      → (calls : List RawCall) → Agrees (Refused errno) (entries_of line t (all_granted calls ++ (last, Some denied) ∷ all_granted restoring))
+  refused_agree last denied errno told restoring sets [] =
+      let none = none_refused (Refused errno) restoring in
+      record {
+        access = ap (λ (b : Bool). is_label_refusal (Some denied) || b) none.0 ∙ or_false (is_label_refusal (Some denied)) ∙ (told_by denied).0 ∙ ap (λ (o : Option Errno). is_some_and o is_access) told;
+        permission = ap (λ (b : Bool). is_range_refusal (Some denied) || b) none.1 ∙ or_false (is_range_refusal (Some denied)) ∙ (told_by denied).1 ∙ ap (λ (o : Option Errno). is_some_and o is_permission) told;
+        denials = (ap (option_map Refused) told, none.2);
+        once = all_restoring t line restoring sets;
+      }
+  refused_agree last denied errno told restoring sets (call ∷ calls) =
+      after_granted (Refused errno) call (entries_of line t (all_granted calls ++ (last, Some denied) ∷ all_granted restoring)) (refused_agree last denied errno told restoring sets calls)
 
 -- granted raw calls, and behind them a read that is granted too: what it tells is what the segment held then
 pub read_last : (old mid : KernelModel) (t : ℕ) (calls : List RawCall) → Chain old t (all_granted calls) mid → (container segment : ℕ)
@@ -114,7 +124,7 @@ module _ (session : Session) (f : Flat) (me : ProcName) (caller : IsRunning f me
   runs = ap if_running caller.stands ∙ ap (λ (x : Option ℕ). elim x as (λ _. Option Process) [ None ↦ Some caller.process | Some n ↦ None ]) caller.runs
 
   -- so its call is answered by its flat rule, and the state after it is the rule's too
-  reply_is : (refusal : Option Errno) → refused session f me caller.process call ≡ refusal → reply_to session f me call ≡ reply_or refusal (flat.answer f me caller.process call)
+  pub reply_is : (refusal : Option Errno) → refused session f me caller.process call ≡ refusal → reply_to session f me call ≡ reply_or refusal (flat.answer f me caller.process call)
   reply_is refusal e = ap (λ (r : Option Process). reply_by session f me r call) runs ∙ ap (λ (r : Option Errno). reply_or r (flat.answer f me caller.process call)) e
 
   after_is : (refusal : Option Errno) → refused session f me caller.process call ≡ refusal → flat_after session f me call ≡ flat_or refusal f (changed session f me caller.process call)
@@ -185,6 +195,13 @@ module _ (session : Session) (f : Flat) (me : ProcName) (caller : IsRunning f me
       agreed_row (all_granted calls) chain None is allowed refl (granted_agree old.line t allowed (backed_plain (state old) entries allowed backed) calls)
       (backed_told (state old) entries allowed backed) reads (backed_runs (state old) entries allowed backed) lays_out
 
+  -- where a raw call was refused, those before it were granted and those behind it give the thread labels, a call that the flat rules refuse as that refusal is told is answered so, if the same flat state is laid out
+  pub given_back_row : (calls : List RawCall) (last : RawCall) (denied : Denied) (restoring : List RawCall) → AllByRecursion (λ (c : RawCall). sets_labels c ≡ true) restoring
+      → Chain old t (all_granted calls ++ (last, Some denied) ∷ all_granted restoring) new → (errno : Errno) → write_errno_of denied ≡ Some errno → refused session f me caller.process call ≡ Some errno
+      → ReadsAmong (all_granted calls ++ (last, Some denied) ∷ all_granted restoring) (Refused errno) → LaysOut session (state new) f → DoesItsRow session f me call old new t (Ok (Refused errno))
+  given_back_row calls last denied restoring sets chain errno told is reads lays_out =
+      agreed_row (all_granted calls ++ (last, Some denied) ∷ all_granted restoring) chain (Some errno) is (Refused errno) refl (refused_agree old.line t last denied errno told restoring sets calls) (λ bytes e. absurd cc) reads (λ e. absurd cc) lays_out
+
   module _ (stays : state new ≡ state old) (lays_out : LaysOut session (state old) f) where
     still : LaysOut session (state new) f
     still = subst (λ (s : State). LaysOut session s f) (sym stays) lays_out
@@ -198,5 +215,4 @@ module _ (session : Session) (f : Flat) (me : ProcName) (caller : IsRunning f me
     -- where the last raw call was refused, the others granted and nothing has changed, a call that the flat rules refuse as that refusal is told is answered so
     pub refused_row : (calls : List RawCall) (last : RawCall) (denied : Denied) → Chain old t (all_granted calls ++ (last, Some denied) ∷ []) new
         → (errno : Errno) → write_errno_of denied ≡ Some errno → refused session f me caller.process call ≡ Some errno → ReadsAmong (all_granted calls ++ (last, Some denied) ∷ []) (Refused errno) → DoesItsRow session f me call old new t (Ok (Refused errno))
-    refused_row calls last denied chain errno told is reads =
-        agreed_row (all_granted calls ++ (last, Some denied) ∷ []) chain (Some errno) is (Refused errno) refl (refused_agree old.line t last denied errno told calls) (λ bytes e. absurd cc) reads (λ e. absurd cc) still
+    refused_row calls last denied chain errno told is reads = given_back_row calls last denied [] tt chain errno told is reads still

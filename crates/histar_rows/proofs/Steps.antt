@@ -24,7 +24,7 @@ use Rattle.histar_calls.specs.declared.ending.Stopped.{Stopped}
 use Rattle.histar_calls.specs.Refusals.{errno_for}
 use Rattle.histar_calls.specs.Replies.{is_access, is_permission}
 use Rattle.histar_calls.specs.Programs.{AnswerOf, IsAnswer, Outcome, Program, Asked, Completes, Begins, Runs}
-use Rattle.histar_calls.specs.Programs.Program.{Answers}
+use Rattle.histar_calls.specs.Programs.Program.{Answers, Asks, Stops}
 use Rattle.histar_calls.specs.Parts.{refused_with, or_refused, ask, if_there, list}
 use Rattle.histar_refinement.specs.LaysOut.{LaysOut}
 use Rattle.histar_refinement.specs.Lines.{IsThreadOf}
@@ -33,35 +33,35 @@ use Rattle.histar_rows.proofs.Chains.{Step, all_granted, entries_of, Chain, chai
 use Rattle.histar_rows.proofs.Endings.{IsBacked, ReadsAmong, told_shown, chain_unanswered, granted_row, unchanged_row, refused_row}
 
 -- the call ended here without a reply
-record EndsHere (old new : KernelModel) (result : Result Reply Stopped) : Type 0 where
-  unchanged : IsUnchanged old new
-  unanswered : IsErr result
+pub record EndsHere (old new : KernelModel) (result : Result Reply Stopped) : Type 0 where
+  pub unchanged : IsUnchanged old new
+  pub unanswered : IsErr result
 
 -- a raw call that was granted, and the rest of the call after it
-record GoesOnAfter (old new : KernelModel) (t : ℕ) (call : RawCall) (rest : AnswerOf call → Program) (result : Result Reply Stopped) : Type 0 where
-  mid : KernelModel
-  answer : AnswerOf call
-  called : Called old mid t call None
-  right : IsAnswer (state old) t call answer
-  runs : Runs (rest answer) mid new t result
+pub record GoesOnAfter (old new : KernelModel) (t : ℕ) (call : RawCall) (rest : Outcome call → Program) (result : Result Reply Stopped) : Type 0 where
+  pub mid : KernelModel
+  pub answer : AnswerOf call
+  pub called : Called old mid t call None
+  pub right : IsAnswer (state old) t call answer
+  pub runs : Runs (rest (Ok answer)) mid new t result
 
--- a raw call that was refused, and what its errno made of the call
-record IsRefusedAt (old new : KernelModel) (t : ℕ) (call : RawCall) (denied : Denied) (result : Result Reply Stopped) : Type 0 where
+-- a raw call that was refused, and what its denial made of the call
+record IsRefusedAt (old new : KernelModel) (t : ℕ) (call : RawCall) (rest : Outcome call → Program) (denied : Denied) (result : Result Reply Stopped) : Type 0 where
   mid : KernelModel
   called : Called old mid t call (Some denied)
-  runs : Runs (refused_with (errno_for call denied)) mid new t result
+  runs : Runs (rest (Err denied)) mid new t result
 
 same_denied : (a b : Denied) → Some a ≡ Some b → a ≡ b
 same_denied a b e = cc
 
 -- a call that has only its reply left has replied
-replied : (t : ℕ) (old new : KernelModel) (reply : Reply) (result : Result Reply Stopped) → Runs (Answers reply) old new t result → IsUnchanged old new × (result ≡ Ok reply)
+pub replied : (t : ℕ) (old new : KernelModel) (reply : Reply) (result : Result Reply Stopped) → Runs (Answers reply) old new t result → IsUnchanged old new × (result ≡ Ok reply)
 unfolding Runs
 replied t old new reply (Ok other) runs = (runs.0, ap Ok runs.1)
 replied t old new reply (Err stopped) runs = absurd runs
 
 -- a program that stops has no reply
-stopped_here : (t : ℕ) (old new : KernelModel) (result : Result Reply Stopped) → Runs (refused_with None) old new t result → EndsHere old new result
+pub stopped_here : (t : ℕ) (old new : KernelModel) (result : Result Reply Stopped) → Runs Stops old new t result → EndsHere old new result
 unfolding Runs
 stopped_here t old new (Ok reply) runs = absurd runs
 stopped_here t old new (Err stopped) runs = record { unchanged = runs; unanswered = refl }
@@ -76,10 +76,10 @@ module _ (t : ℕ) (old new : KernelModel) where
     | inr goes ↦ inr (subst (λ (o : Option Entries). Begins (if_there rest o) old new t) (found_directory bytes goes.0 dir goes.1 is) goes.2)
   ]
 
-  module _ (call : RawCall) (rest : AnswerOf call → Program) where
+  module _ (call : RawCall) (rest : Outcome call → Program) where
     -- a raw call was made, with its outcome
-    asked_so : (result : Result Reply Stopped) → Runs (ask call rest) old new t result
-        → EndsHere old new result ⊎ ((mid : KernelModel) × (outcome : Outcome call) × Asked old mid t call outcome × Runs (or_refused (errno_for call) rest outcome) mid new t result)
+    asked_so : (result : Result Reply Stopped) → Runs (Asks call rest) old new t result
+        → EndsHere old new result ⊎ ((mid : KernelModel) × (outcome : Outcome call) × Asked old mid t call outcome × Runs (rest outcome) mid new t result)
     unfolding Runs
     asked_so (Ok reply) runs = inr runs
     asked_so (Err stopped) runs = elim runs [
@@ -88,31 +88,31 @@ module _ (t : ℕ) (old new : KernelModel) where
     ]
 
     -- the rules grant it
-    granted_so : check (state old) t call ≡ None → (result : Result Reply Stopped) → Runs (ask call rest) old new t result → EndsHere old new result ⊎ GoesOnAfter old new t call rest result
+    pub granted_so : check (state old) t call ≡ None → (result : Result Reply Stopped) → Runs (Asks call rest) old new t result → EndsHere old new result ⊎ GoesOnAfter old new t call rest result
     granted_so passes result runs = elim (asked_so result runs) [
       | inl ends ↦ inl ends
       | inr goes ↦ by goes.0 goes.1 goes.2 goes.3
     ]
       where
-        by : (mid : KernelModel) (outcome : Outcome call) → Asked old mid t call outcome → Runs (or_refused (errno_for call) rest outcome) mid new t result → EndsHere old new result ⊎ GoesOnAfter old new t call rest result
+        by : (mid : KernelModel) (outcome : Outcome call) → Asked old mid t call outcome → Runs (rest outcome) mid new t result → EndsHere old new result ⊎ GoesOnAfter old new t call rest result
         by mid (Ok answer) asked runs = inr (record { mid = mid; answer = answer; called = asked.0; right = asked.1; runs = runs })
         by mid (Err denied) asked runs = let k : Some denied ≡ None = sym asked.outcome ∙ passes in absurd cc
 
     -- the rules refuse it
-    refused_so : (denied : Denied) → check (state old) t call ≡ Some denied → (result : Result Reply Stopped) → Runs (ask call rest) old new t result → EndsHere old new result ⊎ IsRefusedAt old new t call denied result
+    refused_so : (denied : Denied) → check (state old) t call ≡ Some denied → (result : Result Reply Stopped) → Runs (Asks call rest) old new t result → EndsHere old new result ⊎ IsRefusedAt old new t call rest denied result
     refused_so denied fails result runs = elim (asked_so result runs) [
       | inl ends ↦ inl ends
       | inr goes ↦ by goes.0 goes.1 goes.2 goes.3
     ]
       where
-        by : (mid : KernelModel) (outcome : Outcome call) → Asked old mid t call outcome → Runs (or_refused (errno_for call) rest outcome) mid new t result → EndsHere old new result ⊎ IsRefusedAt old new t call denied result
+        by : (mid : KernelModel) (outcome : Outcome call) → Asked old mid t call outcome → Runs (rest outcome) mid new t result → EndsHere old new result ⊎ IsRefusedAt old new t call rest denied result
         by mid (Ok answer) asked runs = let k : None ≡ Some denied = sym asked.0.outcome ∙ fails in absurd cc
         by mid (Err other) asked runs =
             let same : other ≡ denied = same_denied other denied (sym asked.outcome ∙ fails) in
             inr (record {
               mid = mid;
               called = subst (λ (d : Denied). Called old mid t call (Some d)) same asked;
-              runs = subst (λ (d : Denied). Runs (refused_with (errno_for call d)) mid new t result) same runs;
+              runs = subst (λ (d : Denied). Runs (rest (Err d)) mid new t result) same runs;
             })
 
 module _ (session : Session) (f : Flat) (me : ProcName) (caller : IsRunning f me) (call : UnixCall) (old new : KernelModel) (t : ℕ) (named : IsThreadOf session (state old) me t) (result : Result Reply Stopped) where
@@ -142,25 +142,38 @@ module _ (session : Session) (f : Flat) (me : ProcName) (caller : IsRunning f me
         by (Ok reply) err = absurd cc
         by (Err stopped) err = chain_unanswered session f me caller call old new t named (all_granted calls) chain (granted_broken_off t (reply_to session f me call) old new old.line calls chain)
 
-    -- a raw call that the rules grant
-    pub granted_step : (next : RawCall) (rest : AnswerOf next → Program) → check (state mid) t next ≡ None → Runs (ask next rest) mid new t result
-        → ((later : KernelModel) (answer : AnswerOf next) → Called mid later t next None → IsAnswer (state mid) t next answer → Chain old t (all_granted (calls ++ next ∷ [])) later → Runs (rest answer) later new t result → Goal) → Goal
-    granted_step next rest passes runs go_on = elim (granted_so t mid new next rest passes result runs) [
+    -- a raw call that the rules grant, whatever a denial would have come to
+    pub allowed_step : (next : RawCall) (rest : Outcome next → Program) → check (state mid) t next ≡ None → Runs (Asks next rest) mid new t result
+        → ((later : KernelModel) (answer : AnswerOf next) → Called mid later t next None → IsAnswer (state mid) t next answer → Chain old t (all_granted (calls ++ next ∷ [])) later → Runs (rest (Ok answer)) later new t result → Goal) → Goal
+    allowed_step next rest passes runs go_on = elim (granted_so t mid new next rest passes result runs) [
       | inl ends ↦ ends_here ends
       | inr goes ↦ go_on goes.mid goes.answer goes.called goes.right (longer next goes.mid goes.called) goes.runs
+    ]
+
+    -- one whose denial is replied or stops the call
+    pub granted_step : (next : RawCall) (rest : AnswerOf next → Program) → check (state mid) t next ≡ None → Runs (ask next rest) mid new t result
+        → ((later : KernelModel) (answer : AnswerOf next) → Called mid later t next None → IsAnswer (state mid) t next answer → Chain old t (all_granted (calls ++ next ∷ [])) later → Runs (rest answer) later new t result → Goal) → Goal
+    granted_step next rest passes runs go_on = allowed_step next (or_refused (errno_for next) rest) passes runs go_on
+
+    -- a raw call that the rules refuse: the call goes on with its denial
+    pub denied_step : (next : RawCall) (rest : Outcome next → Program) (denied : Denied) → check (state mid) t next ≡ Some denied → Runs (Asks next rest) mid new t result
+        → ((later : KernelModel) → Called mid later t next (Some denied) → Chain old t (all_granted calls ++ (next, Some denied) ∷ []) later → Runs (rest (Err denied)) later new t result → Goal) → Goal
+    denied_step next rest denied fails runs go_on = elim (refused_so t mid new next rest denied fails result runs) [
+      | inl ends ↦ ends_here ends
+      | inr end ↦ go_on end.mid end.called (chain_after t old mid end.mid (all_granted calls) ((next, Some denied) ∷ []) so_far (end.mid, end.called, same_kernel end.mid)) end.runs
     ]
 
     -- bytes that are a directory
     pub listed_step : (bytes : List ℕ) (dir : Entries) → IsDirectory bytes dir → (rest : Entries → Program) → Runs (list bytes rest) mid new t result → (Runs (rest dir) mid new t result → Goal) → Goal
     listed_step bytes dir is rest runs go_on = elim (listed_as t mid new bytes dir is rest result runs) [ inl ends ↦ ends_here ends | inr goes ↦ go_on goes ]
 
-    -- a raw call that they refuse since a counter has its greatest value
-    counted_out : (next : RawCall) (rest : AnswerOf next → Program) → check (state mid) t next ≡ Some TooBig → errno_for next TooBig ≡ None
-        → (has_number (state mid) ≡ false) ⊎ (has_category (state mid) ≡ false) → Runs (ask next rest) mid new t result → Goal
-    counted_out next rest fails untold greatest runs = elim (refused_so t mid new next rest TooBig fails result runs) [
+    -- a raw call that they refuse since a counter has its greatest value, and that stops the call then
+    pub spent_step : (next : RawCall) (rest : Outcome next → Program) → check (state mid) t next ≡ Some TooBig → rest (Err TooBig) ≡ Stops
+        → (has_number (state mid) ≡ false) ⊎ (has_category (state mid) ≡ false) → Runs (Asks next rest) mid new t result → Goal
+    spent_step next rest fails stops greatest runs = elim (refused_so t mid new next rest TooBig fails result runs) [
       | inl ends ↦ ends_here ends
       | inr end ↦
-          let here = stopped_here t end.mid new result (subst (λ (o : Option Errno). Runs (refused_with o) end.mid new t result) untold end.runs) in
+          let here = stopped_here t end.mid new result (subst (λ (program : Program). Runs program end.mid new t result) stops end.runs) in
           let last : Chain mid t ((next, Some TooBig) ∷ []) new = (end.mid, end.called, here.unchanged) in
           let chain = chain_after t old mid new (all_granted calls) ((next, Some TooBig) ∷ []) so_far last in
           by result here.unanswered (chain_unanswered session f me caller call old new t named (all_granted calls ++ (next, Some TooBig) ∷ []) chain (exhausted_broken_off t (reply_to session f me call) old mid new old.line calls next so_far last greatest))
@@ -169,6 +182,10 @@ module _ (session : Session) (f : Flat) (me : ProcName) (caller : IsRunning f me
         by : (r : Result Reply Stopped) → IsErr r → DoesItsRow session f me call old new t (Err (record {})) → DoesItsRow session f me call old new t r
         by (Ok reply) err row = absurd cc
         by (Err stopped) err row = row
+
+    counted_out : (next : RawCall) (rest : AnswerOf next → Program) → check (state mid) t next ≡ Some TooBig → errno_for next TooBig ≡ None
+        → (has_number (state mid) ≡ false) ⊎ (has_category (state mid) ≡ false) → Runs (ask next rest) mid new t result → Goal
+    counted_out next rest fails untold greatest runs = spent_step next (or_refused (errno_for next) rest) fails (ap refused_with untold) greatest runs
 
     -- one that makes an object, since the next object has no number
     pub exhausted_step : (next : RawCall) (rest : AnswerOf next → Program) → check (state mid) t next ≡ Some TooBig → errno_for next TooBig ≡ None → has_number (state mid) ≡ false → Runs (ask next rest) mid new t result → Goal
@@ -182,7 +199,7 @@ module _ (session : Session) (f : Flat) (me : ProcName) (caller : IsRunning f me
       -- a raw call that they refuse, as the flat rules refuse the call
       pub refused_step : (next : RawCall) (rest : AnswerOf next → Program) (denied : Denied) → check (state mid) t next ≡ Some denied → errno_for next denied ≡ Some errno
           → ReadsAmong session f me caller call old new t named (all_granted calls ++ (next, Some denied) ∷ []) (Refused errno) → Runs (ask next rest) mid new t result → Goal
-      refused_step next rest denied fails told reads runs = elim (refused_so t mid new next rest denied fails result runs) [
+      refused_step next rest denied fails told reads runs = elim (refused_so t mid new next (or_refused (errno_for next) rest) denied fails result runs) [
         | inl ends ↦ ends_here ends
         | inr end ↦
             let said = replied t end.mid new (Refused errno) result (subst (λ (o : Option Errno). Runs (refused_with o) end.mid new t result) told end.runs) in

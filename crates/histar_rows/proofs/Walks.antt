@@ -1,6 +1,6 @@
 -- The walk into a directory, at a state that lays out a flat state: it is refused as the flat rules refuse it, or each directory on
 -- the way is read, and the last one is handed on.
-use Rattle.std.proofs.Common.{◌≡◌, ℕ, ◌&&◌, Bool, true, false, List, [], ◌∷◌, ◌++◌, Option, None, Some, Result, inl, inr, refl, sym, ap, ◌∙◌, subst, length, if◌then◌else◌}
+use Rattle.std.proofs.Common.{◌≡◌, ℕ, ◌&&◌, Bool, true, false, List, [], ◌∷◌, ◌++◌, Option, None, Some, Result, inl, inr, refl, sym, ap, ◌∙◌, subst, append_assoc, length, if◌then◌else◌}
 use Rattle.std.proofs.lemmas.List.{map-append, append-nil}
 use Rattle.std.specs.Prelude.{not, map, is_some, option_map, option_and_then}
 use Rattle.std.specs.List.{AllByRecursion}
@@ -105,6 +105,27 @@ module _ (line t : ℕ) where
   pub among_refused : (calls : List RawCall) (last : RawCall) (denied : Denied) → AreAmong (calls ++ last ∷ []) (entries_of line t (all_granted calls ++ (last, Some denied) ∷ []))
   among_refused [] last denied = inl (refl, tt)
   among_refused (call ∷ calls) last denied = inl (refl, among_refused calls last denied)
+
+  -- what is among entries is among them behind one more
+  among_after : (wanted : List RawCall) (e : TraceEntry) (entries : List TraceEntry) → AreAmong wanted entries → AreAmong wanted (e ∷ entries)
+  among_after [] e entries among = tt
+  among_after (call ∷ wanted) e entries among = inr among
+
+  -- and so it is behind more granted calls
+  pub among_behind : (wanted before : List RawCall) (steps : List Step) → AreAmong wanted (entries_of line t steps) → AreAmong wanted (entries_of line t (all_granted before ++ steps))
+  among_behind wanted [] steps among = among
+  among_behind wanted (call ∷ before) steps among = among_after wanted (entry_of line t call None) (entries_of line t (all_granted before ++ steps)) (among_behind wanted before steps among)
+
+  -- granted calls behind others are among the entries of all
+  pub among_granted_behind : (before calls : List RawCall) → AreAmong calls (entries_of line t (all_granted (before ++ calls)))
+  among_granted_behind before calls =
+      subst (λ (steps : List Step). AreAmong calls (entries_of line t steps)) (sym (map-append (λ (c : RawCall). (c, None)) before calls)) (among_behind calls before (all_granted calls) (among_granted_all calls))
+
+  -- and with a last one that was refused
+  among_refused_behind : (before calls : List RawCall) (last : RawCall) (denied : Denied) → AreAmong (calls ++ last ∷ []) (entries_of line t (all_granted (before ++ calls) ++ (last, Some denied) ∷ []))
+  among_refused_behind [] calls last denied = among_refused calls last denied
+  among_refused_behind (call ∷ before) calls last denied =
+      among_after (calls ++ last ∷ []) (entry_of line t call None) (entries_of line t (all_granted (before ++ calls) ++ (last, Some denied) ∷ [])) (among_refused_behind before calls last denied)
 
 module _ (session : Session) (ok : IsSession session) (s : State) (f : Flat) (me : ProcName) (t : ℕ) (ready : IsReady session s f me t) where
   abbrev pub numbers : Numbers
@@ -268,10 +289,6 @@ module _ (session : Session) (ok : IsSession session) (old new : KernelModel) (f
   abbrev pub Refuses : Path → Type 0
   Refuses d = (errno : Errno) → into session f process d ≡ Some errno → (steps : List Step) → AreAmong (calls_to d) (entries_of old.line t steps) → IsRefusedBy errno steps
 
-  -- where it is not, the call goes on with the directory
-  abbrev pub GoesOn : Path → (Directory → Program) → Type 0
-  GoesOn d rest = into session f process d ≡ None → (mid : KernelModel) → state mid ≡ state old → Chain old t (all_granted (calls_to d)) mid → Runs (rest (last_of d)) mid new t result → Row
-
   -- a directory is read after these raw calls
   pub read_step : (d : Path) → is_dir_at f d ≡ true → (before : List RawCall) (mid : KernelModel) → state mid ≡ state old → Chain old t (all_granted before) mid
       → (rest : Directory → Program) → Runs (read_directory (place_at session ok (state old) f me t ready d) rest) mid new t result
@@ -296,73 +313,87 @@ module _ (session : Session) (ok : IsSession session) (old new : KernelModel) (f
           (subst (λ (b : List ℕ). IsDirectory b entries) (sym bytes_are) (holds session ok (state old) f me t ready d dir)) _ on
           (go_on is later (called.state ∙ stays) longer))
 
-  -- from a directory that may be read on to the next
-  module _ (n : Name) (d : Path) (rest : Directory → Program) (refuses : Refuses (n ∷ d)) (go_on : GoesOn (n ∷ d) rest) (open_so_far : into session f process d ≡ None) (mid : KernelModel) (stays : state mid ≡ state old) (chain : Chain old t (all_granted (calls_to d)) mid) where
-    -- the tests of the next name
-    abbrev tests : Option Node → Option Errno
-    tests o = unless (is_some_and o (λ n. true)) ENOENT orelse unless (is_some_and o is_dir) ENOTDIR orelse unless (is_some_and o (λ n. may_read session process n.class)) EACCES
+  -- the walk is made behind raw calls that were granted and have changed nothing
+  module _ (before : List RawCall) (start : KernelModel) (unchanged : state start ≡ state old) (begun : Chain old t (all_granted before) start) where
+    -- the raw calls up to the end of the walk
+    abbrev reached : Path → List RawCall
+    reached d = before ++ calls_to d
 
-    into_is : (o : Option Node) → get f.files (n ∷ d) ≡ o → into session f process (n ∷ d) ≡ tests o
-    into_is o is = λ i. open_so_far i orelse tests (is i)
+    -- where the way is not refused, the call goes on with the directory
+    abbrev pub GoesOn : Path → (Directory → Program) → Type 0
+    GoesOn d rest = into session f process d ≡ None → (mid : KernelModel) → state mid ≡ state old → Chain old t (all_granted (reached d)) mid → Runs (rest (last_of d)) mid new t result → Row
 
-    -- the directories that are looked at
-    calls_are : (b : Bool) → is_dir_at f (n ∷ d) ≡ b → calls_to (n ∷ d) ≡ calls_to d ++ (if b then read (n ∷ d) ∷ [] else [])
-    calls_are b is =
-        map-append read (tested session f process d) (if not (is_some (into session f process d)) && is_dir_at f (n ∷ d) then (n ∷ d) ∷ [] else [])
-        ∙ (λ i. calls_to d ++ map read (if not (is_some (open_so_far i)) && is i then (n ∷ d) ∷ [] else [])) ∙ by b
-      where
-        by : (b : Bool) → calls_to d ++ map read (if b then (n ∷ d) ∷ [] else []) ≡ calls_to d ++ (if b then read (n ∷ d) ∷ [] else [])
-        by true = refl
-        by false = refl
+    -- from a directory that may be read on to the next
+    module _ (n : Name) (d : Path) (rest : Directory → Program) (refuses : Refuses (n ∷ d)) (go_on : GoesOn (n ∷ d) rest) (open_so_far : into session f process d ≡ None) (mid : KernelModel) (stays : state mid ≡ state old) (chain : Chain old t (all_granted (reached d)) mid) where
+      -- the tests of the next name
+      abbrev tests : Option Node → Option Errno
+      tests o = unless (is_some_and o (λ n. true)) ENOENT orelse unless (is_some_and o is_dir) ENOTDIR orelse unless (is_some_and o (λ n. may_read session process n.class)) EACCES
 
-    -- the walk ends here, with no raw call more
-    breaks_off : (errno : Errno) → into session f process (n ∷ d) ≡ Some errno → is_dir_at f (n ∷ d) ≡ false → IsRefusedBy errno (all_granted (calls_to d))
-    breaks_off errno is no_dir = refuses errno is (all_granted (calls_to d))
-        (subst (λ (calls : List RawCall). AreAmong calls (entries_of old.line t (all_granted (calls_to d)))) (sym (calls_are false no_dir ∙ append-nil (calls_to d))) (among_granted_all old.line t (calls_to d)))
+      into_is : (o : Option Node) → get f.files (n ∷ d) ≡ o → into session f process (n ∷ d) ≡ tests o
+      into_is o is = λ i. open_so_far i orelse tests (is i)
 
-    enters : (class : Class) → get f.files (n ∷ d) ≡ Some (record { class = class; content = Dir }) → Runs (read_directory (place_at session ok (state old) f me t ready (n ∷ d)) rest) mid new t result → Row
-    enters class is on =
-        let dir : is_dir_at f (n ∷ d) ≡ true = ap (λ (o : Option Node). is_some_and o is_dir) is in
-        let into_so : into session f process (n ∷ d) ≡ unless (reads session f process (n ∷ d)) EACCES = λ i. open_so_far i orelse unless (is_some_and (is i) (λ n. true)) ENOENT orelse unless (is_some_and (is i) is_dir) ENOTDIR orelse unless (reads session f process (n ∷ d)) EACCES in
-        read_step (n ∷ d) dir (calls_to d) mid stays chain rest on
-        (λ unseen. refuses EACCES (into_so ∙ ap (λ (b : Bool). unless b EACCES) unseen) (all_granted (calls_to d) ++ (read (n ∷ d), Some Observe) ∷ [])
-        (subst (λ (calls : List RawCall). AreAmong calls (entries_of old.line t (all_granted (calls_to d) ++ (read (n ∷ d), Some Observe) ∷ []))) (sym (calls_are true dir)) (among_refused old.line t (calls_to d) (read (n ∷ d)) Observe)))
-        (λ seen later same longer end. go_on (into_so ∙ ap (λ (b : Bool). unless b EACCES) seen) later same (subst (λ (calls : List RawCall). Chain old t (all_granted calls) later) (sym (calls_are true dir)) longer) end)
-
-    -- once the name was looked up
-    abbrev at_name : Option Target → Program
-    at_name target = given (directory_at target) (λ place. read_directory place rest)
-
-    by_content : (class : Class) (c : Content) → get f.files (n ∷ d) ≡ Some (record { class = class; content = c }) → Runs (at_name (finite.get (directory_of f.files ready.lays_out.laid.naming.number d) n)) mid new t result → Row
-    by_content class Dir is on = enters class is (subst (λ (target : Option Target). Runs (at_name target) mid new t result) (directory_there session ok (state old) f me t ready n d class is) on)
-    by_content class (File bytes) is on =
-        let end = breaks_off ENOTDIR (into_is _ is) (ap (λ (o : Option Node). is_some_and o is_dir) is) in
-        refused_at_once session f me ready.caller call old new t ready.thread result (calls_to d) mid chain stays ready.lays_out ENOTDIR end.0 refl refl end.1
-        (subst (λ (target : Option Target). Runs (at_name target) mid new t result) (file_there session ok (state old) f me t ready n d class bytes is) on)
-
-    next_step : (o : Option Node) → get f.files (n ∷ d) ≡ o → Runs (at_name (finite.get (directory_of f.files ready.lays_out.laid.naming.number d) n)) mid new t result → Row
-    next_step None is on =
-        let end = breaks_off ENOENT (into_is _ is) (ap (λ (o : Option Node). is_some_and o is_dir) is) in
-        refused_at_once session f me ready.caller call old new t ready.thread result (calls_to d) mid chain stays ready.lays_out ENOENT end.0 refl refl end.1
-        (subst (λ (target : Option Target). Runs (at_name target) mid new t result) (nothing_there session ok (state old) f me t ready n d is) on)
-    next_step (Some node) is on = by_content node.class node.content is on
-
-  -- The walk into a directory: it is refused as the flat rules refuse the call, or the call goes on with the directory.
-  pub walk_step : (d : Path) (rest : Directory → Program) → Runs (walk (places_of (length session.users)) d rest) old new t result → Refuses d → GoesOn d rest → Row
-  unfolding walk
-  walk_step [] rest run refuses go_on =
-      read_step [] (slash_is_dir session ok (state old) f me t ready) [] old refl (same_kernel old) rest
-      (subst (λ (place : Place). Runs (read_directory place rest) old new t result) (slash_place session ok (state old) f me t ready) run)
-      (λ unseen. refuses EACCES (ap (λ (b : Bool). unless b EACCES) unseen) ((read [], Some Observe) ∷ []) (inl (refl, tt)))
-      (λ seen later stays chain on. go_on (ap (λ (b : Bool). unless b EACCES) seen) later stays chain on)
-  walk_step (n ∷ d) rest run refuses go_on =
-      walk_step d (λ above. given (directory_at (finite.get above.entries n)) (λ place. read_directory place rest)) run
-      (λ errno is steps among. refuses errno (ap (λ (o : Option Errno). o orelse unless (is_there f (n ∷ d)) ENOENT orelse unless (is_dir_at f (n ∷ d)) ENOTDIR orelse unless (reads session f process (n ∷ d)) EACCES) is) steps
-      (subst (λ (calls : List RawCall). AreAmong calls (entries_of old.line t steps)) (sym (stopped_before n d errno is)) among))
-      (λ open_so_far mid stays chain on. next_step n d rest refuses go_on open_so_far mid stays chain (get f.files (n ∷ d)) refl on)
-    where
-      -- a walk that was refused looks at no directory more
-      stopped_before : (n : Name) (d : Path) (errno : Errno) → into session f process d ≡ Some errno → calls_to (n ∷ d) ≡ calls_to d
-      stopped_before n d errno is =
+      -- the directories that are looked at
+      calls_are : (b : Bool) → is_dir_at f (n ∷ d) ≡ b → calls_to (n ∷ d) ≡ calls_to d ++ (if b then read (n ∷ d) ∷ [] else [])
+      calls_are b is =
           map-append read (tested session f process d) (if not (is_some (into session f process d)) && is_dir_at f (n ∷ d) then (n ∷ d) ∷ [] else [])
-          ∙ (λ i. calls_to d ++ map read (if not (is_some (is i)) && is_dir_at f (n ∷ d) then (n ∷ d) ∷ [] else [])) ∙ append-nil (calls_to d)
+          ∙ (λ i. calls_to d ++ map read (if not (is_some (open_so_far i)) && is i then (n ∷ d) ∷ [] else [])) ∙ by b
+        where
+          by : (b : Bool) → calls_to d ++ map read (if b then (n ∷ d) ∷ [] else []) ≡ calls_to d ++ (if b then read (n ∷ d) ∷ [] else [])
+          by true = refl
+          by false = refl
+
+      -- the walk ends here, with no raw call more
+      breaks_off : (errno : Errno) → into session f process (n ∷ d) ≡ Some errno → is_dir_at f (n ∷ d) ≡ false → IsRefusedBy errno (all_granted (reached d))
+      breaks_off errno is no_dir = refuses errno is (all_granted (reached d))
+          (subst (λ (calls : List RawCall). AreAmong calls (entries_of old.line t (all_granted (reached d)))) (sym (calls_are false no_dir ∙ append-nil (calls_to d))) (among_granted_behind old.line t before (calls_to d)))
+
+      enters : (class : Class) → get f.files (n ∷ d) ≡ Some (record { class = class; content = Dir }) → Runs (read_directory (place_at session ok (state old) f me t ready (n ∷ d)) rest) mid new t result → Row
+      enters class is on =
+          let dir : is_dir_at f (n ∷ d) ≡ true = ap (λ (o : Option Node). is_some_and o is_dir) is in
+          let into_so : into session f process (n ∷ d) ≡ unless (reads session f process (n ∷ d)) EACCES = λ i. open_so_far i orelse unless (is_some_and (is i) (λ n. true)) ENOENT orelse unless (is_some_and (is i) is_dir) ENOTDIR orelse unless (reads session f process (n ∷ d)) EACCES in
+          read_step (n ∷ d) dir (reached d) mid stays chain rest on
+          (λ unseen. refuses EACCES (into_so ∙ ap (λ (b : Bool). unless b EACCES) unseen) (all_granted (reached d) ++ (read (n ∷ d), Some Observe) ∷ [])
+          (subst (λ (calls : List RawCall). AreAmong calls (entries_of old.line t (all_granted (reached d) ++ (read (n ∷ d), Some Observe) ∷ []))) (sym (calls_are true dir)) (among_refused_behind old.line t before (calls_to d) (read (n ∷ d)) Observe)))
+          (λ seen later same longer end. go_on (into_so ∙ ap (λ (b : Bool). unless b EACCES) seen) later same (subst (λ (calls : List RawCall). Chain old t (all_granted calls) later) (append_assoc before (calls_to d) (read (n ∷ d) ∷ []) ∙ ap (λ (calls : List RawCall). before ++ calls) (sym (calls_are true dir))) longer) end)
+
+      -- once the name was looked up
+      abbrev at_name : Option Target → Program
+      at_name target = given (directory_at target) (λ place. read_directory place rest)
+
+      by_content : (class : Class) (c : Content) → get f.files (n ∷ d) ≡ Some (record { class = class; content = c }) → Runs (at_name (finite.get (directory_of f.files ready.lays_out.laid.naming.number d) n)) mid new t result → Row
+      by_content class Dir is on = enters class is (subst (λ (target : Option Target). Runs (at_name target) mid new t result) (directory_there session ok (state old) f me t ready n d class is) on)
+      by_content class (File bytes) is on =
+          let end = breaks_off ENOTDIR (into_is _ is) (ap (λ (o : Option Node). is_some_and o is_dir) is) in
+          refused_at_once session f me ready.caller call old new t ready.thread result (reached d) mid chain stays ready.lays_out ENOTDIR end.0 refl refl end.1
+          (subst (λ (target : Option Target). Runs (at_name target) mid new t result) (file_there session ok (state old) f me t ready n d class bytes is) on)
+
+      next_step : (o : Option Node) → get f.files (n ∷ d) ≡ o → Runs (at_name (finite.get (directory_of f.files ready.lays_out.laid.naming.number d) n)) mid new t result → Row
+      next_step None is on =
+          let end = breaks_off ENOENT (into_is _ is) (ap (λ (o : Option Node). is_some_and o is_dir) is) in
+          refused_at_once session f me ready.caller call old new t ready.thread result (reached d) mid chain stays ready.lays_out ENOENT end.0 refl refl end.1
+          (subst (λ (target : Option Target). Runs (at_name target) mid new t result) (nothing_there session ok (state old) f me t ready n d is) on)
+      next_step (Some node) is on = by_content node.class node.content is on
+
+    -- The walk into a directory: it is refused as the flat rules refuse the call, or the call goes on with the directory.
+    pub walk_step_behind : (d : Path) (rest : Directory → Program) → Runs (walk (places_of (length session.users)) d rest) start new t result → Refuses d → GoesOn d rest → Row
+    unfolding walk
+    walk_step_behind [] rest run refuses go_on =
+        read_step [] (slash_is_dir session ok (state old) f me t ready) before start unchanged begun rest
+        (subst (λ (place : Place). Runs (read_directory place rest) start new t result) (slash_place session ok (state old) f me t ready) run)
+        (λ unseen. refuses EACCES (ap (λ (b : Bool). unless b EACCES) unseen) (all_granted before ++ (read [], Some Observe) ∷ []) (among_behind old.line t (read [] ∷ []) before ((read [], Some Observe) ∷ []) (inl (refl, tt))))
+        (λ seen later stays chain on. go_on (ap (λ (b : Bool). unless b EACCES) seen) later stays chain on)
+    walk_step_behind (n ∷ d) rest run refuses go_on =
+        walk_step_behind d (λ above. given (directory_at (finite.get above.entries n)) (λ place. read_directory place rest)) run
+        (λ errno is steps among. refuses errno (ap (λ (o : Option Errno). o orelse unless (is_there f (n ∷ d)) ENOENT orelse unless (is_dir_at f (n ∷ d)) ENOTDIR orelse unless (reads session f process (n ∷ d)) EACCES) is) steps
+        (subst (λ (calls : List RawCall). AreAmong calls (entries_of old.line t steps)) (sym (stopped_before n d errno is)) among))
+        (λ open_so_far mid stays chain on. next_step n d rest refuses go_on open_so_far mid stays chain (get f.files (n ∷ d)) refl on)
+      where
+        -- a walk that was refused looks at no directory more
+        stopped_before : (n : Name) (d : Path) (errno : Errno) → into session f process d ≡ Some errno → calls_to (n ∷ d) ≡ calls_to d
+        stopped_before n d errno is =
+            map-append read (tested session f process d) (if not (is_some (into session f process d)) && is_dir_at f (n ∷ d) then (n ∷ d) ∷ [] else [])
+            ∙ (λ i. calls_to d ++ map read (if not (is_some (is i)) && is_dir_at f (n ∷ d) then (n ∷ d) ∷ [] else [])) ∙ append-nil (calls_to d)
+
+  -- the same of a walk with which the call begins
+  pub walk_step : (d : Path) (rest : Directory → Program) → Runs (walk (places_of (length session.users)) d rest) old new t result → Refuses d → GoesOn [] old refl (same_kernel old) d rest → Row
+  walk_step d rest run refuses go_on = walk_step_behind [] old refl (same_kernel old) d rest run refuses go_on

@@ -1,2 +1,4 @@
 //! Wraps are the rows of the flat rules.
 #![tactic(auto)]
+
+pub mod wrap_rows;

@@ -1,0 +1,67 @@
+-- A category is made for a new job, which is named by the next child of its wrapper: the name was not used, and no class names the job yet.
+use Rattle.std.proofs.Common.{◌≡◌, ◌+◌, inl, inr, Bool, true, false, [], ◌∷◌, ◌++◌, Some, arith, refl, ap, ◌∙◌}
+use Rattle.histar_flat.specs.Words.{Path, ProcName}
+use Rattle.histar_flat.specs.Files.{get}
+use Rattle.histar_object.specs.State.{State, counting}
+use Rattle.histar_flat.specs.Sessions.{Session, has}
+use Rattle.histar_flat.specs.Classes.{Process}
+use Rattle.histar_flat.specs.FlatState.{Node, Flat}
+use Rattle.histar_refinement.specs.Categories.{CategoryName, Categories, IsMade, among, naming_next, IsUsed}
+use Rattle.histar_refinement.specs.Categories.CategoryName.{OfJob}
+use Rattle.histar_refinement.specs.Guards.{Guard}
+use Rattle.histar_refinement.specs.Labels.{class_guard}
+use Rattle.histar_refinement.specs.LaysOut.{LaysOut, Laid}
+use Rattle.histar_refinement.proofs.Members.{or_first}
+use Rattle.histar_refinement.proofs.JobLists.{has_added, never_given}
+use Rattle.histar_refinement.proofs.Uses.{class_used}
+use Rattle.histar_refinement.proofs.Counting.{number_named, keeps_named, laid_named}
+
+module _ (session : Session) (s : State) (f : Flat) (l : LaysOut session s f) (me : ProcName) (p : Process) (here : f.processes me ≡ Some p) where
+  abbrev child : ProcName
+  child = (p.born + 1) ∷ me
+
+  -- the job's name was not used
+  pub unused : ¬ IsUsed session f (OfJob ((p.born + 1) ∷ me))
+  unused u = never_given f me p here (l.jobs_given child u)
+
+  -- the process is not in the job
+  pub stranger : has p.chain ((p.born + 1) ∷ me) ≡ false
+  stranger = by (has p.chain child) refl
+    where
+      by : (b : Bool) → has p.chain child ≡ b → b ≡ false
+      by true e = absurd (unused (inl (me, p, here, or_first (has p.chain child) (has p.held child) e)))
+      by false e = refl
+
+  -- no class names the job yet
+  pub not_named : (q : Path) (there : Node) (x : Guard) → get f.files q ≡ Some there → class_guard session there.class ≡ Some x → (among x.secret (OfJob ((p.born + 1) ∷ me)) ≡ false) × (among x.written (OfJob ((p.born + 1) ∷ me)) ≡ false)
+  not_named q there x at is =
+      let used = class_used session f q there at there.class refl x is in
+      (never (among x.secret (OfJob child)) (used.0 (OfJob child)), never (among x.written (OfJob child)) (used.1 (OfJob child)))
+    where
+      never : (b : Bool) → (b ≡ true → IsUsed session f (OfJob child)) → b ≡ false
+      never true u = absurd (unused (u refl))
+      never false u = refl
+
+  -- once the job's category is made
+  pub named : (later : Laid session (counting s) f) × (later.naming ≡ l.laid.naming) × (later.category ≡ naming_next l.laid.category s.next_category (OfJob ((p.born + 1) ∷ me)))
+  named = laid_named session s f l.laid (OfJob child) unused (counting s) (λ q. refl) refl (omega arith)
+
+  abbrev pub m : Laid session (counting s) f
+  m = named.0
+
+  pub job_number : m.category (OfJob ((p.born + 1) ∷ me)) ≡ s.next_category
+  job_number = ap (λ (c : Categories). c (OfJob child)) named.2 ∙ number_named session s f l.laid (OfJob child) unused
+
+  -- names that were used keep their numbers
+  pub keeps : (c : CategoryName) → IsUsed session f c → m.category c ≡ l.laid.category c
+  keeps c used = ap (λ (k : Categories). k c) named.2 ∙ keeps_named session s f l.laid (OfJob child) unused c used
+
+  -- the categories of the jobs of the process and of the new one are made
+  pub chain_made : (job : ProcName) → has (p.chain ++ ((p.born + 1) ∷ me) ∷ []) job ≡ true → IsMade (s.next_category + 1) (m.category (OfJob job))
+  chain_made job e = elim (has_added p.chain child job e) [
+    | inl k ↦ m.made (OfJob job) (inl (me, p, here, or_first (has p.chain job) (has p.held job) k))
+    | inr is ↦
+        let first = l.laid.made CategoryName.OfBoot tt in
+        let new : m.category (OfJob job) ≡ s.next_category = ap (λ (j : ProcName). m.category (OfJob j)) is ∙ job_number in
+        (omega (arith, first.0, first.1, new), omega (arith, new))
+  ]
