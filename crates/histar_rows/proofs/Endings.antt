@@ -91,7 +91,7 @@ module _ (line t : ℕ) where
   none_refused r [] = (refl, refl, tt)
   none_refused r (call ∷ calls) = let later = none_refused r calls in (later.0, later.1, (tt, later.2))
 
-  -- granted raw calls, behind them one that was refused, and behind that some that give the thread labels, agree with what that refusal is told as
+  -- granted raw calls, then one that was refused, then some that give the thread labels: they agree with what the refusal is told as
   refused_agree : (last : RawCall) (denied : Denied) (errno : Errno) → write_errno_of denied ≡ Some errno → (restoring : List RawCall) → AllByRecursion (λ (c : RawCall). sets_labels c ≡ true) restoring
       → (calls : List RawCall) → Agrees (Refused errno) (entries_of line t (all_granted calls ++ (last, Some denied) ∷ all_granted restoring))
   refused_agree last denied errno told restoring sets [] =
@@ -195,7 +195,8 @@ module _ (session : Session) (f : Flat) (me : ProcName) (caller : IsRunning f me
       agreed_row (all_granted calls) chain None is allowed refl (granted_agree old.line t allowed (backed_plain (state old) entries allowed backed) calls)
       (backed_told (state old) entries allowed backed) reads (backed_runs (state old) entries allowed backed) lays_out
 
-  -- where a raw call was refused, those before it were granted and those behind it give the thread labels, a call that the flat rules refuse as that refusal is told is answered so, if the same flat state is laid out
+  -- Where one raw call was refused and those behind it give the thread labels, a call that the flat rules refuse as that refusal is told is
+  -- answered so, if the state still lays out the flat state.
   pub given_back_row : (calls : List RawCall) (last : RawCall) (denied : Denied) (restoring : List RawCall) → AllByRecursion (λ (c : RawCall). sets_labels c ≡ true) restoring
       → Chain old t (all_granted calls ++ (last, Some denied) ∷ all_granted restoring) new → (errno : Errno) → write_errno_of denied ≡ Some errno → refused session f me caller.process call ≡ Some errno
       → ReadsAmong (all_granted calls ++ (last, Some denied) ∷ all_granted restoring) (Refused errno) → LaysOut session (state new) f → DoesItsRow session f me call old new t (Ok (Refused errno))

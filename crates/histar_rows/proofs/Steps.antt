@@ -183,6 +183,7 @@ module _ (session : Session) (f : Flat) (me : ProcName) (caller : IsRunning f me
         by (Ok reply) err row = absurd cc
         by (Err stopped) err row = row
 
+    -- the same of one whose denial is replied, if it has an errno
     counted_out : (next : RawCall) (rest : AnswerOf next → Program) → check (state mid) t next ≡ Some TooBig → errno_for next TooBig ≡ None
         → (has_number (state mid) ≡ false) ⊎ (has_category (state mid) ≡ false) → Runs (ask next rest) mid new t result → Goal
     counted_out next rest fails untold greatest runs = spent_step next (or_refused (errno_for next) rest) fails (ap refused_with untold) greatest runs

@@ -94,7 +94,7 @@ module _ (session : Session) (f : Flat) (me : ProcName) (caller : IsRunning f me
     -- The thread takes its own label and clearance again, and the call replies the errno.
     module _ (own : Levels × Levels) where
       -- the raw calls by which it takes them
-      abbrev pub taken_again : List RawCall
+      abbrev taken_again : List RawCall
       taken_again = SetLabel own.0 ∷ SetClearance own.1 ∷ []
 
       give_back_step : (mid : KernelModel) → Chain old t (steps []) mid
