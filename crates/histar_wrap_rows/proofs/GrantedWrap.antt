@@ -313,10 +313,10 @@ module _ (session : Session) (ok : IsSession session) (me : ProcName) (caller : 
       laid_then : (few_born : before.next_object + 3 < greatest) → LaysOut session (spawned before t caller.home (status_by f.processes later.naming.number me p) kin own_then most_then) (changed session f me p call)
       laid_then few_born =
           let held = held_is session ok made_state with_directory later me p ready.caller.stands ready.caller.runs few_children is_declared is_served chain_ordered caller.home.container caller.home.segment home_later segment_later t thread_later
-              before.objects own most stands_beside thread_has_job kin (jobs_by session (state old) f ready.lays_out.laid me p ready.caller.stands unused later.category names_are) (owned_told session (state old) f ready.lays_out.laid me p ready.caller.stands unused)
-              stranger held_ordered few_born counted in
+          before.objects own most stands_beside thread_has_job kin (jobs_by session (state old) f ready.lays_out.laid me p ready.caller.stands unused later.category names_are) (owned_told session (state old) f ready.lays_out.laid me p ready.caller.stands unused)
+          stranger held_ordered few_born counted in
           subst (λ (s : State). LaysOut session s (changed session f me p call)) (sym held) (wrapping.lays_out_wrapped session (state old) f ready.lays_out me p ready.caller.stands ready.caller.runs few_children i declared d m absent above at_parent
-              caller.home.container caller.home.segment t place.container place.listing home_there segment_there thread_there container_there listing_there few named few_entries few_born)
+          caller.home.container caller.home.segment t place.container place.listing home_there segment_there thread_there container_there listing_there few named few_entries few_born)
 
       -- with all raw calls the call is answered
       answered : (calls : List RawCall) (end : KernelModel) → AreAmong reads (entries_of old.line t (all_granted calls)) → Chain old t (all_granted calls) end
@@ -350,7 +350,7 @@ module _ (session : Session) (ok : IsSession session) (me : ProcName) (caller : 
           let write : RawCall = Write place.container place.listing 0 written in
           let guard = directory_guard session ok (state old) f me t ready d open_so_far in
           let apart = wrapping.not_named session (state old) f ready.lays_out me p ready.caller.stands ready.caller.runs few_children i declared d m absent above at_parent
-              caller.home.container caller.home.segment t place.container place.listing home_there segment_there thread_there container_there listing_there few d (record { class = above; content = Dir }) guard.0 at_parent guard.1 in
+          caller.home.container caller.home.segment t place.container place.listing home_there segment_there thread_there container_there listing_there few d (record { class = above; content = Dir }) guard.0 at_parent guard.1 in
           granted_step session f me ready.caller call old new t ready.thread result calls mid chain write (λ _. birth_then status (with_level own job Star) (with_level most job L3))
           (ap (λ (s : State). check s t write) at ∙ write_said session ok (state old) f me t ready d open_so_far unused i declared may stranger apart.0 apart.1 written few_written) runs
           (λ end done called right longer goes.

@@ -189,8 +189,7 @@ module _ (session : Session) (s : State) (f : Flat) (l : Laid session s f) (me :
   -- it modifies its own container and process segment
   pub home_modified : (is_below owner (guard_label names (process_guard me p)) ≡ true) × (is_below_raised (guard_label names (process_guard me p)) owner ≡ true)
   home_modified =
-      let both = tests.own_modified session names apart me p child in
-      (
+      let both = tests.own_modified session names apart me p child in (
         first_of (is_below owner (guard_label names (process_guard me p))) (is_below_raised (guard_label names (process_guard me p)) owner) both,
         second_of (is_below owner (guard_label names (process_guard me p))) (is_below_raised (guard_label names (process_guard me p)) owner) both,
       )
