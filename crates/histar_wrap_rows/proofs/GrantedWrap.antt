@@ -1,6 +1,6 @@
 -- A wrap that is granted: once the container of its scratch directory is made, the directory is made, the job's first process is born, and the
 -- thread holds the job.
-use Rattle.std.proofs.Common.{◌≡◌, ℕ, ◌+◌, ◌<◌, ◌≤◌, true, false, List, [], ◌∷◌, ◌++◌, Some, None, Result, arith, refl, sym, ap, ◌∙◌, subst}
+use Rattle.std.proofs.Common.{◌≡◌, ℕ, ◌+◌, ◌<◌, ◌≤◌, true, false, List, [], ◌∷◌, ◌++◌, Option, Some, None, Result, arith, refl, sym, ap, ◌∙◌, subst}
 use Rattle.std.specs.Prelude.{IsTrue, is_some, nat_lt, not, length}
 use Rattle.std.proofs.lemmas.Bool.{ltb-true}
 use Rattle.std.specs.FinMap as map
@@ -53,7 +53,7 @@ use Rattle.histar_refinement.specs.Addresses.{address_of, home_of}
 use Rattle.histar_refinement.specs.Addresses.Step.{Listing, Status, Inside, Runner}
 use Rattle.histar_refinement.specs.Directories.{directory_of}
 use Rattle.histar_refinement.specs.LaysOut.{AreInOrder, Laid, LaysOut}
-use Rattle.histar_refinement.specs.Processes.{status_by}
+use Rattle.histar_refinement.specs.Processes.{or_zero, status_by}
 use Rattle.histar_refinement.proofs.Beside.{Beside}
 use Rattle.histar_refinement.proofs.DirectoryLaws.{spelling_fits}
 use Rattle.histar_refinement.proofs.FileRows.{same_process_status}
@@ -256,7 +256,8 @@ module _ (session : Session) (ok : IsSession session) (me : ProcName) (caller : 
       names_are = (wrapping.made session (state old) f ready.lays_out me p wrapper named few_entries).2 ∙ category_is
 
       due_is : due ≡ guard_label job_named.category (scratch_guard (p.chain ++ child ∷ []) i)
-      due_is = directory_by session (state old) f ready.lays_out.laid me p ready.caller.stands unused job_named.category category_is i declared
+      due_is = directory_by session (state old) f ready.lays_out.laid me p ready.caller.stands unused job_named.category category_is
+          ∙ ap (λ (o : Option ℕ). guard_label job_named.category (scratch_guard (p.chain ++ child ∷ []) (or_zero o))) declared
 
       state_is : with_bytes (with_segment session ok (state old) f me t ready d open_so_far unused i declared) place.listing written ≡ before
       state_is = λ j. with_bytes (added (added (with_category (state old) t) place.container (record { label = due_is j; kind = Container set.empty })) number (record { label = due_is j; kind = Segment [] }))
