@@ -41,7 +41,8 @@ use Rattle.histar_refinement.proofs.Creating.{directory_naming, laid_directory_c
 use Rattle.histar_refinement.proofs.JobNamed as jobs
 use Rattle.histar_refinement.proofs.JobBorn.{after, state_held, given_after, given_child, used_before, laid_held}
 
--- The process that wraps and its user, the directory that it makes and the one above, and the numbers at which its objects and that directory stand.
+-- The process that wraps and its user, the name of the directory that it makes and the directory above, and the numbers at which the objects of
+-- the process and of the directory above stand.
 pub record Wrapper (session : Session) (s : State) (f : Flat) (l : LaysOut session s f) (me : ProcName) (p : Process) : Type 0 where
   pub here : f.processes me ≡ Some p
   pub runs : p.exited ≡ None
@@ -66,6 +67,7 @@ pub record Wrapper (session : Session) (s : State) (f : Flat) (l : LaysOut sessi
   pub few : s.next_object + 1 < greatest
 
 module _ (session : Session) (s : State) (f : Flat) (l : LaysOut session s f) (me : ProcName) (p : Process) (it : Wrapper session s f l me p) where
+  -- its fields by name
   abbrev here : f.processes me ≡ Some p
   here = it.here
 

@@ -75,6 +75,7 @@ use Rattle.histar_wrap.specs.Scratch.{directory_label, hold_job, kin_in}
 use Rattle.histar_wrap_rows.proofs.ScratchLabels.{rights_with_job, label_by, clearance_by, jobs_by, directory_by, owned_told}
 use Rattle.histar_wrap_rows.proofs.ScratchCalls.{with_segment, make_said, write_said, thread_then}
 use Rattle.histar_wrap_rows.proofs.JobFit.{fit, held_is}
+use Rattle.histar_wrap_rows.proofs.JobRights.{JobParent}
 
 module _ (session : Session) (ok : IsSession session) (me : ProcName) (caller : Caller) (old new : KernelModel) (f : Flat) (result : Result Reply Stopped)
     (ready : IsReady session (state old) f me caller.thread) (found : caller_at (state old) (places_of (length session.users)).home me ≡ Some caller) (m : Name) (named : IsTrue (is_name m)) (d : Path) where
@@ -203,7 +204,7 @@ module _ (session : Session) (ok : IsSession session) (me : ProcName) (caller : 
 
     -- once there is a number for the directory segment
     module _ (few : (state old).next_object + 1 < greatest) where
-      -- what the wrap is given
+      -- the process that wraps, its directory and the one above
       abbrev wrapper : Wrapper session (state old) f ready.lays_out me p
       wrapper = record {
         here = ready.caller.stands;
@@ -313,18 +314,39 @@ module _ (session : Session) (ok : IsSession session) (me : ProcName) (caller : 
       thread_has_job : before.objects t ≡ object own_then (Thread most_then)
       thread_has_job = sym (ap (λ (s : State). s.objects t) state_is) ∙ thread_then session ok (state old) f me t ready d open_so_far unused i declared written ∙ (λ j. object (own_is j) (Thread (most_is j)))
 
+      -- the parent of the job's first process, once the directory is there
+      abbrev parent : JobParent session made_state with_directory later me p
+      parent = record {
+        here = ready.caller.stands;
+        runs = ready.caller.runs;
+        room = few_children;
+        declared = is_declared;
+        served = is_served;
+        jobs_ordered = chain_ordered;
+        home = caller.home.container;
+        segment = caller.home.segment;
+        thread = t;
+        at_home = home_later;
+        at_status = segment_later;
+        at_thread = thread_later;
+      }
+
       -- what the birth needs is there
       fits : IsFit before t caller.home (status_by f.processes later.naming.number me p) kin own_then most_then
-      fits = fit session ok made_state with_directory later me p ready.caller.stands ready.caller.runs few_children is_declared is_served chain_ordered caller.home.container caller.home.segment home_later segment_later t thread_later
-          before.objects own most stands_beside thread_has_job kin (jobs_by session (state old) f ready.lays_out.laid me p ready.caller.stands unused later.category names_are) (owned_told session (state old) f ready.lays_out.laid me p ready.caller.stands unused)
+      fits = fit session ok made_state with_directory later me p parent before.objects own most stands_beside thread_has_job kin
+          (jobs_by session (state old) f ready.lays_out.laid me p ready.caller.stands unused later.category names_are) (owned_told session (state old) f ready.lays_out.laid me p ready.caller.stands unused)
 
-      -- and in the state after it the flat state of the row is laid out
+      -- it leaves the state in which the parent holds the job
+      held_then : (few_born : before.next_object + 3 < greatest)
+          → spawned before t caller.home (status_by f.processes later.naming.number me p) kin own_then most_then ≡ wrapping.state_wrapped session (state old) f ready.lays_out me p wrapper named few_entries few_born
+      held_then few_born = held_is session ok made_state with_directory later me p parent before.objects own most stands_beside thread_has_job kin
+          (jobs_by session (state old) f ready.lays_out.laid me p ready.caller.stands unused later.category names_are) (owned_told session (state old) f ready.lays_out.laid me p ready.caller.stands unused)
+          stranger held_ordered few_born counted
+
+      -- in which the flat state of the row is laid out
       laid_then : (few_born : before.next_object + 3 < greatest) → LaysOut session (spawned before t caller.home (status_by f.processes later.naming.number me p) kin own_then most_then) (changed session f me p call)
       laid_then few_born =
-          let held = held_is session ok made_state with_directory later me p ready.caller.stands ready.caller.runs few_children is_declared is_served chain_ordered caller.home.container caller.home.segment home_later segment_later t thread_later
-          before.objects own most stands_beside thread_has_job kin (jobs_by session (state old) f ready.lays_out.laid me p ready.caller.stands unused later.category names_are) (owned_told session (state old) f ready.lays_out.laid me p ready.caller.stands unused)
-          stranger held_ordered few_born counted in
-          subst (λ (s : State). LaysOut session s (changed session f me p call)) (sym held) (wrapping.lays_out_wrapped session (state old) f ready.lays_out me p wrapper named few_entries few_born)
+          subst (λ (s : State). LaysOut session s (changed session f me p call)) (sym (held_then few_born)) (wrapping.lays_out_wrapped session (state old) f ready.lays_out me p wrapper named few_entries few_born)
 
       -- with all raw calls the call is answered
       answered : (calls : List RawCall) (end : KernelModel) → AreAmong reads (entries_of old.line t (all_granted calls)) → Chain old t (all_granted calls) end

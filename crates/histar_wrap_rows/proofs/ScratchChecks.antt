@@ -138,8 +138,7 @@ module _ (session : Session) (ok : IsSession session) (s : State) (f : Flat) (me
   guard = scratch_guard (p.chain ++ child ∷ []) i
 
   -- The label that the thread hands in is secret to its user, to its jobs and to the new one.
-  pub due_is : directory_label session (label session ok s f me t ready) s.next_category
-      ≡ guard_label (jobs.m session s f ready.lays_out me ready.caller.process ready.caller.stands).category (scratch_guard (ready.caller.process.chain ++ ((ready.caller.process.born + 1) ∷ me) ∷ []) (or_zero (user_number session ready.caller.process.user)))
+  due_is : directory_label session own job ≡ guard_label m.category guard
   due_is = directory_by session s f l me p ready.caller.stands unused m.category naming_is
 
   -- ---- its container is made
