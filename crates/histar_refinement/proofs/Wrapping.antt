@@ -41,10 +41,98 @@ use Rattle.histar_refinement.proofs.Creating.{directory_naming, laid_directory_c
 use Rattle.histar_refinement.proofs.JobNamed as jobs
 use Rattle.histar_refinement.proofs.JobBorn.{after, state_held, given_after, given_child, used_before, laid_held}
 
-module _ (session : Session) (s : State) (f : Flat) (l : LaysOut session s f) (me : ProcName) (p : Process) (here : f.processes me ≡ Some p) (runs : p.exited ≡ None) (room : p.born < 64)
-    (i : ℕ) (declared : user_number session p.user ≡ Some i) (d : Path) (n : Name) (absent : get f.files (n ∷ d) ≡ None) (above : Class) (at_parent : get f.files d ≡ Some (record { class = above; content = Dir }))
-    (C S T D N : ℕ) (at_home : l.laid.naming.number (home_of me) ≡ Some C) (at_status : l.laid.naming.number (Status ∷ home_of me) ≡ Some S) (at_thread : l.laid.naming.number (Runner ∷ Inside ∷ home_of me) ≡ Some T)
-    (at_D : l.laid.naming.number (address_of d) ≡ Some D) (at_N : l.laid.naming.number (Listing ∷ address_of d) ≡ Some N) (few : s.next_object + 1 < greatest) where
+-- The process that wraps and its user, the name of the directory that it makes and the directory above, and the numbers at which the objects of
+-- the process and of the directory above stand.
+pub record Wrapper (session : Session) (s : State) (f : Flat) (l : LaysOut session s f) (me : ProcName) (p : Process) : Type 0 where
+  pub here : f.processes me ≡ Some p
+  pub runs : p.exited ≡ None
+  pub room : p.born < 64
+  pub user : ℕ
+  pub declared : user_number session p.user ≡ Some user
+  pub directory : Path
+  pub name : Name
+  pub absent : get f.files (name ∷ directory) ≡ None
+  pub above : Class
+  pub at_parent : get f.files directory ≡ Some (record { class = above; content = Dir })
+  pub home : ℕ
+  pub segment : ℕ
+  pub thread : ℕ
+  pub container : ℕ
+  pub listing : ℕ
+  pub at_home : l.laid.naming.number (home_of me) ≡ Some home
+  pub at_status : l.laid.naming.number (Status ∷ home_of me) ≡ Some segment
+  pub at_thread : l.laid.naming.number (Runner ∷ Inside ∷ home_of me) ≡ Some thread
+  pub at_container : l.laid.naming.number (address_of directory) ≡ Some container
+  pub at_listing : l.laid.naming.number (Listing ∷ address_of directory) ≡ Some listing
+  pub few : s.next_object + 1 < greatest
+
+module _ (session : Session) (s : State) (f : Flat) (l : LaysOut session s f) (me : ProcName) (p : Process) (it : Wrapper session s f l me p) where
+  -- its fields by name
+  abbrev here : f.processes me ≡ Some p
+  here = it.here
+
+  abbrev runs : p.exited ≡ None
+  runs = it.runs
+
+  abbrev room : p.born < 64
+  room = it.room
+
+  abbrev i : ℕ
+  i = it.user
+
+  abbrev declared : user_number session p.user ≡ Some i
+  declared = it.declared
+
+  -- the directory above, and the name in it
+  abbrev d : Path
+  d = it.directory
+
+  abbrev n : Name
+  n = it.name
+
+  abbrev absent : get f.files (n ∷ d) ≡ None
+  absent = it.absent
+
+  abbrev above : Class
+  above = it.above
+
+  abbrev at_parent : get f.files d ≡ Some (record { class = above; content = Dir })
+  at_parent = it.at_parent
+
+  -- the container, the segment and the thread of the process, and the container and the segment of the directory above
+  abbrev C : ℕ
+  C = it.home
+
+  abbrev S : ℕ
+  S = it.segment
+
+  abbrev T : ℕ
+  T = it.thread
+
+  abbrev D : ℕ
+  D = it.container
+
+  abbrev N : ℕ
+  N = it.listing
+
+  abbrev at_home : l.laid.naming.number (home_of me) ≡ Some C
+  at_home = it.at_home
+
+  abbrev at_status : l.laid.naming.number (Status ∷ home_of me) ≡ Some S
+  at_status = it.at_status
+
+  abbrev at_thread : l.laid.naming.number (Runner ∷ Inside ∷ home_of me) ≡ Some T
+  at_thread = it.at_thread
+
+  abbrev at_D : l.laid.naming.number (address_of d) ≡ Some D
+  at_D = it.at_container
+
+  abbrev at_N : l.laid.naming.number (Listing ∷ address_of d) ≡ Some N
+  at_N = it.at_listing
+
+  abbrev few : s.next_object + 1 < greatest
+  few = it.few
+
   abbrev child : ProcName
   child = (p.born + 1) ∷ me
 

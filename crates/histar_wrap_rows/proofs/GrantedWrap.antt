@@ -1,6 +1,6 @@
 -- A wrap that is granted: once the container of its scratch directory is made, the directory is made, the job's first process is born, and the
 -- thread holds the job.
-use Rattle.std.proofs.Common.{◌≡◌, ℕ, ◌+◌, ◌<◌, ◌≤◌, true, false, List, [], ◌∷◌, ◌++◌, Some, None, Result, arith, refl, sym, ap, ◌∙◌, subst}
+use Rattle.std.proofs.Common.{◌≡◌, ℕ, ◌+◌, ◌<◌, ◌≤◌, true, false, List, [], ◌∷◌, ◌++◌, Option, Some, None, Result, arith, refl, sym, ap, ◌∙◌, subst}
 use Rattle.std.specs.Prelude.{IsTrue, is_some, nat_lt, not, length}
 use Rattle.std.proofs.lemmas.Bool.{ltb-true}
 use Rattle.std.specs.FinMap as map
@@ -53,7 +53,7 @@ use Rattle.histar_refinement.specs.Addresses.{address_of, home_of}
 use Rattle.histar_refinement.specs.Addresses.Step.{Listing, Status, Inside, Runner}
 use Rattle.histar_refinement.specs.Directories.{directory_of}
 use Rattle.histar_refinement.specs.LaysOut.{AreInOrder, Laid, LaysOut}
-use Rattle.histar_refinement.specs.Processes.{status_by}
+use Rattle.histar_refinement.specs.Processes.{or_zero, status_by}
 use Rattle.histar_refinement.proofs.Beside.{Beside}
 use Rattle.histar_refinement.proofs.DirectoryLaws.{spelling_fits}
 use Rattle.histar_refinement.proofs.FileRows.{same_process_status}
@@ -62,6 +62,7 @@ use Rattle.histar_refinement.proofs.Making.{count_entries}
 use Rattle.histar_refinement.proofs.RawChecks.{object}
 use Rattle.histar_refinement.proofs.SessionLemmas.{not_nobody}
 use Rattle.histar_refinement.proofs.Wrapping as wrapping
+use Rattle.histar_refinement.proofs.Wrapping.{Wrapper}
 use Rattle.histar_rows.specs.Rows.{IsReady, AreAmong}
 use Rattle.histar_rows.proofs.Chains.{all_granted, entries_of, Chain}
 use Rattle.histar_rows.proofs.Steps.{Goal, granted_step, answered_step}
@@ -74,6 +75,7 @@ use Rattle.histar_wrap.specs.Scratch.{directory_label, hold_job, kin_in}
 use Rattle.histar_wrap_rows.proofs.ScratchLabels.{rights_with_job, label_by, clearance_by, jobs_by, directory_by, owned_told}
 use Rattle.histar_wrap_rows.proofs.ScratchCalls.{with_segment, make_said, write_said, thread_then}
 use Rattle.histar_wrap_rows.proofs.JobFit.{fit, held_is}
+use Rattle.histar_wrap_rows.proofs.JobRights.{JobParent}
 
 module _ (session : Session) (ok : IsSession session) (me : ProcName) (caller : Caller) (old new : KernelModel) (f : Flat) (result : Result Reply Stopped)
     (ready : IsReady session (state old) f me caller.thread) (found : caller_at (state old) (places_of (length session.users)).home me ≡ Some caller) (m : Name) (named : IsTrue (is_name m)) (d : Path) where
@@ -202,42 +204,61 @@ module _ (session : Session) (ok : IsSession session) (me : ProcName) (caller : 
 
     -- once there is a number for the directory segment
     module _ (few : (state old).next_object + 1 < greatest) where
+      -- the process that wraps, its directory and the one above
+      abbrev wrapper : Wrapper session (state old) f ready.lays_out me p
+      wrapper = record {
+        here = ready.caller.stands;
+        runs = ready.caller.runs;
+        room = few_children;
+        user = i;
+        declared = declared;
+        directory = d;
+        name = m;
+        absent = absent;
+        above = above;
+        at_parent = at_parent;
+        home = caller.home.container;
+        segment = caller.home.segment;
+        thread = t;
+        container = place.container;
+        listing = place.listing;
+        at_home = home_there;
+        at_status = segment_there;
+        at_thread = thread_there;
+        at_container = container_there;
+        at_listing = listing_there;
+        few = few;
+      }
+
       -- the state with the directory in it, which lays out the flat state with the directory but for the thread
       abbrev made_state : State
-      made_state = wrapping.made_state session (state old) f ready.lays_out me p ready.caller.stands ready.caller.runs few_children i declared d m absent above at_parent
-          caller.home.container caller.home.segment t place.container place.listing home_there segment_there thread_there container_there listing_there few
+      made_state = wrapping.made_state session (state old) f ready.lays_out me p wrapper
 
       abbrev with_directory : Flat
-      with_directory = wrapping.with_directory session (state old) f ready.lays_out me p ready.caller.stands ready.caller.runs few_children i declared d m absent above at_parent
-          caller.home.container caller.home.segment t place.container place.listing home_there segment_there thread_there container_there listing_there few
+      with_directory = wrapping.with_directory session (state old) f ready.lays_out me p wrapper
 
       abbrev later : Laid session made_state with_directory
-      later = wrapping.k session (state old) f ready.lays_out me p ready.caller.stands ready.caller.runs few_children i declared d m absent above at_parent
-          caller.home.container caller.home.segment t place.container place.listing home_there segment_there thread_there container_there listing_there few named few_entries
+      later = wrapping.k session (state old) f ready.lays_out me p wrapper named few_entries
 
       abbrev before : State
-      before = wrapping.state_directory session (state old) f ready.lays_out me p ready.caller.stands ready.caller.runs few_children i declared d m absent above at_parent
-          caller.home.container caller.home.segment t place.container place.listing home_there segment_there thread_there container_there listing_there few named few_entries
+      before = wrapping.state_directory session (state old) f ready.lays_out me p wrapper named few_entries
 
       -- the category of the job has its name in it, and what is made for the job the label that is due
       abbrev job_named : Laid session (counting (state old)) f
-      job_named = wrapping.m session (state old) f ready.lays_out me p ready.caller.stands ready.caller.runs few_children i declared d m absent above at_parent
-          caller.home.container caller.home.segment t place.container place.listing home_there segment_there thread_there container_there listing_there few
+      job_named = wrapping.m session (state old) f ready.lays_out me p wrapper
 
       naming_is : job_named.naming ≡ ready.lays_out.laid.naming
-      naming_is = (wrapping.named session (state old) f ready.lays_out me p ready.caller.stands ready.caller.runs few_children i declared d m absent above at_parent
-          caller.home.container caller.home.segment t place.container place.listing home_there segment_there thread_there container_there listing_there few).1
+      naming_is = (wrapping.named session (state old) f ready.lays_out me p wrapper).1
 
       category_is : job_named.category ≡ naming_next ready.lays_out.laid.category (state old).next_category (OfJob ((p.born + 1) ∷ me))
-      category_is = (wrapping.named session (state old) f ready.lays_out me p ready.caller.stands ready.caller.runs few_children i declared d m absent above at_parent
-          caller.home.container caller.home.segment t place.container place.listing home_there segment_there thread_there container_there listing_there few).2
+      category_is = (wrapping.named session (state old) f ready.lays_out me p wrapper).2
 
       names_are : later.category ≡ naming_next ready.lays_out.laid.category (state old).next_category (OfJob ((p.born + 1) ∷ me))
-      names_are = (wrapping.made session (state old) f ready.lays_out me p ready.caller.stands ready.caller.runs few_children i declared d m absent above at_parent
-          caller.home.container caller.home.segment t place.container place.listing home_there segment_there thread_there container_there listing_there few named few_entries).2 ∙ category_is
+      names_are = (wrapping.made session (state old) f ready.lays_out me p wrapper named few_entries).2 ∙ category_is
 
       due_is : due ≡ guard_label job_named.category (scratch_guard (p.chain ++ child ∷ []) i)
-      due_is = directory_by session (state old) f ready.lays_out.laid me p ready.caller.stands unused job_named.category category_is i declared
+      due_is = directory_by session (state old) f ready.lays_out.laid me p ready.caller.stands unused job_named.category category_is
+          ∙ ap (λ (o : Option ℕ). guard_label job_named.category (scratch_guard (p.chain ++ child ∷ []) (or_zero o))) declared
 
       state_is : with_bytes (with_segment session ok (state old) f me t ready d open_so_far unused i declared) place.listing written ≡ before
       state_is = λ j. with_bytes (added (added (with_category (state old) t) place.container (record { label = due_is j; kind = Container set.empty })) number (record { label = due_is j; kind = Segment [] }))
@@ -245,49 +266,38 @@ module _ (session : Session) (ok : IsSession session) (me : ProcName) (caller : 
 
       -- what its process and its job are there
       is_declared : is_some (user_number session p.user) ≡ true
-      is_declared = wrapping.is_declared session (state old) f ready.lays_out me p ready.caller.stands ready.caller.runs few_children i declared d m absent above at_parent
-          caller.home.container caller.home.segment t place.container place.listing home_there segment_there thread_there container_there listing_there few named few_entries
+      is_declared = wrapping.is_declared session (state old) f ready.lays_out me p wrapper named few_entries
 
       is_served : IsServed with_directory ((p.born + 1) ∷ me)
-      is_served = wrapping.served session (state old) f ready.lays_out me p ready.caller.stands ready.caller.runs few_children i declared d m absent above at_parent
-          caller.home.container caller.home.segment t place.container place.listing home_there segment_there thread_there container_there listing_there few named few_entries
+      is_served = wrapping.served session (state old) f ready.lays_out me p wrapper named few_entries
 
       stranger : has p.chain ((p.born + 1) ∷ me) ≡ false
-      stranger = wrapping.stranger session (state old) f ready.lays_out me p ready.caller.stands ready.caller.runs few_children i declared d m absent above at_parent
-          caller.home.container caller.home.segment t place.container place.listing home_there segment_there thread_there container_there listing_there few
+      stranger = wrapping.stranger session (state old) f ready.lays_out me p wrapper
 
       chain_ordered : AreInOrder later.category (p.chain ++ ((p.born + 1) ∷ me) ∷ [])
-      chain_ordered = wrapping.k_chain session (state old) f ready.lays_out me p ready.caller.stands ready.caller.runs few_children i declared d m absent above at_parent
-          caller.home.container caller.home.segment t place.container place.listing home_there segment_there thread_there container_there listing_there few named few_entries
+      chain_ordered = wrapping.k_chain session (state old) f ready.lays_out me p wrapper named few_entries
 
       held_ordered : AreInOrder later.category (p.held ++ ((p.born + 1) ∷ me) ∷ [])
-      held_ordered = wrapping.k_held session (state old) f ready.lays_out me p ready.caller.stands ready.caller.runs few_children i declared d m absent above at_parent
-          caller.home.container caller.home.segment t place.container place.listing home_there segment_there thread_there container_there listing_there few named few_entries
+      held_ordered = wrapping.k_held session (state old) f ready.lays_out me p wrapper named few_entries
 
       home_later : later.naming.number (home_of me) ≡ Some caller.home.container
-      home_later = wrapping.k_home session (state old) f ready.lays_out me p ready.caller.stands ready.caller.runs few_children i declared d m absent above at_parent
-          caller.home.container caller.home.segment t place.container place.listing home_there segment_there thread_there container_there listing_there few named few_entries
+      home_later = wrapping.k_home session (state old) f ready.lays_out me p wrapper named few_entries
 
       segment_later : later.naming.number (Status ∷ home_of me) ≡ Some caller.home.segment
-      segment_later = wrapping.k_status session (state old) f ready.lays_out me p ready.caller.stands ready.caller.runs few_children i declared d m absent above at_parent
-          caller.home.container caller.home.segment t place.container place.listing home_there segment_there thread_there container_there listing_there few named few_entries
+      segment_later = wrapping.k_status session (state old) f ready.lays_out me p wrapper named few_entries
 
       thread_later : later.naming.number (Runner ∷ Inside ∷ home_of me) ≡ Some t
-      thread_later = wrapping.k_thread session (state old) f ready.lays_out me p ready.caller.stands ready.caller.runs few_children i declared d m absent above at_parent
-          caller.home.container caller.home.segment t place.container place.listing home_there segment_there thread_there container_there listing_there few named few_entries
+      thread_later = wrapping.k_thread session (state old) f ready.lays_out me p wrapper named few_entries
 
       stands_beside : Beside t own most before made_state
-      stands_beside = wrapping.beside session (state old) f ready.lays_out me p ready.caller.stands ready.caller.runs few_children i declared d m absent above at_parent
-          caller.home.container caller.home.segment t place.container place.listing home_there segment_there thread_there container_there listing_there few named few_entries
+      stands_beside = wrapping.beside session (state old) f ready.lays_out me p wrapper named few_entries
 
       counted : made_state.next_category ≤ before.next_category
-      counted = wrapping.counted session (state old) f ready.lays_out me p ready.caller.stands ready.caller.runs few_children i declared d m absent above at_parent
-          caller.home.container caller.home.segment t place.container place.listing home_there segment_there thread_there container_there listing_there few named few_entries
+      counted = wrapping.counted session (state old) f ready.lays_out me p wrapper named few_entries
 
       -- what the process segment of the parent tells, and what its thread has
       status_is : status ≡ status_by f.processes later.naming.number me p
-      status_is = same_process_status ready.lays_out.laid.naming.number later.naming.number (wrapping.k_numbers session (state old) f ready.lays_out me p ready.caller.stands ready.caller.runs few_children i declared d m absent above at_parent
-          caller.home.container caller.home.segment t place.container place.listing home_there segment_there thread_there container_there listing_there few named few_entries) f.processes me p
+      status_is = same_process_status ready.lays_out.laid.naming.number later.naming.number (wrapping.k_numbers session (state old) f ready.lays_out me p wrapper named few_entries) f.processes me p
 
       abbrev own_then : Levels
       own_then = rights_label later.category (rights_with_job session me p)
@@ -304,19 +314,39 @@ module _ (session : Session) (ok : IsSession session) (me : ProcName) (caller : 
       thread_has_job : before.objects t ≡ object own_then (Thread most_then)
       thread_has_job = sym (ap (λ (s : State). s.objects t) state_is) ∙ thread_then session ok (state old) f me t ready d open_so_far unused i declared written ∙ (λ j. object (own_is j) (Thread (most_is j)))
 
+      -- the parent of the job's first process, once the directory is there
+      abbrev parent : JobParent session made_state with_directory later me p
+      parent = record {
+        here = ready.caller.stands;
+        runs = ready.caller.runs;
+        room = few_children;
+        declared = is_declared;
+        served = is_served;
+        jobs_ordered = chain_ordered;
+        home = caller.home.container;
+        segment = caller.home.segment;
+        thread = t;
+        at_home = home_later;
+        at_status = segment_later;
+        at_thread = thread_later;
+      }
+
       -- what the birth needs is there
       fits : IsFit before t caller.home (status_by f.processes later.naming.number me p) kin own_then most_then
-      fits = fit session ok made_state with_directory later me p ready.caller.stands ready.caller.runs few_children is_declared is_served chain_ordered caller.home.container caller.home.segment home_later segment_later t thread_later
-          before.objects own most stands_beside thread_has_job kin (jobs_by session (state old) f ready.lays_out.laid me p ready.caller.stands unused later.category names_are) (owned_told session (state old) f ready.lays_out.laid me p ready.caller.stands unused)
+      fits = fit session ok made_state with_directory later me p parent before.objects own most stands_beside thread_has_job kin
+          (jobs_by session (state old) f ready.lays_out.laid me p ready.caller.stands unused later.category names_are) (owned_told session (state old) f ready.lays_out.laid me p ready.caller.stands unused)
 
-      -- and in the state after it the flat state of the row is laid out
+      -- it leaves the state in which the parent holds the job
+      held_then : (few_born : before.next_object + 3 < greatest)
+          → spawned before t caller.home (status_by f.processes later.naming.number me p) kin own_then most_then ≡ wrapping.state_wrapped session (state old) f ready.lays_out me p wrapper named few_entries few_born
+      held_then few_born = held_is session ok made_state with_directory later me p parent before.objects own most stands_beside thread_has_job kin
+          (jobs_by session (state old) f ready.lays_out.laid me p ready.caller.stands unused later.category names_are) (owned_told session (state old) f ready.lays_out.laid me p ready.caller.stands unused)
+          stranger held_ordered few_born counted
+
+      -- in which the flat state of the row is laid out
       laid_then : (few_born : before.next_object + 3 < greatest) → LaysOut session (spawned before t caller.home (status_by f.processes later.naming.number me p) kin own_then most_then) (changed session f me p call)
       laid_then few_born =
-          let held = held_is session ok made_state with_directory later me p ready.caller.stands ready.caller.runs few_children is_declared is_served chain_ordered caller.home.container caller.home.segment home_later segment_later t thread_later
-          before.objects own most stands_beside thread_has_job kin (jobs_by session (state old) f ready.lays_out.laid me p ready.caller.stands unused later.category names_are) (owned_told session (state old) f ready.lays_out.laid me p ready.caller.stands unused)
-          stranger held_ordered few_born counted in
-          subst (λ (s : State). LaysOut session s (changed session f me p call)) (sym held) (wrapping.lays_out_wrapped session (state old) f ready.lays_out me p ready.caller.stands ready.caller.runs few_children i declared d m absent above at_parent
-          caller.home.container caller.home.segment t place.container place.listing home_there segment_there thread_there container_there listing_there few named few_entries few_born)
+          subst (λ (s : State). LaysOut session s (changed session f me p call)) (sym (held_then few_born)) (wrapping.lays_out_wrapped session (state old) f ready.lays_out me p wrapper named few_entries few_born)
 
       -- with all raw calls the call is answered
       answered : (calls : List RawCall) (end : KernelModel) → AreAmong reads (entries_of old.line t (all_granted calls)) → Chain old t (all_granted calls) end
@@ -349,8 +379,7 @@ module _ (session : Session) (ok : IsSession session) (me : ProcName) (caller : 
       directory_written calls mid kept chain at runs =
           let write : RawCall = Write place.container place.listing 0 written in
           let guard = directory_guard session ok (state old) f me t ready d open_so_far in
-          let apart = wrapping.not_named session (state old) f ready.lays_out me p ready.caller.stands ready.caller.runs few_children i declared d m absent above at_parent
-          caller.home.container caller.home.segment t place.container place.listing home_there segment_there thread_there container_there listing_there few d (record { class = above; content = Dir }) guard.0 at_parent guard.1 in
+          let apart = wrapping.not_named session (state old) f ready.lays_out me p wrapper d (record { class = above; content = Dir }) guard.0 at_parent guard.1 in
           granted_step session f me ready.caller call old new t ready.thread result calls mid chain write (λ _. birth_then status (with_level own job Star) (with_level most job L3))
           (ap (λ (s : State). check s t write) at ∙ write_said session ok (state old) f me t ready d open_so_far unused i declared may stranger apart.0 apart.1 written few_written) runs
           (λ end done called right longer goes.

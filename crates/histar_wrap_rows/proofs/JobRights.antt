@@ -35,9 +35,61 @@ use Rattle.histar_process_rows.proofs.BirthChecks.{IsModified, IsLesser, IsTaken
 use Rattle.histar_process_rows.proofs.BirthRights.{around_before}
 use Rattle.histar_wrap_rows.proofs.ScratchLabels.{rights_with_job}
 
-module _ (session : Session) (s : State) (f : Flat) (l : Laid session s f) (me : ProcName) (p : Process) (here : f.processes me ≡ Some p) (runs : p.exited ≡ None) (room : p.born < 64)
-    (declared : is_some (user_number session p.user) ≡ true) (served : IsServed f ((p.born + 1) ∷ me)) (jobs_ordered : AreInOrder l.category (p.chain ++ ((p.born + 1) ∷ me) ∷ []))
-    (C S : ℕ) (at_home : l.naming.number (home_of me) ≡ Some C) (at_status : l.naming.number (Status ∷ home_of me) ≡ Some S) where
+-- The parent of a new job's first process, once the job has its directory: the parent's user is declared, its jobs and the new one are in the
+-- order of their categories, and its container, its process segment and its thread have these numbers.
+pub record JobParent (session : Session) (s : State) (f : Flat) (l : Laid session s f) (me : ProcName) (p : Process) : Type 0 where
+  pub here : f.processes me ≡ Some p
+  pub runs : p.exited ≡ None
+  pub room : p.born < 64
+  pub declared : is_some (user_number session p.user) ≡ true
+  pub served : IsServed f ((p.born + 1) ∷ me)
+  pub jobs_ordered : AreInOrder l.category (p.chain ++ ((p.born + 1) ∷ me) ∷ [])
+  pub home : ℕ
+  pub segment : ℕ
+  pub thread : ℕ
+  pub at_home : l.naming.number (home_of me) ≡ Some home
+  pub at_status : l.naming.number (Status ∷ home_of me) ≡ Some segment
+  pub at_thread : l.naming.number (Runner ∷ Inside ∷ home_of me) ≡ Some thread
+
+module _ (session : Session) (s : State) (f : Flat) (l : Laid session s f) (me : ProcName) (p : Process) (parent : JobParent session s f l me p) where
+  -- its fields by name
+  abbrev here : f.processes me ≡ Some p
+  here = parent.here
+
+  abbrev runs : p.exited ≡ None
+  runs = parent.runs
+
+  abbrev room : p.born < 64
+  room = parent.room
+
+  abbrev declared : is_some (user_number session p.user) ≡ true
+  declared = parent.declared
+
+  abbrev served : IsServed f ((p.born + 1) ∷ me)
+  served = parent.served
+
+  abbrev jobs_ordered : AreInOrder l.category (p.chain ++ ((p.born + 1) ∷ me) ∷ [])
+  jobs_ordered = parent.jobs_ordered
+
+  -- the numbers of its container, its process segment and its thread
+  abbrev C : ℕ
+  C = parent.home
+
+  abbrev S : ℕ
+  S = parent.segment
+
+  abbrev T : ℕ
+  T = parent.thread
+
+  abbrev at_home : l.naming.number (home_of me) ≡ Some C
+  at_home = parent.at_home
+
+  abbrev at_status : l.naming.number (Status ∷ home_of me) ≡ Some S
+  at_status = parent.at_status
+
+  abbrev at_thread : l.naming.number (Runner ∷ Inside ∷ home_of me) ≡ Some T
+  at_thread = parent.at_thread
+
   abbrev child : ProcName
   child = (p.born + 1) ∷ me
 
@@ -148,7 +200,7 @@ module _ (session : Session) (s : State) (f : Flat) (l : Laid session s f) (me :
   -- ---- what stands there
 
   -- In a state with these objects, where the thread has the job and all other objects are as they are.
-  module _ (T : ℕ) (at_thread : l.naming.number (Runner ∷ Inside ∷ home_of me) ≡ Some T) (objects : Objects Levels) (others : (q : ℕ) → q ≢ T → objects q ≡ s.objects q)
+  module _ (objects : Objects Levels) (others : (q : ℕ) → q ≢ T → objects q ≡ s.objects q)
       (thread : objects T ≡ object (rights_label l.category (rights_with_job session me p)) (Thread (rights_clearance l.category (rights_with_job session me p)))) where
     abbrev pub beside_state : State
     beside_state = record { objects = objects; next_object = s.next_object; next_category = s.next_category }

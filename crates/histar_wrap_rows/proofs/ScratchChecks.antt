@@ -1,9 +1,7 @@
 -- What the kernel says once the category of a new job is made: the thread makes the container of the scratch directory exactly where the
 -- directory above may be written, its user is declared and there is a number for it; and it may take its own label and clearance again.
-use Rattle.std.proofs.Common.{◌≡◌, ◌≢◌, ℕ, ◌+◌, ◌≤◌, ◌==◌, ◌||◌, ◌&&◌, Bool, true, List, [], ◌∷◌, ◌++◌, length, Option, None, Some, arith, refl, sym, ap, ◌∙◌, subst}
-use Rattle.std.specs.Prelude.{is_some, map, not, nat_eq, option_map}
-use Rattle.std.proofs.lemmas.Bool.Decides.{nat_tests}
-use Rattle.std.proofs.lemmas.List.{map-append}
+use Rattle.std.proofs.Common.{◌≡◌, ◌≢◌, ℕ, ◌+◌, ◌&&◌, Bool, true, [], ◌∷◌, ◌++◌, None, Some, sym, ap, ◌∙◌, subst}
+use Rattle.std.specs.Prelude.{is_some, not, option_map}
 use mathlib.Core.Bool.{true≢false}
 use Rattle.histar_base.specs.Refusals.{◌orelse◌, unless}
 use Rattle.histar_flat.specs.Words.{Path, ProcName}
@@ -22,44 +20,28 @@ use Rattle.histar_container.proofs.TableMoves.{changed_here, changed_other}
 use Rattle.histar_rules.specs.declared.raw.Denied.TheVariants.{Modify, Range, TooBig}
 use Rattle.histar_rules.specs.declared.raw.RawCall.TheVariants.{MakeContainer, SetLabel, SetClearance}
 use Rattle.histar_rules.specs.Rules.{no_making, known, has_number, check}
-use Rattle.histar_calls.specs.Categories.{scratch_label}
-use Rattle.histar_calls.specs.Jobs.{jobs_in}
-use Rattle.histar_calls.specs.Labelling.{guarded_by}
-use Rattle.histar_wrap.specs.Scratch.{directory_label, jobs_with}
+use Rattle.histar_wrap.specs.Scratch.{directory_label}
 use Rattle.histar_refinement.specs.Sessions.{IsSession}
-use Rattle.histar_refinement.specs.Categories.{CategoryName, Categories, IsMade, IsUsed}
-use Rattle.histar_refinement.specs.Categories.CategoryName.{ReadsUser, OfJob}
+use Rattle.histar_refinement.specs.Categories.{IsMade, naming_next, IsUsed}
+use Rattle.histar_refinement.specs.Categories.CategoryName.{OfJob}
 use Rattle.histar_refinement.specs.Guards.{Guard, Rights, guard_label, rights_label, rights_clearance}
 use Rattle.histar_refinement.specs.Labels.{class_guard, scratch_guard, thread_rights}
 use Rattle.histar_refinement.specs.Addresses.{Step, address_of}
 use Rattle.histar_refinement.specs.LaysOut.{Laid}
 use Rattle.histar_refinement.specs.Processes.{or_zero}
-use Rattle.histar_refinement.proofs.AmongNames.{each_head, each_append}
-use Rattle.histar_refinement.proofs.CallLabels.{reads_numbered}
-use Rattle.histar_refinement.proofs.Growing.{RightsHave, IsOld, same_numbers, same_rights_label, same_rights_clearance, made_label, made_clearance}
-use Rattle.histar_refinement.proofs.JobLabels.{jobs_are}
+use Rattle.histar_refinement.proofs.AmongNames.{each_append}
+use Rattle.histar_refinement.proofs.Growing.{RightsHave, same_rights_label, same_rights_clearance}
 use Rattle.histar_refinement.proofs.JobNamed as jobs
-use Rattle.histar_refinement.proofs.Levelled.{same_guarded}
-use Rattle.histar_refinement.proofs.Members.{is_in, is_in-append}
 use Rattle.histar_refinement.proofs.RawChecks.{object, making_check}
-use Rattle.histar_refinement.proofs.SessionLemmas.{is_number, user_range}
 use Rattle.histar_refinement.proofs.Standing.{container_found}
-use Rattle.histar_refinement.proofs.Tested.{AreMade, guard_made, rights_made, clearance_made, guard_owns_nothing}
-use Rattle.histar_refinement.proofs.Uses.{job_among, rights_used}
+use Rattle.histar_refinement.proofs.Tested.{rights_made, clearance_made, guard_owns_nothing}
+use Rattle.histar_refinement.proofs.Uses.{rights_used}
 use Rattle.histar_refinement.proofs.WrapTests.{with_job, scratch_above, scratch_below, observes_parent, modifies_parent, label_back, clearance_back}
 use Rattle.histar_rows.specs.Rows.{IsReady}
 use Rattle.histar_file_rows.proofs.FoundObjects.{label, clearance, thread, container, directory_class, directory_stands, directory_guard, container_numbered, may_look}
 use Rattle.histar_process_rows.proofs.BirthChecks.{IsTaken, label_said, clearance_said}
 use Rattle.histar_process_rows.proofs.BirthObjects.{thread_relabelled}
-use Rattle.histar_process_rows.proofs.OwnLabels.{own_user_is}
-
--- the number that a user has is the user's number
-number_there : (o : Option ℕ) → is_number o (or_zero o) ≡ is_some o
-number_there None = refl
-number_there (Some i) = itself
-  where
-    itself : nat_eq i i ≡ true
-    itself = grind (arith, nat_tests)
+use Rattle.histar_wrap_rows.proofs.ScratchLabels.{number_there, label_by, clearance_by, directory_by, directory_made}
 
 module _ (session : Session) (ok : IsSession session) (s : State) (f : Flat) (me : ProcName) (t : ℕ) (ready : IsReady session s f me t) where
   abbrev p : Process
@@ -77,6 +59,13 @@ module _ (session : Session) (ok : IsSession session) (s : State) (f : Flat) (me
 
   abbrev m : Laid session (counting s) f
   m = jobs.m session s f ready.lays_out me p ready.caller.stands
+
+  -- the job's name was not used, and it is named as the labels are
+  unused : ¬ IsUsed session f (OfJob child)
+  unused = jobs.unused session s f ready.lays_out me p ready.caller.stands
+
+  naming_is : m.category ≡ naming_next l.category job (OfJob child)
+  naming_is = (jobs.named session s f ready.lays_out me p ready.caller.stands).2
 
   abbrev with_it : State
   with_it = with_category s t
@@ -102,25 +91,19 @@ module _ (session : Session) (ok : IsSession session) (s : State) (f : Flat) (me
   abbrev owner_most : Levels
   owner_most = rights_clearance m.category holding
 
-  used : RightsHave (IsUsed session f) mine
-  used = rights_used session f me p ready.caller.stands
-
-  old_name : (c : CategoryName) → IsUsed session f c → IsOld l.category l.different job (OfJob child) c
-  old_name c is = (λ e. jobs.unused session s f ready.lays_out me p ready.caller.stands (subst (IsUsed session f) e is), l.made c is)
-
-  old : RightsHave (IsOld l.category l.different job (OfJob child)) mine
-  old = (λ c e. old_name c (used.0 c e), λ c e. old_name c (used.1 c e))
-
   label_then : with_level own job Star ≡ owner
-  label_then = made_label l.category l.different job (OfJob child) mine old ∙ ap (λ (k : Categories). rights_label k holding) (sym (jobs.named session s f ready.lays_out me p ready.caller.stands).2)
+  label_then = label_by session s f l me p ready.caller.stands unused m.category naming_is
 
   clearance_then : with_level most job L3 ≡ owner_most
-  clearance_then = made_clearance l.category l.different job (OfJob child) mine old ∙ ap (λ (k : Categories). rights_clearance k holding) (sym (jobs.named session s f ready.lays_out me p ready.caller.stands).2)
+  clearance_then = clearance_by session s f l me p ready.caller.stands unused m.category naming_is
 
   thread_then : with_it.objects t ≡ object owner (Thread owner_most)
   thread_then = changed_here s.objects t (owning job) ∙ ap (option_map (owning job)) (thread session ok s f me t ready) ∙ (λ i. object (label_then i) (Thread (clearance_then i)))
 
   -- ---- it takes its own label and clearance again
+
+  used : RightsHave (IsUsed session f) mine
+  used = rights_used session f me p ready.caller.stands
 
   taken_named : IsTaken owner owner_most (rights_label m.category mine) (rights_clearance m.category mine) (job + 1)
   taken_named = record {
@@ -150,45 +133,18 @@ module _ (session : Session) (ok : IsSession session) (s : State) (f : Flat) (me
   abbrev i : ℕ
   i = or_zero (user_number session p.user)
 
-  low : i ≤ length session.users
-  low = by (user_number session p.user) refl
-    where
-      by : (o : Option ℕ) → user_number session p.user ≡ o → or_zero o ≤ length session.users
-      by None is = omega arith
-      by (Some k) is = (user_range session p.user k is).1
-
   -- how it is guarded
   abbrev guard : Guard
   guard = scratch_guard (p.chain ++ child ∷ []) i
 
-  jobs_alike : (q : ℕ) → is_in (jobs_with own job) q ≡ is_in (map m.category (map OfJob (p.chain ++ child ∷ []))) q
-  jobs_alike q =
-      let kept = jobs.keeps session s f ready.lays_out me p ready.caller.stands in
-      let number = jobs.job_number session s f ready.lays_out me p ready.caller.stands in
-      is_in-append (jobs_in own) (job ∷ []) q
-      ∙ (λ k. jobs_are l.category session me p q k || is_in (sym number k ∷ []) q)
-      ∙ ap (λ (numbers : List ℕ). is_in numbers q || is_in (m.category (OfJob child) ∷ []) q) (sym (same_numbers l.category m.category (map OfJob p.chain) (λ c e. kept c (used.1 c e))))
-      ∙ sym (is_in-append (map m.category (map OfJob p.chain)) (m.category (OfJob child) ∷ []) q)
-      ∙ ap (λ (numbers : List ℕ). is_in numbers q) (sym (ap (map m.category) (map-append OfJob p.chain (child ∷ [])) ∙ map-append m.category (map OfJob p.chain) (OfJob child ∷ [])))
-
   -- The label that the thread hands in is secret to its user, to its jobs and to the new one.
-  pub due_is : directory_label session (label session ok s f me t ready) s.next_category
-      ≡ guard_label (jobs.m session s f ready.lays_out me ready.caller.process ready.caller.stands).category (scratch_guard (ready.caller.process.chain ++ ((ready.caller.process.born + 1) ∷ me) ∷ []) (or_zero (user_number session ready.caller.process.user)))
-  due_is =
-      ap (λ (user : ℕ). scratch_label user (jobs_with own job)) (own_user_is session s f l me p)
-      ∙ ap (λ (c : ℕ). guarded_by (c ∷ jobs_with own job) []) (sym (reads_numbered session (counting s) f m i low))
-      ∙ same_guarded (m.category (ReadsUser i) ∷ jobs_with own job) [] (m.category (ReadsUser i) ∷ map m.category (map OfJob (p.chain ++ child ∷ []))) []
-      (λ q. ap (λ (b : Bool). q == m.category (ReadsUser i) || b) (jobs_alike q)) (λ q. refl)
+  due_is : directory_label session own job ≡ guard_label m.category guard
+  due_is = directory_by session s f l me p ready.caller.stands unused m.category naming_is
 
   -- ---- its container is made
 
-  due_made : AreMade (job + 1) m.category guard.secret
-  due_made = each_head (λ c. IsMade (job + 1) (m.category c)) (ReadsUser i) (map OfJob (p.chain ++ child ∷ [])) (m.made (ReadsUser i) low)
-      (λ c e. let found = job_among (p.chain ++ child ∷ []) c e in
-      subst (λ (x : CategoryName). IsMade (job + 1) (m.category x)) (sym found.1) (jobs.chain_made session s f ready.lays_out me p ready.caller.stands found.0 found.2))
-
   known_then : known with_it (guard_label m.category guard) ≡ true
-  known_then = guard_made (job + 1) m.category guard due_made (λ c e. absurd (true≢false (sym e)))
+  known_then = ap (known with_it) (sym due_is) ∙ directory_made session s f l me p ready.caller.stands unused
 
   ranged : in_range (with_it.objects t) (guard_label m.category guard) ≡ is_some (user_number session p.user)
   ranged = ap (λ (x : Found). in_range x (guard_label m.category guard)) thread_then

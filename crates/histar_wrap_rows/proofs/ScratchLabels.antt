@@ -1,7 +1,7 @@
 -- The labels of a wrap by the names of categories, once the job's category is made: of the thread, of the scratch directory, and of the directory
 -- above it; and what a job's first process gets from its parent.
-use Rattle.std.proofs.Common.{◌≡◌, ℕ, ◌+◌, ◌≤◌, ◌&&◌, ◌||◌, ◌==◌, inl, inr, Bool, true, false, List, [], ◌∷◌, ◌++◌, length, Some, arith, refl, sym, ap, ◌∙◌, subst}
-use Rattle.std.specs.Prelude.{map}
+use Rattle.std.proofs.Common.{◌≡◌, ℕ, ◌+◌, ◌≤◌, ◌&&◌, ◌||◌, ◌==◌, inl, inr, Bool, true, false, List, [], ◌∷◌, ◌++◌, length, Option, None, Some, arith, refl, sym, ap, ◌∙◌, subst}
+use Rattle.std.specs.Prelude.{is_some, map, nat_eq}
 use Rattle.std.proofs.lemmas.List.{map-append}
 use Rattle.histar_flat.specs.Words.{Path, ProcName}
 use Rattle.histar_flat.specs.Sessions.{Session, has, user_number}
@@ -9,7 +9,7 @@ use Rattle.histar_flat.specs.Files.{get}
 use Rattle.histar_flat.specs.Classes.{Process, may_write}
 use Rattle.histar_flat.specs.FlatState.{Flat, Node}
 use Rattle.histar_label.specs.declared.levels.Level.TheVariants.{Star, L3}
-use Rattle.histar_label.specs.Levels.{Levels, with_level, is_below, is_below_raised}
+use Rattle.histar_label.specs.Levels.{Levels, with_level, is_below, is_below_raised, is_made}
 use Rattle.histar_object.specs.State.{State}
 use Rattle.histar_calls.specs.Categories.{read_category, scratch_label}
 use Rattle.histar_calls.specs.Jobs.{jobs_in}
@@ -42,9 +42,13 @@ use Rattle.histar_wrap.specs.Scratch.{jobs_with, directory_label, kin_in}
 abbrev pub rights_with_job : Session → ProcName → Process → Rights
 rights_with_job session me p = record { owned = OfJob ((p.born + 1) ∷ me) ∷ (thread_rights session me p).owned; tainted = (thread_rights session me p).tainted }
 
--- a number is itself
-number_itself : (i : ℕ) → is_number (Some i) i ≡ true
-number_itself i = grind (arith)
+-- the number that a user has is the user's number
+pub number_there : (o : Option ℕ) → is_number o (or_zero o) ≡ is_some o
+number_there None = refl
+number_there (Some i) = itself
+  where
+    itself : nat_eq i i ≡ true
+    itself = grind (arith)
 
 module _ (session : Session) (s : State) (f : Flat) (l : Laid session s f) (me : ProcName) (p : Process) (here : f.processes me ≡ Some p) (unused : ¬ IsUsed session f (OfJob ((p.born + 1) ∷ me))) where
   abbrev child : ProcName
@@ -109,44 +113,59 @@ module _ (session : Session) (s : State) (f : Flat) (l : Laid session s f) (me :
 
   -- ---- the scratch directory
 
+  -- the number of its user, and nobody's where there is none
+  abbrev user : ℕ
+  user = or_zero (user_number session p.user)
+
+  low : user ≤ length session.users
+  low = by (user_number session p.user) refl
+    where
+      by : (o : Option ℕ) → user_number session p.user ≡ o → or_zero o ≤ length session.users
+      by None is = omega arith
+      by (Some i) is = (user_range session p.user i is).1
+
+  -- its label is secret to the user and to the jobs
+  directory_is : directory_label session own job ≡ guard_label names (scratch_guard jobs user)
+  directory_is =
+      ap (λ (number : ℕ). scratch_label number (jobs_with own job)) (own_user_is session s f l me p)
+      ∙ same_guarded (read_category user ∷ jobs_with own job) [] (read_category user ∷ map names (map OfJob jobs)) []
+      (λ q. ap (λ (b : Bool). q == read_category user || b) (jobs_with_job q)) (λ q. refl)
+      ∙ ap (λ (c : ℕ). guarded_by (c ∷ map names (map OfJob jobs)) []) (sym (keeps (ReadsUser user) low ∙ reads_numbered session s f l user low))
+
+  made : (c : CategoryName) → IsUsed session f c → IsMade (job + 1) (names c)
+  made c is = let before = l.made c is in let same = keeps c is in (omega (arith, before.0, same), omega (arith, before.1, same))
+
+  job_made : IsMade (job + 1) (names (OfJob child))
+  job_made = let before = l.made CategoryName.OfBoot tt in let new = numbered in (omega (arith, before.0, before.1, new), omega (arith, new))
+
+  jobs_made : (c : CategoryName) → among (map OfJob jobs) c ≡ true → IsMade (job + 1) (names c)
+  jobs_made c e =
+      let found = job_among jobs c e in
+      elim (has_added p.chain child found.0 found.2) [
+        | inl k ↦ made c (subst (IsUsed session f) (sym found.1) (inl (me, p, here, or_first (has p.chain found.0) (has p.held found.0) k)))
+        | inr is ↦ subst (λ (x : CategoryName). IsMade (job + 1) (names x)) (sym (found.1 ∙ ap OfJob is)) job_made
+      ]
+
+  -- it names categories that are made
+  made_by_names : is_made (job + 1) (guard_label names (scratch_guard jobs user)) ≡ true
+  made_by_names = guard_made (job + 1) names (scratch_guard jobs user) (each_head (λ c. IsMade (job + 1) (names c)) (ReadsUser user) (map OfJob jobs) (made (ReadsUser user) low) jobs_made) (λ c e. absurd cc)
+
+  pub directory_made : is_made (s.next_category + 1) (directory_label session own job) ≡ true
+  directory_made = ap (is_made (job + 1)) directory_is ∙ made_by_names
+
+  -- where the user is declared
   module _ (i : ℕ) (declared : user_number session p.user ≡ Some i) where
-    low : i ≤ length session.users
-    low = (user_range session p.user i declared).1
-
-    -- its label is secret to the user and to the jobs
-    directory_is : directory_label session own job ≡ guard_label names (scratch_guard jobs i)
-    directory_is =
-        ap (λ (number : ℕ). scratch_label number (jobs_with own job)) (own_user_is session s f l me p ∙ ap or_zero declared)
-        ∙ same_guarded (read_category i ∷ jobs_with own job) [] (read_category i ∷ map names (map OfJob jobs)) []
-        (λ q. ap (λ (b : Bool). q == read_category i || b) (jobs_with_job q)) (λ q. refl)
-        ∙ ap (λ (c : ℕ). guarded_by (c ∷ map names (map OfJob jobs)) []) (sym (keeps (ReadsUser i) low ∙ reads_numbered session s f l i low))
-
-    made : (c : CategoryName) → IsUsed session f c → IsMade (job + 1) (names c)
-    made c is = let before = l.made c is in let same = keeps c is in (omega (arith, before.0, same), omega (arith, before.1, same))
-
-    job_made : IsMade (job + 1) (names (OfJob child))
-    job_made = let before = l.made CategoryName.OfBoot tt in let new = numbered in (omega (arith, before.0, before.1, new), omega (arith, new))
-
-    jobs_made : (c : CategoryName) → among (map OfJob jobs) c ≡ true → IsMade (job + 1) (names c)
-    jobs_made c e =
-        let found = job_among jobs c e in
-        elim (has_added p.chain child found.0 found.2) [
-          | inl k ↦ made c (subst (IsUsed session f) (sym found.1) (inl (me, p, here, or_first (has p.chain found.0) (has p.held found.0) k)))
-          | inr is ↦ subst (λ (x : CategoryName). IsMade (job + 1) (names x)) (sym (found.1 ∙ ap OfJob is)) job_made
-        ]
-
-    -- the user is the one of this number
-    is_user : is_number (user_number session p.user) i ≡ true
-    is_user = ap (λ o. is_number o i) declared ∙ number_itself i
+    is_user : is_number (user_number session p.user) user ≡ true
+    is_user = number_there (user_number session p.user) ∙ ap is_some declared
 
     modified_by_names : IsModified (rights_label names (rights_with_job session me p))
-        (rights_clearance names (rights_with_job session me p)) (guard_label names (scratch_guard jobs i)) (job + 1)
+        (rights_clearance names (rights_with_job session me p)) (guard_label names (scratch_guard jobs user)) (job + 1)
     modified_by_names = record {
-      above = tests.scratch_above session names apart me p child i;
-      below = tests.scratch_below session names apart me p child i ∙ is_user;
-      seen = tests.scratch_seen session names apart me p child i ∙ is_user;
-      made = guard_made (job + 1) names (scratch_guard jobs i) (each_head (λ c. IsMade (job + 1) (names c)) (ReadsUser i) (map OfJob jobs) (made (ReadsUser i) low) jobs_made) (λ c e. absurd cc);
-      plain = guard_owns_nothing names (scratch_guard jobs i);
+      above = tests.scratch_above session names apart me p child user;
+      below = tests.scratch_below session names apart me p child user ∙ is_user;
+      seen = tests.scratch_seen session names apart me p child user ∙ is_user;
+      made = made_by_names;
+      plain = guard_owns_nothing names (scratch_guard jobs user);
     }
 
     -- The thread may hand it in.
@@ -177,8 +196,8 @@ module _ (session : Session) (s : State) (f : Flat) (l : Laid session s f) (me :
     pub jobs_by : (q : ℕ) → is_in (kin_in session own job).jobs q ≡ is_in (map category (map OfJob jobs)) q
     jobs_by q = jobs_with_job q ∙ ap (λ (c : Categories). is_in (map c (map OfJob jobs)) q) (sym is)
 
-    pub directory_by : (i : ℕ) → user_number session p.user ≡ Some i → directory_label session own job ≡ guard_label category (scratch_guard jobs i)
-    directory_by i declared = directory_is i declared ∙ ap (λ (c : Categories). guard_label c (scratch_guard jobs i)) (sym is)
+    pub directory_by : directory_label session own job ≡ guard_label category (scratch_guard jobs user)
+    directory_by = directory_is ∙ ap (λ (c : Categories). guard_label c (scratch_guard jobs user)) (sym is)
 
   -- what the job's first process owns as its user
   pub owned_told : (kin_in session own job).owned ≡ owned_by session (or_zero (user_number session p.user)) false
