@@ -14,6 +14,7 @@ use Rattle.histar_syscall.specs.Runs.{Granted}
 use Rattle.histar_calls.specs.Categories.{owners_of}
 use Rattle.histar_calls.specs.Labelling.{written_by}
 use Rattle.histar_calls.specs.declared.places.Home.{Home}
+use Rattle.histar_calls.specs.declared.places.Place.{Place}
 use Rattle.histar_login.specs.Start.{numbered, boot_category, own_read_category, container, state_with, places_of, of_user, of_users, of_directory, of_process}
 use Rattle.histar_login.specs.Boot.{boot_thread_number, category_calls, user_calls, directory_calls, process_calls}
 
@@ -104,6 +105,10 @@ directory_part n session = record { calls = directory_calls n session; linked = 
 -- the user table and `/` were made behind the passwords and the gates of all users
 abbrev pub MakesDirectory : KernelModel → KernelModel → Session → Type 0
 MakesDirectory old new session = BootsOn old new (IsBefore (3 + 2 * length session.users)) (directory_part (length session.users) session)
+
+-- the container and the segment that are made there are those of `/`
+abbrev pub IsFirstDirectory : KernelModel → Session → Place → Type 0
+IsFirstDirectory old session slash = Tells old (IsBefore (3 + 2 * length session.users)) (slash ≡ (places_of (length session.users)).slash)
 
 -- process 0
 abbrev pub process_part : ℕ → ℕ → Part

@@ -3,7 +3,7 @@ ghost use Rattle.std.specs.Prelude.{◌≡◌, ℕ, ◌+◌, ◌*◌, ◌≤◌,
 ghost use Rattle.histar_rules.specs.Sound.{root_number};
 ghost use Rattle.histar_syscall.specs.KernelModel.{state};
 ghost use Rattle.histar_login.specs.Boot.{IsBooted, boot_thread_number};
-ghost use Rattle.histar_login.specs.Booting.{BootsOn, Tells, IsAnywhere, IsBefore, MakesUser, MakesDirectory, MakesProcess, IsFirstHome, two_categories, categories_part, users_part};
+ghost use Rattle.histar_login.specs.Booting.{BootsOn, IsAnywhere, IsBefore, MakesUser, MakesDirectory, IsFirstDirectory, MakesProcess, IsFirstHome, two_categories, categories_part, users_part};
 ghost use Rattle.histar_login.specs.Start.{own_read_category, own_write_category, process_bytes, start_state, places_of};
 
 use crate::gates::gate_labels;
@@ -131,7 +131,7 @@ fn make_directory<S: LabelStore + Drop>(
     session: &Session,
 ) -> Result<Place, Stopped>
     ensures boots { OnOk result (MakesDirectory kernel.old kernel.new session.now) }
-    ensures slash { IfOk result (λ slash. Tells kernel.old (IsBefore (3 + 2 * length session.now.users)) (slash ≡ (places_of (length session.now.users)).slash)) }
+    ensures slash { IfOk result (IsFirstDirectory kernel.old session.now) }
 {
     let guarded = label_of(alloc, Level::L1, &[(Category::new(BOOT), Level::L0)])?;
     let table = user_table(alloc, session)?;
