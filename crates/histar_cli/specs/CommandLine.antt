@@ -1,21 +1,45 @@
 -- The command line, and what its matches ask for.
-use Rattle.std.specs.Prelude.{◌≡◌, List, codes, Option, Some, true}
+use Rattle.std.specs.Prelude.{◌≡◌, Bool, false, true, List, codes, Option, None, Some}
+use Rattle.std.specs.Str.{bytes_eq}
 use Rattle.clap.specs.Words.{App, Row, Rule, Text, first_of, new_app, new_rule, with_rule, with_subcommand}
+use Rattle.clap.specs.declared.builder.action.ArgAction.TheVariants.{SetTrue}
 use Rattle.histar_cli.specs.declared.task.Task.{Task}
 use Rattle.histar_cli.specs.declared.task.Task.TheVariants.{Run}
 
+-- a flag of this name
+abbrev pub flag_rule : Text → Rule
+flag_rule name = record (new_rule name) { long = Some name; action = Some SetTrue }
+
 -- the word FILE, which has to be there
 abbrev pub file_rule : Rule
-file_rule = record (new_rule (codes "file")) { required = true }
+file_rule = record (new_rule (codes "FILE")) { required = true }
 
--- `run FILE`
+-- `run [--tree] [--trace] FILE`
 abbrev pub run_app : App
-run_app = with_rule (new_app (codes "run")) file_rule
+run_app = with_rule (with_rule (with_rule (new_app (codes "run")) (flag_rule (codes "tree"))) (flag_rule (codes "trace"))) file_rule
 
--- `histar run FILE`
+-- the program, which tells its version
+abbrev pub named_app : App
+named_app = let app = new_app (codes "histar") in record app { top = record app.top { has_version = true } }
+
+-- `histar run [--tree] [--trace] FILE`
 abbrev pub histar_app : App
-histar_app = with_subcommand (new_app (codes "histar")) run_app.top
+histar_app = with_subcommand named_app run_app.top
 
--- this is the task of the subcommand that was matched, with what its words are
+-- the value of a flag that was given
+abbrev pub is_given : Option Text → Bool
+is_given None = false
+is_given (Some text) = bytes_eq text (codes "true")
+
+-- the flag of this name was given
+abbrev pub is_set : Text → List Row → Bool
+is_set name rows = is_given (first_of name rows)
+
+-- this is the task of the subcommand that was matched, with what its words and its flags are
 abbrev pub IsTaskOf : Task → Option (Text × List Row) → Type 0
-IsTaskOf (Run file) matches = (rows : List Row) × (matches ≡ Some (codes "run", rows)) × (first_of (codes "file") rows ≡ Some file.now)
+IsTaskOf (Run file options) matches =
+    (rows : List Row)
+    × (matches ≡ Some (codes "run", rows))
+    × (first_of (codes "FILE") rows ≡ Some file.now)
+    × (options.tree ≡ is_set (codes "tree") rows)
+    × (options.trace ≡ is_set (codes "trace") rows)

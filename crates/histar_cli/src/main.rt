@@ -1,4 +1,4 @@
-//! The program: `histar run FILE` runs a script and prints the replies.
+//! The program: `histar run FILE` runs a script and prints the replies, and on request the tree and the trace.
 #![tactic(auto)]
 
 mod status;
@@ -17,16 +17,21 @@ use std::{env, fs, io};
 /// The status of a refused command line.
 const REFUSED: u8 = 2;
 
-/// Runs the script in a file, and prints the replies.
+/// Runs the script in a file, and prints the replies and what else is asked for.
 ///
 /// A run doesn't flush, so that is done here, also after a fault; a fault of the run is told before
 /// a failed flush.
-fn run_file<R: Files + Print>(rt: &R, alloc: Global, path: &str) -> Result<(), Fault> {
+fn run_file<R: Files + Print>(
+    rt: &R,
+    alloc: Global,
+    path: &str,
+    options: Options,
+) -> Result<(), Fault> {
     let file = fs::open(rt, path).map_err(|_| Fault::ReadFailed)?;
     let output = BufWriter::new(alloc, io::writer(rt)).map_err(|_| Fault::OutOfMemory)?;
     let mut reader = Counted::new(file);
     let mut writer = Counted::new(output);
-    let ran = run(alloc, &mut reader, &mut writer, Options {});
+    let ran = run(alloc, &mut reader, &mut writer, options);
     let flushed = writer.into_inner().flush();
     let _trace = ran?;
     flushed.map_err(|_| Fault::WriteFailed)
@@ -39,9 +44,10 @@ fn report<R: Eprint>(rt: &R, fault: &Fault) -> u8 {
 }
 
 /// The words of the command line, the program's own name first.
-fn command_line<R: Env + AllocGlobal>(rt: &R) -> Option<Vec<String>> {
-    let words = env::args(rt).ok()?;
-    words.collect::<Vec<String>>(rt.alloc()).ok()
+fn command_line<R: Env + AllocGlobal>(rt: &R) -> io::Result<Vec<String>> {
+    let words = env::args(rt)?;
+    let words = words.collect::<Vec<String>>(rt.alloc())?;
+    Ok(words)
 }
 
 /// Does what the words ask for, and gives the status.
@@ -54,23 +60,35 @@ fn obey<R: Files + Print + Eprint>(rt: &R, alloc: Global, words: &[&str]) -> u8 
             let _ = error.print(rt);
             error.exit_code() as u8
         }
-        Ok(Task::Run(path)) => match run_file(rt, alloc, path) {
+        Ok(Task::Run(path, options)) => match run_file(rt, alloc, path, options) {
             Ok(()) => 0,
             Err(fault) => report(rt, &fault),
         },
     }
 }
 
+/// Tells why the command line can't be read, and gives its status.
+fn refuse<R: Eprint>(rt: &R, error: &io::Error) -> u8 {
+    let why = if error.kind() == io::ErrorKind::InvalidData {
+        "an argument is not UTF-8"
+    } else {
+        "out of memory"
+    };
+    let _ = eprintln!(rt; "histar: {why}");
+    REFUSED
+}
+
 /// Reads the command line and obeys it. A command line that can't be read is refused.
 fn start<R: Env + Files + Print + Eprint + AllocGlobal>(rt: &R) -> u8 {
     let alloc = rt.alloc();
-    let Some(owned) = command_line(rt) else {
-        return REFUSED;
+    let owned = match command_line(rt) {
+        Ok(owned) => owned,
+        Err(error) => return refuse(rt, &error),
     };
     let words = owned.iter().map(|word| word.as_str());
     match words.collect::<Vec<&str>>(alloc) {
         Ok(words) => obey(rt, alloc, words.as_slice()),
-        Err(_) => REFUSED,
+        Err(error) => refuse(rt, &io::Error::from(error)),
     }
 }
 

@@ -72,6 +72,13 @@ impl Dir {
         self.len() == MOST_ENTRIES
     }
 
+    /// The entries themselves, which go by rising names.
+    pub fn into_entries(self) -> BTreeMap<Name, Target>
+        ensures { map.from_entries result.entries ≡ self }
+    {
+        self.entries
+    }
+
     /// Makes an entry, in the place of one that has the name.
     pub fn insert(&mut self, name: Name, target: Target) -> Result<(), AllocError>
         requires room { map.len self.old < most_entries }

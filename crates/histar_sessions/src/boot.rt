@@ -2,11 +2,12 @@
 //! with users and groups.
 ghost use Rattle.std.specs.Prelude.{◌≡◌, [], length, IfOk};
 
+use crate::session::REPLIES;
 use crate::texts::call_text;
 use histar_flat::{Group, Name, Session, User, read_password, read_user_name};
 use histar_label::PlainStore;
 use histar_login::boot;
-use histar_shell::{Counted, Options, run};
+use histar_shell::{Counted, run};
 use histar_syscall::TraceEntry;
 use std::alloc::Global;
 use std::process::Abort;
@@ -110,7 +111,7 @@ fn user(called: &[u8], password: &[u8]) -> Result<User, Fail> {
 fn boots_by_sixteen_raw_calls(rt: HostRuntime) -> Result<(), Fail> {
     let mut reader = Counted::new(SCRIPT);
     let mut writer = Counted::new(Vec::new(rt.alloc()));
-    let trace = run(rt.alloc(), &mut reader, &mut writer, Options {})?;
+    let trace = run(rt.alloc(), &mut reader, &mut writer, REPLIES)?;
     compare(&rt, rt.alloc(), trace.entries(), CALLS.as_slice())
 }
 

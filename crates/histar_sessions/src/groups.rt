@@ -1,7 +1,7 @@
 //! Sessions of groups: the reply to each line of a script, and raw calls of some.
-use crate::session::{Line, Session, check_trace};
+use crate::session::{Line, REPLIES, Session, check_trace};
 use crate::texts::call_text;
-use histar_shell::{Counted, Options, run};
+use histar_shell::{Counted, run};
 use histar_syscall::RawCall;
 use std::alloc::{AllocError, Global};
 use std::test::Fail;
@@ -186,7 +186,7 @@ fn gates_of_members_give_the_group(rt: HostRuntime) -> Result<(), Fail> {
     let session = team_session(alloc)?;
     let mut reader = Counted::new(session.script());
     let mut writer = Counted::new(Vec::new(alloc));
-    let trace = run(alloc, &mut reader, &mut writer, Options {})?;
+    let trace = run(alloc, &mut reader, &mut writer, REPLIES)?;
     let mut gates = trace
         .entries()
         .iter()

@@ -5,6 +5,8 @@
 #[cfg(test)]
 mod boot;
 #[cfg(test)]
+mod endings;
+#[cfg(test)]
 mod files;
 #[cfg(test)]
 mod groups;

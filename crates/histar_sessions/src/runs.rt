@@ -1,6 +1,7 @@
 //! Runs over readers and writers that move few bytes a call, or fail.
+use crate::session::REPLIES;
 use histar_script::Fault;
-use histar_shell::{Counted, Options, run};
+use histar_shell::{Counted, run};
 use std::alloc::{AllocError, Global};
 use std::io;
 use std::io::{ErrorKind, Read, Write};
@@ -109,7 +110,7 @@ fn gives_the_same_text_in_any_pieces(rt: HostRuntime) -> Result<(), Fail> {
     for piece in [1, 2, 7, 4096] {
         let mut reader = FailingReader::new(SCRIPT, piece, 0);
         let mut writer = FailingWriter::new(rt.alloc(), piece, TEXT.len(), false);
-        let _trace = run(rt.alloc(), &mut reader, &mut writer, Options {})?;
+        let _trace = run(rt.alloc(), &mut reader, &mut writer, REPLIES)?;
         assert_eq!(rt; reader.failures(), 0);
         assert_eq!(rt; writer.failures(), 0);
         assert_eq!(rt;
@@ -126,7 +127,7 @@ fn stops_at_a_failed_read_of_any_kind(rt: HostRuntime) {
     for fails_at in 1..SCRIPT.len() + 2 {
         let mut reader = FailingReader::new(SCRIPT, 1, fails_at);
         let mut writer = FailingWriter::new(rt.alloc(), 1, TEXT.len(), false);
-        let ran = run(rt.alloc(), &mut reader, &mut writer, Options {});
+        let ran = run(rt.alloc(), &mut reader, &mut writer, REPLIES);
         assert!(rt; ran.err() == Some(Fault::ReadFailed), "at call {fails_at}");
         assert_eq!(rt; reader.failures(), 1);
         assert_eq!(rt;
@@ -144,7 +145,7 @@ fn writes_as_much_as_the_writer_takes(rt: HostRuntime) {
         for is_silent in [false, true] {
             let mut reader = FailingReader::new(SCRIPT, 9, 0);
             let mut writer = FailingWriter::new(rt.alloc(), 4, room, is_silent);
-            let ran = run(rt.alloc(), &mut reader, &mut writer, Options {});
+            let ran = run(rt.alloc(), &mut reader, &mut writer, REPLIES);
             assert!(rt; ran.err() == Some(Fault::WriteFailed), "after {room} bytes");
             assert_eq!(rt; writer.failures(), 1);
             assert_eq!(rt; writer.into_inner().taken.as_slice(), &TEXT[..room]);
@@ -156,7 +157,7 @@ fn writes_as_much_as_the_writer_takes(rt: HostRuntime) {
 fn outcome_of(alloc: Global, text: &[u8]) -> (Option<Fault>, usize) {
     let mut reader = Counted::new(text);
     let mut writer = Counted::new(Vec::new(alloc));
-    let ran = run(alloc, &mut reader, &mut writer, Options {});
+    let ran = run(alloc, &mut reader, &mut writer, REPLIES);
     (ran.err(), writer.into_inner().len())
 }
 

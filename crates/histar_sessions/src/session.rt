@@ -5,6 +5,12 @@ use std::alloc::{AllocError, Global};
 use std::process::Abort;
 use std::test::Fail;
 
+/// A run that prints the replies alone.
+pub const REPLIES: Options = Options {
+    tree: false,
+    trace: false,
+};
+
 /// A line of a script, and its reply, or nothing where the line is a user's or a group's.
 pub type Line = (&'static str, &'static str);
 
@@ -77,7 +83,7 @@ impl Session {
     pub fn check(&self, rt: &impl Abort, alloc: Global) -> Result<(), Fail> {
         let mut reader = Counted::new(self.script.as_slice());
         let mut writer = Counted::new(Vec::new(alloc));
-        let _trace = run(alloc, &mut reader, &mut writer, Options {})?;
+        let _trace = run(alloc, &mut reader, &mut writer, REPLIES)?;
         let text = writer.into_inner();
         assert_eq!(rt; text.as_slice(), self.replies.as_slice());
         Ok(())
@@ -103,7 +109,7 @@ pub fn check_trace(
 ) -> Result<(), Fail> {
     let mut reader = Counted::new(script);
     let mut writer = Counted::new(Vec::new(alloc));
-    let trace = run(alloc, &mut reader, &mut writer, Options {})?;
+    let trace = run(alloc, &mut reader, &mut writer, REPLIES)?;
     let mut entries = trace.entries().iter().filter(|entry| entry.line > 0);
     for &(line, call) in calls {
         let entry = entries.next().ok_or("a raw call more")?;

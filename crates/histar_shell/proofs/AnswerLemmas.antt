@@ -16,11 +16,11 @@ use Rattle.histar_shell.specs.Machine.{MachineModel, AnswersLine}
 use Rattle.histar_shell.specs.AnsweredCalls.{AnswersInTurn, AnswersCall, AnswersCalls, BeginsAnswer, BeginsAnswers}
 
 -- a whole text is a beginning of itself
-whole_front : (a b : Option (List ℕ)) (text : List ℕ) → Appends a b text → AppendsFront a b text
+pub whole_front : (a b : Option (List ℕ)) (text : List ℕ) → Appends a b text → AppendsFront a b text
 whole_front a b text whole = ([], record { front = text; parts = sym (append-nil text); appended = whole })
 
 -- a whole text, and then a beginning of the next one
-front_after : (a b c : Option (List ℕ)) (text next rest : List ℕ) → Appends a b text → AppendsFront b c next → AppendsFront a c (text ++ (next ++ rest))
+pub front_after : (a b c : Option (List ℕ)) (text next rest : List ℕ) → Appends a b text → AppendsFront b c next → AppendsFront a c (text ++ (next ++ rest))
 front_after a b c text next rest whole begun = (
   begun.0 ++ rest,
   record {

@@ -1,4 +1,5 @@
 pub mod AnswerLemmas
+pub mod EachLine
 pub mod RunLemmas
 pub mod Lines
 pub mod Users
@@ -8,4 +9,6 @@ pub mod TraceRuns
 pub mod CallRows
 pub mod LineMeanings
 pub mod Starts
+pub mod ShallowPaths
+pub mod ShownTrees
 pub mod SessionMeanings

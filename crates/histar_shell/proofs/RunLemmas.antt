@@ -15,6 +15,8 @@ use Rattle.histar_script.specs.Lines.{most_script_bytes}
 use Rattle.histar_script.specs.Reading.{script_of}
 use Rattle.histar_devices.specs.Input.{most_taken, TakesAll, TakesSome}
 use Rattle.histar_flat.specs.Sessions.{Session}
+use Rattle.histar_shell.specs.declared.session.Options.{Options}
+use Rattle.histar_shell.specs.Ending.{AppendsEnding, BeginsTheEnding}
 use Rattle.histar_shell.specs.Outcome.{IsOutputFault, IsFaultAt, AgreesWith, AnswersScript, BeginsScript, WritesAtFault, WritesAnswers, is_read_failed}
 use Rattle.histar_shell.specs.Meaning.{RunsAsMeant}
 use Rattle.histar_shell.specs.Run.{RunsText, RunsTaken, StopsReading, RunsInput, LeavesSink}
@@ -29,133 +31,157 @@ use Rattle.histar_shell.proofs.SessionMeanings.{meant_run}
 abbrev Answer : Type 0
 Answer = Result (List TraceEntry) Fault
 
--- ---- a text that is run
+module _ (options : Options) where
+  -- ---- a text that is run
 
--- its answers are those of its meaning
-pub runs_text : (rows : LinesAreRows) (text : List ℕ) (old new : Option (List ℕ)) (result : Answer) → AgreesWith (script_of text) result → WritesAnswers old new (script_of text) result → RunsText text old new result
-runs_text rows text old new result agrees answers = record { faults = agrees; answers = answers; means = meant_run rows old new text result answers }
+  -- its answers are those of its meaning
+  pub runs_text : (rows : LinesAreRows) (text : List ℕ) (old new : Option (List ℕ)) (result : Answer) → AgreesWith (script_of text) result → WritesAnswers options old new (script_of text) result → RunsText options text old new result
+  runs_text rows text old new result agrees answers = record { faults = agrees; answers = answers; means = meant_run rows options old new text result answers }
 
--- what reading the script answers is the fault in it, or want of memory
-script_fault_agrees : (f : Fault) (read : Result Reading Fault) → Gives (Err f) read → IsFaultAt read f
-script_fault_agrees (BadScript n) read given = given
-script_fault_agrees TooLong read given = given
-script_fault_agrees OutOfMemory read given = tt
-script_fault_agrees ReadFailed read given = absurd given
-script_fault_agrees WriteFailed read given = absurd given
+  -- what reading the script answers is the fault in it, or want of memory
+  script_fault_agrees : (f : Fault) (read : Result Reading Fault) → Gives (Err f) read → IsFaultAt read f
+  script_fault_agrees (BadScript n) read given = given
+  script_fault_agrees TooLong read given = given
+  script_fault_agrees OutOfMemory read given = tt
+  script_fault_agrees ReadFailed read given = absurd given
+  script_fault_agrees WriteFailed read given = absurd given
 
--- and nothing was written then
-script_fault_writes : (f : Fault) (w : Option (List ℕ)) (read : Result Reading Fault) → Gives (Err f) read → WritesAtFault w w read f
-script_fault_writes (BadScript n) w read given = Keeps-refl w
-script_fault_writes TooLong w read given = Keeps-refl w
-script_fault_writes OutOfMemory w read given = inl (Keeps-refl w)
-script_fault_writes ReadFailed w read given = absurd given
-script_fault_writes WriteFailed w read given = absurd given
+  -- and nothing was written then
+  script_fault_writes : (f : Fault) (w : Option (List ℕ)) (read : Result Reading Fault) → Gives (Err f) read → WritesAtFault options w w read f
+  script_fault_writes (BadScript n) w read given = Keeps-refl w
+  script_fault_writes TooLong w read given = Keeps-refl w
+  script_fault_writes OutOfMemory w read given = inl (Keeps-refl w)
+  script_fault_writes ReadFailed w read given = absurd given
+  script_fault_writes WriteFailed w read given = absurd given
 
--- a text in which reading finds a fault
-pub faulty_text : (rows : LinesAreRows) (text : List ℕ) (w : Option (List ℕ)) (f : Fault) → Gives (Err f) (script_of text) → RunsText text w w (Err f)
-faulty_text rows text w f given = runs_text rows text w w (Err f) (script_fault_agrees f (script_of text) given) (script_fault_writes f w (script_of text) given)
+  -- a text in which reading finds a fault
+  pub faulty_text : (rows : LinesAreRows) (text : List ℕ) (w : Option (List ℕ)) (f : Fault) → Gives (Err f) (script_of text) → RunsText options text w w (Err f)
+  faulty_text rows text w f given = runs_text rows text w w (Err f) (script_fault_agrees f (script_of text) given) (script_fault_writes f w (script_of text) given)
 
--- a text for which no machine was booted
-pub unbooted_text : (rows : LinesAreRows) (text : List ℕ) (w : Option (List ℕ)) → RunsText text w w (Err OutOfMemory)
-unbooted_text rows text w = runs_text rows text w w (Err OutOfMemory) tt (inl (Keeps-refl w))
+  -- a text for which no machine was booted
+  pub unbooted_text : (rows : LinesAreRows) (text : List ℕ) (w : Option (List ℕ)) → RunsText options text w w (Err OutOfMemory)
+  unbooted_text rows text w = runs_text rows text w w (Err OutOfMemory) tt (inl (Keeps-refl w))
 
--- answering the calls fails by no fault of a script
-answer_fault_agrees : (f : Fault) (read : Result Reading Fault) → IsOutputFault f → IsOk read → IsFaultAt read f
-answer_fault_agrees (BadScript n) read h right = absurd h
-answer_fault_agrees TooLong read h right = absurd h
-answer_fault_agrees OutOfMemory read h right = tt
-answer_fault_agrees ReadFailed read h right = absurd h
-answer_fault_agrees WriteFailed read h right = right
+  -- answering the calls fails by no fault of a script
+  answer_fault_agrees : (f : Fault) (read : Result Reading Fault) → IsOutputFault f → IsOk read → IsFaultAt read f
+  answer_fault_agrees (BadScript n) read h right = absurd h
+  answer_fault_agrees TooLong read h right = absurd h
+  answer_fault_agrees OutOfMemory read h right = tt
+  answer_fault_agrees ReadFailed read h right = absurd h
+  answer_fault_agrees WriteFailed read h right = right
 
--- and a beginning of the answers was written then
-answer_fault_writes : (f : Fault) (old new : Option (List ℕ)) (read : Result Reading Fault) → IsOutputFault f → BeginsScript old new read → WritesAtFault old new read f
-answer_fault_writes (BadScript n) old new read h begun = absurd h
-answer_fault_writes TooLong old new read h begun = absurd h
-answer_fault_writes OutOfMemory old new read h begun = inr begun
-answer_fault_writes ReadFailed old new read h begun = absurd h
-answer_fault_writes WriteFailed old new read h begun = begun
+  -- and a beginning of the answers was written then
+  answer_fault_writes : (f : Fault) (old new : Option (List ℕ)) (read : Result Reading Fault) → IsOutputFault f → BeginsScript options old new read → WritesAtFault options old new read f
+  answer_fault_writes (BadScript n) old new read h begun = absurd h
+  answer_fault_writes TooLong old new read h begun = absurd h
+  answer_fault_writes OutOfMemory old new read h begun = inr begun
+  answer_fault_writes ReadFailed old new read h begun = absurd h
+  answer_fault_writes WriteFailed old new read h begun = begun
 
--- the machine was booted with the users and groups that the script has
-pub starts_with : (m : MachineModel) (script : Reading) (session : Session) → session ≡ script.session → IsStart session m → IsStart script.session m
-starts_with m script session same starts = subst (λ (declared : Session). IsStart declared m) same starts
+  -- the machine was booted with the users and groups that the script has
+  pub starts_with : (m : MachineModel) (script : Reading) (session : Session) → session ≡ script.session → IsStart session m → IsStart script.session m
+  starts_with m script session same starts = subst (λ (declared : Session). IsStart declared m) same starts
 
--- a beginning of the calls of the script was answered
-pub begins_script : (old new : Option (List ℕ)) (script : Reading) (start : MachineModel) (calls : List CallLine) → IsStart script.session start → calls ≡ script.calls → BeginsAnswers start old new calls → (read : Result Reading Fault) → read ≡ Ok script → BeginsScript old new read
-begins_script old new script start calls starts listed begun read is_read = record { script = script; is_read = is_read; start = start; starts = starts; begun = subst (λ (l : List CallLine). BeginsAnswers start old new l) listed begun }
+  -- a beginning of the calls of the script was answered
+  pub begins_script : (old new : Option (List ℕ)) (script : Reading) (start : MachineModel) (calls : List CallLine) → IsStart script.session start → calls ≡ script.calls → BeginsAnswers start old new calls → (read : Result Reading Fault) → read ≡ Ok script → BeginsScript options old new read
+  begins_script old new script start calls starts listed begun read is_read = record { script = script; is_read = is_read; start = start; starts = starts; begun = inl (subst (λ (l : List CallLine). BeginsAnswers start old new l) listed begun) }
 
--- the calls of the script were answered, and the trace is that of the machine at the end
-pub answers_script : (old new : Option (List ℕ)) (script : Reading) (start end : MachineModel) (calls : List CallLine) (trace : List TraceEntry) → IsStart script.session start → calls ≡ script.calls → AnswersCalls start end old new calls → trace ≡ end.kernel.trace → (read : Result Reading Fault) → read ≡ Ok script → AnswersScript old new read trace
-answers_script old new script start end calls trace starts listed answered recorded read is_read = record { script = script; is_read = is_read; start = start; starts = starts; end = end; answered = subst (λ (l : List CallLine). AnswersCalls start end old new l) listed answered; recorded = recorded }
+  -- the calls of the script were answered, and a beginning of what stands behind the replies was written
+  pub begins_ending : (old replied new : Option (List ℕ)) (script : Reading) (start end : MachineModel) (calls : List CallLine) → IsStart script.session start → calls ≡ script.calls → AnswersCalls start end old replied calls → BeginsTheEnding options end replied new → (read : Result Reading Fault) → read ≡ Ok script → BeginsScript options old new read
+  begins_ending old replied new script start end calls starts listed answered begun read is_read = record {
+    script = script;
+    is_read = is_read;
+    start = start;
+    starts = starts;
+    begun = inr (record { end = end; replied = replied; answered = subst (λ (l : List CallLine). AnswersCalls start end old replied l) listed answered; ending = begun.0; ends = begun.1; told = begun.2 });
+  }
 
--- a text of which a beginning of the calls was answered
-pub begun_text : (rows : LinesAreRows) (text : List ℕ) (old new : Option (List ℕ)) (f : Fault) (script : Reading) → script_of text ≡ Ok script → IsOutputFault f → BeginsScript old new (script_of text) → RunsText text old new (Err f)
-begun_text rows text old new f script given h begun =
-    runs_text rows text old new (Err f) (answer_fault_agrees f (script_of text) h (ap is_ok given)) (answer_fault_writes f old new (script_of text) h begun)
+  -- the calls of the script were answered, what stands behind the replies was written, and the trace is that of the machine at the end
+  pub answers_script : (old replied new : Option (List ℕ)) (script : Reading) (start end : MachineModel) (calls : List CallLine) (trace : List TraceEntry) → IsStart script.session start → calls ≡ script.calls → AnswersCalls start end old replied calls → AppendsEnding options end replied new → trace ≡ end.kernel.trace → (read : Result Reading Fault) → read ≡ Ok script
+      → AnswersScript options old new read trace
+  answers_script old replied new script start end calls trace starts listed answered whole recorded read is_read = record {
+    script = script;
+    is_read = is_read;
+    start = start;
+    starts = starts;
+    end = end;
+    replied = replied;
+    answered = subst (λ (l : List CallLine). AnswersCalls start end old replied l) listed answered;
+    ending = whole.0;
+    ends = whole.1;
+    told = whole.2;
+    recorded = recorded;
+  }
 
--- a text of which all calls were answered
-pub answered_text : (rows : LinesAreRows) (text : List ℕ) (old new : Option (List ℕ)) (trace : List TraceEntry) (script : Reading) → script_of text ≡ Ok script → AnswersScript old new (script_of text) trace → RunsText text old new (Ok trace)
-answered_text rows text old new trace script given answers = runs_text rows text old new (Ok trace) (ap is_ok given) answers
+  -- a text of which a beginning of the calls was answered
+  pub begun_text : (rows : LinesAreRows) (text : List ℕ) (old new : Option (List ℕ)) (f : Fault) (script : Reading) → script_of text ≡ Ok script → IsOutputFault f → BeginsScript options old new (script_of text) → RunsText options text old new (Err f)
+  begun_text rows text old new f script given h begun =
+      runs_text rows text old new (Err f) (answer_fault_agrees f (script_of text) h (ap is_ok given)) (answer_fault_writes f old new (script_of text) h begun)
 
--- ---- an input that is taken
+  -- a text of which all calls were answered
+  pub answered_text : (rows : LinesAreRows) (text : List ℕ) (old new : Option (List ℕ)) (trace : List TraceEntry) (script : Reading) → script_of text ≡ Ok script → AnswersScript options old new (script_of text) trace → RunsText options text old new (Ok trace)
+  answered_text rows text old new trace script given answers = runs_text rows text old new (Ok trace) (ap is_ok given) answers
 
--- an error of the input stops the reading
-pub stops_reading : (e : InputError) (left rest w : Option (List ℕ)) → TakesSome left rest → RunsInput left rest w w (Err (input_fault e))
-stops_reading input.OutOfMemory left rest w takes = inl (record { takes = takes; keeps = Keeps-refl w })
-stops_reading input.ReadFailed left rest w takes = record { takes = takes; keeps = Keeps-refl w }
+  -- ---- an input that is taken
 
--- what was taken is run
-pub runs_taken : (left rest old new : Option (List ℕ)) (taken text : List ℕ) (result : Answer) → TakesAll left rest taken → text ≡ taken → RunsText text old new result → is_read_failed result ≡ false → RunsInput left rest old new result
-runs_taken left rest old new taken text result takes same runs no_read_failed =
-    at_result result (record { taken = taken; takes = takes; runs = subst (λ (t : List ℕ). RunsText t old new result) same runs }) no_read_failed
-  where
-    at_result : (r : Answer) → RunsTaken left rest old new r → is_read_failed r ≡ false → RunsInput left rest old new r
-    at_result (Ok trace) h none = h
-    at_result (Err (BadScript n)) h none = h
-    at_result (Err TooLong) h none = h
-    at_result (Err OutOfMemory) h none = inr h
-    at_result (Err ReadFailed) h none = absurd (false≢true (sym none))
-    at_result (Err WriteFailed) h none = h
+  -- an error of the input stops the reading
+  pub stops_reading : (e : InputError) (left rest w : Option (List ℕ)) → TakesSome left rest → RunsInput options left rest w w (Err (input_fault e))
+  stops_reading input.OutOfMemory left rest w takes = inl (record { takes = takes; keeps = Keeps-refl w })
+  stops_reading input.ReadFailed left rest w takes = record { takes = takes; keeps = Keeps-refl w }
 
--- a text of more bytes than a script may have is too long
-long_is : (text : List ℕ) → most_script_bytes < length text → script_of text ≡ Err TooLong
-long_is text lt = let e : ltb most_script_bytes (length text) ≡ true = search (rules, tests) in rw e refl
+  -- what was taken is run
+  pub runs_taken : (left rest old new : Option (List ℕ)) (taken text : List ℕ) (result : Answer) → TakesAll left rest taken → text ≡ taken → RunsText options text old new result → is_read_failed result ≡ false → RunsInput options left rest old new result
+  runs_taken left rest old new taken text result takes same runs no_read_failed =
+      at_result result (record { taken = taken; takes = takes; runs = subst (λ (t : List ℕ). RunsText options t old new result) same runs }) no_read_failed
+    where
+      at_result : (r : Answer) → RunsTaken options left rest old new r → is_read_failed r ≡ false → RunsInput options left rest old new r
+      at_result (Ok trace) h none = h
+      at_result (Err (BadScript n)) h none = h
+      at_result (Err TooLong) h none = h
+      at_result (Err OutOfMemory) h none = inr h
+      at_result (Err ReadFailed) h none = absurd (false≢true (sym none))
+      at_result (Err WriteFailed) h none = h
 
--- what was taken says what the whole input says
-same_script : (input : List ℕ) (rest : Option (List ℕ)) (taken : List ℕ) → TakesAll (Some input) rest taken → script_of taken ≡ script_of input
-same_script input None taken takes = absurd takes.consumed
-same_script input (Some rest) taken takes =
-    elim (cases_lt (length taken) most_taken) [
-      | inl lt ↦ sym (ap script_of (takes.consumed ∙ ap (λ (l : List ℕ). taken ++ l) (takes.ended lt) ∙ append-nil taken))
-      | inr le ↦ long_is taken (omega arith) ∙ sym (long_is input (omega (arith, ap length takes.consumed, length-append taken rest)))
-    ]
+  -- a text of more bytes than a script may have is too long
+  long_is : (text : List ℕ) → most_script_bytes < length text → script_of text ≡ Err TooLong
+  long_is text lt = let e : ltb most_script_bytes (length text) ≡ true = search (rules, tests) in rw e refl
 
--- what was run is the script of the whole input
-same_run : (input taken : List ℕ) (old new : Option (List ℕ)) (result : Answer) → script_of taken ≡ script_of input → RunsText taken old new result → RunsText input old new result
-same_run input taken old new result same runs = record {
-  faults = subst (λ (read : Result Reading Fault). AgreesWith read result) same runs.faults;
-  answers = subst (λ (read : Result Reading Fault). WritesAnswers old new read result) same runs.answers;
-  means = subst (λ (read : Result Reading Fault). RunsAsMeant old new read result) same runs.means;
-}
+  -- what was taken says what the whole input says
+  same_script : (input : List ℕ) (rest : Option (List ℕ)) (taken : List ℕ) → TakesAll (Some input) rest taken → script_of taken ≡ script_of input
+  same_script input None taken takes = absurd takes.consumed
+  same_script input (Some rest) taken takes =
+      elim (cases_lt (length taken) most_taken) [
+        | inl lt ↦ sym (ap script_of (takes.consumed ∙ ap (λ (l : List ℕ). taken ++ l) (takes.ended lt) ∙ append-nil taken))
+        | inr le ↦ long_is taken (omega arith) ∙ sym (long_is input (omega (arith, ap length takes.consumed, length-append taken rest)))
+      ]
 
--- a known input that was taken was run
-taken_known : (left rest old new : Option (List ℕ)) (result : Answer) → RunsTaken left rest old new result → IfSome left (λ input. RunsText input old new result)
-taken_known None rest old new result h = tt
-taken_known (Some input) rest old new result h = same_run input h.taken old new result (same_script input rest h.taken h.takes) h.runs
+  -- what was run is the script of the whole input
+  same_run : (input taken : List ℕ) (old new : Option (List ℕ)) (result : Answer) → script_of taken ≡ script_of input → RunsText options taken old new result → RunsText options input old new result
+  same_run input taken old new result same runs = record {
+    faults = subst (λ (read : Result Reading Fault). AgreesWith read result) same runs.faults;
+    answers = subst (λ (read : Result Reading Fault). WritesAnswers options old new read result) same runs.answers;
+    means = subst (λ (read : Result Reading Fault). RunsAsMeant options old new read result) same runs.means;
+  }
 
--- a known input of which some was taken was run as far as that
-stopped_known : (left rest old new : Option (List ℕ)) (result : Answer) → ((input : List ℕ) → Keeps old new → RunsText input old new result) → StopsReading left rest old new → IfSome left (λ input. RunsText input old new result)
-stopped_known None rest old new result runs h = tt
-stopped_known (Some input) rest old new result runs h = runs input h.keeps
+  -- a known input that was taken was run
+  taken_known : (left rest old new : Option (List ℕ)) (result : Answer) → RunsTaken options left rest old new result → IfSome left (λ input. RunsText options input old new result)
+  taken_known None rest old new result h = tt
+  taken_known (Some input) rest old new result h = same_run input h.taken old new result (same_script input rest h.taken h.takes) h.runs
 
--- a known input was run
-pub input_known : (left rest old new : Option (List ℕ)) (result : Answer) → RunsInput left rest old new result → IfSome left (λ input. RunsText input old new result)
-input_known left rest old new (Ok trace) h = taken_known left rest old new (Ok trace) h
-input_known left rest old new (Err (BadScript n)) h = taken_known left rest old new (Err (BadScript n)) h
-input_known left rest old new (Err TooLong) h = taken_known left rest old new (Err TooLong) h
-input_known left rest old new (Err OutOfMemory) (inl h) = stopped_known left rest old new (Err OutOfMemory) (λ text keeps. record { faults = tt; answers = inl keeps; means = inl keeps }) h
-input_known left rest old new (Err OutOfMemory) (inr h) = taken_known left rest old new (Err OutOfMemory) h
-input_known left rest old new (Err ReadFailed) h = stopped_known left rest old new (Err ReadFailed) (λ text keeps. record { faults = tt; answers = keeps; means = keeps }) h
-input_known left rest old new (Err WriteFailed) h = taken_known left rest old new (Err WriteFailed) h
+  -- a known input of which some was taken was run as far as that
+  stopped_known : (left rest old new : Option (List ℕ)) (result : Answer) → ((input : List ℕ) → Keeps old new → RunsText options input old new result) → StopsReading left rest old new → IfSome left (λ input. RunsText options input old new result)
+  stopped_known None rest old new result runs h = tt
+  stopped_known (Some input) rest old new result runs h = runs input h.keeps
+
+  -- a known input was run
+  pub input_known : (left rest old new : Option (List ℕ)) (result : Answer) → RunsInput options left rest old new result → IfSome left (λ input. RunsText options input old new result)
+  input_known left rest old new (Ok trace) h = taken_known left rest old new (Ok trace) h
+  input_known left rest old new (Err (BadScript n)) h = taken_known left rest old new (Err (BadScript n)) h
+  input_known left rest old new (Err TooLong) h = taken_known left rest old new (Err TooLong) h
+  input_known left rest old new (Err OutOfMemory) (inl h) = stopped_known left rest old new (Err OutOfMemory) (λ text keeps. record { faults = tt; answers = inl keeps; means = inl keeps }) h
+  input_known left rest old new (Err OutOfMemory) (inr h) = taken_known left rest old new (Err OutOfMemory) h
+  input_known left rest old new (Err ReadFailed) h = stopped_known left rest old new (Err ReadFailed) (λ text keeps. record { faults = tt; answers = keeps; means = keeps }) h
+  input_known left rest old new (Err WriteFailed) h = taken_known left rest old new (Err WriteFailed) h
 
 -- ---- a sink that is left alone
 

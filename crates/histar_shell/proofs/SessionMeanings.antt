@@ -1,7 +1,8 @@
 -- A run is as its script means: the fold of its lines.
-use Rattle.std.proofs.Common.{◌≡◌, ℕ, List, [], ◌∷◌, ◌++◌, Option, Result, Ok, Err, refl, sym, ap, ◌∙◌, subst, append-nil, append_assoc, inl, inr}
+use Rattle.std.proofs.Common.{◌≡◌, ℕ, List, [], ◌∷◌, ◌++◌, Option, Result, Ok, Err, refl, sym, ap, ◌∙◌, subst, append-nil, append_assoc, inl, inr, ◌⊎◌}
 use Rattle.std.specs.List.{AllByRecursion}
 use Rattle.std.specs.Io.KnownBytes.{Appends}
+use Rattle.std.proofs.KnownBytes.{Appends-trans}
 use Rattle.std.proofs.lemmas.Grind.{flat_map-append}
 use Rattle.histar_flat.specs.declared.replies.Reply.{Reply}
 use Rattle.histar_flat.specs.Sessions.{Session}
@@ -27,9 +28,15 @@ use Rattle.histar_devices.specs.Writing.{AppendsFront}
 use Rattle.histar_shell.specs.Answers.{answer_text, answers_text, calls_of, line_text}
 use Rattle.histar_shell.specs.Machine.{MachineModel, IsStart, IsTraced}
 use Rattle.histar_shell.specs.AnsweredCalls.{AnswersInTurn, AnswersCalls, BeginsAnswers}
-use Rattle.histar_shell.specs.Outcome.{BeginsScript, WritesAtFault, WritesAnswers}
-use Rattle.histar_shell.specs.Meaning.{meaning_text, Shows, AnswersAsMeant, WritesMeaning, BeginsMeaning, WritesMeaningAtFault, RunsAsMeant}
+use Rattle.histar_shell.specs.declared.session.Options.{Options}
+use Rattle.histar_shell.specs.Ending.{IsEnding, HasTree, asked_trace}
+use Rattle.histar_shell.specs.Outcome.{BeginsEnding, BeginsScript, WritesAtFault, WritesAnswers}
+use Rattle.histar_shell.specs.Meaning.{last_state, asked_tree, meaning_text, Shows, AnswersAsMeant, IsMeantTrace, WritesMeaning, BeginsTrace, BeginsMeaning, WritesMeaningAtFault, RunsAsMeant}
+use Rattle.histar_tree.specs.Laws.{AreShallow}
 use Rattle.histar_shell.proofs.Users.{AreScriptable, script_says}
+use Rattle.histar_shell.proofs.AnswerLemmas.{front_after}
+use Rattle.histar_shell.proofs.ShallowPaths.{shallow_at_end}
+use Rattle.histar_shell.proofs.ShownTrees.{shown_tree, tree_asked}
 use Rattle.histar_shell.proofs.LineMeanings.{line_follows, session_stays}
 use Rattle.histar_shell.proofs.RowRuns.{run_after, rows_run}
 use Rattle.histar_shell.proofs.Starts.{start_is_laid, start_shows}
@@ -40,14 +47,16 @@ pub record IsMeantSession (m : MachineModel) (f : Flat) (answers : List Answered
   pub entries : List TraceEntry
   pub trace : end.kernel.trace ≡ m.kernel.trace ++ entries
   pub rows : AreRows m.session (state m.kernel) f (calls_of answers) entries (state end.kernel)
+  pub shows : Shows end (flat_end m.session f (calls_of answers))
 
 -- a session of no line
-session_none : (m : MachineModel) (f : Flat) (end : MachineModel) → end ≡ m → IsMeantSession m f [] end
-session_none m f end same = record {
+session_none : (m : MachineModel) (f : Flat) (end : MachineModel) → end ≡ m → Shows m f → IsMeantSession m f [] end
+session_none m f end same shows = record {
   text = refl;
   entries = [];
   trace = ap (λ (x : MachineModel). x.kernel.trace) same ∙ sym (append-nil m.kernel.trace);
   rows = (refl, ap (λ (x : MachineModel). state x.kernel) same);
+  shows = subst (λ (x : MachineModel). Shows x f) (sym same) shows;
 }
 
 -- a line before a session
@@ -61,6 +70,7 @@ session_first m mid f a answers end same line later =
       entries = line.entries ++ later.entries;
       trace = later.trace ∙ ap (λ (es : List TraceEntry). es ++ later.entries) line.trace ∙ append_assoc m.kernel.trace line.entries later.entries;
       rows = (line.entries, later.entries, state mid.kernel, refl, line.row, subst (λ (declared : Session). AreRows declared (state mid.kernel) g asked later.entries (state end.kernel)) same later.rows);
+      shows = subst (λ (declared : Session). Shows end (flat_end declared g asked)) same later.shows;
     }
   where
     reply_of : AnswersAsMeant m mid f a.call a.reply → Reply
@@ -68,7 +78,7 @@ session_first m mid f a answers end same line later =
 
 -- a session of lines that a script can have
 pub session_means : (rows : LinesAreRows) (m : MachineModel) (f : Flat) (answers : List Answered) (end : MachineModel) → AnswersInTurn m answers end → Shows m f → AreScriptable (calls_of answers) → IsMeantSession m f answers end
-session_means rows m f [] end session shows can = session_none m f end session
+session_means rows m f [] end session shows can = session_none m f end session shows
 session_means rows m f (a ∷ answers) end session shows can =
     let line = line_follows rows m session.0 a.call.line a.call.process a.call.call (Ok a.reply) session.1 f shows can.0 in
     session_first m session.0 f a answers end (session_stays m session.0 a.call.line a.call.process a.call.call (Ok a.reply) session.1) line
@@ -110,9 +120,30 @@ module _ (rows : LinesAreRows) (script : Reading) (declared : IsDeclared script.
   text_is : (answers : List Answered) (end : MachineModel) → AreScriptable (calls_of answers) → AnswersInTurn start answers end → answers_text answers ≡ answers_text (meaning script.session (calls_of answers))
   text_is answers end these session = (from_start answers end these session).text ∙ ap (λ (us : Session). answers_text (answered_from us (boot script.session) (calls_of answers))) starts.session
 
-  -- all lines were answered
-  pub writes_meaning : (old new : Option (List ℕ)) (read : Result Reading Fault) → read ≡ Ok script → (trace : List TraceEntry) (end : MachineModel) → AnswersCalls start end old new script.calls → trace ≡ end.kernel.trace → WritesMeaning old new read trace
-  writes_meaning old new read is_read trace end answered recorded =
+  -- the flat state after all lines
+  abbrev last : Flat
+  last = last_state script
+
+  -- no path of it has more names than can be named
+  shallow : AreShallow last
+  shallow = shallow_at_end script.session script.calls can
+
+  -- which the machine shows
+  pub shows_last : (old replied : Option (List ℕ)) (end : MachineModel) → AnswersCalls start end old replied script.calls → Shows end last
+  shows_last old replied end answered =
+      let these : AreScriptable (calls_of answered.answers) = subst AreScriptable (sym answered.each) can in
+      subst (λ (calls : List CallLine). Shows end (flat_end script.session (boot script.session) calls)) answered.each
+      (subst (λ (us : Session). Shows end (flat_end us (boot script.session) (calls_of answered.answers))) starts.session (from_start answered.answers end these answered.in_turn).shows)
+
+  -- the replies to all lines
+  replies_are : (old replied : Option (List ℕ)) (end : MachineModel) (answered : AnswersCalls start end old replied script.calls) → answers_text answered.answers ≡ answers_text (meaning script.session script.calls)
+  replies_are old replied end answered =
+      let these : AreScriptable (calls_of answered.answers) = subst AreScriptable (sym answered.each) can in
+      text_is answered.answers end these answered.in_turn ∙ ap (λ (calls : List CallLine). answers_text (meaning script.session calls)) answered.each
+
+  -- the trace of all lines
+  trace_is : (old replied : Option (List ℕ)) (end : MachineModel) → AnswersCalls start end old replied script.calls → (trace : List TraceEntry) → trace ≡ end.kernel.trace → IsMeantTrace script trace
+  trace_is old replied end answered trace recorded =
       let these : AreScriptable (calls_of answered.answers) = subst AreScriptable (sym answered.each) can in
       let session = from_start answered.answers end these answered.in_turn in
       let of_boot = boot_trace script.session start starts.booted in
@@ -120,64 +151,99 @@ module _ (rows : LinesAreRows) (script : Reading) (declared : IsDeclared script.
       let of_lines = subst (λ (calls : List CallLine). AreRows script.session (state start.kernel) (boot script.session) calls session.entries (state end.kernel)) answered.each
       (subst (λ (us : Session). AreRows us (state start.kernel) (boot script.session) (calls_of answered.answers) session.entries (state end.kernel)) starts.session session.rows) in
       record {
-        script = script;
-        is_read = is_read;
-        written = subst (Appends old new) (text_is answered.answers end these answered.in_turn ∙ ap (λ (calls : List CallLine). answers_text (meaning script.session calls)) answered.each) answered.written;
-        recorded = record {
-          of_boot = of_boot.entries;
-          of_lines = session.entries;
-          parts = parts;
-          start = state start.kernel;
-          boot_run = of_boot.run;
-          boot_own = of_boot.own;
-          boot_lays_out = subst (λ (s : State). LaysOut script.session s (boot script.session)) (sym starts.state) (start_is_laid script.session declared);
-          end = state end.kernel;
-          rows = of_lines;
-          run = subst (λ (es : List TraceEntry). IsRun empty_state es (state end.kernel)) (sym parts)
-              (run_after empty_state (state start.kernel) (state end.kernel) of_boot.entries session.entries of_boot.run
-              (rows_run script.session (state start.kernel) (boot script.session) script.calls session.entries (state end.kernel) of_lines));
-        };
+        of_boot = of_boot.entries;
+        of_lines = session.entries;
+        parts = parts;
+        start = state start.kernel;
+        boot_run = of_boot.run;
+        boot_own = of_boot.own;
+        boot_lays_out = subst (λ (s : State). LaysOut script.session s (boot script.session)) (sym starts.state) (start_is_laid script.session declared);
+        end = state end.kernel;
+        rows = of_lines;
+        run = subst (λ (es : List TraceEntry). IsRun empty_state es (state end.kernel)) (sym parts)
+            (run_after empty_state (state start.kernel) (state end.kernel) of_boot.entries session.entries of_boot.run
+            (rows_run script.session (state start.kernel) (boot script.session) script.calls session.entries (state end.kernel) of_lines));
       }
 
-  -- the first calls of a list that can all be said can be
-  front_can : (front rest : List CallLine) → AreScriptable (front ++ rest) → AreScriptable front
-  front_can [] rest h = tt
-  front_can (c ∷ front) rest h = (h.0, front_can front rest h.1)
+  module _ (options : Options) where
+    -- the replies, and then what stands behind them
+    whole_is : (old replied : Option (List ℕ)) (end : MachineModel) (answered : AnswersCalls start end old replied script.calls) (ending : List ℕ) → IsEnding options end ending → (trace : List TraceEntry) → trace ≡ end.kernel.trace
+        → answers_text answered.answers ++ ending ≡ meaning_text options script ++ asked_trace options trace
+    whole_is old replied end answered ending ends trace recorded =
+        let of_trace = asked_trace options trace in
+        (λ i. replies_are old replied end answered i ++ ends.parts i)
+        ∙ (λ i. answers_text (meaning script.session script.calls) ++ (tree_asked end last (shows_last old replied end answered) shallow options.tree ends.tree ends.tells i ++ asked_trace options (sym recorded i)))
+        ∙ sym (append_assoc (answers_text (meaning script.session script.calls)) (asked_tree options last) of_trace)
 
-  -- a beginning of a text is one of a longer text
-  longer_front : (old new : Option (List ℕ)) (text more : List ℕ) → AppendsFront old new text → AppendsFront old new (text ++ more)
-  longer_front old new text more h = (h.0 ++ more, record { front = h.1.front; parts = ap (λ (t : List ℕ). t ++ more) h.1.parts ∙ append_assoc h.1.front h.0 more; appended = h.1.appended })
+    -- all lines were answered
+    pub writes_meaning : (old replied new : Option (List ℕ)) (read : Result Reading Fault) → read ≡ Ok script → (trace : List TraceEntry) (end : MachineModel) → AnswersCalls start end old replied script.calls → (ending : List ℕ) → IsEnding options end ending → Appends replied new ending → trace ≡ end.kernel.trace
+        → WritesMeaning options old new read trace
+    writes_meaning old replied new read is_read trace end answered ending ends told recorded = record {
+      script = script;
+      is_read = is_read;
+      recorded = trace_is old replied end answered trace recorded;
+      written = subst (Appends old new) (whole_is old replied end answered ending ends trace recorded) (Appends-trans old replied new (answers_text answered.answers) ending answered.written told);
+    }
 
-  -- the first lines were answered
-  pub begins_meaning : (old new : Option (List ℕ)) (read : Result Reading Fault) → read ≡ Ok script → BeginsAnswers start old new script.calls → BeginsMeaning old new read
-  begins_meaning old new read is_read begun =
-      let front = calls_of begun.answers in
-      let these : AreScriptable front = front_can front begun.rest (subst AreScriptable begun.parts can) in
-      let asked = front in
-      let more = begun.rest in
-      let text = text_is begun.answers begun.end these begun.in_turn in
-      let rest_text = answers_text (answered_from script.session (flat_end script.session (boot script.session) asked) more) in
-      let whole : meaning_text script ≡ answers_text begun.answers ++ rest_text =
-      ap (λ (calls : List CallLine). answers_text (meaning script.session calls)) begun.parts
-      ∙ ap answers_text (replies_go_on script.session (boot script.session) asked more)
-      ∙ flat_map-append answer_text (meaning script.session asked) (answered_from script.session (flat_end script.session (boot script.session) asked) more)
-      ∙ ap (λ (t : List ℕ). t ++ rest_text) (sym text) in
-      record { script = script; is_read = is_read; written = subst (AppendsFront old new) (sym whole) (longer_front old new (answers_text begun.answers) rest_text begun.written) }
+    -- they were, and then a beginning of what stands behind the replies was written
+    ends_meaning : (old new : Option (List ℕ)) → BeginsEnding options start old new script.calls → BeginsTrace options old new script
+    ends_meaning old new begun = record {
+      trace = begun.end.kernel.trace;
+      recorded = trace_is old begun.replied begun.end begun.answered begun.end.kernel.trace refl;
+      written = subst (AppendsFront old new) (ap (λ (t : List ℕ). answers_text begun.answered.answers ++ t) (append-nil begun.ending) ∙ whole_is old begun.replied begun.end begun.answered begun.ending begun.ends begun.end.kernel.trace refl)
+          (front_after old begun.replied new (answers_text begun.answered.answers) begun.ending [] begun.answered.written begun.told);
+    }
+
+    -- the first calls of a list that can all be said can be
+    front_can : (front rest : List CallLine) → AreScriptable (front ++ rest) → AreScriptable front
+    front_can [] rest h = tt
+    front_can (c ∷ front) rest h = (h.0, front_can front rest h.1)
+
+    -- a beginning of a text is one of a longer text
+    longer_front : (old new : Option (List ℕ)) (text more : List ℕ) → AppendsFront old new text → AppendsFront old new (text ++ more)
+    longer_front old new text more h = (h.0 ++ more, record { front = h.1.front; parts = ap (λ (t : List ℕ). t ++ more) h.1.parts ∙ append_assoc h.1.front h.0 more; appended = h.1.appended })
+
+    -- the first lines were answered
+    answers_begin : (old new : Option (List ℕ)) → BeginsAnswers start old new script.calls → AppendsFront old new (meaning_text options script)
+    answers_begin old new begun =
+        let front = calls_of begun.answers in
+        let these : AreScriptable front = front_can front begun.rest (subst AreScriptable begun.parts can) in
+        let text = text_is begun.answers begun.end these begun.in_turn in
+        let rest_text = answers_text (answered_from script.session (flat_end script.session (boot script.session) front) begun.rest) in
+        let replies : answers_text (meaning script.session script.calls) ≡ answers_text begun.answers ++ rest_text =
+        ap (λ (calls : List CallLine). answers_text (meaning script.session calls)) begun.parts
+        ∙ ap answers_text (replies_go_on script.session (boot script.session) front begun.rest)
+        ∙ flat_map-append answer_text (meaning script.session front) (answered_from script.session (flat_end script.session (boot script.session) front) begun.rest)
+        ∙ ap (λ (t : List ℕ). t ++ rest_text) (sym text) in
+        longer_front old new (answers_text (meaning script.session script.calls)) (asked_tree options last)
+        (subst (AppendsFront old new) (sym replies) (longer_front old new (answers_text begun.answers) rest_text begun.written))
+
+    pub begins_meaning : (old new : Option (List ℕ)) (read : Result Reading Fault) → read ≡ Ok script → BeginsAnswers start old new script.calls ⊎ BeginsEnding options start old new script.calls → BeginsMeaning options old new read
+    begins_meaning old new read is_read (inl begun) = record { script = script; is_read = is_read; written = inl (answers_begin old new begun) }
+    begins_meaning old new read is_read (inr begun) = record { script = script; is_read = is_read; written = inr (ends_meaning old new begun) }
 
 -- the beginning of a script's answers is one of its meaning
-begun_script : (rows : LinesAreRows) (old new : Option (List ℕ)) (text : List ℕ) → BeginsScript old new (script_of text) → BeginsMeaning old new (script_of text)
-begun_script rows old new text h = let says = script_says text h.script h.is_read in begins_meaning rows h.script says.0 says.1 h.start h.starts old new (script_of text) h.is_read h.begun
+begun_script : (rows : LinesAreRows) (options : Options) (old new : Option (List ℕ)) (text : List ℕ) → BeginsScript options old new (script_of text) → BeginsMeaning options old new (script_of text)
+begun_script rows options old new text h = let says = script_says text h.script h.is_read in begins_meaning rows h.script says.0 says.1 h.start h.starts options old new (script_of text) h.is_read h.begun
 
 -- at a fault
-meant_at_fault : (rows : LinesAreRows) (old new : Option (List ℕ)) (text : List ℕ) (fault : Fault) → WritesAtFault old new (script_of text) fault → WritesMeaningAtFault old new (script_of text) fault
-meant_at_fault rows old new text (BadScript n) h = h
-meant_at_fault rows old new text TooLong h = h
-meant_at_fault rows old new text OutOfMemory (inl h) = inl h
-meant_at_fault rows old new text OutOfMemory (inr h) = inr (begun_script rows old new text h)
-meant_at_fault rows old new text ReadFailed h = h
-meant_at_fault rows old new text WriteFailed h = begun_script rows old new text h
+meant_at_fault : (rows : LinesAreRows) (options : Options) (old new : Option (List ℕ)) (text : List ℕ) (fault : Fault) → WritesAtFault options old new (script_of text) fault → WritesMeaningAtFault options old new (script_of text) fault
+meant_at_fault rows options old new text (BadScript n) h = h
+meant_at_fault rows options old new text TooLong h = h
+meant_at_fault rows options old new text OutOfMemory (inl h) = inl h
+meant_at_fault rows options old new text OutOfMemory (inr h) = inr (begun_script rows options old new text h)
+meant_at_fault rows options old new text ReadFailed h = h
+meant_at_fault rows options old new text WriteFailed h = begun_script rows options old new text h
 
 -- what a run answers is as its script means
-pub meant_run : (rows : LinesAreRows) (old new : Option (List ℕ)) (text : List ℕ) (result : Result (List TraceEntry) Fault) → WritesAnswers old new (script_of text) result → RunsAsMeant old new (script_of text) result
-meant_run rows old new text (Ok trace) h = let says = script_says text h.script h.is_read in writes_meaning rows h.script says.0 says.1 h.start h.starts old new (script_of text) h.is_read trace h.end h.answered h.recorded
-meant_run rows old new text (Err fault) h = meant_at_fault rows old new text fault h
+pub meant_run : (rows : LinesAreRows) (options : Options) (old new : Option (List ℕ)) (text : List ℕ) (result : Result (List TraceEntry) Fault) → WritesAnswers options old new (script_of text) result → RunsAsMeant options old new (script_of text) result
+meant_run rows options old new text (Ok trace) h =
+    let says = script_says text h.script h.is_read in
+    writes_meaning rows h.script says.0 says.1 h.start h.starts options old h.replied new (script_of text) h.is_read trace h.end h.answered h.ending h.ends h.told h.recorded
+meant_run rows options old new text (Err fault) h = meant_at_fault rows options old new text fault h
+
+-- a machine that answered all lines of a script has a tree
+pub tree_at_last : (rows : LinesAreRows) (text : List ℕ) (script : Reading) → script_of text ≡ Ok script → (start end : MachineModel) → IsStart script.session start → (calls : List CallLine) → calls ≡ script.calls → (old replied : Option (List ℕ)) → AnswersCalls start end old replied calls → HasTree end
+tree_at_last rows text script is_read start end starts calls listed old replied answered =
+    let says = script_says text script is_read in
+    shown_tree end (last_state script) (shows_last rows script says.0 says.1 start starts old replied end (subst (λ (l : List CallLine). AnswersCalls start end old replied l) listed answered)) (shallow_at_end script.session script.calls says.1)

@@ -1,6 +1,8 @@
 pub mod Answers
-pub mod Outcome
+pub mod TreeText
 pub mod Machine
 pub mod AnsweredCalls
+pub mod Ending
+pub mod Outcome
 pub mod Meaning
 pub mod Run

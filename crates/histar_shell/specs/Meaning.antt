@@ -1,5 +1,5 @@
 -- A run against the flat meaning of its script.
-use Rattle.std.specs.Prelude.{◌≡◌, ℕ, ◌⊎◌, List, ◌++◌, length, Option, Result, Ok, Err, MatchResult}
+use Rattle.std.specs.Prelude.{◌≡◌, ℕ, ◌⊎◌, List, [], ◌++◌, length, Option, Result, Ok, Err, MatchResult, if◌then◌else◌}
 use Rattle.std.specs.List.{AllByRecursion}
 use Rattle.std.specs.Io.KnownBytes.{Appends, Keeps}
 use Rattle.histar_flat.specs.declared.replies.Reply.{Reply}
@@ -8,7 +8,7 @@ use Rattle.histar_flat.specs.Words.{ProcName}
 use Rattle.histar_flat.specs.Sessions.{Session}
 use Rattle.histar_flat.specs.FlatState.{Flat}
 use Rattle.histar_flat.specs.FlatCalls.{reply_to, flat_after}
-use Rattle.histar_flat.specs.Meaning.{boot, meaning}
+use Rattle.histar_flat.specs.Meaning.{boot, flat_end, meaning}
 use Rattle.histar_object.specs.State.{State, empty_state}
 use Rattle.histar_script.specs.Script.{Reading, IsDeclared}
 use Rattle.histar_script.specs.declared.fault.Fault.{Fault}
@@ -24,12 +24,25 @@ use Rattle.histar_refinement.specs.LaysOut.{LaysOut}
 use Rattle.histar_refinement.specs.Lines.{IsThreadOf}
 use Rattle.histar_rows.specs.Rows.{IsScriptable, IsRow, AreRows, IsFirstFree, AreFilesSmall, IsBrokenOff}
 use Rattle.histar_devices.specs.Writing.{AppendsFront}
+use Rattle.histar_tree.specs.TreeLines.{flat_lines}
+use Rattle.histar_shell.specs.declared.session.Options.{Options}
 use Rattle.histar_shell.specs.Answers.{answers_text}
+use Rattle.histar_shell.specs.TreeText.{tree_text}
+use Rattle.histar_shell.specs.Ending.{asked_trace}
 use Rattle.histar_shell.specs.Machine.{MachineModel}
 
--- the text of a script's meaning: for each call line, its number and the reply that the flat rules give
-abbrev pub meaning_text : Reading → List ℕ
-meaning_text script = answers_text (meaning script.session script.calls)
+-- the flat state after all calls of a script
+abbrev pub last_state : Reading → Flat
+last_state script = flat_end script.session (boot script.session) script.calls
+
+-- the lines of the files and directories of a flat state, by rising paths, where the tree is asked for
+abbrev pub asked_tree : Options → Flat → List ℕ
+asked_tree options f = if options.tree then tree_text (flat_lines f) else []
+
+-- the text of a script's meaning: for each call line, its number and the reply that the flat rules give; and then the tree after all calls,
+-- where it is asked for
+abbrev pub meaning_text : Options → Reading → List ℕ
+meaning_text options script = answers_text (meaning script.session script.calls) ++ asked_tree options (last_state script)
 
 -- A machine lays out a flat state, in which process 0 is in no job: its kernel does, its users and groups are those of a script, and it
 -- knows of `/` and of process 0 what boot told it.
@@ -85,27 +98,34 @@ pub record IsMeantTrace (script : Reading) (trace : List TraceEntry) : Type 0 wh
   pub rows : AreRows script.session start (boot script.session) script.calls of_lines end
   pub run : IsRun empty_state trace end
 
--- The reading is of a script, the text of its meaning was written, and the trace is that of the meaning.
-pub record WritesMeaning (old new : Option (List ℕ)) (read : Result Reading Fault) (trace : List TraceEntry) : Type 0 where
+-- The reading is of a script; the trace is that of its meaning; and the text of the meaning was written, and then where it is asked for
+-- the trace, line by line.
+pub record WritesMeaning (options : Options) (old new : Option (List ℕ)) (read : Result Reading Fault) (trace : List TraceEntry) : Type 0 where
   pub script : Reading
   pub is_read : read ≡ Ok script
-  pub written : Appends old new (meaning_text script)
   pub recorded : IsMeantTrace script trace
+  pub written : Appends old new (meaning_text options script ++ asked_trace options trace)
 
--- the reading is of a script, and a beginning of the text of its meaning was written
-pub record BeginsMeaning (old new : Option (List ℕ)) (read : Result Reading Fault) : Type 0 where
+-- the text of a script's meaning was written, and a beginning of the lines of a trace of that meaning
+pub record BeginsTrace (options : Options) (old new : Option (List ℕ)) (script : Reading) : Type 0 where
+  pub trace : List TraceEntry
+  pub recorded : IsMeantTrace script trace
+  pub written : AppendsFront old new (meaning_text options script ++ asked_trace options trace)
+
+-- the reading is of a script, and a beginning of the text of its meaning was written, or of that and the lines of a trace of it
+pub record BeginsMeaning (options : Options) (old new : Option (List ℕ)) (read : Result Reading Fault) : Type 0 where
   pub script : Reading
   pub is_read : read ≡ Ok script
-  pub written : AppendsFront old new (meaning_text script)
+  pub written : AppendsFront old new (meaning_text options script) ⊎ BeginsTrace options old new script
 
 -- at want of memory and at a failed write a beginning of the text was written, and at the other faults nothing
-abbrev pub WritesMeaningAtFault : Option (List ℕ) → Option (List ℕ) → Result Reading Fault → Fault → Type 0
-WritesMeaningAtFault old new read (BadScript n) = Keeps old new
-WritesMeaningAtFault old new read TooLong = Keeps old new
-WritesMeaningAtFault old new read OutOfMemory = Keeps old new ⊎ BeginsMeaning old new read
-WritesMeaningAtFault old new read ReadFailed = Keeps old new
-WritesMeaningAtFault old new read WriteFailed = BeginsMeaning old new read
+abbrev pub WritesMeaningAtFault : Options → Option (List ℕ) → Option (List ℕ) → Result Reading Fault → Fault → Type 0
+WritesMeaningAtFault options old new read (BadScript n) = Keeps old new
+WritesMeaningAtFault options old new read TooLong = Keeps old new
+WritesMeaningAtFault options old new read OutOfMemory = Keeps old new ⊎ BeginsMeaning options old new read
+WritesMeaningAtFault options old new read ReadFailed = Keeps old new
+WritesMeaningAtFault options old new read WriteFailed = BeginsMeaning options old new read
 
 -- what a run writes, and the trace that it answers, are those of its script's meaning
-abbrev pub RunsAsMeant : Option (List ℕ) → Option (List ℕ) → Result Reading Fault → Result (List TraceEntry) Fault → Type 0
-RunsAsMeant old new read result = MatchResult result (WritesMeaning old new read) (WritesMeaningAtFault old new read)
+abbrev pub RunsAsMeant : Options → Option (List ℕ) → Option (List ℕ) → Result Reading Fault → Result (List TraceEntry) Fault → Type 0
+RunsAsMeant options old new read result = MatchResult result (WritesMeaning options old new read) (WritesMeaningAtFault options old new read)

@@ -1,10 +1,14 @@
 -- What the answer of a run says of its script and of its output.
 use Rattle.std.specs.Prelude.{◌≡◌, ℕ, ◌⊎◌, Bool, true, false, List, Option, Result, Ok, Err, IsOk, MatchResult}
-use Rattle.std.specs.Io.KnownBytes.{Keeps}
+use Rattle.std.specs.Io.KnownBytes.{Appends, Keeps}
 use Rattle.histar_script.specs.declared.fault.Fault.{Fault}
 use Rattle.histar_script.specs.declared.fault.Fault.TheVariants.{BadScript, TooLong, OutOfMemory, ReadFailed, WriteFailed}
 use Rattle.histar_script.specs.Script.{Reading}
 use Rattle.histar_shell.specs.Machine.{MachineModel, IsStart}
+use Rattle.histar_flat.specs.declared.calls.CallLine.{CallLine}
+use Rattle.histar_devices.specs.Writing.{AppendsFront}
+use Rattle.histar_shell.specs.declared.session.Options.{Options}
+use Rattle.histar_shell.specs.Ending.{IsEnding}
 use Rattle.histar_shell.specs.AnsweredCalls.{AnswersCalls, BeginsAnswers}
 use Rattle.histar_syscall.specs.declared.trace.TraceEntry.{TraceEntry}
 
@@ -48,33 +52,47 @@ abbrev pub AgreesWith : {A : Type 0} → Result Reading Fault → Result A Fault
 AgreesWith read result = MatchResult result (λ _. IsOk read) (IsFaultAt read)
 
 -- The reading is of a script. A machine that was booted with its users and groups answered each of its call lines, the lines that tell the
--- replies were written, and the trace is the one that the machine has at the end.
-pub record AnswersScript (old new : Option (List ℕ)) (read : Result Reading Fault) (trace : List TraceEntry) : Type 0 where
+-- replies were written and then what stands behind them, and the trace is the one that the machine has at the end.
+pub record AnswersScript (options : Options) (old new : Option (List ℕ)) (read : Result Reading Fault) (trace : List TraceEntry) : Type 0 where
   pub script : Reading
   pub is_read : read ≡ Ok script
   pub start : MachineModel
   pub starts : IsStart script.session start
   pub end : MachineModel
-  pub answered : AnswersCalls start end old new script.calls
+  pub replied : Option (List ℕ)
+  pub answered : AnswersCalls start end old replied script.calls
+  pub ending : List ℕ
+  pub ends : IsEnding options end ending
+  pub told : Appends replied new ending
   pub recorded : trace ≡ end.kernel.trace
 
+-- the machine answered each of these call lines, the lines that tell the replies were written, and then a beginning of what stands behind
+-- them
+pub record BeginsEnding (options : Options) (start : MachineModel) (old new : Option (List ℕ)) (calls : List CallLine) : Type 0 where
+  pub end : MachineModel
+  pub replied : Option (List ℕ)
+  pub answered : AnswersCalls start end old replied calls
+  pub ending : List ℕ
+  pub ends : IsEnding options end ending
+  pub told : AppendsFront replied new ending
+
 -- The reading is of a script. A machine that was booted with its users and groups answered the first of its call lines, and a beginning of
--- the lines that tell the replies was written.
-pub record BeginsScript (old new : Option (List ℕ)) (read : Result Reading Fault) : Type 0 where
+-- the lines that tell the replies was written; or it answered them all, and a beginning of what stands behind the replies was written.
+pub record BeginsScript (options : Options) (old new : Option (List ℕ)) (read : Result Reading Fault) : Type 0 where
   pub script : Reading
   pub is_read : read ≡ Ok script
   pub start : MachineModel
   pub starts : IsStart script.session start
-  pub begun : BeginsAnswers start old new script.calls
+  pub begun : BeginsAnswers start old new script.calls ⊎ BeginsEnding options start old new script.calls
 
--- At a failed write a beginning of the answers was written, at want of memory that or nothing, at the other faults nothing.
-abbrev pub WritesAtFault : Option (List ℕ) → Option (List ℕ) → Result Reading Fault → Fault → Type 0
-WritesAtFault old new read (BadScript n) = Keeps old new
-WritesAtFault old new read TooLong = Keeps old new
-WritesAtFault old new read OutOfMemory = Keeps old new ⊎ BeginsScript old new read
-WritesAtFault old new read ReadFailed = Keeps old new
-WritesAtFault old new read WriteFailed = BeginsScript old new read
+-- At a failed write a beginning of the text was written, at want of memory that or nothing, at the other faults nothing.
+abbrev pub WritesAtFault : Options → Option (List ℕ) → Option (List ℕ) → Result Reading Fault → Fault → Type 0
+WritesAtFault options old new read (BadScript n) = Keeps old new
+WritesAtFault options old new read TooLong = Keeps old new
+WritesAtFault options old new read OutOfMemory = Keeps old new ⊎ BeginsScript options old new read
+WritesAtFault options old new read ReadFailed = Keeps old new
+WritesAtFault options old new read WriteFailed = BeginsScript options old new read
 
 -- each call line was answered by the machine whose trace it is, or as many as the fault let through
-abbrev pub WritesAnswers : Option (List ℕ) → Option (List ℕ) → Result Reading Fault → Result (List TraceEntry) Fault → Type 0
-WritesAnswers old new read result = MatchResult result (AnswersScript old new read) (WritesAtFault old new read)
+abbrev pub WritesAnswers : Options → Option (List ℕ) → Option (List ℕ) → Result Reading Fault → Result (List TraceEntry) Fault → Type 0
+WritesAnswers options old new read result = MatchResult result (AnswersScript options old new read) (WritesAtFault options old new read)

@@ -2,17 +2,22 @@
 ghost use Rattle.std.specs.Prelude.{◌≡◌, IfOk};
 ghost use Rattle.histar_script.specs.Script.{IsDeclared};
 ghost use Rattle.histar_shell.specs.Machine.{AnswersLine, IsStart, IsTraced, Makes};
+ghost use Rattle.histar_shell.specs.Ending.{HasTree, IsTreeIn};
 ghost use Rattle.histar_shell.specs.Meaning.{FollowsMeaning, ShowsStart};
+ghost use Rattle.histar_syscall.specs.KernelModel.{state};
+ghost use Rattle.histar_tree.specs.TreeLines.{bytes_at};
 
 use histar_calls::{Places, Stopped, append, create, list, mkdir, read, stat, write};
 use histar_flat::{ProcName, Reply, Session, UnixCall};
 use histar_label::LabelStore;
+use histar_layout::Target;
 use histar_login::{boot, login};
 use histar_moves::{rename, rmdir, rmtree, unlink};
 use histar_process::{Caller, exit, find_caller, kill, spawn, status, whoami};
 use histar_syscall::{Kernel, TraceEntry};
+use histar_tree::{TreeNode, bytes_of, tree_of};
 use histar_wrap::wrap;
-use std::alloc::Global;
+use std::alloc::{AllocError, Global};
 use std::marker::Model;
 
 /// The raw calls of a run, in their order.
@@ -112,6 +117,32 @@ impl<S: LabelStore + Drop> Machine<S> {
         );
         self.is_stopped = result.is_err();
         result
+    }
+
+    /// The raw calls so far.
+    pub fn trace(&self) -> &[TraceEntry]
+        ensures { result.now ≡ self.now.kernel.trace }
+    {
+        self.kernel.trace()
+    }
+
+    /// The files and directories, by rising paths, as the kernel's own objects tell them, with no raw
+    /// call.
+    pub fn tree(&self, alloc: Global) -> Result<Vec<TreeNode>, AllocError>
+        requires { HasTree self.now }
+        ensures { IfOk result (λ tree. IsTreeIn self.now tree.items) }
+    {
+        match tree_of(alloc, &self.kernel, &self.places, &self.session)? {
+            Some(tree) => Ok(tree),
+            None => unreachable!(),
+        }
+    }
+
+    /// The bytes of a file of the tree, lent by the kernel's table. Of a directory there are none.
+    pub fn bytes_of(&self, target: Target) -> &[u8]
+        ensures { result.now ≡ bytes_at (state self.now.kernel) target }
+    {
+        bytes_of(&self.kernel, target)
     }
 
     /// The raw calls so far, moved out: a run of the kernel from its empty state to the machine's.

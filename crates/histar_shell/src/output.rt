@@ -1,11 +1,12 @@
-//! Printing replies.
+//! Printing replies, and the files and directories of a tree.
 ghost use Rattle.std.specs.Prelude.{◌≡◌, ◌++◌, IfOk, OnOk};
 ghost use Rattle.std.specs.List.{flat_map};
 ghost use Rattle.std.specs.Fmt.{decimal};
-ghost use Rattle.histar_flat.specs.Texts.{entry_text, file_mode_text, owner_text, process_text, reply_text, stat_text};
+ghost use Rattle.histar_flat.specs.Texts.{entry_text, file_mode_text, owner_text, names_text, path_text, process_text, reply_text, stat_text};
 ghost use Rattle.histar_shell.specs.Answers.{line_text};
+ghost use Rattle.histar_shell.specs.TreeText.{tree_line_text};
 
-use histar_flat::{FileMode, Name, ProcName, Reply, Stat};
+use histar_flat::{FileMode, Name, Path, ProcName, Reply, Stat};
 use itoa::Buffer;
 use std::alloc::{AllocError, Global};
 
@@ -135,6 +136,50 @@ pub fn reply_line(alloc: Global, number: u32, reply: &Reply) -> Result<Vec<u8>, 
     let mut line = Vec::from_slice(alloc, digits.format(number).as_bytes())?;
     line.extend_from_slice(b" ")?;
     push_reply(&mut line, reply)?;
+    line.extend_from_slice(b"\n")?;
+    Ok(line)
+}
+
+/// Adds the names of a path, of which the last stands first, each after a slash.
+fn push_names(line: &mut Vec<u8>, names: &[Name]) -> Result<(), AllocError>
+    ensures { OnOk result (line.new.items ≡ line.old.items ++ names_text names.now) }
+{
+    for i in 0..names.len() {
+        line.extend_from_slice(b"/")?;
+        line.extend_from_slice(names[names.len() - 1 - i].as_bytes())?;
+    }
+    Ok(())
+}
+
+/// Adds a path.
+fn push_path(line: &mut Vec<u8>, path: &Path) -> Result<(), AllocError>
+    ensures { OnOk result (line.new.items ≡ line.old.items ++ path_text path.now) }
+{
+    match path.names() {
+        [] => line.extend_from_slice(b"/"),
+        names => push_names(line, names),
+    }
+}
+
+/// The line that tells a file or a directory: its path, its kind, its owner and its mode, of a file its
+/// bytes after an equals sign, and a line end.
+pub fn tree_line(
+    alloc: Global,
+    path: &Path,
+    stat: Stat,
+    bytes: &[u8],
+) -> Result<Vec<u8>, AllocError>
+    ensures { IfOk result (λ line. line.items ≡ tree_line_text (record { path = path.now; stat = stat; bytes = bytes.now })) }
+{
+    let is_directory = stat.is_directory;
+    let mut line = Vec::new(alloc);
+    push_path(&mut line, path)?;
+    line.extend_from_slice(b" ")?;
+    push_stat(&mut line, stat)?;
+    if !is_directory {
+        line.extend_from_slice(b" = ")?;
+        line.extend_from_slice(bytes)?;
+    }
     line.extend_from_slice(b"\n")?;
     Ok(line)
 }

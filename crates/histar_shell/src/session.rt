@@ -5,6 +5,7 @@ ghost use Rattle.histar_shell.specs.AnsweredCalls.{AnswersCall, AnswersCalls, Be
 ghost use Rattle.histar_shell.specs.Outcome.{IsOutputFault, is_read_failed, is_write_failed};
 ghost use Rattle.histar_shell.specs.Run.{LeavesSink, RunsInput, RunsText};
 
+use crate::ending::write_ending;
 use crate::machine::{Machine, Trace};
 use crate::output::reply_line;
 use histar_devices::{Sink, Source, read_input, write_bytes};
@@ -13,12 +14,17 @@ use histar_label::{LabelStore, PlainStore};
 use histar_script::{Fault, read_script};
 use std::alloc::Global;
 
-/// What a run is asked for beside the replies. There is nothing to ask for yet.
+/// What a run is asked for beside the replies.
 #[derive(Clone, Copy)]
-pub struct Options {}
+pub struct Options {
+    /// The tree after the last call: a line for each file and directory, by rising paths.
+    pub tree: bool,
+    /// The trace: a line for each raw call of the run, those of boot first.
+    pub trace: bool,
+}
 
 /// Reads a script, runs it on a machine of its own, and writes one line for each call line as soon
-/// as the call is done.
+/// as the call is done; and then, where they are asked for, the tree and the trace.
 ///
 /// The whole script is read and checked before the first call. It doesn't flush the sink.
 pub fn run<R: Source, W: Sink>(
@@ -35,24 +41,28 @@ pub fn run<R: Source, W: Sink>(
     ensures writes { CountsFailure (W.failures writer.old) (W.failures writer.new) (is_write_failed result) }
 
     // Whatever the source tells, the run took bytes of it, to its end but never more than 1,048,577, and ran the script that
-    // these are: their fault is answered, or exactly the text of the script's meaning is written, and the trace is that of the
-    // meaning, line by line.
-    ensures runs { RunsInput (R.left reader.old) (R.left reader.new) (W.written writer.old) (W.written writer.new) result }
+    // these are: their fault is answered, or exactly the text of the script's meaning is written, and behind it where it is asked
+    // for the trace that is answered, which is that of the meaning, line by line.
+    ensures runs { RunsInput options (R.left reader.old) (R.left reader.new) (W.written writer.old) (W.written writer.new) result }
 
     // So where the input is known, the script of the whole input was run.
-    ensures known { IfSome (R.left reader.old) (λ input. RunsText input (W.written writer.old) (W.written writer.new) result) }
+    ensures known { IfSome (R.left reader.old) (λ input. RunsText options input (W.written writer.old) (W.written writer.new) result) }
 {
-    let Options {} = options;
     let input = read_input(alloc, reader)?;
-    run_text(alloc, input.as_slice(), writer)
+    run_text(alloc, input.as_slice(), writer, options)
 }
 
 /// Runs the script that a text is.
-fn run_text<W: Sink>(alloc: Global, text: &[u8], writer: &mut W) -> Result<Trace, Fault>
+fn run_text<W: Sink>(
+    alloc: Global,
+    text: &[u8],
+    writer: &mut W,
+    options: Options,
+) -> Result<Trace, Fault>
     ensures nothing { IfErr result (LeavesSink writer.old writer.new) }
     ensures reads { is_read_failed result ≡ false }
     ensures writes { CountsFailure (W.failures writer.old) (W.failures writer.new) (is_write_failed result) }
-    ensures runs { RunsText text.now (W.written writer.old) (W.written writer.new) result }
+    ensures runs { RunsText options text.now (W.written writer.old) (W.written writer.new) result }
 {
     let script = read_script(alloc, text)?;
     let (session, calls) = script.into_parts();
@@ -61,6 +71,7 @@ fn run_text<W: Sink>(alloc: Global, text: &[u8], writer: &mut W) -> Result<Trace
         return Err(Fault::OutOfMemory);
     };
     answer_calls(alloc, &mut machine, calls, writer)?;
+    write_ending(alloc, &machine, writer, options)?;
     Ok(machine.into_trace())
 }
 

@@ -1,0 +1,4 @@
+pub mod Parting
+pub mod WordTexts
+pub mod LabelTexts
+pub mod CallTexts

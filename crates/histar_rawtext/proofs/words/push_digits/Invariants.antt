@@ -1,0 +1,7 @@
+use Rattle.std.proofs.Common.{◌≡◌, ◌++◌, take}
+use Rattle.std.specs.List.{flat_map}
+use Rattle.histar_rawtext.specs.RawText.{byte_text}
+use Rattle.histar_rawtext.proofs.words.push_digits.Given as goal
+
+abbrev pub invariant-loop-byte : goal.invariant-loop-byte
+invariant-loop-byte l = l.line.items ≡ l.fn.line.items ++ flat_map byte_text (take l.byte-index l.bytes)

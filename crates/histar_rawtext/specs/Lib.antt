@@ -1,0 +1,2 @@
+pub mod RawText
+pub mod RawTextLaws

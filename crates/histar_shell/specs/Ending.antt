@@ -1,0 +1,56 @@
+-- What is written behind the replies: where it is asked for the tree, and then where it is asked for the trace.
+use Rattle.std.specs.Prelude.{◌≡◌, ℕ, Bool, true, false, List, [], ◌++◌, Option, if◌then◌else◌}
+use Rattle.std.specs.Io.KnownBytes.{Appends}
+use Rattle.histar_devices.specs.Writing.{AppendsFront}
+use Rattle.histar_syscall.specs.declared.trace.TraceEntry.{TraceEntry}
+use Rattle.histar_syscall.specs.KernelModel.{state}
+use Rattle.histar_rawtext.specs.RawText.{trace_text}
+use Rattle.histar_tree.specs.declared.tree.TreeNode.{TreeNode}
+use Rattle.histar_tree.specs.Tree.{IsTreeOf}
+use Rattle.histar_tree.specs.TreeLines.{lines_at}
+use Rattle.histar_shell.specs.declared.session.Options.{Options}
+use Rattle.histar_shell.specs.Machine.{MachineModel}
+use Rattle.histar_shell.specs.TreeText.{tree_text}
+
+-- the objects of a machine's kernel list this tree from `/` on
+abbrev pub IsTreeIn : MachineModel → List TreeNode → Type 0
+IsTreeIn m tree = IsTreeOf m.session (state m.kernel) m.places tree
+
+-- they list a tree
+abbrev pub HasTree : MachineModel → Type 0
+HasTree m = (tree : List TreeNode) × IsTreeIn m tree
+
+-- the text tells the tree that they list
+abbrev pub TellsTree : MachineModel → List ℕ → Type 0
+TellsTree m text = (tree : List TreeNode) × IsTreeIn m tree × (text ≡ tree_text (lines_at (state m.kernel) tree))
+
+-- the text is such a one where it is asked for, and else there is none
+abbrev pub IsAsked : Bool → (List ℕ → Type 0) → List ℕ → Type 0
+IsAsked true is text = is text
+IsAsked false is text = text ≡ []
+
+-- the lines of a trace, where it is asked for
+abbrev pub asked_trace : Options → List TraceEntry → List ℕ
+asked_trace options trace = if options.trace then trace_text trace else []
+
+-- what stands behind the replies of a machine
+pub record IsEnding (options : Options) (m : MachineModel) (text : List ℕ) : Type 0 where
+  pub tree : List ℕ
+  pub tells : IsAsked options.tree (TellsTree m) tree
+  pub parts : text ≡ tree ++ asked_trace options m.kernel.trace
+
+-- the tree of a machine was written, where it is asked for
+abbrev pub AppendsTree : Options → MachineModel → Option (List ℕ) → Option (List ℕ) → Type 0
+AppendsTree options m old new = (text : List ℕ) × IsAsked options.tree (TellsTree m) text × Appends old new text
+
+-- a beginning of it was written
+abbrev pub BeginsTree : Options → MachineModel → Option (List ℕ) → Option (List ℕ) → Type 0
+BeginsTree options m old new = (text : List ℕ) × IsAsked options.tree (TellsTree m) text × AppendsFront old new text
+
+-- what stands behind the replies of a machine was written
+abbrev pub AppendsEnding : Options → MachineModel → Option (List ℕ) → Option (List ℕ) → Type 0
+AppendsEnding options m old new = (text : List ℕ) × IsEnding options m text × Appends old new text
+
+-- a beginning of it was written
+abbrev pub BeginsTheEnding : Options → MachineModel → Option (List ℕ) → Option (List ℕ) → Type 0
+BeginsTheEnding options m old new = (text : List ℕ) × IsEnding options m text × AppendsFront old new text

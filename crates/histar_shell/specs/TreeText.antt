@@ -1,0 +1,17 @@
+-- The lines that tell a tree.
+use Rattle.std.specs.Prelude.{ℕ, List, [], ◌++◌, codes, if◌then◌else◌}
+use Rattle.std.specs.List.{flat_map}
+use Rattle.histar_flat.specs.Texts.{path_text, stat_text}
+use Rattle.histar_tree.specs.TreeLines.{TreeLine}
+
+-- what a line has behind the mode: of a file its bytes, after an equals sign, also where there are none
+abbrev pub content_text : TreeLine → List ℕ
+content_text line = if line.stat.is_directory then [] else codes " = " ++ line.bytes
+
+-- a path, what stands there, its owner and its mode, its bytes, and a line end
+abbrev pub tree_line_text : TreeLine → List ℕ
+tree_line_text line = path_text line.path ++ codes " " ++ stat_text line.stat ++ content_text line ++ codes "\n"
+
+-- the lines of all of them
+abbrev pub tree_text : List TreeLine → List ℕ
+tree_text lines = flat_map tree_line_text lines

@@ -1,0 +1,115 @@
+//! Writing what stands behind the replies: the tree and the trace.
+ghost use Rattle.std.specs.Prelude.{◌≡◌, IfErr, OnErr, OnOk};
+ghost use Rattle.std.specs.Io.KnownBytes.{Appends};
+ghost use Rattle.histar_devices.specs.Device.{CountsFailure};
+ghost use Rattle.histar_devices.specs.Writing.{AppendsFront};
+ghost use Rattle.histar_rawtext.specs.RawText.{trace_text};
+ghost use Rattle.histar_syscall.specs.KernelModel.{state};
+ghost use Rattle.histar_tree.specs.TreeLines.{lines_at};
+ghost use Rattle.histar_shell.specs.Ending.{AppendsEnding, AppendsTree, BeginsTheEnding, BeginsTree, HasTree, asked_trace};
+ghost use Rattle.histar_shell.specs.Outcome.{IsOutputFault, is_write_failed};
+ghost use Rattle.histar_shell.specs.TreeText.{tree_text};
+
+use crate::machine::Machine;
+use crate::output::tree_line;
+use crate::session::Options;
+use histar_devices::{Sink, write_bytes};
+use histar_label::LabelStore;
+use histar_rawtext::trace_line;
+use histar_script::Fault;
+use histar_syscall::TraceEntry;
+use histar_tree::TreeNode;
+use std::alloc::Global;
+
+/// Writes the tree of a machine and then its trace, each where it is asked for.
+pub fn write_ending<S: LabelStore + Drop, W: Sink>(
+    alloc: Global,
+    machine: &Machine<S>,
+    writer: &mut W,
+    options: Options,
+) -> Result<(), Fault>
+    requires { HasTree machine.now }
+    ensures ok { OnOk result (AppendsEnding options machine.now (W.written writer.old) (W.written writer.new)) }
+    ensures err { OnErr result (BeginsTheEnding options machine.now (W.written writer.old) (W.written writer.new)) }
+    ensures faults { IfErr result IsOutputFault }
+    ensures count { CountsFailure (W.failures writer.old) (W.failures writer.new) (is_write_failed result) }
+{
+    write_tree(alloc, machine, writer, options)?;
+    write_trace(alloc, machine.trace(), writer, options)
+}
+
+/// Writes the tree of a machine, where it is asked for.
+fn write_tree<S: LabelStore + Drop, W: Sink>(
+    alloc: Global,
+    machine: &Machine<S>,
+    writer: &mut W,
+    options: Options,
+) -> Result<(), Fault>
+    requires { HasTree machine.now }
+    ensures ok { OnOk result (AppendsTree options machine.now (W.written writer.old) (W.written writer.new)) }
+    ensures err { OnErr result (BeginsTree options machine.now (W.written writer.old) (W.written writer.new)) }
+    ensures faults { IfErr result IsOutputFault }
+    ensures count { CountsFailure (W.failures writer.old) (W.failures writer.new) (is_write_failed result) }
+{
+    if !options.tree {
+        return Ok(());
+    }
+    let tree = machine.tree(alloc)?;
+    write_nodes(alloc, machine, tree.as_slice(), writer)
+}
+
+/// Writes the lines of files and directories of a machine.
+fn write_nodes<S: LabelStore + Drop, W: Sink>(
+    alloc: Global,
+    machine: &Machine<S>,
+    nodes: &[TreeNode],
+    writer: &mut W,
+) -> Result<(), Fault>
+    ensures ok { OnOk result (Appends (W.written writer.old) (W.written writer.new) (tree_text (lines_at (state machine.now.kernel) nodes.now))) }
+    ensures err { OnErr result (AppendsFront (W.written writer.old) (W.written writer.new) (tree_text (lines_at (state machine.now.kernel) nodes.now))) }
+    ensures faults { IfErr result IsOutputFault }
+    ensures count { CountsFailure (W.failures writer.old) (W.failures writer.new) (is_write_failed result) }
+{
+    'lines: for node in nodes {
+        let bytes = machine.bytes_of(node.target);
+        let line = tree_line(alloc, &node.path, node.stat, bytes)?;
+        write_bytes(writer, line.as_slice())?;
+    }
+    Ok(())
+}
+
+/// Writes a trace, where it is asked for.
+fn write_trace<W: Sink>(
+    alloc: Global,
+    entries: &[TraceEntry],
+    writer: &mut W,
+    options: Options,
+) -> Result<(), Fault>
+    ensures ok { OnOk result (Appends (W.written writer.old) (W.written writer.new) (asked_trace options entries.now)) }
+    ensures err { OnErr result (AppendsFront (W.written writer.old) (W.written writer.new) (asked_trace options entries.now)) }
+    ensures faults { IfErr result IsOutputFault }
+    ensures count { CountsFailure (W.failures writer.old) (W.failures writer.new) (is_write_failed result) }
+{
+    if !options.trace {
+        return Ok(());
+    }
+    write_entries(alloc, entries, writer)
+}
+
+/// Writes the lines of the entries of a trace.
+fn write_entries<W: Sink>(
+    alloc: Global,
+    entries: &[TraceEntry],
+    writer: &mut W,
+) -> Result<(), Fault>
+    ensures ok { OnOk result (Appends (W.written writer.old) (W.written writer.new) (trace_text entries.now)) }
+    ensures err { OnErr result (AppendsFront (W.written writer.old) (W.written writer.new) (trace_text entries.now)) }
+    ensures faults { IfErr result IsOutputFault }
+    ensures count { CountsFailure (W.failures writer.old) (W.failures writer.new) (is_write_failed result) }
+{
+    'lines: for entry in entries {
+        let line = trace_line(alloc, entry)?;
+        write_bytes(writer, line.as_slice())?;
+    }
+    Ok(())
+}

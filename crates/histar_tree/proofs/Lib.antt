@@ -1,0 +1,4 @@
+pub mod Adding
+pub mod FlatTree
+pub mod OneTree
+pub mod TreeLaid

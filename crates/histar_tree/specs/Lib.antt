@@ -1,0 +1,4 @@
+pub mod Tree
+pub mod TreeLines
+pub mod FlatTree
+pub mod Laws

@@ -1,0 +1,73 @@
+-- The tree that the directory segments of a state list, from that of `/` on.
+use Rattle.std.specs.Prelude.{◌≡◌, ℕ, zero, suc, ◌-◌, List, [], ◌∷◌, ◌++◌, length, Option, Some, option_map, option_and_then, Result, Ok, Err}
+use Rattle.std.specs.FinMap as map
+use Rattle.histar_flat.specs.Words.{Name, Path, most_names}
+use Rattle.histar_flat.specs.Sessions.{Session}
+use Rattle.histar_object.specs.Objects.{bytes_in, label_there}
+use Rattle.histar_object.specs.State.{State}
+use Rattle.histar_layout.specs.Directory.{Entries, IsDirectory}
+use Rattle.histar_layout.specs.Listing.{is_directory, object_of}
+use Rattle.histar_layout.specs.declared.entry.Target.{Target}
+use Rattle.histar_layout.specs.declared.entry.Target.TheVariants.{File, Directory}
+use Rattle.histar_calls.specs.declared.places.Places.{Places}
+use Rattle.histar_calls.specs.declared.class.Class.{Class}
+use Rattle.histar_calls.specs.ClassOf.{class_of, stat_of}
+use Rattle.histar_tree.specs.declared.tree.TreeNode.{TreeNode}
+use Rattle.histar_tree.specs.declared.tree.TreeError.{TreeError}
+use Rattle.histar_tree.specs.declared.tree.TreeError.TheVariants.{NotATree, OutOfMemory}
+
+-- what stands at a path where its entry leads to an object of this class
+abbrev pub node_of : Path → Target → Class → TreeNode
+node_of q target class = record { path = q; stat = stat_of class (is_directory target); target = target }
+
+-- what stands at a path where its entry leads: the object there has a label, which is of a class
+abbrev pub node_at : Session → State → Path → Target → Option TreeNode
+node_at session s q target = option_map (node_of q target) (option_and_then (class_of session) (label_there (s.objects (object_of target))))
+
+-- a tree at a path: what it is by its path, and where its entry leads
+abbrev pub Listed : Type 1
+Listed = Path → Target → List TreeNode → Type 0
+
+-- the entries of a directory, one after another, are these trees
+abbrev pub AreListed : Listed → Path → List (Name × Target) → List TreeNode → Type 0
+AreListed is_tree d [] trees = trees ≡ []
+AreListed is_tree d (e ∷ entries) trees =
+    (first : List TreeNode) × (rest : List TreeNode) × is_tree (e.0 ∷ d) e.1 first × AreListed is_tree d entries rest × (trees ≡ first ++ rest)
+
+-- below a file is nothing, and below a directory is what its directory segment lists
+abbrev pub IsBelow : Listed → State → Path → Target → List TreeNode → Type 0
+IsBelow is_tree s q (File file) trees = trees ≡ []
+IsBelow is_tree s q (Directory container listing) trees = (dir : Entries) × IsDirectory (bytes_in (s.objects listing)) dir × AreListed is_tree q (map.entries dir) trees
+
+-- The tree at a path, down to so many levels: what stands there, and then what stands below it.
+abbrev pub IsTreeAt : ℕ → Session → State → Listed
+IsTreeAt zero session s q target tree = ⊥
+IsTreeAt (suc levels) session s q target tree =
+    (node : TreeNode) × (below : List TreeNode) × (node_at session s q target ≡ Some node)
+    × IsBelow (IsTreeAt levels session s) s q target below × (tree ≡ node ∷ below)
+
+-- how many levels of a tree stand at a path and below it, where no path has more names than can be named
+abbrev pub levels_at : Path → ℕ
+levels_at q = suc (most_names - length q)
+
+-- the tree of a state, which is the tree at `/`
+unfoldable pub IsTreeOf : Session → State → Places → List TreeNode → Type 0
+IsTreeOf session s places tree = IsTreeAt (levels_at []) session s [] (Directory places.slash.container places.slash.listing) tree
+
+-- a state has no tree
+abbrev pub HasNoTree : Session → State → Places → Type 0
+HasNoTree session s places = (tree : List TreeNode) → IsTreeOf session s places tree → ⊥
+
+-- these trees were added, or there are none such
+abbrev pub Adds : (List TreeNode → Type 0) → List TreeNode → List TreeNode → Result (Unit {0}) TreeError → Type 0
+Adds are_trees old new (Ok done) = (trees : List TreeNode) × are_trees trees × (new ≡ old ++ trees)
+Adds are_trees old new (Err NotATree) = (trees : List TreeNode) → are_trees trees → ⊥
+Adds are_trees old new (Err OutOfMemory) = Unit {0}
+
+-- the tree at a path was added
+abbrev pub AddsTree : Session → State → Path → Target → List TreeNode → List TreeNode → Result (Unit {0}) TreeError → Type 0
+AddsTree session s q target = Adds (IsTreeAt (levels_at q) session s q target)
+
+-- what stands below a directory was added
+abbrev pub AddsBelow : Session → State → Path → ℕ → List TreeNode → List TreeNode → Result (Unit {0}) TreeError → Type 0
+AddsBelow session s d listing = Adds (λ trees. (dir : Entries) × IsDirectory (bytes_in (s.objects listing)) dir × AreListed (IsTreeAt (most_names - length d) session s) d (map.entries dir) trees)

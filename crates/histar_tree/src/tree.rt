@@ -1,0 +1,157 @@
+//! Reading the tree.
+ghost use Rattle.std.specs.Prelude.{◌≡◌, ◌≤◌, length, IfOk, MatchOption, ok_or};
+ghost use Rattle.histar_flat.specs.Words.{most_names};
+ghost use Rattle.histar_syscall.specs.KernelModel.{state};
+ghost use Rattle.histar_tree.specs.declared.tree.TreeError.TheVariants.{NotATree};
+ghost use Rattle.histar_tree.specs.TreeLines.{bytes_at};
+ghost use Rattle.histar_tree.specs.Tree.{AddsBelow, AddsTree, HasNoTree, IsTreeOf, node_at};
+
+use histar_calls::{Places, class_of};
+use histar_flat::{Path, Session, Stat};
+use histar_label::LabelStore;
+use histar_layout::{Target, read_dir};
+use histar_object::ObjId;
+use histar_syscall::Kernel;
+use std::alloc::{AllocError, AllocFailed, Global};
+
+/// The most names of a path.
+const MOST_NAMES: usize = 8;
+
+/// A file or a directory of a tree.
+#[derive(Clone, Copy)]
+pub struct TreeNode {
+    pub path: Path,
+    /// What is told of it: its kind, its owner and its mode.
+    pub stat: Stat,
+    /// Where its entry leads.
+    pub target: Target,
+}
+
+/// Why no tree is read.
+enum TreeError {
+    /// The objects are no tree: bytes are no directory, a label is of no class, or a path is too long.
+    NotATree,
+    OutOfMemory,
+}
+
+impl From<AllocError> for TreeError {
+    ghost use Rattle.std.specs.Prelude.{◌≡◌};
+    ghost use Rattle.histar_tree.specs.declared.tree.TreeError.TheVariants.{OutOfMemory};
+
+    ghost from_gives = { λ _ e. e ≡ OutOfMemory };
+
+    fn from(_error: AllocError) -> Self {
+        TreeError::OutOfMemory
+    }
+}
+
+impl<T: Drop> From<AllocFailed<T>> for TreeError {
+    ghost use Rattle.std.specs.Prelude.{◌≡◌};
+    ghost use Rattle.histar_tree.specs.declared.tree.TreeError.TheVariants.{OutOfMemory};
+
+    ghost from_gives = { λ _ e. e ≡ OutOfMemory };
+
+    fn from(_failed: AllocFailed<T>) -> Self {
+        TreeError::OutOfMemory
+    }
+}
+
+/// The files and directories of a kernel, by rising paths: those that the directory segments list from
+/// that of `/` on. It is read out of the kernel's table, with no raw call. None where the segments don't
+/// list a tree of files and directories whose labels are of classes, at paths that can be named.
+pub fn tree_of<S: LabelStore + Drop>(
+    alloc: Global,
+    kernel: &Kernel<S>,
+    places: &Places,
+    session: &Session,
+) -> Result<Option<Vec<TreeNode>>, AllocError>
+    ensures { IfOk result (λ found. MatchOption found (HasNoTree session.now (state kernel.now) places.now) (λ tree. IsTreeOf session.now (state kernel.now) places.now tree.items)) }
+{
+    let mut tree = Vec::new(alloc);
+    let slash = Target::Directory(places.slash.container, places.slash.listing);
+    match push_tree(alloc, kernel, session, &Path::root(), slash, &mut tree) {
+        Ok(()) => Ok(Some(tree)),
+        Err(TreeError::NotATree) => Ok(None),
+        Err(TreeError::OutOfMemory) => Err(AllocError),
+    }
+}
+
+/// The bytes of a file of the tree, lent by the kernel's table. Of a directory there are none.
+pub fn bytes_of<'a, S: LabelStore + Drop>(kernel: &'a Kernel<S>, target: Target) -> &'a [u8]
+    ensures { result.now ≡ bytes_at (state kernel.now) target }
+{
+    match &target {
+        Target::File(file) => kernel.bytes(*file),
+        Target::Directory(_, _) => &[],
+    }
+}
+
+/// Adds what stands at a path, and then what stands below it.
+#[cycle(tree)]
+fn push_tree<S: LabelStore + Drop>(
+    alloc: Global,
+    kernel: &Kernel<S>,
+    session: &Session,
+    path: &Path,
+    target: Target,
+    tree: &mut Vec<TreeNode>,
+) -> Result<(), TreeError>
+    requires { length path.now ≤ most_names }
+    ensures { AddsTree session.now (state kernel.now) path.now target tree.old.items tree.new.items result }
+{
+    let node = node_at(kernel, session, path, target)?;
+    tree.push(node)?;
+    match &target {
+        Target::File(_) => Ok(()),
+        Target::Directory(_, listing) => push_below(alloc, kernel, session, path, *listing, tree),
+    }
+}
+
+/// Adds what stands below a directory, of which this is the directory segment.
+#[cycle(tree)]
+fn push_below<S: LabelStore + Drop>(
+    alloc: Global,
+    kernel: &Kernel<S>,
+    session: &Session,
+    path: &Path,
+    listing: ObjId,
+    tree: &mut Vec<TreeNode>,
+) -> Result<(), TreeError>
+    requires { length path.now ≤ most_names }
+    ensures { AddsBelow session.now (state kernel.now) path.now listing tree.old.items tree.new.items result }
+{
+    let Some(directory) = read_dir(alloc, kernel.bytes(listing))? else {
+        return Err(TreeError::NotATree);
+    };
+    let entries = directory.into_entries();
+    'entries: for (name, target) in &entries {
+        if path.depth() == MOST_NAMES {
+            return Err(TreeError::NotATree);
+        }
+        let inner = path.entry(*name);
+        push_tree(alloc, kernel, session, &inner, *target, tree)?;
+    }
+    Ok(())
+}
+
+/// What stands at a path where its entry leads: its object has a label, which is of a class.
+fn node_at<S: LabelStore + Drop>(
+    kernel: &Kernel<S>,
+    session: &Session,
+    path: &Path,
+    target: Target,
+) -> Result<TreeNode, TreeError>
+    ensures { result ≡ ok_or (node_at session.now (state kernel.now) path.now target) NotATree }
+{
+    let Some(label) = kernel.label(target.object()) else {
+        return Err(TreeError::NotATree);
+    };
+    let Some(class) = class_of(label, session) else {
+        return Err(TreeError::NotATree);
+    };
+    Ok(TreeNode {
+        path: *path,
+        stat: class.stat(target.is_directory()),
+        target,
+    })
+}
