@@ -75,8 +75,8 @@ impl InternStore {
         })
     }
 
-    // The answer of a comparison, which is remembered where it was made or had been remembered. Each
-    // label is below itself, however its star is read.
+    // The answer of a comparison, as it was remembered, or made now and remembered. A label is
+    // below itself, however star is read.
     fn answer(&mut self, comparison: Comparison) -> bool
         requires lower_stands { comparison.lower < length self.old }
         requires upper_stands { comparison.upper < length self.old }
@@ -154,7 +154,8 @@ fn compare(labels: &IndexSet<Label>, comparison: Comparison) -> bool
 // The answer that was remembered for a comparison.
 fn recall(answers: &mut LruCache<Comparison, bool>, comparison: Comparison) -> Option<bool>
     ensures found { IfSome result (λ answer. Contains answers.old.entries (comparison, answer)) }
-    ensures kept { (e : Comparison × Bool) → Contains answers.new.entries e → Contains answers.old.entries e }
+    ensures kept { (e : Comparison × Bool) → Contains answers.new.entries e
+        → Contains answers.old.entries e }
 {
     answers.get(&comparison).copied()
 }
