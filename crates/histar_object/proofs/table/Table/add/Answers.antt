@@ -1,4 +1,4 @@
-use Rattle.std.proofs.Common.{◌≡◌, None, Some, sym, ap, ◌∙◌}
+use Rattle.std.proofs.Common.{◌≡◌, Some, sym, ap, ◌∙◌}
 use Rattle.slab.specs.Slab.{get}
 use Rattle.histar_object.proofs.Placing.{no_slot, added, IsPlaced-changed, objects-changed}
 use Rattle.histar_object.proofs.table.Table.add.Goals as goal
