@@ -1,5 +1,5 @@
 -- A store that interns labels has one Id for each, and right answers stay right when a label is added.
-use Rattle.std.proofs.Common.{◌≡◌, ℕ, zero, suc, ◌+◌, ◌<◌, Bool, true, false, List, [], ◌∷◌, ◌++◌, length, Option, Some, unwrap_or, if◌then◌else◌, ◌||◌, refl, sym, ap, ◌∙◌, arith, length-append}
+use Rattle.std.proofs.Common.{◌≡◌, ℕ, zero, suc, ◌+◌, ◌<◌, Bool, true, false, List, [], ◌∷◌, ◌++◌, length, Some, unwrap_or, if◌then◌else◌, ◌||◌, refl, sym, ap, ◌∙◌, arith, length-append}
 use mathlib.Core.Bool.{false≢true}
 use Rattle.std.specs.List.{slice_get, list_any, IsDistinct, AllByRecursion}
 use Rattle.std.proofs.lemmas.Option.{slice_get-get_or}

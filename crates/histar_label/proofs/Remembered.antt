@@ -1,5 +1,5 @@
 -- What a look-up and a put do to the answers that are remembered.
-use Rattle.std.proofs.Common.{◌≡◌, Bool, true, false, List, Contains, ◌⊎◌, inl, inr, Option, Some, None, Result, Ok, Err, OnOk, OnErr, IfSome, ◌&&◌, rules, sym, subst, arith}
+use Rattle.std.proofs.Common.{◌≡◌, Bool, true, List, Contains, ◌⊎◌, inl, inr, Option, Some, None, Result, Ok, Err, OnOk, OnErr, IfSome, ◌&&◌, rules, sym, subst, arith}
 use Rattle.std.specs.Prelude.{◌==◌}
 use denote.Enum.Bare.{sameb, same_true}
 use Rattle.std.proofs.lemmas.Bool.Decides.{nat_tests}

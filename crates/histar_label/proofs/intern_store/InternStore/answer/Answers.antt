@@ -2,7 +2,6 @@ use Rattle.std.proofs.Common.{◌≡◌, rules, inl, inr, sym, arith}
 use Rattle.std.proofs.lemmas.Bool.Decides.{nat_tests}
 use Rattle.std.specs.List.{slice_get}
 use Rattle.histar_label.specs.Store.{label_at}
-use Rattle.histar_label.specs.InternStore.{answer_of}
 use Rattle.histar_label.proofs.Interned.{is_within-refl}
 use Rattle.histar_label.proofs.intern_store.InternStore.answer.Goals as goal
 
