@@ -1,0 +1,245 @@
+-- What is found in a table whose objects stand in slots, and how it changes with one number.
+use Rattle.std.proofs.Common.{◌≡◌, ◌≢◌, ℕ, true, false, cond, List, [], ◌∷◌, Option, None, Some, IsSome, IsNone, ◌↔◌, inl, inr, if◌then◌else◌, refl, sym, ap, subst, ◌∙◌}
+use Rattle.std.specs.Prelude.{◌==◌, nat_eq, is_some}
+use mathlib.Core.Bool.{false≢true}
+use Rattle.std.proofs.lemmas.Bool.Decides.{eqb_tells}
+use Rattle.std.specs.Ordering.{nat_cmp}
+use Rattle.std.specs.Cmp.{unsigned_tied, nat_eq_equiv}
+use Rattle.std.specs.List.{IsDistinct, AllByRecursion}
+use Rattle.std.specs.Map.{keys_of, lookup}
+use Rattle.std.specs.BTreeMap.{is_at}
+use Rattle.histar_object.specs.Slots.{place, placed, IsPlaced}
+
+-- the slot that a number has
+abbrev pub slot_at : List (ℕ × ℕ) → ℕ → Option ℕ
+slot_at slots q = lookup (nat_eq q) slots
+
+-- the object that a number has
+abbrev pub object_at : {X : Type 0} → List (ℕ × X) → ℕ → Option X
+object_at es q = lookup (is_at (nat_cmp q)) es
+
+-- each slot that is told has an object
+abbrev Stand : {X : Type 0} → (ℕ → Option X) → List (ℕ × ℕ) → Type 0
+Stand at slots = (q k : ℕ) → slot_at slots q ≡ Some k → IsSome (at k)
+
+-- none of these numbers is n
+abbrev IsApart : ℕ → List (ℕ × ℕ) → Type 0
+IsApart n slots = AllByRecursion (λ m. nat_eq n m ≡ false) (keys_of slots)
+
+-- the number n has the slot w, and every other number the slot that it had
+abbrev HasSlot : List (ℕ × ℕ) → List (ℕ × ℕ) → ℕ → Option ℕ → Type 0
+HasSlot es fs n w = (q : ℕ) → slot_at fs q ≡ cond (nat_eq n q) w (slot_at es q)
+
+-- all slots but s have the objects that they had
+abbrev KeepsOthers : {X : Type 0} → (ℕ → Option X) → (ℕ → Option X) → ℕ → Type 0
+KeepsOthers at new_at s = (k : ℕ) → k ≢ s → new_at k ≡ at k
+
+-- nothing is not something
+none_or_some : {A : Type 0} (k : A) → None ≡ Some k → ⊥
+none_or_some k h = cc
+
+-- one number is told once
+one_some : (j k : ℕ) → Some j ≡ Some k → j ≡ k
+one_some j k h = cc
+
+-- a number that is before the others stands at no later place
+none_behind : (n : ℕ) (slots : List (ℕ × ℕ)) → IsApart n slots → slot_at slots n ≡ None
+none_behind n [] apart = refl
+none_behind n (e ∷ slots) apart = ap (λ b. cond b (Some e.1) (slot_at slots n)) apart.0 ∙ none_behind n slots apart.1
+
+module _ {X : Type 0} (at : ℕ → Option X) where
+  -- the object of a slot that may be told
+  abbrev pub found : Option ℕ → Option X
+  found None = None
+  found (Some k) = at k
+
+  -- one step of a search: the object before the others has the number, or the search goes on
+  found_step : (e : ℕ × ℕ) (o : Option X) (others : List (ℕ × X)) (q : ℕ) (later : Option ℕ) → at e.1 ≡ o → IsSome o → object_at others q ≡ found later → object_at (place e.0 o others) q ≡ found (cond (nat_eq q e.0) (Some e.1) later)
+  found_step e None others q later is some rest = absurd (false≢true some)
+  found_step e (Some o) others q later is some rest =
+      ap (λ b. cond b (Some o) (object_at others q)) (unsigned_tied q e.0)
+      ∙ elim (nat_eq q e.0) as (λ b. cond b (Some o) (object_at others q) ≡ found (cond b (Some e.1) later)) [
+        | true ↦ sym is
+        | false ↦ rest
+      ]
+
+  -- the slots behind the first one have objects too
+  stands_behind : (e : ℕ × ℕ) (slots : List (ℕ × ℕ)) → IsApart e.0 slots → Stand at (e ∷ slots) → Stand at slots
+  stands_behind e slots apart stands q k is = elim (eqb_tells q e.0) [
+    | inl same ↦ absurd (none_or_some k (sym (none_behind e.0 slots apart) ∙ ap (λ n. slot_at slots n) (sym same.1) ∙ is))
+    | inr other ↦ stands q k (ap (λ b. cond b (Some e.1) (slot_at slots q)) other.0 ∙ is)
+  ]
+
+  -- the object of a number is that of its slot
+  found_by_slot : (slots : List (ℕ × ℕ)) → IsDistinct nat_eq (keys_of slots) → Stand at slots → (q : ℕ) → object_at (placed at slots) q ≡ found (slot_at slots q)
+  unfolding IsDistinct
+  found_by_slot [] once stands q = refl
+  found_by_slot (e ∷ slots) once stands q =
+      let here : IsSome (at e.1) = stands e.0 e.1 (ap (λ b. cond b (Some e.1) (slot_at slots e.0)) (nat_eq_equiv.refl e.0)) in
+      found_step e (at e.1) (placed at slots) q (slot_at slots q) refl here (found_by_slot slots once.1 (stands_behind e slots once.0 stands) q)
+
+  -- so it is in a table
+  pub lookup-placed : (slots : List (ℕ × ℕ)) → IsPlaced at slots → (q : ℕ) → object_at (placed at slots) q ≡ found (slot_at slots q)
+  lookup-placed slots is q = found_by_slot slots is.once is.stands q
+
+  -- where the number has a slot, and that slot is told
+  pub found_at : (slots : List (ℕ × ℕ)) → IsPlaced at slots → (q k : ℕ) → Some k ≡ slot_at slots q → at k ≡ object_at (placed at slots) q
+  found_at slots is q k here = ap found here ∙ sym (lookup-placed slots is q)
+
+  -- where the number has no slot
+  pub none_at : (slots : List (ℕ × ℕ)) → IsPlaced at slots → (q : ℕ) → slot_at slots q ≡ None → object_at (placed at slots) q ≡ None
+  none_at slots is q none = lookup-placed slots is q ∙ ap found none
+
+  -- a slot that is told has an object
+  slot_told : (o : Option ℕ) → ((k : ℕ) → o ≡ Some k → IsSome (at k)) → found o ≡ None → o ≡ None
+  slot_told None stands none = refl
+  slot_told (Some k) stands none = absurd (false≢true (ap is_some (sym none) ∙ stands k refl))
+
+  -- where there is no object, the number has no slot
+  pub no_slot : (slots : List (ℕ × ℕ)) → IsPlaced at slots → (q : ℕ) → object_at (placed at slots) q ≡ None → slot_at slots q ≡ None
+  no_slot slots is q none = slot_told (slot_at slots q) (is.stands q) (sym (lookup-placed slots is q) ∙ none)
+
+-- One number changes: n, whose slot is s where it has or had one. It has the slot w then, and s has the object x.
+module _ {X : Type 0} (at new_at : ℕ → Option X) (es fs : List (ℕ × ℕ)) (n s : ℕ) (w : Option ℕ) (x : Option X) where
+  -- what a change of one number does to the slots of numbers and to the objects of slots
+  pub record ChangesOne : Type 0 where
+    pub updated : HasSlot es fs n w
+    pub changed : new_at s ≡ x
+    pub others : KeepsOthers at new_at s
+    pub told : found new_at w ≡ x
+    pub only : (k : ℕ) → w ≡ Some k → (k ≡ s) × IsSome x
+    pub named : IsSome x → w ≡ Some s
+    pub own : (k : ℕ) → slot_at es n ≡ Some k → k ≡ s
+    pub apart : (q k : ℕ) → q ≢ n → slot_at es q ≡ Some k → k ≢ s
+
+  module _ (one : ChangesOne) (was : IsPlaced at es) where
+    -- the number itself has the new slot
+    at_own : (q : ℕ) → q ≡ n → slot_at fs q ≡ w
+    at_own q is = ap (λ m. slot_at fs m) is ∙ one.updated n ∙ ap (λ b. cond b w (slot_at es n)) (nat_eq_equiv.refl n)
+
+    -- every other number keeps its slot
+    at_other : (q : ℕ) → q ≢ n → slot_at fs q ≡ slot_at es q
+    at_other q differs = elim (eqb_tells n q) [
+      | inl same ↦ absurd (differs (sym same.1))
+      | inr other ↦ one.updated q ∙ ap (λ b. cond b w (slot_at es q)) other.0
+    ]
+
+    -- the slots of other numbers keep their objects
+    found_same : (o : Option ℕ) → ((k : ℕ) → o ≡ Some k → k ≢ s) → found new_at o ≡ found at o
+    found_same None apart = refl
+    found_same (Some k) apart = one.others k (apart k refl)
+
+    -- the number has the object x, and every other number the object that it had
+    found_after : (q : ℕ) → found new_at (slot_at fs q) ≡ (if q == n then x else found at (slot_at es q))
+    found_after q = elim (eqb_tells q n) [
+      | inl same ↦ ap (found new_at) (at_own q same.1) ∙ one.told ∙ sym (ap (λ b. if b then x else found at (slot_at es q)) same.0)
+      | inr other ↦ ap (found new_at) (at_other q other.1) ∙ found_same (slot_at es q) (λ k. one.apart q k other.1) ∙ sym (ap (λ b. if b then x else found at (slot_at es q)) other.0)
+    ]
+
+    -- each number's slot has an object
+    stands_after : (q k : ℕ) → slot_at fs q ≡ Some k → IsSome (new_at k)
+    stands_after q k is = elim (eqb_tells q n) [
+      | inl same ↦ (let here = one.only k (sym (at_own q same.1) ∙ is) in subst IsSome (sym one.changed ∙ ap new_at (sym here.0)) here.1)
+      | inr other ↦ (let before = sym (at_other q other.1) ∙ is in subst IsSome (sym (one.others k (one.apart q k other.1 before))) (was.stands q k before))
+    ]
+
+    -- no two numbers have one slot
+    apart_after : (p q k : ℕ) → slot_at fs p ≡ Some k → slot_at fs q ≡ Some k → p ≡ q
+    apart_after p q k at_p at_q = elim (eqb_tells p n) [
+      | inl first ↦ elim (eqb_tells q n) [
+        | inl second ↦ first.1 ∙ sym second.1
+        | inr second ↦ absurd (one.apart q k second.1 (sym (at_other q second.1) ∙ at_q) (one.only k (sym (at_own p first.1) ∙ at_p)).0)
+      ]
+      | inr first ↦ elim (eqb_tells q n) [
+        | inl second ↦ absurd (one.apart p k first.1 (sym (at_other p first.1) ∙ at_p) (one.only k (sym (at_own q second.1) ∙ at_q)).0)
+        | inr second ↦ was.apart p q k (sym (at_other p first.1) ∙ at_p) (sym (at_other q second.1) ∙ at_q)
+      ]
+    ]
+
+    -- no object is without a number
+    named_after : (k : ℕ) → IsSome (new_at k) → (q : ℕ) × (slot_at fs q ≡ Some k)
+    named_after k some = elim (eqb_tells k s) [
+      | inl here ↦ (n, at_own n refl ∙ one.named (subst IsSome (ap new_at here.1 ∙ one.changed) some) ∙ ap Some (sym here.1))
+      | inr there ↦ (let before = was.named k (subst IsSome (one.others k there.1) some) in
+          (before.0, at_other before.0 (λ same. there.1 (one.own k (ap (λ m. slot_at es m) (sym same) ∙ before.1))) ∙ before.1))
+    ]
+
+    -- the objects stand in slots still
+    pub IsPlaced-changed : IsDistinct nat_eq (keys_of fs) → IsPlaced new_at fs
+    IsPlaced-changed once = record { once = once; stands = stands_after; apart = apart_after; named = named_after }
+
+    -- the objects by number, with the object x at n
+    pub objects-changed : IsDistinct nat_eq (keys_of fs) → ◌≡◌ {A = ℕ → Option X} (λ q. object_at (placed new_at fs) q) (λ q. if q == n then x else object_at (placed at es) q)
+    objects-changed once i q = (lookup-placed new_at fs (IsPlaced-changed once) q ∙ found_after q ∙ ap (λ o. if q == n then x else o) (sym (lookup-placed at es was q))) i
+
+module _ {X : Type 0} (at new_at : ℕ → Option X) (es : List (ℕ × ℕ)) (was : IsPlaced at es) (n s : ℕ) where
+  -- the slot of one number is the slot of no other
+  slot_apart : slot_at es n ≡ Some s → (q k : ℕ) → q ≢ n → slot_at es q ≡ Some k → k ≢ s
+  slot_apart here q k differs is same = differs (was.apart q n k is (here ∙ ap Some (sym same)))
+
+  -- the number has no slot but the one
+  slot_own : slot_at es n ≡ Some s → (k : ℕ) → slot_at es n ≡ Some k → k ≡ s
+  slot_own here k is = one_some k s (sym is ∙ here)
+
+  -- the number has the slot that it has
+  slot_stays : slot_at es n ≡ Some s → HasSlot es es n (Some s)
+  slot_stays here q = elim (eqb_tells n q) [
+    | inl same ↦ ap (λ m. slot_at es m) (sym same.1) ∙ here ∙ sym (ap (λ b. cond b (Some s) (slot_at es q)) same.0)
+    | inr other ↦ sym (ap (λ b. cond b (Some s) (slot_at es q)) other.0)
+  ]
+
+  -- an object is changed in its slot
+  pub written : (o : X) → slot_at es n ≡ Some s → new_at s ≡ Some o → KeepsOthers at new_at s → ChangesOne at new_at es es n s (Some s) (Some o)
+  written o here changed others = record {
+    updated = slot_stays here;
+    changed = changed;
+    others = others;
+    told = changed;
+    only = λ k is. (sym (one_some s k is), refl);
+    named = λ some. refl;
+    own = slot_own here;
+    apart = slot_apart here;
+  }
+
+  -- an object is added in a slot that has none
+  pub added : (fs : List (ℕ × ℕ)) (o : X) → slot_at es n ≡ None → HasSlot es fs n (Some s) → at s ≡ None → new_at s ≡ Some o → KeepsOthers at new_at s → ChangesOne at new_at es fs n s (Some s) (Some o)
+  added fs o none updated vacant changed others = record {
+    updated = updated;
+    changed = changed;
+    others = others;
+    told = changed;
+    only = λ k is. (sym (one_some s k is), refl);
+    named = λ some. refl;
+    own = λ k is. absurd (none_or_some k (sym none ∙ is));
+    apart = λ q k differs is same. false≢true (sym (ap is_some vacant) ∙ ap (λ j. is_some (at j)) (sym same) ∙ was.stands q k is);
+  }
+
+  -- an object is taken out of its slot
+  pub removed : (fs : List (ℕ × ℕ)) → slot_at es n ≡ Some s → HasSlot es fs n None → new_at s ≡ None → KeepsOthers at new_at s → ChangesOne at new_at es fs n s None None
+  removed fs here updated changed others = record {
+    updated = updated;
+    changed = changed;
+    others = others;
+    told = refl;
+    only = λ k is. absurd (none_or_some k is);
+    named = λ some. absurd (false≢true some);
+    own = slot_own here;
+    apart = slot_apart here;
+  }
+
+module _ {X : Type 0} (at : ℕ → Option X) (slots : List (ℕ × ℕ)) (is : IsPlaced at slots) where
+  -- a number has no slot exactly where it has no object
+  pub slot_none : (q : ℕ) (r : Option ℕ) → r ≡ slot_at slots q → IsNone r ↔ (object_at (placed at slots) q ≡ None)
+  slot_none q None tells = (λ none. none_at at slots is q (sym tells), λ none. refl)
+  slot_none q (Some k) tells = (λ none. absurd (false≢true (sym none)), λ none. absurd (none_or_some k (sym (no_slot at slots is q none) ∙ sym tells)))
+
+  -- two numbers have different slots
+  pub slots_apart : (p q : ℕ) (r o : Option ℕ) → r ≡ slot_at slots p → o ≡ slot_at slots q → p ≢ q → (k : ℕ) → r ≡ Some k → o ≢ Some k
+  slots_apart p q r o tells_p tells_q differs k first second = differs (is.apart p q k (sym tells_p ∙ first) (sym tells_q ∙ second))
+
+  -- where there is no object, nothing is taken out
+  pub none_without : (n : ℕ) → slot_at slots n ≡ None → (q : ℕ) → object_at (placed at slots) q ≡ (if q == n then None else object_at (placed at slots) q)
+  none_without n none q = elim (eqb_tells q n) [
+    | inl same ↦ ap (λ m. object_at (placed at slots) m) same.1 ∙ none_at at slots is n none ∙ sym (ap (λ b. if b then None else object_at (placed at slots) q) same.0)
+    | inr other ↦ sym (ap (λ b. if b then None else object_at (placed at slots) q) other.0)
+  ]

@@ -1,0 +1,55 @@
+use Rattle.std.proofs.Common.{◌≡◌, None, Some, refl, sym, ap, ◌∙◌}
+use Rattle.std.specs.Prelude.{Option, OnSome}
+use Rattle.std.specs.Option.{option_copied}
+use Rattle.slab.specs.Slab.{get, with_value}
+use Rattle.slab.proofs.SlabLemmas.{Updates-with_value}
+use Rattle.histar_object.proofs.Placing.{slot_at, found_at, none_at, written, IsPlaced-changed, objects-changed}
+use Rattle.histar_object.proofs.table.Table.get_mut.Goals as goal
+
+-- what holds, holds where something is there
+on_some : {A P : Type 0} (o : Option A) → P → OnSome o P
+on_some None holds = tt
+on_some (Some x) holds = holds
+
+pub returns-in_err-slot : goal.returns-in_err-slot
+returns-in_err-slot g c =
+    let slots = c.self.inside.slots.entries in
+    let none : slot_at slots c.args.id ≡ None = sym c.get.ensures.value ∙ ap option_copied c.in_err-slot.was in
+    rw c.from_residual.ensures (
+      (refl, λ w. tt, c.self.view_is),
+      record { writes_back = tt; value = rw (← c.self.view_is) (sym (none_at (get c.self.inside.objects) slots c.self.invariant c.args.id none)) },
+    )
+
+pub invariant_of-self-lent : goal.invariant_of-self-lent
+invariant_of-self-lent g c lent =
+    let old = get c.self.inside.objects in
+    let slots = c.self.inside.slots.entries in
+    let slot = c.in_ok-slot.field-0.now in
+    let here : slot_at slots c.args.id ≡ Some slot = sym c.get.ensures.value ∙ ap option_copied c.in_ok-slot.was in (
+      λ w. (let updates = Updates-with_value c.self.inside.objects slot w (c.self.invariant.stands c.args.id slot here) in
+          let new = get (with_value c.self.inside.objects slot w) in
+          let one = written old new slots c.self.invariant c.args.id slot w here updates.changed updates.others in
+          IsPlaced-changed old new slots slots c.args.id slot (Some slot) (Some w) one c.self.invariant c.self.invariant.once),
+      c.self.invariant,
+    )
+
+pub returns : goal.returns
+returns g c =
+    let old = get c.self.inside.objects in
+    let slots = c.self.inside.slots.entries in
+    let slot = c.in_ok-slot.field-0.now in
+    let here : slot_at slots c.args.id ≡ Some slot = sym c.get.ensures.value ∙ ap option_copied c.in_ok-slot.was in (
+      (
+        refl,
+        λ w. (let updates = Updates-with_value c.self.inside.objects slot w (c.self.invariant.stands c.args.id slot here) in
+            let new = get (with_value c.self.inside.objects slot w) in
+            let one = written old new slots c.self.invariant c.args.id slot w here updates.changed updates.others in
+            let objects = objects-changed old new slots slots c.args.id slot (Some slot) (Some w) one c.self.invariant c.self.invariant.once in
+            on_some c.get_mut.result (rw (← c.self.view_is) objects)),
+        c.self.view_is,
+      ),
+      record {
+        writes_back = tt;
+        value = c.get_mut.ensures.value ∙ rw (← c.self.view_is) (found_at old slots c.self.invariant c.args.id slot (sym here));
+      },
+    )
