@@ -1,0 +1,16 @@
+pub mod Relation
+pub mod Tests
+pub mod Outside
+pub mod Walks
+pub mod Outsiders
+pub mod Effects
+pub mod Renames
+pub mod Steps
+pub mod Processes
+pub mod Folds
+pub mod Kept
+pub mod Inside
+pub mod Both
+pub mod Anyone
+pub mod Told
+pub mod Isolated
