@@ -14,3 +14,4 @@ pub mod Both
 pub mod Anyone
 pub mod Told
 pub mod Isolated
+pub mod WorkedVerdicts
