@@ -14,4 +14,6 @@ pub mod Both
 pub mod Anyone
 pub mod Told
 pub mod Isolated
+pub mod Following
+pub mod Followed
 pub mod WorkedVerdicts

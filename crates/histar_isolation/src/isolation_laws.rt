@@ -1,4 +1,5 @@
 //! What a job can't change outside itself. Each law is the contract of a function that does nothing.
+ghost use Rattle.histar_isolation.specs.Following.{FindsLeftOut};
 ghost use Rattle.histar_isolation.specs.Isolation.{IsolatesJobs};
 
 /// Where a `wrap` started a job, and who called it has no later line that is a `rmdir` or a `wrap`, a
@@ -6,4 +7,11 @@ ghost use Rattle.histar_isolation.specs.Isolation.{IsolatesJobs};
 /// outside the job.
 pub fn a_job_changes_nothing_outside()
     ensures { IsolatesJobs }
+{}
+
+/// What lies below a directory of a job is what lies below the one directory that is followed by calls
+/// and replies: from the `wrap` that started the job on, through renames of it and of the directories
+/// above it, until it is taken away.
+pub fn the_directory_of_a_job_is_followed()
+    ensures { FindsLeftOut }
 {}
