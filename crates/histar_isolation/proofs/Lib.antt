@@ -16,4 +16,6 @@ pub mod Told
 pub mod Isolated
 pub mod Following
 pub mod Followed
+pub mod Unions
+pub mod Trees
 pub mod WorkedVerdicts

@@ -1,3 +1,4 @@
 pub mod Comparison
 pub mod Isolation
 pub mod Following
+pub mod Trees

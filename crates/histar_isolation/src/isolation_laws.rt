@@ -1,6 +1,7 @@
 //! What a job can't change outside itself. Each law is the contract of a function that does nothing.
 ghost use Rattle.histar_isolation.specs.Following.{FindsLeftOut};
 ghost use Rattle.histar_isolation.specs.Isolation.{IsolatesJobs};
+ghost use Rattle.histar_isolation.specs.Trees.{FindsFirstPath};
 
 /// Where a `wrap` started a job, and who called it has no later line that is a `rmdir` or a `wrap`, a
 /// script and the script without the job's lines tell outsiders the same, and leave the same tree
@@ -14,4 +15,10 @@ pub fn a_job_changes_nothing_outside()
 /// above it, until it is taken away.
 pub fn the_directory_of_a_job_is_followed()
     ensures { FindsLeftOut }
+{}
+
+/// The first path at which the trees of two runs differ is the first at which their lines differ, where
+/// the lines are gone through side by side and what lies below the followed directories is left out.
+pub fn trees_are_compared_by_their_lines()
+    ensures { FindsFirstPath }
 {}
