@@ -32,7 +32,8 @@ use Rattle.histar_isolation.proofs.Tests.{failed, guarded, is_same, left_holds, 
 use Rattle.histar_isolation.proofs.Walks.{entries_alike, into_alike}
 
 -- a refused call changes nothing on either side
-both_refused : (job : ProcName) (f g f' g' : Flat) (e e' : Option Errno) → SameOutside job f g → is_some e ≡ true → is_some e' ≡ true → SameOutside job (flat_or e f f') (flat_or e' g g')
+both_refused : (job : ProcName) (f g f' g' : Flat) (e e' : Option Errno) → SameOutside job f g → is_some e ≡ true → is_some e' ≡ true
+    → SameOutside job (flat_or e f f') (flat_or e' g g')
 both_refused job f g f' g' None e' r h h' = absurd (true≢false (sym h))
 both_refused job f g f' g' (Some x) None r h h' = absurd (true≢false (sym h'))
 both_refused job f g f' g' (Some x) (Some y) r h h' = r
@@ -45,7 +46,7 @@ still job f g (Some x) None r = r
 still job f g (Some x) (Some y) r = r
 
 module _ (m : ℕ) (w : ProcName) (session : Session) (f g : Flat) (r : SameOutside (m ∷ w) f g) (hf : IsStarted (m ∷ w) f) (hg : IsStarted (m ∷ w) g) (me : ProcName) (p : Process) (out : under_process (m ∷ w) me ≡ false) where
-  -- at a path that isn't hidden
+  -- at a path that doesn't lie in the job
   module _ (n : Name) (d : Path) (u : lies_in_job (m ∷ w) f.files (n ∷ d) ≡ false) where
     up : get f.files d ≡ get g.files d
     up = r.files.same d ((or_parts (is_dir_of (m ∷ w) (get f.files d)) (lies_in_job (m ∷ w) f.files d) u).1)
@@ -62,9 +63,12 @@ module _ (m : ℕ) (w : ProcName) (session : Session) (f g : Flat) (r : SameOuts
     no_entry_anyone : no_entry session f p (n ∷ d) ≡ no_entry session g p (n ∷ d)
     no_entry_anyone = guarded (into session f p d) (into session g p d) (unless (is_there f (n ∷ d)) ENOENT) (unless (is_there g (n ∷ d)) ENOENT) (into_alike (m ∷ w) session p f g r.files d u) (λ _ i. unless (is_some_and (r.files.same (n ∷ d) u i) (λ n. true)) ENOENT)
 
-  -- a call at one path: either it is hidden, or the call is refused alike
-  split : (call : UnixCall) (n : Name) (d : Path) → (lies_in_job (m ∷ w) f.files (n ∷ d) ≡ false → refused session f me p call ≡ refused session g me p call) → (lies_in_job (m ∷ w) f.files (n ∷ d) ≡ false → lies_in_job (m ∷ w) f.files (looked_at call) ≡ false)
-      → (refused session f me p call ≡ None → ChangesFilesBelow d f (changed session f me p call)) → (refused session g me p call ≡ None → ChangesFilesBelow d g (changed session g me p call))
+  -- a call at one path: either it lies in the job, or the call is refused alike
+  split : (call : UnixCall) (n : Name) (d : Path)
+      → (lies_in_job (m ∷ w) f.files (n ∷ d) ≡ false → refused session f me p call ≡ refused session g me p call)
+      → (lies_in_job (m ∷ w) f.files (n ∷ d) ≡ false → lies_in_job (m ∷ w) f.files (looked_at call) ≡ false)
+      → (refused session f me p call ≡ None → ChangesFilesBelow d f (changed session f me p call))
+      → (refused session g me p call ≡ None → ChangesFilesBelow d g (changed session g me p call))
       → SameOutside (m ∷ w) (flat_by session f me (Some p) call) (flat_by session g me (Some p) call)
   split call n d e l cf cg = elim (true_or_false (lies_in_job (m ∷ w) f.files (n ∷ d))) [
     | inl h ↦
@@ -76,7 +80,8 @@ module _ (m : ℕ) (w : ProcName) (session : Session) (f g : Flat) (r : SameOuts
   ]
 
   put : (a : Flat) (n : Name) (d : Path) (class : Class) (content : Content) → ChangesFilesBelow d a (with_node a (n ∷ d) class content)
-  put a n d class content = record { files = insert_below (m ∷ w) a.files n d (record { class = class; content = content }); processes = refl }
+  put a n d class content =
+      record { files = insert_below (m ∷ w) a.files n d (record { class = class; content = content }); processes = refl }
 
   -- a process outside the job has no child in the job but the job itself
   child_found : (q : ProcName) → is_child me q ≡ true → not_found f p q ≡ not_found g p q
@@ -87,18 +92,22 @@ module _ (m : ℕ) (w : ProcName) (session : Session) (f g : Flat) (r : SameOuts
         (is_same (m ∷ w) (n ∷ a) (left_holds (same (m ∷ w) (n ∷ a)) (under_process (m ∷ w) a) (ap (under_process (m ∷ w)) (sym (is_same me a c)) ∙ out) u)) (job_found_alike m w f g r hf p)
   ]
 
-  rename_changes : (n k : Name) (d : Path) (a : Flat) → IsStarted (m ∷ w) a → refused session a me p (Rename (n ∷ d) k) ≡ None → ChangesFilesBelow d a (changed session a me p (Rename (n ∷ d) k))
+  rename_changes : (n k : Name) (d : Path) (a : Flat) → IsStarted (m ∷ w) a → refused session a me p (Rename (n ∷ d) k) ≡ None
+      → ChangesFilesBelow d a (changed session a me p (Rename (n ∷ d) k))
   unfolding renamed
   rename_changes n k d a h v =
       let t = rename_tests session a me p n k d v in
       record { files = rename_below (m ∷ w) a.files n k d t.0 (nothing_below a h.tree (k ∷ d) t.1); processes = refl }
 
-  pub anyone : (call : UnixCall) → is_rmdir_or_wrap call ≡ false → SameOutside (m ∷ w) (flat_by session f me (Some p) call) (flat_by session g me (Some p) call)
+  pub anyone : (call : UnixCall) → is_rmdir_or_wrap call ≡ false
+      → SameOutside (m ∷ w) (flat_by session f me (Some p) call) (flat_by session g me (Some p) call)
   unfolding put
   anyone (Create [] mode) c = r
-  anyone (Create (n ∷ d) mode) c = split (Create (n ∷ d) mode) n d (λ u. ap (λ x. x orelse unless (is_some (class_made session p mode)) EPERM) (no_room_anyone n d u)) (λ u. refl) (λ v. put f n d _ _) (λ v. put g n d _ _)
+  anyone (Create (n ∷ d) mode) c =
+      split (Create (n ∷ d) mode) n d (λ u. ap (λ x. x orelse unless (is_some (class_made session p mode)) EPERM) (no_room_anyone n d u)) (λ u. refl) (λ v. put f n d _ _) (λ v. put g n d _ _)
   anyone (Mkdir [] mode) c = r
-  anyone (Mkdir (n ∷ d) mode) c = split (Mkdir (n ∷ d) mode) n d (λ u. ap (λ x. x orelse unless (is_some (class_made session p mode)) EPERM) (no_room_anyone n d u)) (λ u. refl) (λ v. put f n d _ _) (λ v. put g n d _ _)
+  anyone (Mkdir (n ∷ d) mode) c =
+      split (Mkdir (n ∷ d) mode) n d (λ u. ap (λ x. x orelse unless (is_some (class_made session p mode)) EPERM) (no_room_anyone n d u)) (λ u. refl) (λ v. put f n d _ _) (λ v. put g n d _ _)
   anyone (Read q) c = still (m ∷ w) f g (refused session f me p (Read q)) (refused session g me p (Read q)) r
   anyone (Write [] bytes) c = r
   anyone (Write (n ∷ d) bytes) c = split (Write (n ∷ d) bytes) n d

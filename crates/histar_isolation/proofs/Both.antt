@@ -35,7 +35,8 @@ looked_at (Stat q) = q
 looked_at _ = []
 
 -- the same process changes, or is new, on both sides
-pub both_process : (job : ProcName) (f g : Flat) → SameOutside job f g → (a : ProcName) (x : Process) → SameOutside job (with_process f a x) (with_process g a x)
+pub both_process : (job : ProcName) (f g : Flat) → SameOutside job f g → (a : ProcName) (x : Process)
+    → SameOutside job (with_process f a x) (with_process g a x)
 both_process job f g r a x = record {
   files = r.files;
   processes = λ q u i. cond (same a q) (Some x) (r.processes q u i);
@@ -49,12 +50,17 @@ both_process job f g r a x = record {
 module _ (m : ℕ) (w : ProcName) (session : Session) (f g : Flat) (r : SameOutside (m ∷ w) f g) (hf : IsStarted (m ∷ w) f) (hg : IsStarted (m ∷ w) g) (me : ProcName) (p : Process) where
   -- what is new, or written, on both sides
   room_free : (n : Name) (d : Path) → no_room session f p (n ∷ d) ≡ None → is_dir_of (m ∷ w) (get f.files (n ∷ d)) ≡ false
-  room_free n d v = ap (is_dir_of (m ∷ w)) (nothing_there (get f.files (n ∷ d)) ((three_pass (into session f p d) (not (is_there f (n ∷ d))) (nat_lt (length (entries_in f d)) most_entries) (writes session f p d) EEXIST ENOSPC EACCES v).1))
+  room_free n d v =
+      ap (is_dir_of (m ∷ w)) (nothing_there (get f.files (n ∷ d)) ((three_pass (into session f p d) (not (is_there f (n ∷ d))) (nat_lt (length (entries_in f d)) most_entries) (writes session f p d) EEXIST ENOSPC EACCES v).1))
 
-  put : (n : Name) (d : Path) (x : Node) → is_dir_of (m ∷ w) (get f.files (n ∷ d)) ≡ false → SameOutside (m ∷ w) (with_node f (n ∷ d) x.class x.content) (with_node g (n ∷ d) x.class x.content)
-  put n d x plain = record { files = insert_alike (m ∷ w) f.files g.files r.files (n ∷ d) x plain; processes = r.processes; chain = r.chain }
+  put : (n : Name) (d : Path) (x : Node) → is_dir_of (m ∷ w) (get f.files (n ∷ d)) ≡ false
+      → SameOutside (m ∷ w) (with_node f (n ∷ d) x.class x.content) (with_node g (n ∷ d) x.class x.content)
+  put n d x plain =
+      record { files = insert_alike (m ∷ w) f.files g.files r.files (n ∷ d) x plain; processes = r.processes; chain = r.chain }
 
-  overwrite : (n : Name) (d : Path) (bytes : Option Node → List ℕ) (fits : Bool) → (no_file session f p (n ∷ d) orelse unless (writes session f p (n ∷ d)) EACCES orelse unless fits EFBIG) ≡ None → lies_in_job (m ∷ w) f.files (n ∷ d) ≡ false
+  overwrite : (n : Name) (d : Path) (bytes : Option Node → List ℕ) (fits : Bool)
+      → (no_file session f p (n ∷ d) orelse unless (writes session f p (n ∷ d)) EACCES orelse unless fits EFBIG) ≡ None
+      → lies_in_job (m ∷ w) f.files (n ∷ d) ≡ false
       → SameOutside (m ∷ w) (with_node f (n ∷ d) (class_of (get f.files (n ∷ d))) (File (bytes (get f.files (n ∷ d))))) (with_node g (n ∷ d) (class_of (get g.files (n ∷ d))) (File (bytes (get g.files (n ∷ d)))))
   overwrite n d bytes fits v u =
       let file = (two_pass (into session f p d) (is_there f (n ∷ d)) (is_file_at f (n ∷ d)) ENOENT EISDIR ((two_pass (no_file session f p (n ∷ d)) (writes session f p (n ∷ d)) fits EACCES EFBIG v).0)).2 in
@@ -62,17 +68,22 @@ module _ (m : ℕ) (w : ProcName) (session : Session) (f g : Flat) (r : SameOuts
       (r.files.same (n ∷ d) u) (put n d (record { class = class_of (get f.files (n ∷ d)); content = File (bytes (get f.files (n ∷ d))) }) (file_is_no_dir (m ∷ w) (get f.files (n ∷ d)) file))
 
   -- calls that pass on both sides
-  changes_alike : (call : UnixCall) → refused session f me p call ≡ None → refused session g me p call ≡ None → lies_in_job (m ∷ w) f.files (looked_at call) ≡ false → SameOutside (m ∷ w) (changed session f me p call) (changed session g me p call)
+  changes_alike : (call : UnixCall) → refused session f me p call ≡ None → refused session g me p call ≡ None
+      → lies_in_job (m ∷ w) f.files (looked_at call) ≡ false
+      → SameOutside (m ∷ w) (changed session f me p call) (changed session g me p call)
   unfolding renamed room_free put overwrite
   changes_alike (Create [] mode) v v' u = absurd (not_passed _ refl v)
-  changes_alike (Create (n ∷ d) mode) v v' u = put n d (record { class = class_or_open (class_made session p mode); content = File [] }) (room_free n d (passes_first (no_room session f p (n ∷ d)) (unless (is_some (class_made session p mode)) EPERM) v))
+  changes_alike (Create (n ∷ d) mode) v v' u =
+      put n d (record { class = class_or_open (class_made session p mode); content = File [] }) (room_free n d (passes_first (no_room session f p (n ∷ d)) (unless (is_some (class_made session p mode)) EPERM) v))
   changes_alike (Mkdir [] mode) v v' u = absurd (not_passed _ refl v)
-  changes_alike (Mkdir (n ∷ d) mode) v v' u = put n d (record { class = class_or_open (class_made session p mode); content = Dir }) (room_free n d (passes_first (no_room session f p (n ∷ d)) (unless (is_some (class_made session p mode)) EPERM) v))
+  changes_alike (Mkdir (n ∷ d) mode) v v' u =
+      put n d (record { class = class_or_open (class_made session p mode); content = Dir }) (room_free n d (passes_first (no_room session f p (n ∷ d)) (unless (is_some (class_made session p mode)) EPERM) v))
   changes_alike (Read q) v v' u = r
   changes_alike (Write [] bytes) v v' u = absurd (not_passed _ refl v)
   changes_alike (Write (n ∷ d) bytes) v v' u = overwrite n d (λ o. bytes) (nat_le (length bytes) most_bytes) v u
   changes_alike (Append [] bytes) v v' u = absurd (not_passed _ refl v)
-  changes_alike (Append (n ∷ d) bytes) v v' u = overwrite n d (λ o. bytes_of o ++ bytes) (nat_le (length (bytes_at f (n ∷ d) ++ bytes)) most_bytes) v u
+  changes_alike (Append (n ∷ d) bytes) v v' u =
+      overwrite n d (λ o. bytes_of o ++ bytes) (nat_le (length (bytes_at f (n ∷ d) ++ bytes)) most_bytes) v u
   changes_alike (ListCall q) v v' u = r
   changes_alike (Stat q) v v' u = r
   changes_alike (Unlink q) v v' u = record { files = cut_alike (m ∷ w) f.files g.files r.files q; processes = r.processes; chain = r.chain }
@@ -106,5 +117,8 @@ module _ (m : ℕ) (w : ProcName) (session : Session) (f g : Flat) (r : SameOuts
       (next_child me p) (record { user = p.user; chain = inner_chain me p; held = []; exited = None; born = 0 })
 
   -- calls that are refused alike
-  pub both : (call : UnixCall) → refused session f me p call ≡ refused session g me p call → (refused session f me p call ≡ None → lies_in_job (m ∷ w) f.files (looked_at call) ≡ false) → SameOutside (m ∷ w) (flat_by session f me (Some p) call) (flat_by session g me (Some p) call)
-  both call e u = flat_alike (m ∷ w) f g (changed session f me p call) (changed session g me p call) (refused session f me p call) (refused session g me p call) r e (λ v. changes_alike call v (sym e ∙ v) (u v))
+  pub both : (call : UnixCall) → refused session f me p call ≡ refused session g me p call
+      → (refused session f me p call ≡ None → lies_in_job (m ∷ w) f.files (looked_at call) ≡ false)
+      → SameOutside (m ∷ w) (flat_by session f me (Some p) call) (flat_by session g me (Some p) call)
+  both call e u =
+      flat_alike (m ∷ w) f g (changed session f me p call) (changed session g me p call) (refused session f me p call) (refused session g me p call) r e (λ v. changes_alike call v (sym e ∙ v) (u v))

@@ -14,19 +14,26 @@ use Rattle.histar_isolation.proofs.Relation.{SameFiles}
 use Rattle.histar_isolation.proofs.Tests.{left_holds, parent_under}
 
 module _ (job : ProcName) where
-  -- something new hides no less
-  pub lies_inserted : (m : Files Node) (q : Path) (x : Node) → is_dir_of job (get m q) ≡ false → (r : Path) → lies_in_job job m r ≡ true → lies_in_job job (insert m q x) r ≡ true
+  -- what lay in the job still does once something new is made, where no directory of the job was
+  pub lies_inserted : (m : Files Node) (q : Path) (x : Node) → is_dir_of job (get m q) ≡ false → (r : Path) → lies_in_job job m r ≡ true
+      → lies_in_job job (insert m q x) r ≡ true
   lies_inserted m q x plain [] h = h
   lies_inserted m q x plain (n ∷ d) h = elim (true_or_false (lies_in_job job m d)) [
-    | inl i ↦ ap (λ b. is_dir_of job (get (insert m q x) d) || b) (lies_inserted m q x plain d i) ∙ or_true (is_dir_of job (get (insert m q x) d))
+    | inl i ↦
+        ap (λ b. is_dir_of job (get (insert m q x) d) || b) (lies_inserted m q x plain d i) ∙ or_true (is_dir_of job (get (insert m q x) d))
     | inr i ↦
         let dir : is_dir_of job (get m d) ≡ true = left_holds (is_dir_of job (get m d)) (lies_in_job job m d) i h in
         elim (same_path_found d q) [
           | inl t ↦ absurd (true≢false (sym dir ∙ ap (λ e. is_dir_of job (get m e)) t.1 ∙ plain))
-          | inr t ↦ ap (λ o. is_dir_of job o || lies_in_job job (insert m q x) d) (get_other m q x d t.1) ∙ ap (λ b. b || lies_in_job job (insert m q x) d) dir
+          | inr t ↦
+              ap (λ o. is_dir_of job o || lies_in_job job (insert m q x) d) (get_other m q x d t.1)
+              ∙ ap (λ b. b || lies_in_job job (insert m q x) d) dir
         ]
   ]
-  pub insert_alike : (m n : Files Node) → SameFiles job m n → (q : Path) (x : Node) → is_dir_of job (get m q) ≡ false → SameFiles job (insert m q x) (insert n q x)
+
+  -- what is new or written in both trees keeps them the same outside the job
+  pub insert_alike : (m n : Files Node) → SameFiles job m n → (q : Path) (x : Node) → is_dir_of job (get m q) ≡ false
+      → SameFiles job (insert m q x) (insert n q x)
   insert_alike m n r q x plain = record { same = by }
     where
       by : (t : Path) → lies_in_job job (insert m q x) t ≡ false → get (insert m q x) t ≡ get (insert n q x) t
@@ -35,21 +42,27 @@ module _ (job : ProcName) where
         | inr i ↦ get-insert m q x t ∙ ap (cond (same_path t q) (Some x)) (r.same t i) ∙ sym (get-insert n q x t)
       ]
 
-  -- what is left after a removal is hidden as before
-  pub lies_cut : (m : Files Node) (q : Path) (r : Path) → under_path q r ≡ false → lies_in_job job (keep m (λ t. not (under_path q t))) r ≡ lies_in_job job m r
+  -- what is left after a removal lies in the job as before
+  pub lies_cut : (m : Files Node) (q : Path) (r : Path) → under_path q r ≡ false
+      → lies_in_job job (keep m (λ t. not (under_path q t))) r ≡ lies_in_job job m r
   lies_cut m q [] u = refl
   lies_cut m q (n ∷ d) u =
       let above = (or_parts (same_path q (n ∷ d)) (under_path q d) u).1 in
       ap (λ o. is_dir_of job o || lies_in_job job (keep m (λ t. not (under_path q t))) d) (get-keep m (λ t. not (under_path q t)) d ∙ ap (λ b. cond (not b) (get m d) None) above)
       ∙ ap (λ b. is_dir_of job (get m d) || b) (lies_cut m q d above)
 
-  pub cut_alike : (m n : Files Node) → SameFiles job m n → (q : Path) → SameFiles job (keep m (λ t. not (under_path q t))) (keep n (λ t. not (under_path q t)))
+  -- and so does what is taken away in both
+  pub cut_alike : (m n : Files Node) → SameFiles job m n → (q : Path)
+      → SameFiles job (keep m (λ t. not (under_path q t))) (keep n (λ t. not (under_path q t)))
   cut_alike m n r q = record { same = by }
     where
-      by : (t : Path) → lies_in_job job (keep m (λ t. not (under_path q t))) t ≡ false → get (keep m (λ t. not (under_path q t))) t ≡ get (keep n (λ t. not (under_path q t))) t
+      by : (t : Path) → lies_in_job job (keep m (λ t. not (under_path q t))) t ≡ false
+          → get (keep m (λ t. not (under_path q t))) t ≡ get (keep n (λ t. not (under_path q t))) t
       by t h = get-keep m (λ t. not (under_path q t)) t ∙ elim (true_or_false (under_path q t)) [
         | inl u ↦ ap (λ b. cond (not b) (get m t) None) u ∙ sym (ap (λ b. cond (not b) (get n t) None) u)
-        | inr u ↦ ap (cond (not (under_path q t)) (get m t)) refl ∙ ap (λ o. cond (not (under_path q t)) o None) (r.same t (sym (lies_cut m q t u) ∙ h))
+        | inr u ↦
+            ap (cond (not (under_path q t)) (get m t)) refl
+            ∙ ap (λ o. cond (not (under_path q t)) o None) (r.same t (sym (lies_cut m q t u) ∙ h))
       ] ∙ sym (get-keep n (λ t. not (under_path q t)) t)
 
   -- making and removing in a directory changes only what is below it

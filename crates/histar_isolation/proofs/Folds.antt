@@ -21,7 +21,8 @@ use Rattle.histar_isolation.proofs.Tests.{is_same}
 
 alike_there : (job : ProcName) (f g : Flat) → SameOutside job f g → (q : Path) → differs job f g q ≡ false
 alike_there job f g r q = elim (true_or_false (lies_in_job job f.files q)) [
-  | inl h ↦ ap (λ b. not b && not (same (text_at q (get f.files q)) (text_at q (get g.files q)))) (ap (λ b. b || lies_in_job job g.files q) h)
+  | inl h ↦
+      ap (λ b. not b && not (same (text_at q (get f.files q)) (text_at q (get g.files q)))) (ap (λ b. b || lies_in_job job g.files q) h)
   | inr h ↦ ap (λ o. not (is_left_out job f g q) && not (same (text_at q o) (text_at q (get g.files q)))) (r.files.same q h)
       ∙ ap (λ b. not (is_left_out job f g q) && not b) (same_itself (text_at q (get g.files q)))
       ∙ and_false (not (is_left_out job f g q))
@@ -33,7 +34,8 @@ alike_there job f g r q = elim (true_or_false (lies_in_job job f.files q)) [
 
 none_differs : (job : ProcName) (f g : Flat) → SameOutside job f g → (qs : List Path) → first_that (differs job f g) qs ≡ None
 none_differs job f g r [] = refl
-none_differs job f g r (q ∷ qs) = ap (λ b. cond b (Some q) (first_that (differs job f g) qs)) (alike_there job f g r q) ∙ none_differs job f g r qs
+none_differs job f g r (q ∷ qs) =
+    ap (λ b. cond b (Some q) (first_that (differs job f g) qs)) (alike_there job f g r q) ∙ none_differs job f g r qs
 
 -- no path differs between states that are the same outside the job
 pub no_path_differs : (job : ProcName) (f g : Flat) → SameOutside job f g → first_path job f g ≡ None
@@ -42,10 +44,14 @@ no_path_differs job f g r = none_differs job f g r (map (λ e. e.0) ((from_list 
 -- what is owed for each call, by who makes it
 pub record Steps (job : ProcName) (session : Session) : Type 0 where
   pub keeps : (f : Flat) (me : ProcName) (call : UnixCall) → IsStarted job f → IsStarted job (flat_after session f me call)
-  pub inside : (f g : Flat) (me : ProcName) (call : UnixCall) → SameOutside job f g → IsStarted job f → under_process job me ≡ true → SameOutside job (flat_after session f me call) g
-  pub wrapper : (f g : Flat) (call : UnixCall) → SameOutside job f g → IsStarted job f → IsStarted job g → is_rmdir_or_wrap call ≡ false → SameOutside job (flat_after session f (parent job) call) (flat_after session g (parent job) call)
-  pub outsider : (f g : Flat) (me : ProcName) (call : UnixCall) → SameOutside job f g → IsStarted job f → IsStarted job g → is_outsider job me ≡ true → SameOutside job (flat_after session f me call) (flat_after session g me call)
-  pub replies : (f g : Flat) (me : ProcName) (call : UnixCall) → SameOutside job f g → IsStarted job f → IsStarted job g → is_outsider job me ≡ true → reply_to session f me call ≡ reply_to session g me call
+  pub inside : (f g : Flat) (me : ProcName) (call : UnixCall) → SameOutside job f g → IsStarted job f → under_process job me ≡ true
+      → SameOutside job (flat_after session f me call) g
+  pub wrapper : (f g : Flat) (call : UnixCall) → SameOutside job f g → IsStarted job f → IsStarted job g → is_rmdir_or_wrap call ≡ false
+      → SameOutside job (flat_after session f (parent job) call) (flat_after session g (parent job) call)
+  pub outsider : (f g : Flat) (me : ProcName) (call : UnixCall) → SameOutside job f g → IsStarted job f → IsStarted job g
+      → is_outsider job me ≡ true → SameOutside job (flat_after session f me call) (flat_after session g me call)
+  pub replies : (f g : Flat) (me : ProcName) (call : UnixCall) → SameOutside job f g → IsStarted job f → IsStarted job g
+      → is_outsider job me ≡ true → reply_to session f me call ≡ reply_to session g me call
 
 -- two runs that tell outsiders the same, and end the same outside the job
 pub record RunAlike (job : ProcName) (as' bs : List Answered) (f g : Flat) : Type 0 where
@@ -53,7 +59,8 @@ pub record RunAlike (job : ProcName) (as' bs : List Answered) (f g : Flat) : Typ
   pub ends : SameOutside job f g
 
 module _ (job : ProcName) (session : Session) (steps : Steps job session) where
-  pub runs_alike : (calls : List CallLine) (f g : Flat) → SameOutside job f g → IsStarted job f → IsStarted job g → is_quiet job (answered_from session f calls) ≡ true →
+  pub runs_alike : (calls : List CallLine) (f g : Flat) → SameOutside job f g → IsStarted job f → IsStarted job g
+      → is_quiet job (answered_from session f calls) ≡ true →
       RunAlike job (answered_from session f calls) (answered_from session g (without_job_calls job calls)) (flat_end session f calls) (flat_end session g (without_job_calls job calls))
   runs_alike [] f g r hf hg quiet = record { lines = refl; ends = r }
   runs_alike (c ∷ calls) f g r hf hg quiet =

@@ -2,7 +2,6 @@
 use Rattle.std.specs.Prelude.{Bool, List, None, Option, Some, [], cond, false, not, refl, true, ◌&&◌, ◌||◌, ◌∷◌, ◌≡◌}
 use Rattle.std.proofs.Common.{ap, inl, inr, sym, ◌∙◌}
 use Rattle.std.proofs.lemmas.Bool.{and_parts, true≢false}
-use Rattle.std.specs.FinMap.{put}
 use Rattle.histar_base.specs.Refusals.{unless, ◌orelse◌}
 use Rattle.histar_flat.specs.declared.calls.CallLine.{CallLine}
 use Rattle.histar_flat.specs.declared.calls.UnixCall.{UnixCall}
@@ -27,7 +26,6 @@ use Rattle.histar_flat.proofs.FileLemmas.{get_new, get_other, same_path_found}
 use Rattle.histar_flat.proofs.GivenNames.{given_after, names_are_given_once, next_is_new}
 use Rattle.histar_flat.proofs.JobLaws.{writes_of_job}
 use Rattle.histar_flat.proofs.Refusals.{passes_first, passes_later}
-use Rattle.histar_flat.proofs.Renaming.{stays}
 use Rattle.histar_flat.proofs.Trees.{paths_are_a_tree, tree_after, walked_into_directory}
 use Rattle.histar_flat.proofs.Under.{true_or_false, under_itself}
 use Rattle.histar_flat.proofs.WrappedJobs.{has_last}
@@ -39,11 +37,14 @@ use Rattle.histar_isolation.proofs.Outside.{lies_below_it}
 use Rattle.histar_isolation.proofs.Tests.{has_longer, is_same, left_holds, none_some, not_passed}
 
 -- a line is answered `gone`, or is refused, and changes nothing; or it is answered, and the state is changed
-by_reply : (session : Session) (f : Flat) (me : ProcName) (call : UnixCall) (Q : Flat → Reply → Type 0) → Q f Gone → ((e : Errno) → Q f (Refused e))
-    → ((p : Process) → f.processes me ≡ Some p → refused session f me p call ≡ None → Q (changed session f me p call) (answer f me p call)) → Q (flat_after session f me call) (reply_to session f me call)
+by_reply : (session : Session) (f : Flat) (me : ProcName) (call : UnixCall) (Q : Flat → Reply → Type 0) → Q f Gone
+    → ((e : Errno) → Q f (Refused e))
+    → ((p : Process) → f.processes me ≡ Some p → refused session f me p call ≡ None → Q (changed session f me p call) (answer f me p call))
+    → Q (flat_after session f me call) (reply_to session f me call)
 by_reply session f me call Q gone refusal passes = by (running f me) refl
   where
-    step : (p : Process) → f.processes me ≡ Some p → (e : Option Errno) → refused session f me p call ≡ e → Q (flat_or e f (changed session f me p call)) (reply_or e (answer f me p call))
+    step : (p : Process) → f.processes me ≡ Some p → (e : Option Errno) → refused session f me p call ≡ e
+        → Q (flat_or e f (changed session f me p call)) (reply_or e (answer f me p call))
     step p here None is = passes p here is
     step p here (Some e) is = refusal e
 
@@ -53,16 +54,20 @@ by_reply session f me call Q gone refusal passes = by (running f me) refl
 
 module _ (job : ProcName) (session : Session) (f : Flat) (tree : IsTree f) (names : NamesAreGiven f) (directory : Option Path) (h : IsFollowed job f directory) (me : ProcName) where
   -- a directory that a process of the job writes is of the job
-  writes_dir_of : (p : Process) (o : Option Node) → has p.chain job ≡ true → is_some_and o is_dir ≡ true → is_some_and o (λ n. may_write session p n.class) ≡ true → is_dir_of job o ≡ true
+  writes_dir_of : (p : Process) (o : Option Node) → has p.chain job ≡ true → is_some_and o is_dir ≡ true
+      → is_some_and o (λ n. may_write session p n.class) ≡ true → is_dir_of job o ≡ true
   writes_dir_of p None inside dir w = absurd (true≢false (sym dir))
   writes_dir_of p (Some n) inside dir w = (λ i. dir i && carries job n.class) ∙ writes_of_job session p job inside n.class w
 
   -- so what such a process makes lies where it should
-  made_inside : (p : Process) (n : Name) (d : Path) → into session f p d ≡ None → writes session f p d ≡ true → has p.chain job ≡ true → lies_at directory (n ∷ d) ≡ true
-  made_inside p n d walked w inside = lies_at_entry directory n d (h.carried d (writes_dir_of p (get f.files d) inside (walked_into_directory session f p tree.root d walked) w))
+  made_inside : (p : Process) (n : Name) (d : Path) → into session f p d ≡ None → writes session f p d ≡ true → has p.chain job ≡ true
+      → lies_at directory (n ∷ d) ≡ true
+  made_inside p n d walked w inside =
+      lies_at_entry directory n d (h.carried d (writes_dir_of p (get f.files d) inside (walked_into_directory session f p tree.root d walked) w))
 
   -- a call that takes nothing away, renames nothing and starts no job leaves the directory where it is
-  plain_changes : (call : UnixCall) → ((q : Path) → takes_away call q ≡ false) → ((n : Name) (d : Path) → call ≡ Wrap (n ∷ d) → ⊥) → (p : Process) → EachChange session f me p call (λ g. IsFollowed job g directory)
+  plain_changes : (call : UnixCall) → ((q : Path) → takes_away call q ≡ false) → ((n : Name) (d : Path) → call ≡ Wrap (n ∷ d) → ⊥)
+      → (p : Process) → EachChange session f me p call (λ g. IsFollowed job g directory)
   plain_changes call takes_none no_wrap p = record {
     stays = h;
     makes = λ n d x walked free w own. put_followed job f directory h (n ∷ d) x (ap (is_dir_of job) free) (λ is. made_inside p n d walked w (own job (and_parts (is_dir x) (carries job x.class) is).1));
@@ -80,12 +85,15 @@ module _ (job : ProcName) (session : Session) (f : Flat) (tree : IsTree f) (name
       taken : (n : Name) (d : Path) → ((q : Path) → takes_away call q ≡ under_path (n ∷ d) q) → ⊥
       taken n d takes = true≢false (sym (under_itself same same_path_found (n ∷ d)) ∙ sym (takes (n ∷ d)) ∙ takes_none (n ∷ d))
 
-  plain_line : (call : UnixCall) → ((q : Path) → takes_away call q ≡ false) → ((n : Name) (d : Path) → call ≡ Wrap (n ∷ d) → ⊥) → IsFollowed job (flat_after session f me call) directory
-  plain_line call takes_none no_wrap = by_line session f me call (λ g. IsFollowed job g directory) h (λ p runs. plain_changes call takes_none no_wrap p)
+  plain_line : (call : UnixCall) → ((q : Path) → takes_away call q ≡ false) → ((n : Name) (d : Path) → call ≡ Wrap (n ∷ d) → ⊥)
+      → IsFollowed job (flat_after session f me call) directory
+  plain_line call takes_none no_wrap =
+      by_line session f me call (λ g. IsFollowed job g directory) h (λ p runs. plain_changes call takes_none no_wrap p)
 
   -- a `wrap` that is not refused
   wrapped : (p : Process) → f.processes me ≡ Some p → (n : Name) (d : Path) → refused session f me p (Wrap (n ∷ d)) ≡ None
-      → (b : Bool) → same job (next_child me p) ≡ b → IsFollowed job (changed session f me p (Wrap (n ∷ d))) (cond b (Some (n ∷ d)) directory)
+      → (b : Bool) → same job (next_child me p) ≡ b
+      → IsFollowed job (changed session f me p (Wrap (n ∷ d))) (cond b (Some (n ∷ d)) directory)
   wrapped p here n d passes true is = record {
     carried = λ q dir. elim (same_path_found q (n ∷ d)) [
       | inl t ↦ ap (under_path (n ∷ d)) t.1 ∙ under_itself same same_path_found (n ∷ d)
@@ -105,7 +113,8 @@ module _ (job : ProcName) (session : Session) (f : Flat) (tree : IsTree f) (name
 
       none_before : (q : Path) (o : Option Node) → get f.files q ≡ o → is_dir_of job o ≡ true → ⊥
       none_before q None at dir = true≢false (sym dir)
-      none_before q (Some y) at dir = true≢false (sym (names.of_carried_jobs q y job at (and_parts (is_dir y) (carries job y.class) dir).1) ∙ ap (is_given f.processes) job_is ∙ next_is_new f me p here)
+      none_before q (Some y) at dir =
+          true≢false (sym (names.of_carried_jobs q y job at (and_parts (is_dir y) (carries job y.class) dir).1) ∙ ap (is_given f.processes) job_is ∙ next_is_new f me p here)
   wrapped p here n d passes false is =
       let room = passes_first (no_room session f p (n ∷ d)) (unless (not (same p.user nobody)) EPERM) (passes_later (no_child me p) (no_room session f p (n ∷ d) orelse unless (not (same p.user nobody)) EPERM) passes) in
       let tests = room_tests session f p n d room in
@@ -114,24 +123,34 @@ module _ (job : ProcName) (session : Session) (f : Flat) (tree : IsTree f) (name
       record { carried = put.carried; there = put.there }
 
   -- Each line leaves the directory where its call and its reply say.
-  pub line_followed : (call : UnixCall) → IsFollowed job (flat_after session f me call) (after_reply job directory call (reply_to session f me call))
-  line_followed (Wrap q) = by_reply session f me (Wrap q) (λ g reply. IsFollowed job g (after_reply job directory (Wrap q) reply)) h (λ e. h) (by q)
+  pub line_followed : (call : UnixCall)
+      → IsFollowed job (flat_after session f me call) (after_reply job directory call (reply_to session f me call))
+  line_followed (Wrap q) =
+      by_reply session f me (Wrap q) (λ g reply. IsFollowed job g (after_reply job directory (Wrap q) reply)) h (λ e. h) (by q)
     where
-      by : (q : Path) (p : Process) → f.processes me ≡ Some p → refused session f me p (Wrap q) ≡ None → IsFollowed job (changed session f me p (Wrap q)) (after_reply job directory (Wrap q) (answer f me p (Wrap q)))
+      by : (q : Path) (p : Process) → f.processes me ≡ Some p → refused session f me p (Wrap q) ≡ None
+          → IsFollowed job (changed session f me p (Wrap q)) (after_reply job directory (Wrap q) (answer f me p (Wrap q)))
       by [] p here passes = absurd (not_passed _ refl (passes_later (no_child me p) (Some EEXIST) passes))
       by (n ∷ d) p here passes = wrapped p here n d passes (same job (next_child me p)) refl
-  line_followed (Unlink q) = by_reply session f me (Unlink q) (λ g reply. IsFollowed job g (after_reply job directory (Unlink q) reply)) h (λ e. h) (λ p here passes. cut_followed job f directory h q)
-  line_followed (Rmdir q) = by_reply session f me (Rmdir q) (λ g reply. IsFollowed job g (after_reply job directory (Rmdir q) reply)) h (λ e. h) (λ p here passes. cut_followed job f directory h q)
-  line_followed (Rmtree q) = by_reply session f me (Rmtree q) (λ g reply. IsFollowed job g (after_reply job directory (Rmtree q) reply)) h (λ e. h) (λ p here passes. cut_followed job f directory h q)
-  line_followed (Rename q name) = by_reply session f me (Rename q name) (λ g reply. IsFollowed job g (after_reply job directory (Rename q name) reply)) h (λ e. h) (by q)
+  line_followed (Unlink q) =
+      by_reply session f me (Unlink q) (λ g reply. IsFollowed job g (after_reply job directory (Unlink q) reply)) h (λ e. h) (λ p here passes. cut_followed job f directory h q)
+  line_followed (Rmdir q) =
+      by_reply session f me (Rmdir q) (λ g reply. IsFollowed job g (after_reply job directory (Rmdir q) reply)) h (λ e. h) (λ p here passes. cut_followed job f directory h q)
+  line_followed (Rmtree q) =
+      by_reply session f me (Rmtree q) (λ g reply. IsFollowed job g (after_reply job directory (Rmtree q) reply)) h (λ e. h) (λ p here passes. cut_followed job f directory h q)
+  line_followed (Rename q name) =
+      by_reply session f me (Rename q name) (λ g reply. IsFollowed job g (after_reply job directory (Rename q name) reply)) h (λ e. h) (by q)
     where
-      by : (q : Path) (p : Process) → f.processes me ≡ Some p → refused session f me p (Rename q name) ≡ None → IsFollowed job (changed session f me p (Rename q name)) (after_reply job directory (Rename q name) (answer f me p (Rename q name)))
+      by : (q : Path) (p : Process) → f.processes me ≡ Some p → refused session f me p (Rename q name) ≡ None
+          → IsFollowed job (changed session f me p (Rename q name)) (after_reply job directory (Rename q name) (answer f me p (Rename q name)))
       by [] p here passes = absurd (not_passed _ refl passes)
-      by (n ∷ d) p here passes = let tests = rename_tests session f me p n name d passes in rename_followed job f directory h tree n name d tests.0 tests.1
+      by (n ∷ d) p here passes =
+          let tests = rename_tests session f me p n name d passes in rename_followed job f directory h tree n name d tests.0 tests.1
   line_followed call = plain_line call (λ q. refl) (λ n d e. cc)
 
 -- So do all lines.
-all_followed : (job : ProcName) (session : Session) (f : Flat) → IsTree f → NamesAreGiven f → (directory : Option Path) → IsFollowed job f directory → (calls : List CallLine)
+all_followed : (job : ProcName) (session : Session) (f : Flat) → IsTree f → NamesAreGiven f → (directory : Option Path)
+    → IsFollowed job f directory → (calls : List CallLine)
     → IsFollowed job (flat_end session f calls) (directory_of job directory (answered_from session f calls))
 all_followed job session f tree names directory h [] = h
 all_followed job session f tree names directory h (c ∷ calls) =
@@ -150,13 +169,15 @@ followed_at_start job session = record { carried = none; there = λ p e. absurd 
     none (n ∷ d) is = sym (ap (is_dir_of job) (get_other empty [] slash (n ∷ d) (λ e. cc))) ∙ is
 
 -- where the directory is followed, what lies below directories of the job lies below it
-followed_is_left_out : (job : ProcName) (f : Flat) (directory : Option Path) → IsFollowed job f directory → (q : Path) → lies_in_job job f.files q ≡ lies_below directory q
+followed_is_left_out : (job : ProcName) (f : Flat) (directory : Option Path) → IsFollowed job f directory → (q : Path)
+    → lies_in_job job f.files q ≡ lies_below directory q
 followed_is_left_out job f directory h [] = at_root directory
   where
     at_root : (o : Option Path) → false ≡ lies_below o []
     at_root None = refl
     at_root (Some p) = refl
-followed_is_left_out job f directory h (n ∷ d) = either (is_dir_of job (get f.files d) || lies_in_job job f.files d) (lies_at directory d) (up d) (down directory refl) ∙ below directory
+followed_is_left_out job f directory h (n ∷ d) =
+    either (is_dir_of job (get f.files d) || lies_in_job job f.files d) (lies_at directory d) (up d) (down directory refl) ∙ below directory
   where
     either : (a b : Bool) → (a ≡ true → b ≡ true) → (b ≡ true → a ≡ true) → a ≡ b
     either true b there back = sym (there refl)

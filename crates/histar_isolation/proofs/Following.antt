@@ -31,7 +31,8 @@ lies_at_below None q r h u = h
 lies_at_below (Some p) q r h u = under_all same same_path_found p q r h u
 
 pub lies_at_entry : (directory : Option Path) (n : Name) (d : Path) → lies_at directory d ≡ true → lies_at directory (n ∷ d) ≡ true
-lies_at_entry directory n d h = lies_at_below directory d (n ∷ d) h (under_child same same_path_found d d n (under_itself same same_path_found d))
+lies_at_entry directory n d h =
+    lies_at_below directory d (n ∷ d) h (under_child same same_path_found d d n (under_itself same same_path_found d))
 
 -- a directory of the job is there
 dir_is_there : (job : ProcName) (o : Option Node) → is_dir_of job o ≡ true → o ≡ None → ⊥
@@ -39,7 +40,8 @@ dir_is_there job o h e = true≢false (sym h ∙ ap (is_dir_of job) e)
 
 module _ (job : ProcName) (f : Flat) (directory : Option Path) (h : IsFollowed job f directory) where
   -- something is put where no directory of the job is; where it is one, it lies where it should
-  pub put_followed : (q : Path) (x : Node) → is_dir_of job (get f.files q) ≡ false → (is_dir_of job (Some x) ≡ true → lies_at directory q ≡ true) → IsFollowed job (with_node f q x.class x.content) directory
+  pub put_followed : (q : Path) (x : Node) → is_dir_of job (get f.files q) ≡ false
+      → (is_dir_of job (Some x) ≡ true → lies_at directory q ≡ true) → IsFollowed job (with_node f q x.class x.content) directory
   put_followed q x free own = record {
     carried = λ r is. elim (same_path_found r q) [
       | inl t ↦ ap (lies_at directory) t.1 ∙ own (ap (is_dir_of job) (sym (ap (get (insert f.files q x)) t.1 ∙ get_new f.files q x)) ∙ is)
@@ -65,11 +67,15 @@ module _ (job : ProcName) (f : Flat) (directory : Option Path) (h : IsFollowed j
         | inr v ↦ ap (λ b. lies_at (cond b None (Some p)) r) v ∙ l
       ]
 
-      by : (r : Path) → is_dir_of job (get (without_below f q).files r) ≡ true → (under_path q r ≡ true) ⊎ (under_path q r ≡ false) → lies_at (left_without q directory) r ≡ true
-      by r is (inl u) = absurd (dir_is_there job (get (without_below f q).files r) is (left_at r ∙ ap (λ b. cond (not b) (get f.files r) None) u))
-      by r is (inr u) = still_lies directory r u (h.carried r (ap (is_dir_of job) (sym (left_at r ∙ ap (λ b. cond (not b) (get f.files r) None) u)) ∙ is))
+      by : (r : Path) → is_dir_of job (get (without_below f q).files r) ≡ true → (under_path q r ≡ true) ⊎ (under_path q r ≡ false)
+          → lies_at (left_without q directory) r ≡ true
+      by r is (inl u) =
+          absurd (dir_is_there job (get (without_below f q).files r) is (left_at r ∙ ap (λ b. cond (not b) (get f.files r) None) u))
+      by r is (inr u) =
+          still_lies directory r u (h.carried r (ap (is_dir_of job) (sym (left_at r ∙ ap (λ b. cond (not b) (get f.files r) None) u)) ∙ is))
 
-      stays_there : (o : Option Path) → directory ≡ o → (p : Path) → left_without q o ≡ Some p → is_dir_of job (get (without_below f q).files p) ≡ true
+      stays_there : (o : Option Path) → directory ≡ o → (p : Path) → left_without q o ≡ Some p
+          → is_dir_of job (get (without_below f q).files p) ≡ true
       stays_there None is p e = absurd (none_some p e)
       stays_there (Some r) is p e = elim (true_or_false (under_path q r)) [
         | inl u ↦ absurd (none_some p (sym (ap (λ b. cond b None (Some r)) u) ∙ e))
@@ -84,7 +90,9 @@ module _ (job : ProcName) (f : Flat) (directory : Option Path) (h : IsFollowed j
 moved_under : (n k : Name) (d p r : Path) → under_path p r ≡ true → under_path (moved (n ∷ d) (k ∷ d) p) (moved (n ∷ d) (k ∷ d) r) ≡ true
 moved_under n k d p [] u = ap (λ z. under_path (moved (n ∷ d) (k ∷ d) z) []) (is_same_path p [] u)
 moved_under n k d p (x ∷ e) u = elim (same_path_found p (x ∷ e)) [
-  | inl t ↦ ap (λ z. under_path (moved (n ∷ d) (k ∷ d) z) (moved (n ∷ d) (k ∷ d) (x ∷ e))) t.1 ∙ under_itself same same_path_found (moved (n ∷ d) (k ∷ d) (x ∷ e))
+  | inl t ↦
+      ap (λ z. under_path (moved (n ∷ d) (k ∷ d) z) (moved (n ∷ d) (k ∷ d) (x ∷ e))) t.1
+      ∙ under_itself same same_path_found (moved (n ∷ d) (k ∷ d) (x ∷ e))
   | inr t ↦
       let above : under_path p e ≡ true = under_inner same same_path_found p e x t.0 u in
       elim (same_path_found (n ∷ d) (x ∷ e)) [
@@ -108,7 +116,8 @@ moved_under n k d p (x ∷ e) u = elim (same_path_found p (x ∷ e)) [
     ]
 
 -- a rename moves the directory, or leaves it where it is
-pub rename_followed : (job : ProcName) (f : Flat) (directory : Option Path) → IsFollowed job f directory → IsTree f → (n k : Name) (d : Path) → n ≢ k → get f.files (k ∷ d) ≡ None
+pub rename_followed : (job : ProcName) (f : Flat) (directory : Option Path) → IsFollowed job f directory → IsTree f
+    → (n k : Name) (d : Path) → n ≢ k → get f.files (k ∷ d) ≡ None
     → IsFollowed job (with_renamed f (n ∷ d) (k ∷ d)) (option_map (moved (n ∷ d) (k ∷ d)) directory)
 unfolding renamed
 rename_followed job f directory h tree n k d ne free = record {
@@ -119,17 +128,21 @@ rename_followed job f directory h tree n k d ne free = record {
     below : (q : Path) → under_path (k ∷ d) q ≡ true → get f.files q ≡ None
     below = nothing_below f tree (k ∷ d) free
 
-    moves : (o : Option Path) (q r : Path) → lies_at o r ≡ true → moved (n ∷ d) (k ∷ d) r ≡ q → lies_at (option_map (moved (n ∷ d) (k ∷ d)) o) q ≡ true
+    moves : (o : Option Path) (q r : Path) → lies_at o r ≡ true → moved (n ∷ d) (k ∷ d) r ≡ q
+        → lies_at (option_map (moved (n ∷ d) (k ∷ d)) o) q ≡ true
     moves None q r l e = l
     moves (Some p) q r l e = ap (under_path (moved (n ∷ d) (k ∷ d) p)) (sym e) ∙ moved_under n k d p r l
 
-    by : (q : Path) → is_dir_of job (get (with_renamed f (n ∷ d) (k ∷ d)).files q) ≡ true → (under_path (n ∷ d) q ≡ true) ⊎ (under_path (n ∷ d) q ≡ false) → lies_at (option_map (moved (n ∷ d) (k ∷ d)) directory) q ≡ true
-    by q is (inl u) = absurd (dir_is_there job (get (with_renamed f (n ∷ d) (k ∷ d)).files q) is (gone_renamed job n k d ne f.files below q u))
+    by : (q : Path) → is_dir_of job (get (with_renamed f (n ∷ d) (k ∷ d)).files q) ≡ true
+        → (under_path (n ∷ d) q ≡ true) ⊎ (under_path (n ∷ d) q ≡ false) → lies_at (option_map (moved (n ∷ d) (k ∷ d)) directory) q ≡ true
+    by q is (inl u) =
+        absurd (dir_is_there job (get (with_renamed f (n ∷ d) (k ∷ d)).files q) is (gone_renamed job n k d ne f.files below q u))
     by q is (inr u) =
         moves directory q (moved (k ∷ d) (n ∷ d) q) (h.carried (moved (k ∷ d) (n ∷ d) q) (ap (is_dir_of job) (sym (kept_renamed job n k d ne f.files below q u)) ∙ is))
         (returns_from k n d (λ e. ne (sym e)) q u)
 
-    moved_there : (o : Option Path) → directory ≡ o → (p : Path) → option_map (moved (n ∷ d) (k ∷ d)) o ≡ Some p → is_dir_of job (get (with_renamed f (n ∷ d) (k ∷ d)).files p) ≡ true
+    moved_there : (o : Option Path) → directory ≡ o → (p : Path) → option_map (moved (n ∷ d) (k ∷ d)) o ≡ Some p
+        → is_dir_of job (get (with_renamed f (n ∷ d) (k ∷ d)).files p) ≡ true
     moved_there None is p e = absurd (none_some p e)
     moved_there (Some r) is p e =
         let same_place : Some (moved (n ∷ d) (k ∷ d) r) ≡ Some p = e in

@@ -6,7 +6,7 @@ use Rattle.histar_flat.specs.declared.calls.UnixCall.{UnixCall}
 use Rattle.histar_flat.specs.Classes.{Process}
 use Rattle.histar_flat.specs.Classes.Class.{Scratch}
 use Rattle.histar_flat.specs.Files.{Files, get}
-use Rattle.histar_flat.specs.FlatCalls.{flat_after, inner_chain, next_child, running}
+use Rattle.histar_flat.specs.FlatCalls.{flat_after, inner_chain, next_child}
 use Rattle.histar_flat.specs.FlatState.{Flat, Node, class_of, is_file_at, moved, with_bytes, with_node, with_process, writes}
 use Rattle.histar_flat.specs.FlatState.Content.{Dir, File}
 use Rattle.histar_flat.specs.PathOrder.{same, under_path, under_process}
@@ -38,7 +38,8 @@ not_below n d (k ∷ q) h = elim (true_or_false (under_path (n ∷ d) (k ∷ q))
 ]
 
 -- another name in a directory changes only what is below it
-pub rename_below : (job : ProcName) (m : Files Node) (n k : Name) (d : Path) (ne : n ≢ k) → ((q : Path) → under_path (k ∷ d) q ≡ true → get m q ≡ None) → ChangesBelow d m (renamed job n k d ne m)
+pub rename_below : (job : ProcName) (m : Files Node) (n k : Name) (d : Path) (ne : n ≢ k)
+    → ((q : Path) → under_path (k ∷ d) q ≡ true → get m q ≡ None) → ChangesBelow d m (renamed job n k d ne m)
 unfolding renamed
 rename_below job m n k d ne below = record {
   rest = λ q h. get_renamed n k d ne m below q ∙ ap (λ b. cond b None (get m (moved_back q))) (not_below n d q h) ∙ ap (get m) (stays (k ∷ d) (n ∷ d) q (not_below k d q h));
@@ -49,7 +50,8 @@ rename_below job m n k d ne below = record {
 
 module _ (job : ProcName) (f g : Flat) (r : SameOutside job f g) where
   -- files change only below a directory of the job, or below what lies there
-  pub aside : (f' : Flat) (d : Path) → (is_dir_of job (get f.files d) || lies_in_job job f.files d) ≡ true → ChangesFilesBelow d f f' → SameOutside job f' g
+  pub aside : (f' : Flat) (d : Path) → (is_dir_of job (get f.files d) || lies_in_job job f.files d) ≡ true → ChangesFilesBelow d f f'
+      → SameOutside job f' g
   aside f' d h c = record {
     files = joined job f'.files f.files g.files (turned job f.files f'.files (change_inside job f.files f'.files d h c.files)) r.files;
     processes = λ q u. ap (λ m. m q) c.processes ∙ r.processes q u;
@@ -57,7 +59,8 @@ module _ (job : ProcName) (f g : Flat) (r : SameOutside job f g) where
   }
 
   -- a process of the job changes or is new
-  aside_process : (a : ProcName) (x : Process) → under_process job a ≡ true → (same a job ≡ true → chain_of (f.processes job) ≡ Some x.chain) → SameOutside job (with_process f a x) g
+  aside_process : (a : ProcName) (x : Process) → under_process job a ≡ true
+      → (same a job ≡ true → chain_of (f.processes job) ≡ Some x.chain) → SameOutside job (with_process f a x) g
   aside_process a x u known = record {
     files = r.files;
     processes = λ q v. elim (same_name_found a q) [
@@ -75,7 +78,8 @@ module _ (job : ProcName) (session : Session) (f g : Flat) (r : SameOutside job 
   own p' jobs t = ap (λ z. chain_of (f.processes z)) (sym (is_same me job t)) ∙ ap chain_of here ∙ ap Some (sym jobs)
 
   -- a child of the job's is born
-  birth : (f' : Flat) → SameOutside job f' g → f'.processes ≡ f.processes → (p' c : Process) → p'.chain ≡ p.chain → SameOutside job (with_process (with_process f' me p') (next_child me p) c) g
+  birth : (f' : Flat) → SameOutside job f' g → f'.processes ≡ f.processes → (p' c : Process) → p'.chain ≡ p.chain
+      → SameOutside job (with_process (with_process f' me p') (next_child me p) c) g
   birth f' r' still p' c jobs = aside_process job (with_process f' me p') g
       (aside_process job f' g r' me p' inside (λ t. ap (λ m. chain_of (m job)) still ∙ own p' jobs t))
       (next_child me p) c (under_child nat_eq same_name_found job me (p.born + 1) inside)
@@ -85,7 +89,8 @@ module _ (job : ProcName) (session : Session) (f g : Flat) (r : SameOutside job 
   at q w = place job session f h me p here (h.inside me p here ∙ inside) q w
 
   -- a file that a process of the job writes lies in the job
-  file_inside : (q : Path) → (is_dir_of job (get f.files q) || lies_in_job job f.files q) ≡ true → is_file_at f q ≡ true → lies_in_job job f.files q ≡ true
+  file_inside : (q : Path) → (is_dir_of job (get f.files q) || lies_in_job job f.files q) ≡ true → is_file_at f q ≡ true
+      → lies_in_job job f.files q ≡ true
   file_inside q w file = sym (ap (λ b. b || lies_in_job job f.files q) (file_is_no_dir job (get f.files q) file)) ∙ w
 
   pub job_changes : (call : UnixCall) → EachChange session f me p call (λ f'. SameOutside job f' g)
@@ -103,7 +108,8 @@ module _ (job : ProcName) (session : Session) (f g : Flat) (r : SameOutside job 
     kills = λ n. record {
       files = r.files;
       processes = λ q v. elim (true_or_false (under_process (n ∷ me) q)) [
-        | inl u ↦ absurd (true≢false (sym (under_all nat_eq same_name_found job (n ∷ me) q (under_child nat_eq same_name_found job me n inside) u) ∙ v))
+        | inl u ↦
+            absurd (true≢false (sym (under_all nat_eq same_name_found job (n ∷ me) q (under_child nat_eq same_name_found job me n inside) u) ∙ v))
         | inr u ↦ ap (λ b. cond b None (f.processes q)) u ∙ r.processes q v
       ];
       chain = elim (true_or_false (under_process (n ∷ me) job)) [
@@ -120,6 +126,7 @@ module _ (job : ProcName) (session : Session) (f g : Flat) (r : SameOutside job 
         (record p { held = p.held ++ next_child me p ∷ []; born = p.born + 1 }) (record { user = p.user; chain = inner_chain me p; held = []; exited = None; born = 0 }) refl;
   }
 
-pub job_step : (job : ProcName) (session : Session) (f g : Flat) (me : ProcName) (call : UnixCall) → SameOutside job f g → IsStarted job f → under_process job me ≡ true → SameOutside job (flat_after session f me call) g
+pub job_step : (job : ProcName) (session : Session) (f g : Flat) (me : ProcName) (call : UnixCall) → SameOutside job f g → IsStarted job f
+    → under_process job me ≡ true → SameOutside job (flat_after session f me call) g
 job_step job session f g me call r h inside =
     by_line session f me call (λ f'. SameOutside job f' g) r (λ p running. job_changes job session f g r h me p (runs_is_there (f.processes me) p running) inside call)

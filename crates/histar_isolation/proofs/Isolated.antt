@@ -41,15 +41,19 @@ module _ (session : Session) (f : Flat) (me : ProcName) (job : ProcName) (P : Fl
   abbrev pub Wraps : Type 0
   Wraps = (p : Process) (n : Name) (d : Path) → f.processes me ≡ Some p → job ≡ next_child me p → P (changed session f me p (Wrap (n ∷ d)))
 
-  passed_or_not : (p : Process) (n : Name) (d : Path) (e : Option Errno) → f.processes me ≡ Some p → Wraps → is_wrap_reply job (Wrap (n ∷ d)) (reply_or e (Child (next_child me p))) ≡ true → P (flat_or e f (changed session f me p (Wrap (n ∷ d))))
+  passed_or_not : (p : Process) (n : Name) (d : Path) (e : Option Errno) → f.processes me ≡ Some p → Wraps
+      → is_wrap_reply job (Wrap (n ∷ d)) (reply_or e (Child (next_child me p))) ≡ true
+      → P (flat_or e f (changed session f me p (Wrap (n ∷ d))))
   passed_or_not p n d (Some x) here k h = absurd (true≢false (sym h))
   passed_or_not p n d None here k h = k p n d here (is_same job (next_child me p) h)
 
-  root_refused : (p : Process) (e : Option Errno) → is_wrap_reply job (Wrap []) (reply_or (e orelse Some EEXIST) (Child (next_child me p))) ≡ true → ⊥
+  root_refused : (p : Process) (e : Option Errno)
+      → is_wrap_reply job (Wrap []) (reply_or (e orelse Some EEXIST) (Child (next_child me p))) ≡ true → ⊥
   root_refused p None h = true≢false (sym h)
   root_refused p (Some x) h = true≢false (sym h)
 
-  by_process : (q : Path) (o : Option Process) → running f me ≡ o → Wraps → is_wrap_reply job (Wrap q) (reply_by session f me o (Wrap q)) ≡ true → P (flat_by session f me o (Wrap q))
+  by_process : (q : Path) (o : Option Process) → running f me ≡ o → Wraps
+      → is_wrap_reply job (Wrap q) (reply_by session f me o (Wrap q)) ≡ true → P (flat_by session f me o (Wrap q))
   by_process q None e k h = absurd (true≢false (sym h))
   by_process [] (Some p) e k h = absurd (root_refused p (no_child me p) h)
   by_process (n ∷ d) (Some p) e k h = passed_or_not p n d (refused session f me p (Wrap (n ∷ d))) (runs_is_there (f.processes me) p e) k h
@@ -59,14 +63,17 @@ module _ (session : Session) (f : Flat) (me : ProcName) (job : ProcName) (P : Fl
   wrap_line _ k h = absurd (true≢false (sym h))
 
 -- a name that was given is the name of no later job
-pub never_again : (session : Session) (job : ProcName) (calls : List CallLine) (f : Flat) → is_given f.processes job ≡ true → starts job (answered_from session f calls) ≡ false
+pub never_again : (session : Session) (job : ProcName) (calls : List CallLine) (f : Flat) → is_given f.processes job ≡ true
+    → starts job (answered_from session f calls) ≡ false
 never_again session job [] f given = refl
 never_again session job (c ∷ calls) f given =
     ap (λ b. b || starts job (answered_from session (flat_after session f c.process c.call) calls)) (by (true_or_false (is_wrap_reply job c.call (reply_to session f c.process c.call))))
     ∙ never_again session job calls (flat_after session f c.process c.call) (given_stays session f c.process c.call job given)
   where
-    by : (is_wrap_reply job c.call (reply_to session f c.process c.call) ≡ true) ⊎ (is_wrap_reply job c.call (reply_to session f c.process c.call) ≡ false) → is_wrap_reply job c.call (reply_to session f c.process c.call) ≡ false
-    by (inl w) = absurd (wrap_line session f c.process job (λ x. ⊥) c.call (λ p n d here e. true≢false (sym given ∙ ap (is_given f.processes) e ∙ next_is_new f c.process p here)) w)
+    by : (is_wrap_reply job c.call (reply_to session f c.process c.call) ≡ true) ⊎ (is_wrap_reply job c.call (reply_to session f c.process c.call) ≡ false)
+        → is_wrap_reply job c.call (reply_to session f c.process c.call) ≡ false
+    by (inl w) =
+        absurd (wrap_line session f c.process job (λ x. ⊥) c.call (λ p n d here e. true≢false (sym given ∙ ap (is_given f.processes) e ∙ next_is_new f c.process p here)) w)
     by (inr w) = w
 
 -- the state right after the line of the wrap
@@ -111,7 +118,9 @@ module _ (session : Session) (f : Flat) (names : NamesAreGiven f) (me : ProcName
       | inr t ↦ absurd (not_given (names.of_carried_jobs q y new_job (sym (get_other f.files (n ∷ d) scratch q t.1) ∙ e) c))
     ];
     inside = λ q y e. elim (born_cases f me wrapper new_job first q y e) [
-      | inl t ↦ ap (λ z. has z.chain new_job) (sym t.1) ∙ has_last p.chain new_job ∙ sym (under_itself nat_eq same_name_found new_job) ∙ ap (under_process new_job) t.0
+      | inl t ↦
+          ap (λ z. has z.chain new_job) (sym t.1) ∙ has_last p.chain new_job ∙ sym (under_itself nat_eq same_name_found new_job)
+          ∙ ap (under_process new_job) t.0
       | inr v ↦ elim v [
         | inl t ↦ ap (λ z. has z.chain new_job) (sym t.1) ∙ in_not me p here ∙ ap (under_process new_job) t.0
         | inr t ↦ in_not q y t
@@ -137,7 +146,8 @@ module _ (m : ℕ) (w : ProcName) (session : Session) where
   abbrev job : ProcName
   job = m ∷ w
 
-  before : (calls : List CallLine) (f : Flat) → IsTree f → NamesAreGiven f → starts job (answered_from session f calls) ≡ true → is_quiet job (after_start job (answered_from session f calls)) ≡ true
+  before : (calls : List CallLine) (f : Flat) → IsTree f → NamesAreGiven f → starts job (answered_from session f calls) ≡ true
+      → is_quiet job (after_start job (answered_from session f calls)) ≡ true
       → RunAlike job (answered_from session f calls) (answered_from session f (without_job_calls job calls)) (flat_end session f calls) (flat_end session f (without_job_calls job calls))
   before [] f tree names st quiet = absurd (true≢false (sym st))
   before (c ∷ calls) f tree names st quiet = elim (true_or_false (is_wrap_reply job c.call (reply_to session f c.process c.call))) [
@@ -178,9 +188,11 @@ module _ (m : ℕ) (w : ProcName) (session : Session) where
         where
           by : (o : Option Process) → running f c.process ≡ o → flat_by session f c.process o c.call ≡ f
           by None e = refl
-          by (Some p) e = absurd (true≢false (sym st ∙ never_again session job (c ∷ calls) f (given_above f.processes job c.process u (names.of_processes c.process p (runs_is_there (f.processes c.process) p e)))))
+          by (Some p) e =
+              absurd (true≢false (sym st ∙ never_again session job (c ∷ calls) f (given_above f.processes job c.process u (names.of_processes c.process p (runs_is_there (f.processes c.process) p e)))))
 
-      inside_line : under_process job c.process ≡ true → g ≡ f → RunAlike job (answered_from session g calls) (answered_from session g (without_job_calls job calls)) (flat_end session g calls) (flat_end session g (without_job_calls job calls))
+      inside_line : under_process job c.process ≡ true → g ≡ f
+          → RunAlike job (answered_from session g calls) (answered_from session g (without_job_calls job calls)) (flat_end session g calls) (flat_end session g (without_job_calls job calls))
           → RunAlike job (answered_from session f (c ∷ calls)) (answered_from session f (without_job_calls job (c ∷ calls))) (flat_end session f (c ∷ calls)) (flat_end session f (without_job_calls job (c ∷ calls)))
       inside_line u e rest = record {
         lines = rw u (subst (λ x. first_line (outsiders job (answered_from session g calls)) (outsiders job (answered_from session x (without_job_calls job calls))) ≡ None) e rest.lines);

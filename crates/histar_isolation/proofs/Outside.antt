@@ -1,10 +1,10 @@
--- What lies below a job's directories, and changes there.
+-- What lies below a job's directories, what changes there, and that being the same outside a job is a relation like equality.
 use Rattle.std.specs.Prelude.{Bool, [], false, refl, true, ◌||◌, ◌∷◌, ◌≡◌}
 use Rattle.std.proofs.Common.{ap, inl, inr, subst, sym, ◌∙◌}
 use Rattle.std.proofs.lemmas.Bool.{true≢false}
 use Rattle.histar_flat.specs.Files.{Files, get}
 use Rattle.histar_flat.specs.FlatState.{Node}
-use Rattle.histar_flat.specs.PathOrder.{same, under_path}
+use Rattle.histar_flat.specs.PathOrder.{under_path}
 use Rattle.histar_flat.specs.Words.{Path, ProcName}
 use Rattle.histar_flat.proofs.FileLemmas.{same_path_found}
 use Rattle.histar_flat.proofs.Under.{or_true, true_or_false}
@@ -22,11 +22,13 @@ pub record ChangesBelow (d : Path) (m n : Files Node) : Type 0 where
   pub rest : (q : Path) → is_below d q ≡ false → get n q ≡ get m q
 
 module _ (job : ProcName) where
-  -- the other tree hides the same
+  -- in the other tree the same lies in the job
   pub lie_alike : (m n : Files Node) → SameFiles job m n → (q : Path) → lies_in_job job m q ≡ lies_in_job job n q
   lie_alike m n r [] = refl
   lie_alike m n r (x ∷ d) = elim (true_or_false (lies_in_job job m d)) [
-    | inl h ↦ ap (λ b. is_dir_of job (get m d) || b) h ∙ or_true (is_dir_of job (get m d)) ∙ sym (ap (λ b. is_dir_of job (get n d) || b) (sym (lie_alike m n r d) ∙ h) ∙ or_true (is_dir_of job (get n d)))
+    | inl h ↦
+        ap (λ b. is_dir_of job (get m d) || b) h ∙ or_true (is_dir_of job (get m d))
+        ∙ sym (ap (λ b. is_dir_of job (get n d) || b) (sym (lie_alike m n r d) ∙ h) ∙ or_true (is_dir_of job (get n d)))
     | inr h ↦ ap (λ o. is_dir_of job o || lies_in_job job m d) (r.same d h) ∙ ap (λ b. is_dir_of job (get n d) || b) (lie_alike m n r d)
   ]
 
@@ -39,8 +41,9 @@ module _ (job : ProcName) where
   pub same_files_itself : (m : Files Node) → SameFiles job m m
   same_files_itself m = record { same = λ q h. refl }
 
-  -- what hides a directory's entries hides all below it
-  pub lies_below_it : (m : Files Node) (d : Path) → (is_dir_of job (get m d) || lies_in_job job m d) ≡ true → (q : Path) → under_path d q ≡ true → (is_dir_of job (get m q) || lies_in_job job m q) ≡ true
+  -- what lies below a directory of the job, or below what lies in the job, lies there too
+  pub lies_below_it : (m : Files Node) (d : Path) → (is_dir_of job (get m d) || lies_in_job job m d) ≡ true → (q : Path)
+      → under_path d q ≡ true → (is_dir_of job (get m q) || lies_in_job job m q) ≡ true
   lies_below_it m d h [] u = subst (λ x. (is_dir_of job (get m x) || lies_in_job job m x) ≡ true) (is_same_path d [] u) h
   lies_below_it m d h (n ∷ q) u = elim (same_path_found d (n ∷ q)) [
     | inl r ↦ subst (λ x. (is_dir_of job (get m x) || lies_in_job job m x) ≡ true) r.1 h
@@ -50,7 +53,8 @@ module _ (job : ProcName) where
   ]
 
   -- a change below a job's directory is no change outside the job
-  pub change_inside : (m n : Files Node) (d : Path) → (is_dir_of job (get m d) || lies_in_job job m d) ≡ true → ChangesBelow d m n → SameFiles job m n
+  pub change_inside : (m n : Files Node) (d : Path) → (is_dir_of job (get m d) || lies_in_job job m d) ≡ true → ChangesBelow d m n
+      → SameFiles job m n
   change_inside m n d h c = record { same = λ q out. sym (c.rest q (by q out)) }
     where
       by : (q : Path) → lies_in_job job m q ≡ false → is_below d q ≡ false

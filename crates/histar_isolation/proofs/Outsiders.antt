@@ -23,7 +23,8 @@ use Rattle.histar_isolation.proofs.Walks.{closed_dir, entries_alike, outsider_in
 
 -- the tests after the walk, of what stands at the path and at the directory that it lies in
 unfoldable pub room_tests_of : Session → Process → Option Node → List Entry → Option Node → Option Errno
-room_tests_of session p x es d = unless (not (is_some_and x (λ n. true))) EEXIST orelse unless (nat_lt (length es) most_entries) ENOSPC orelse unless (is_some_and d (λ n. may_write session p n.class)) EACCES
+room_tests_of session p x es d =
+    unless (not (is_some_and x (λ n. true))) EEXIST orelse unless (nat_lt (length es) most_entries) ENOSPC orelse unless (is_some_and d (λ n. may_write session p n.class)) EACCES
 
 unfoldable pub file_tests_of : Option Node → Option Errno
 file_tests_of x = unless (is_some_and x (λ n. true)) ENOENT orelse unless (is_some_and x (λ n. not (is_dir n))) EISDIR
@@ -34,7 +35,8 @@ module _ (job : ProcName) (session : Session) (p : Process) (f g : Flat) (r : Sa
 
   at_parent : (q : Path) → walk session f p q ≡ None → get f.files (parent q) ≡ get g.files (parent q)
   at_parent [] w = r.same [] refl
-  at_parent (n ∷ d) w = r.same d ((or_parts (is_dir_of job (get f.files d)) (lies_in_job job f.files d) (reached job session p f g r o (n ∷ d) w)).1)
+  at_parent (n ∷ d) w =
+      r.same d ((or_parts (is_dir_of job (get f.files d)) (lies_in_job job f.files d) (reached job session p f g r o (n ∷ d) w)).1)
 
   entries_at : (n : Name) (d : Path) → into session f p d ≡ None → entries_in f d ≡ entries_in g d
   entries_at n d w = entries_alike job f g r d (reached job session p f g r o (n ∷ d) w)
@@ -85,7 +87,8 @@ module _ (job : ProcName) (session : Session) (p : Process) (f g : Flat) (r : Sa
         (λ w i. unless (is_some_and (at_path q (file_walked q w) i) (λ n. may_write session p n.class)) EACCES orelse unless (nat_le (length bytes) most_bytes) EFBIG)
 
     append_tests : Option Node → List ℕ → Option Errno
-    append_tests x bytes = unless (is_some_and x (λ n. may_write session p n.class)) EACCES orelse unless (nat_le (length (bytes_of x ++ bytes)) most_bytes) EFBIG
+    append_tests x bytes =
+        unless (is_some_and x (λ n. may_write session p n.class)) EACCES orelse unless (nat_le (length (bytes_of x ++ bytes)) most_bytes) EFBIG
 
     pub append_alike : (q : Path) (bytes : List ℕ) → refused session f me p (Append q bytes) ≡ refused session g me p (Append q bytes)
     unfolding append_tests
@@ -93,7 +96,8 @@ module _ (job : ProcName) (session : Session) (p : Process) (f g : Flat) (r : Sa
         (λ w i. append_tests (at_path q (file_walked q w) i) bytes)
 
     list_tests : Option Node → Option Errno
-    list_tests x = unless (is_some_and x (λ n. true)) ENOENT orelse unless (is_some_and x is_dir) ENOTDIR orelse unless (is_some_and x (λ n. may_read session p n.class)) EACCES
+    list_tests x =
+        unless (is_some_and x (λ n. true)) ENOENT orelse unless (is_some_and x is_dir) ENOTDIR orelse unless (is_some_and x (λ n. may_read session p n.class)) EACCES
 
     pub list_alike : (q : Path) → refused session f me p (ListCall q) ≡ refused session g me p (ListCall q)
     unfolding list_tests
@@ -107,7 +111,8 @@ module _ (job : ProcName) (session : Session) (p : Process) (f g : Flat) (r : Sa
         let readable : reads session f p q ≡ true = passed (reads session f p q) EACCES (passes_later (unless (is_dir_at f q) ENOTDIR) (unless (reads session f p q) EACCES) (passes_later (unless (is_there f q) ENOENT) (unless (is_dir_at f q) ENOTDIR orelse unless (reads session f p q) EACCES) (passes_later (walk session f p q) (unless (is_there f q) ENOENT orelse unless (is_dir_at f q) ENOTDIR orelse unless (reads session f p q) EACCES) w))) in
         entries_alike job f g r q (by (reached job session p f g r o q walked) readable)
       where
-        by : lies_in_job job f.files q ≡ false → reads session f p q ≡ true → (is_dir_of job (get f.files q) || lies_in_job job f.files q) ≡ false
+        by : lies_in_job job f.files q ≡ false → reads session f p q ≡ true
+            → (is_dir_of job (get f.files q) || lies_in_job job f.files q) ≡ false
         by h i = elim (true_or_false (is_dir_of job (get f.files q))) [
           | inl k ↦ absurd (true≢false (sym i ∙ closed_dir session p job (get f.files q) o k))
           | inr k ↦ ap (λ b. b || lies_in_job job f.files q) k ∙ h

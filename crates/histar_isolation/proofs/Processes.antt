@@ -1,4 +1,4 @@
--- Process calls of an outsider and of the wrapper.
+-- Process calls of outsiders, and of who started the job.
 use Rattle.std.specs.Prelude.{Bool, List, None, Option, Some, [], cond, false, is_some, nat_eq, refl, true, ℕ, ◌||◌, ◌∷◌, ◌≡◌, ◌⊎◌}
 use Rattle.std.proofs.Common.{ap, inl, inr, subst, sym, ◌∙◌}
 use Rattle.std.proofs.lemmas.Bool.{or_parts, true≢false}
@@ -22,7 +22,8 @@ use Rattle.histar_isolation.proofs.Tests.{all_of, failed, guarded, is_same, not_
 at_process : Process → Option Process → Option Errno
 at_process p x = unless (is_some x) ESRCH orelse unless (is_some_and x (sees p)) EACCES
 
-found_step : (f : Flat) (p : Process) (n : ℕ) (q : ProcName) → not_found f p (n ∷ q) ≡ (not_found f p q orelse at_process p (f.processes (n ∷ q)))
+found_step : (f : Flat) (p : Process) (n : ℕ) (q : ProcName)
+    → not_found f p (n ∷ q) ≡ (not_found f p q orelse at_process p (f.processes (n ∷ q)))
 unfolding at_process
 found_step f p n q = refl
 
@@ -36,7 +37,8 @@ at_process_chain p None = refl
 at_process_chain p (Some q) = refl
 
 -- an outsider isn't let past a process of the job
-closed_process : (job : ProcName) (p : Process) (x : Option Process) → knows p job ≡ false → ((q : Process) → x ≡ Some q → has q.chain job ≡ true) → is_some (at_process p x) ≡ true
+closed_process : (job : ProcName) (p : Process) (x : Option Process) → knows p job ≡ false
+    → ((q : Process) → x ≡ Some q → has q.chain job ≡ true) → is_some (at_process p x) ≡ true
 unfolding at_process
 closed_process job p None o h = refl
 closed_process job p (Some q) o h = failed (sees p q) EACCES (by (sees p q) refl)
@@ -49,19 +51,24 @@ module _ (m : ℕ) (w : ProcName) (f g : Flat) (r : SameOutside (m ∷ w) f g) (
   -- up to the job's first process all find alike
   at_alike : (q : ProcName) → (under_process (m ∷ w) q ≡ false) ⊎ (m ∷ w ≡ q) → at_process p (f.processes q) ≡ at_process p (g.processes q)
   at_alike q (inl h) = ap (at_process p) (r.processes q h)
-  at_alike q (inr e) = at_process_chain p (f.processes q) ∙ ap (by_chain p) (subst (λ x. chain_of (f.processes x) ≡ chain_of (g.processes x)) e r.chain) ∙ sym (at_process_chain p (g.processes q))
+  at_alike q (inr e) =
+      at_process_chain p (f.processes q) ∙ ap (by_chain p) (subst (λ x. chain_of (f.processes x) ≡ chain_of (g.processes x)) e r.chain)
+      ∙ sym (at_process_chain p (g.processes q))
 
   -- anyone finds alike what isn't below the job
   pub found_alike : (q : ProcName) → under_process (m ∷ w) q ≡ false → not_found f p q ≡ not_found g p q
   found_alike [] h = refl
   found_alike (n ∷ q) h =
       let up = (or_parts (same (m ∷ w) (n ∷ q)) (under_process (m ∷ w) q) h).1 in
-      found_step f p n q ∙ guarded (not_found f p q) (not_found g p q) _ _ (found_alike q up) (λ _. at_alike (n ∷ q) (inl h)) ∙ sym (found_step g p n q)
+      found_step f p n q ∙ guarded (not_found f p q) (not_found g p q) _ _ (found_alike q up) (λ _. at_alike (n ∷ q) (inl h))
+      ∙ sym (found_step g p n q)
 
   -- and the job itself
   pub job_found_alike : not_found f p (m ∷ w) ≡ not_found g p (m ∷ w)
   job_found_alike =
-      found_step f p m w ∙ guarded (not_found f p w) (not_found g p w) _ _ (found_alike w (above_is_not_under nat_eq same_name_found w m)) (λ _. at_alike (m ∷ w) (inr refl)) ∙ sym (found_step g p m w)
+      found_step f p m w
+      ∙ guarded (not_found f p w) (not_found g p w) _ _ (found_alike w (above_is_not_under nat_eq same_name_found w m)) (λ _. at_alike (m ∷ w) (inr refl))
+      ∙ sym (found_step g p m w)
 
   -- an outsider finds nothing of the job
   pub job_not_found : knows p (m ∷ w) ≡ false → (q : ProcName) → under_process (m ∷ w) q ≡ true → is_some (not_found f p q) ≡ true
@@ -77,7 +84,8 @@ module _ (m : ℕ) (w : ProcName) (f g : Flat) (r : SameOutside (m ∷ w) f g) (
       | inl up ↦ found_step f p n q
           ∙ guarded (not_found f p q) (not_found g p q) _ _ (outsider_finds o q) (λ found. absurd (not_passed (not_found f p q) (job_not_found o q up) found))
           ∙ sym (found_step g p n q)
-      | inr up ↦ subst (λ x. not_found f p x ≡ not_found g p x) (is_same (m ∷ w) (n ∷ q) (first (same (m ∷ w) (n ∷ q)) up h)) job_found_alike
+      | inr up ↦
+          subst (λ x. not_found f p x ≡ not_found g p x) (is_same (m ∷ w) (n ∷ q) (first (same (m ∷ w) (n ∷ q)) up h)) job_found_alike
     ]
   ]
     where

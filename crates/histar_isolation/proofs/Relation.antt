@@ -29,7 +29,8 @@ pub record IsStarted (job : ProcName) (f : Flat) : Type 0 where
   -- the name of the job was given
   pub given : is_given f.processes job ≡ true
   -- a file of the job lies below a directory of the job
-  pub files : (q : Path) (n : Node) → get f.files q ≡ Some n → carries job n.class ≡ true → is_dir n ≡ false → lies_in_job job f.files q ≡ true
+  pub files : (q : Path) (n : Node) → get f.files q ≡ Some n → carries job n.class ≡ true → is_dir n ≡ false
+      → lies_in_job job f.files q ≡ true
   -- the processes of the job are the job's process and those below it
   pub inside : (q : ProcName) (p : Process) → f.processes q ≡ Some p → has p.chain job ≡ under_process job q
   -- no process but the one that started the job holds it

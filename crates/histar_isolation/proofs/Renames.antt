@@ -20,16 +20,19 @@ module _ (job : ProcName) (n k : Name) (d : Path) (ne : n ≢ k) where
   unfoldable pub renamed : Files Node → Files Node
   renamed m = from_list (map (λ e. (moved (n ∷ d) (k ∷ d) e.0, e.1)) m.entries)
 
-  pub gone_renamed : (m : Files Node) → ((q : Path) → under_path (k ∷ d) q ≡ true → get m q ≡ None) → (q : Path) → under_path (n ∷ d) q ≡ true → get (renamed m) q ≡ None
+  pub gone_renamed : (m : Files Node) → ((q : Path) → under_path (k ∷ d) q ≡ true → get m q ≡ None) → (q : Path)
+      → under_path (n ∷ d) q ≡ true → get (renamed m) q ≡ None
   unfolding renamed
   gone_renamed m h q u = get_renamed n k d ne m h q ∙ ap (λ b. cond b None (get m (from_new q))) u
 
-  pub kept_renamed : (m : Files Node) → ((q : Path) → under_path (k ∷ d) q ≡ true → get m q ≡ None) → (q : Path) → under_path (n ∷ d) q ≡ false → get (renamed m) q ≡ get m (from_new q)
+  pub kept_renamed : (m : Files Node) → ((q : Path) → under_path (k ∷ d) q ≡ true → get m q ≡ None) → (q : Path)
+      → under_path (n ∷ d) q ≡ false → get (renamed m) q ≡ get m (from_new q)
   unfolding renamed
   kept_renamed m h q u = get_renamed n k d ne m h q ∙ ap (λ b. cond b None (get m (from_new q))) u
 
   -- a moved path lies in the job as it did
-  pub lies_renamed : (m : Files Node) → ((q : Path) → under_path (k ∷ d) q ≡ true → get m q ≡ None) → (q : Path) → under_path (n ∷ d) q ≡ false → lies_in_job job (renamed m) q ≡ lies_in_job job m (from_new q)
+  pub lies_renamed : (m : Files Node) → ((q : Path) → under_path (k ∷ d) q ≡ true → get m q ≡ None) → (q : Path)
+      → under_path (n ∷ d) q ≡ false → lies_in_job job (renamed m) q ≡ lies_in_job job m (from_new q)
   lies_renamed m h [] u = refl
   lies_renamed m h (x ∷ e) u =
       let up = (or_parts (same_path (n ∷ d) (x ∷ e)) (under_path (n ∷ d) e) u).1 in
@@ -51,6 +54,7 @@ module _ (job : ProcName) (n k : Name) (d : Path) (ne : n ≢ k) where
       → SameFiles job (renamed a) (renamed b)
   renamed_alike a b r ha hb = record { same = λ q h. by q h (true_or_false (under_path (n ∷ d) q)) }
     where
-      by : (q : Path) → lies_in_job job (renamed a) q ≡ false → (under_path (n ∷ d) q ≡ true) ⊎ (under_path (n ∷ d) q ≡ false) → get (renamed a) q ≡ get (renamed b) q
+      by : (q : Path) → lies_in_job job (renamed a) q ≡ false → (under_path (n ∷ d) q ≡ true) ⊎ (under_path (n ∷ d) q ≡ false)
+          → get (renamed a) q ≡ get (renamed b) q
       by q h (inl u) = gone_renamed a ha q u ∙ sym (gone_renamed b hb q u)
       by q h (inr u) = kept_renamed a ha q u ∙ r.same (from_new q) (sym (lies_renamed a ha q u) ∙ h) ∙ sym (kept_renamed b hb q u)

@@ -55,7 +55,8 @@ module _ {A : Type 0} (equal : A → A → Bool) (found : (p q : List A) → Fou
   ]
 
 -- what each of a list passes, a member passes
-pub all_of : (test : ProcName → Bool) (jobs : List ProcName) (job : ProcName) → list_all test jobs ≡ true → has jobs job ≡ true → test job ≡ true
+pub all_of : (test : ProcName → Bool) (jobs : List ProcName) (job : ProcName) → list_all test jobs ≡ true → has jobs job ≡ true
+    → test job ≡ true
 all_of test [] job h i = absurd (true≢false (sym i))
 all_of test (k ∷ jobs) job h i =
     let parts = and_parts (test k) (list_all test jobs) h in

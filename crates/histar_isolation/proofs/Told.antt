@@ -1,4 +1,4 @@
--- An outsider's calls are refused and answered_from alike; the steps of the two runs_is_there.
+-- An outsider's calls are refused and answered alike; the steps of the two runs.
 use Rattle.std.specs.Prelude.{None, Option, Some, [], false, nat_eq, not, refl, true, ℕ, ◌||◌, ◌∷◌, ◌≡◌, ◌⊎◌}
 use Rattle.std.proofs.Common.{ap, inl, inr, subst, ◌∙◌}
 use Rattle.std.proofs.lemmas.Bool.{and_parts, not-true}
@@ -50,30 +50,34 @@ module _ (m : ℕ) (w : ProcName) (session : Session) (f g : Flat) (r : SameOuts
   refused_alike (Kill q) = kill_alike m w f g r hf p session me o q
   refused_alike Whoami = refl
   refused_alike (Login name password) = refl
-  refused_alike (Wrap q) = ap (λ x. no_child me p orelse x orelse unless (not (same p.user nobody)) EPERM) (no_room_alike (m ∷ w) session p f g r.files o q)
+  refused_alike (Wrap q) =
+      ap (λ x. no_child me p orelse x orelse unless (not (same p.user nobody)) EPERM) (no_room_alike (m ∷ w) session p f g r.files o q)
 
-  -- what an outsider's call looks at isn't hidden
-  file_unhidden : (n : Name) (d : Path) (e : Option Errno) → (no_file session f p (n ∷ d) orelse e) ≡ None → lies_in_job (m ∷ w) f.files (n ∷ d) ≡ false
-  file_unhidden n d e v = reached (m ∷ w) session p f g r.files o (n ∷ d) ((two_pass (into session f p d) (is_there f (n ∷ d)) (is_file_at f (n ∷ d)) ENOENT EISDIR (passes_first (no_file session f p (n ∷ d)) e v)).0)
+  -- what an outsider's call looks at doesn't lie in the job
+  file_outside : (n : Name) (d : Path) (e : Option Errno) → (no_file session f p (n ∷ d) orelse e) ≡ None
+      → lies_in_job (m ∷ w) f.files (n ∷ d) ≡ false
+  file_outside n d e v =
+      reached (m ∷ w) session p f g r.files o (n ∷ d) ((two_pass (into session f p d) (is_there f (n ∷ d)) (is_file_at f (n ∷ d)) ENOENT EISDIR (passes_first (no_file session f p (n ∷ d)) e v)).0)
 
-  unhidden : (call : UnixCall) → refused session f me p call ≡ None → lies_in_job (m ∷ w) f.files (looked_at call) ≡ false
-  unhidden (Read []) v = refl
-  unhidden (Read (n ∷ d)) v = file_unhidden n d (unless (reads session f p (n ∷ d)) EACCES) v
-  unhidden (Write [] bytes) v = refl
-  unhidden (Write (n ∷ d) bytes) v = file_unhidden n d _ v
-  unhidden (Append [] bytes) v = refl
-  unhidden (Append (n ∷ d) bytes) v = file_unhidden n d _ v
-  unhidden (Stat []) v = refl
-  unhidden (Stat (n ∷ d)) v = reached (m ∷ w) session p f g r.files o (n ∷ d) (passes_first (into session f p d) (unless (is_there f (n ∷ d)) ENOENT) v)
-  unhidden _ v = refl
+  looks_outside : (call : UnixCall) → refused session f me p call ≡ None → lies_in_job (m ∷ w) f.files (looked_at call) ≡ false
+  looks_outside (Read []) v = refl
+  looks_outside (Read (n ∷ d)) v = file_outside n d (unless (reads session f p (n ∷ d)) EACCES) v
+  looks_outside (Write [] bytes) v = refl
+  looks_outside (Write (n ∷ d) bytes) v = file_outside n d _ v
+  looks_outside (Append [] bytes) v = refl
+  looks_outside (Append (n ∷ d) bytes) v = file_outside n d _ v
+  looks_outside (Stat []) v = refl
+  looks_outside (Stat (n ∷ d)) v =
+      reached (m ∷ w) session p f g r.files o (n ∷ d) (passes_first (into session f p d) (unless (is_there f (n ∷ d)) ENOENT) v)
+  looks_outside _ v = refl
 
   outsider_state : (call : UnixCall) → SameOutside (m ∷ w) (flat_by session f me (Some p) call) (flat_by session g me (Some p) call)
-  outsider_state call = both m w session f g r hf hg me p call (refused_alike call) (unhidden call)
+  outsider_state call = both m w session f g r hf hg me p call (refused_alike call) (looks_outside call)
 
   answers_alike : (call : UnixCall) → refused session f me p call ≡ None → answer f me p call ≡ answer g me p call
-  answers_alike (Read q) v = ap (λ x. replies.Data (bytes_of x)) (r.files.same q (unhidden (Read q) v))
+  answers_alike (Read q) v = ap (λ x. replies.Data (bytes_of x)) (r.files.same q (looks_outside (Read q) v))
   answers_alike (ListCall q) v = ap replies.Entries (listed_alike (m ∷ w) session p f g r.files o me q v)
-  answers_alike (Stat q) v = ap stat_reply (r.files.same q (unhidden (Stat q) v))
+  answers_alike (Stat q) v = ap stat_reply (r.files.same q (looks_outside (Stat q) v))
   answers_alike (Status q) v = ap life_reply (r.processes q (by (true_or_false (under_process (m ∷ w) q))))
     where
       by : (under_process (m ∷ w) q ≡ true) ⊎ (under_process (m ∷ w) q ≡ false) → under_process (m ∷ w) q ≡ false
@@ -82,29 +86,36 @@ module _ (m : ℕ) (w : ProcName) (session : Session) (f g : Flat) (r : SameOuts
   answers_alike _ v = refl
 
   outsider_reply : (call : UnixCall) → reply_by session f me (Some p) call ≡ reply_by session g me (Some p) call
-  outsider_reply call = reply_alike (refused session f me p call) (refused session g me p call) (answer f me p call) (answer g me p call) (refused_alike call) (answers_alike call)
+  outsider_reply call =
+      reply_alike (refused session f me p call) (refused session g me p call) (answer f me p call) (answer g me p call) (refused_alike call) (answers_alike call)
 
 -- a line of a process outside the job
 module _ (job : ProcName) (session : Session) (f g : Flat) (r : SameOutside job f g) (me : ProcName) (u : under_process job me ≡ false) (call : UnixCall) where
-  state_line : ((p : Process) → f.processes me ≡ Some p → SameOutside job (flat_by session f me (Some p) call) (flat_by session g me (Some p) call)) → SameOutside job (flat_after session f me call) (flat_after session g me call)
-  state_line moves = subst (λ o. SameOutside job (flat_after session f me call) (flat_by session g me (if_running o) call)) (r.processes me u) (by (running f me) refl)
+  state_line : ((p : Process) → f.processes me ≡ Some p → SameOutside job (flat_by session f me (Some p) call) (flat_by session g me (Some p) call))
+      → SameOutside job (flat_after session f me call) (flat_after session g me call)
+  state_line moves =
+      subst (λ o. SameOutside job (flat_after session f me call) (flat_by session g me (if_running o) call)) (r.processes me u) (by (running f me) refl)
     where
       by : (o : Option Process) → running f me ≡ o → SameOutside job (flat_by session f me o call) (flat_by session g me o call)
       by None e = r
       by (Some p) e = moves p (runs_is_there (f.processes me) p e)
 
-  reply_line : ((p : Process) → f.processes me ≡ Some p → reply_by session f me (Some p) call ≡ reply_by session g me (Some p) call) → reply_to session f me call ≡ reply_to session g me call
-  reply_line told = subst (λ o. reply_to session f me call ≡ reply_by session g me (if_running o) call) (r.processes me u) (by (running f me) refl)
+  reply_line : ((p : Process) → f.processes me ≡ Some p → reply_by session f me (Some p) call ≡ reply_by session g me (Some p) call)
+      → reply_to session f me call ≡ reply_to session g me call
+  reply_line told =
+      subst (λ o. reply_to session f me call ≡ reply_by session g me (if_running o) call) (r.processes me u) (by (running f me) refl)
     where
       by : (o : Option Process) → running f me ≡ o → reply_by session f me o call ≡ reply_by session g me o call
       by None e = refl
       by (Some p) e = told p (runs_is_there (f.processes me) p e)
 
 -- an outsider knows nothing of the job
-knows_not : (job : ProcName) (f : Flat) → IsStarted job f → (me : ProcName) (p : Process) → is_outsider job me ≡ true → f.processes me ≡ Some p → knows p job ≡ false
+knows_not : (job : ProcName) (f : Flat) → IsStarted job f → (me : ProcName) (p : Process) → is_outsider job me ≡ true
+    → f.processes me ≡ Some p → knows p job ≡ false
 knows_not job f h me p out here =
     let t = and_parts (not (under_process job me)) (not (same (parent job) me)) out in
-    ap (λ b. b || has p.held job) (h.inside me p here ∙ not-true (under_process job me) t.0) ∙ h.held me p here (not-true (same (parent job) me) t.1)
+    ap (λ b. b || has p.held job) (h.inside me p here ∙ not-true (under_process job me) t.0)
+    ∙ h.held me p here (not-true (same (parent job) me) t.1)
 
 not_inside : (job me : ProcName) → is_outsider job me ≡ true → under_process job me ≡ false
 not_inside job me out = not-true (under_process job me) ((and_parts (not (under_process job me)) (not (same (parent job) me)) out).0)

@@ -40,7 +40,8 @@ node_has_text : (q : Path) (node : Node) → node_text q node ≢ []
 node_has_text q node = goes_on _ _ (goes_on _ _ (has_space (path_text q)))
 
 -- tests that agree above a path find the same path in a list above it
-agree : (P Q : Path → Bool) (x : Path) (es : Nodes) → IsBelow x es → ((q : Path) → path_cmp x q ≡ Less → P q ≡ Q q) → first_that P (paths_of es) ≡ first_that Q (paths_of es)
+agree : (P Q : Path → Bool) (x : Path) (es : Nodes) → IsBelow x es → ((q : Path) → path_cmp x q ≡ Less → P q ≡ Q q)
+    → first_that P (paths_of es) ≡ first_that Q (paths_of es)
 agree P Q x [] h same_test = refl
 agree P Q x (e ∷ es) h same_test =
     let parts = and_parts (is_lt (path_cmp x e.0)) (below_all path_cmp x es) h in
@@ -52,7 +53,8 @@ module _ (left_out : Path → Bool) where
   differ as' bs q = not (left_out q) && not (same (text_at q (find path_cmp q as')) (text_at q (find path_cmp q bs)))
 
   -- one step: the test says that the path is not passed over
-  one_step : (P : Path → Bool) (q : Path) (paths : List Path) (passed_over : Bool) (rest : Option Path) → P q ≡ not passed_over → first_that P paths ≡ rest → first_that P (q ∷ paths) ≡ cond passed_over rest (Some q)
+  one_step : (P : Path → Bool) (q : Path) (paths : List Path) (passed_over : Bool) (rest : Option Path) → P q ≡ not passed_over
+      → first_that P paths ≡ rest → first_that P (q ∷ paths) ≡ cond passed_over rest (Some q)
   one_step P q paths passed_over rest e h = (λ i. cond (e i) (Some q) (h i)) ∙ turn passed_over
     where
       turn : (b : Bool) → cond (not b) (Some q) rest ≡ cond b rest (Some q)
@@ -64,18 +66,23 @@ module _ (left_out : Path → Bool) where
   and_yes false = refl
 
   -- where something stands in one list alone, the lists differ
-  in_first : (as' bs : Nodes) (q : Path) (node : Node) → find path_cmp q as' ≡ Some node → find path_cmp q bs ≡ None → differ as' bs q ≡ not (left_out q)
+  in_first : (as' bs : Nodes) (q : Path) (node : Node) → find path_cmp q as' ≡ Some node → find path_cmp q bs ≡ None
+      → differ as' bs q ≡ not (left_out q)
   in_first as' bs q node here there =
       (λ i. not (left_out q) && not (same (text_at q (here i)) (text_at q (there i))))
-      ∙ ap (λ b. not (left_out q) && not b) (apart nat_eq same_name_found (node_text q node) [] (node_has_text q node)) ∙ and_yes (not (left_out q))
+      ∙ ap (λ b. not (left_out q) && not b) (apart nat_eq same_name_found (node_text q node) [] (node_has_text q node))
+      ∙ and_yes (not (left_out q))
 
-  in_second : (as' bs : Nodes) (q : Path) (node : Node) → find path_cmp q as' ≡ None → find path_cmp q bs ≡ Some node → differ as' bs q ≡ not (left_out q)
+  in_second : (as' bs : Nodes) (q : Path) (node : Node) → find path_cmp q as' ≡ None → find path_cmp q bs ≡ Some node
+      → differ as' bs q ≡ not (left_out q)
   in_second as' bs q node here there =
       (λ i. not (left_out q) && not (same (text_at q (here i)) (text_at q (there i))))
-      ∙ ap (λ b. not (left_out q) && not b) (apart nat_eq same_name_found [] (node_text q node) (λ e. node_has_text q node (sym e))) ∙ and_yes (not (left_out q))
+      ∙ ap (λ b. not (left_out q) && not b) (apart nat_eq same_name_found [] (node_text q node) (λ e. node_has_text q node (sym e)))
+      ∙ and_yes (not (left_out q))
 
   -- where something stands in both, they differ by the texts
-  in_both_lists : (as' bs : Nodes) (q : Path) (x y : Node) → find path_cmp q as' ≡ Some x → find path_cmp q bs ≡ Some y → differ as' bs q ≡ not (left_out q || same (node_text q x) (node_text q y))
+  in_both_lists : (as' bs : Nodes) (q : Path) (x y : Node) → find path_cmp q as' ≡ Some x → find path_cmp q bs ≡ Some y
+      → differ as' bs q ≡ not (left_out q || same (node_text q x) (node_text q y))
   in_both_lists as' bs q x y here there =
       (λ i. not (left_out q) && not (same (text_at q (here i)) (text_at q (there i)))) ∙ by (left_out q)
     where
@@ -88,7 +95,8 @@ module _ (left_out : Path → Bool) where
   behind_first a as' bs q less = λ i. not (left_out q) && not (same (text_at q (find_past a as' q less i)) (text_at q (find path_cmp q bs)))
 
   behind_second : (b : Path × Node) (as' bs : Nodes) (q : Path) → path_cmp b.0 q ≡ Less → differ as' (b ∷ bs) q ≡ differ as' bs q
-  behind_second b as' bs q less = λ i. not (left_out q) && not (same (text_at q (find path_cmp q as')) (text_at q (find_past b bs q less i)))
+  behind_second b as' bs q less =
+      λ i. not (left_out q) && not (same (text_at q (find path_cmp q as')) (text_at q (find_past b bs q less i)))
 
   -- the first list is at its end
   one_list : (bs : Nodes) → Rises bs → first_that (differ [] bs) (paths_of bs) ≡ first_kept left_out (lines_of bs)
@@ -99,8 +107,10 @@ module _ (left_out : Path → Bool) where
       (agree (differ [] (b ∷ bs)) (differ [] bs) b.0 bs parts.0 (behind_second b [] bs) ∙ one_list bs parts.1)
 
   -- The test finds in the union what going through the lists side by side finds: where the first list begins with a ..
-  from_first : (a : Path × Node) (as' : Nodes) → IsBelow a.0 as' → ((cs : Nodes) → Rises cs → first_that (differ as' cs) (paths_of (union as' cs)) ≡ first_difference left_out (lines_of as') (lines_of cs))
-      → (bs : Nodes) → Rises bs → first_that (differ (a ∷ as') bs) (paths_of (union_from a (union as') bs)) ≡ difference_from left_out (a.0, node_text a.0 a.1) (first_difference left_out (lines_of as')) (lines_of bs)
+  from_first : (a : Path × Node) (as' : Nodes) → IsBelow a.0 as'
+      → ((cs : Nodes) → Rises cs → first_that (differ as' cs) (paths_of (union as' cs)) ≡ first_difference left_out (lines_of as') (lines_of cs))
+      → (bs : Nodes) → Rises bs
+      → first_that (differ (a ∷ as') bs) (paths_of (union_from a (union as') bs)) ≡ difference_from left_out (a.0, node_text a.0 a.1) (first_difference left_out (lines_of as')) (lines_of bs)
   from_first a as' ha each [] h =
       one_step (differ (a ∷ as') []) a.0 (paths_of (union as' [])) (left_out a.0) (first_difference left_out (lines_of as') []) (in_first (a ∷ as') [] a.0 a.1 (find_here a as') refl)
       (agree (differ (a ∷ as') []) (differ as' []) a.0 (union as' []) (below_union a.0 as' [] ha refl) (behind_first a as' []) ∙ each [] refl)
@@ -110,9 +120,11 @@ module _ (left_out : Path → Bool) where
       parts = and_parts (below_all path_cmp b.0 bs) (is_sorted path_cmp bs) h
 
       AlsoSo : Type 0
-      AlsoSo = first_that (differ (a ∷ as') bs) (paths_of (union_from a (union as') bs)) ≡ difference_from left_out (a.0, node_text a.0 a.1) (first_difference left_out (lines_of as')) (lines_of bs)
+      AlsoSo =
+          first_that (differ (a ∷ as') bs) (paths_of (union_from a (union as') bs)) ≡ difference_from left_out (a.0, node_text a.0 a.1) (first_difference left_out (lines_of as')) (lines_of bs)
 
-      by : (r : Ordering) → path_cmp a.0 b.0 ≡ r → AlsoSo → first_that (differ (a ∷ as') (b ∷ bs)) (paths_of (by_order r (a ∷ union as' (b ∷ bs)) (a ∷ union as' bs) (b ∷ union_from a (union as') bs)))
+      by : (r : Ordering) → path_cmp a.0 b.0 ≡ r → AlsoSo
+          → first_that (differ (a ∷ as') (b ∷ bs)) (paths_of (by_order r (a ∷ union as' (b ∷ bs)) (a ∷ union as' bs) (b ∷ union_from a (union as') bs)))
           ≡ by_order r (cond (left_out a.0) (first_difference left_out (lines_of as') (lines_of (b ∷ bs))) (Some a.0))
           (cond (left_out a.0 || same (node_text a.0 a.1) (node_text b.0 b.1)) (first_difference left_out (lines_of as') (lines_of bs)) (Some a.0))
           (cond (left_out b.0) (difference_from left_out (a.0, node_text a.0 a.1) (first_difference left_out (lines_of as')) (lines_of bs)) (Some b.0))
@@ -138,14 +150,16 @@ module _ (left_out : Path → Bool) where
           ∙ later)
 
   -- .. and for all lists.
-  pub side_by_side : (as' bs : Nodes) → Rises as' → Rises bs → first_that (differ as' bs) (paths_of (union as' bs)) ≡ first_difference left_out (lines_of as') (lines_of bs)
+  pub side_by_side : (as' bs : Nodes) → Rises as' → Rises bs
+      → first_that (differ as' bs) (paths_of (union as' bs)) ≡ first_difference left_out (lines_of as') (lines_of bs)
   side_by_side [] bs ha hb = one_list bs hb
   side_by_side (a ∷ as') bs ha hb =
       let parts = and_parts (below_all path_cmp a.0 as') (is_sorted path_cmp as') ha in
       from_first a as' parts.0 (λ cs hc. side_by_side as' cs parts.1 hc) bs hb
 
   -- The first path of two trees that passes the test is the first difference of their lines.
-  pub first_of_trees : (f g : Flat) → first_that (differ f.files.entries g.files.entries) (paths_of (from_list (f.files.entries ++ g.files.entries)).entries) ≡ first_difference left_out (tree_lines f) (tree_lines g)
+  pub first_of_trees : (f g : Flat)
+      → first_that (differ f.files.entries g.files.entries) (paths_of (from_list (f.files.entries ++ g.files.entries)).entries) ≡ first_difference left_out (tree_lines f) (tree_lines g)
   first_of_trees f g =
       ap (λ es. first_that (differ f.files.entries g.files.entries) (paths_of es)) (entries_of_both f.files g.files)
       ∙ side_by_side f.files.entries g.files.entries (holds (is_sorted path_cmp f.files.entries) f.files.sorted) (holds (is_sorted path_cmp g.files.entries) g.files.sorted)

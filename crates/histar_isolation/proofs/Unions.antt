@@ -83,14 +83,16 @@ find_below q (e ∷ es) h =
     ap (λ r. cond (is_eq r) (Some e.1) (find path_cmp q es)) (is_less (path_cmp q e.0) parts.0) ∙ find_below q es parts.1
 
 -- a path below all of both lists is below the union
-below_from : (q : Path) (a : Path × Node) (rest : Nodes → Nodes) → is_lt (path_cmp q a.0) ≡ true → ((cs : Nodes) → IsBelow q cs → IsBelow q (rest cs)) → (bs : Nodes) → IsBelow q bs → IsBelow q (union_from a rest bs)
+below_from : (q : Path) (a : Path × Node) (rest : Nodes → Nodes) → is_lt (path_cmp q a.0) ≡ true
+    → ((cs : Nodes) → IsBelow q cs → IsBelow q (rest cs)) → (bs : Nodes) → IsBelow q bs → IsBelow q (union_from a rest bs)
 below_from q a rest here each [] h = and_from (is_lt (path_cmp q a.0)) (below_all path_cmp q (rest [])) here (each [] refl)
 below_from q a rest here each (b ∷ bs) h = by (path_cmp a.0 b.0) (below_from q a rest here each bs parts.1)
   where
     parts : (is_lt (path_cmp q b.0) ≡ true) × (below_all path_cmp q bs ≡ true)
     parts = and_parts (is_lt (path_cmp q b.0)) (below_all path_cmp q bs) h
 
-    by : (r : Ordering) → IsBelow q (union_from a rest bs) → IsBelow q (by_order r (a ∷ rest (b ∷ bs)) (a ∷ rest bs) (b ∷ union_from a rest bs))
+    by : (r : Ordering) → IsBelow q (union_from a rest bs)
+        → IsBelow q (by_order r (a ∷ rest (b ∷ bs)) (a ∷ rest bs) (b ∷ union_from a rest bs))
     by Less later = and_from (is_lt (path_cmp q a.0)) (below_all path_cmp q (rest (b ∷ bs))) here (each (b ∷ bs) h)
     by Equal later = and_from (is_lt (path_cmp q a.0)) (below_all path_cmp q (rest bs)) here (each bs parts.1)
     by Greater later = and_from (is_lt (path_cmp q b.0)) (below_all path_cmp q (union_from a rest bs)) parts.0 later
@@ -109,16 +111,21 @@ pub below_tied : (q r : Path) (bs : Nodes) → path_cmp q r ≡ Equal → IsBelo
 below_tied q r bs tied h = subst (λ x. IsBelow x bs) (sym (path_cmp_exact q r tied)) h
 
 -- the union rises
-union_from_rises : (a : Path × Node) (as' : Nodes) → IsBelow a.0 as' → ((cs : Nodes) → Rises cs → Rises (union as' cs)) → (bs : Nodes) → Rises bs → Rises (union_from a (union as') bs)
-union_from_rises a as' ha each [] h = and_from (below_all path_cmp a.0 (union as' [])) (is_sorted path_cmp (union as' [])) (below_union a.0 as' [] ha refl) (each [] refl)
+union_from_rises : (a : Path × Node) (as' : Nodes) → IsBelow a.0 as' → ((cs : Nodes) → Rises cs → Rises (union as' cs)) → (bs : Nodes)
+    → Rises bs → Rises (union_from a (union as') bs)
+union_from_rises a as' ha each [] h =
+    and_from (below_all path_cmp a.0 (union as' [])) (is_sorted path_cmp (union as' [])) (below_union a.0 as' [] ha refl) (each [] refl)
 union_from_rises a as' ha each (b ∷ bs) h = by (path_cmp a.0 b.0) refl (union_from_rises a as' ha each bs parts.1)
   where
     parts : (below_all path_cmp b.0 bs ≡ true) × (is_sorted path_cmp bs ≡ true)
     parts = and_parts (below_all path_cmp b.0 bs) (is_sorted path_cmp bs) h
 
-    by : (r : Ordering) → path_cmp a.0 b.0 ≡ r → Rises (union_from a (union as') bs) → Rises (by_order r (a ∷ union as' (b ∷ bs)) (a ∷ union as' bs) (b ∷ union_from a (union as') bs))
-    by Less e later = and_from (below_all path_cmp a.0 (union as' (b ∷ bs))) (is_sorted path_cmp (union as' (b ∷ bs))) (below_union a.0 as' (b ∷ bs) ha (below_other a.0 b bs e parts.0)) (each (b ∷ bs) h)
-    by Equal e later = and_from (below_all path_cmp a.0 (union as' bs)) (is_sorted path_cmp (union as' bs)) (below_union a.0 as' bs ha (below_tied a.0 b.0 bs e parts.0)) (each bs parts.1)
+    by : (r : Ordering) → path_cmp a.0 b.0 ≡ r → Rises (union_from a (union as') bs)
+        → Rises (by_order r (a ∷ union as' (b ∷ bs)) (a ∷ union as' bs) (b ∷ union_from a (union as') bs))
+    by Less e later =
+        and_from (below_all path_cmp a.0 (union as' (b ∷ bs))) (is_sorted path_cmp (union as' (b ∷ bs))) (below_union a.0 as' (b ∷ bs) ha (below_other a.0 b bs e parts.0)) (each (b ∷ bs) h)
+    by Equal e later =
+        and_from (below_all path_cmp a.0 (union as' bs)) (is_sorted path_cmp (union as' bs)) (below_union a.0 as' bs ha (below_tied a.0 b.0 bs e parts.0)) (each bs parts.1)
     by Greater e later = and_from (below_all path_cmp b.0 (union_from a (union as') bs)) (is_sorted path_cmp (union_from a (union as') bs))
         (below_union b.0 (a ∷ as') bs (below_other b.0 a as' (turned_greater a.0 b.0 e) ha) parts.0) later
 
@@ -129,30 +136,38 @@ union_rises (a ∷ as') bs ha hb =
     union_from_rises a as' parts.0 (λ cs hc. union_rises as' cs parts.1 hc) bs hb
 
 -- what is found in the first of two, or else in the second
-in_both : (q : Path) (a : Path × Node) (es : Nodes) (x y : Option Node) → find path_cmp q es ≡ (x orelse y) → find path_cmp q (a ∷ es) ≡ (cond (eq_by_cmp path_cmp q a.0) (Some a.1) x orelse y)
+in_both : (q : Path) (a : Path × Node) (es : Nodes) (x y : Option Node) → find path_cmp q es ≡ (x orelse y)
+    → find path_cmp q (a ∷ es) ≡ (cond (eq_by_cmp path_cmp q a.0) (Some a.1) x orelse y)
 in_both q a es x y h = by (eq_by_cmp path_cmp q a.0)
   where
     by : (b : Bool) → cond b (Some a.1) (find path_cmp q es) ≡ (cond b (Some a.1) x orelse y)
     by true = refl
     by false = h
 
-find_union_from : (q : Path) (a : Path × Node) (as' : Nodes) → IsBelow a.0 as' → ((cs : Nodes) → find path_cmp q (union as' cs) ≡ (find path_cmp q as' orelse find path_cmp q cs))
+find_union_from : (q : Path) (a : Path × Node) (as' : Nodes) → IsBelow a.0 as'
+    → ((cs : Nodes) → find path_cmp q (union as' cs) ≡ (find path_cmp q as' orelse find path_cmp q cs))
     → (bs : Nodes) → find path_cmp q (union_from a (union as') bs) ≡ (find path_cmp q (a ∷ as') orelse find path_cmp q bs)
 find_union_from q a as' ha each [] = in_both q a (union as' []) (find path_cmp q as') None (each [])
 find_union_from q a as' ha each (b ∷ bs) = by (path_cmp a.0 b.0) refl (find_union_from q a as' ha each bs)
   where
-    tied : path_cmp a.0 b.0 ≡ Equal → (t : Bool) → eq_by_cmp path_cmp q a.0 ≡ t → cond t (Some a.1) (find path_cmp q (union as' bs)) ≡ (cond t (Some a.1) (find path_cmp q as') orelse find path_cmp q (b ∷ bs))
+    tied : path_cmp a.0 b.0 ≡ Equal → (t : Bool) → eq_by_cmp path_cmp q a.0 ≡ t
+        → cond t (Some a.1) (find path_cmp q (union as' bs)) ≡ (cond t (Some a.1) (find path_cmp q as') orelse find path_cmp q (b ∷ bs))
     tied e true t = refl
-    tied e false t = each bs ∙ ap (λ (o : Option Node). find path_cmp q as' orelse o) (sym (ap (λ c. cond c (Some b.1) (find path_cmp q bs)) (ap (eq_by_cmp path_cmp q) (sym (path_cmp_exact a.0 b.0 e)) ∙ t)))
+    tied e false t =
+        each bs
+        ∙ ap (λ (o : Option Node). find path_cmp q as' orelse o) (sym (ap (λ c. cond c (Some b.1) (find path_cmp q bs)) (ap (eq_by_cmp path_cmp q) (sym (path_cmp_exact a.0 b.0 e)) ∙ t)))
 
     AlsoFound : Type 0
     AlsoFound = find path_cmp q (union_from a (union as') bs) ≡ (find path_cmp q (a ∷ as') orelse find path_cmp q bs)
 
-    later : path_cmp a.0 b.0 ≡ Greater → AlsoFound → (t : Bool) → eq_by_cmp path_cmp q b.0 ≡ t → cond t (Some b.1) (find path_cmp q (union_from a (union as') bs)) ≡ (find path_cmp q (a ∷ as') orelse cond t (Some b.1) (find path_cmp q bs))
-    later e found true t = sym (ap (λ (o : Option Node). o orelse Some b.1) (find_below q (a ∷ as') (subst (λ x. IsBelow x (a ∷ as')) (sym (is_same_path q b.0 (sym (ties q b.0) ∙ t))) (below_other b.0 a as' (turned_greater a.0 b.0 e) ha))))
+    later : path_cmp a.0 b.0 ≡ Greater → AlsoFound → (t : Bool) → eq_by_cmp path_cmp q b.0 ≡ t
+        → cond t (Some b.1) (find path_cmp q (union_from a (union as') bs)) ≡ (find path_cmp q (a ∷ as') orelse cond t (Some b.1) (find path_cmp q bs))
+    later e found true t =
+        sym (ap (λ (o : Option Node). o orelse Some b.1) (find_below q (a ∷ as') (subst (λ x. IsBelow x (a ∷ as')) (sym (is_same_path q b.0 (sym (ties q b.0) ∙ t))) (below_other b.0 a as' (turned_greater a.0 b.0 e) ha))))
     later e found false t = found
 
-    by : (r : Ordering) → path_cmp a.0 b.0 ≡ r → AlsoFound → find path_cmp q (by_order r (a ∷ union as' (b ∷ bs)) (a ∷ union as' bs) (b ∷ union_from a (union as') bs)) ≡ (find path_cmp q (a ∷ as') orelse find path_cmp q (b ∷ bs))
+    by : (r : Ordering) → path_cmp a.0 b.0 ≡ r → AlsoFound
+        → find path_cmp q (by_order r (a ∷ union as' (b ∷ bs)) (a ∷ union as' bs) (b ∷ union_from a (union as') bs)) ≡ (find path_cmp q (a ∷ as') orelse find path_cmp q (b ∷ bs))
     by Less e found = in_both q a (union as' (b ∷ bs)) (find path_cmp q as') (find path_cmp q (b ∷ bs)) (each (b ∷ bs))
     by Equal e found = tied e (eq_by_cmp path_cmp q a.0) refl
     by Greater e found = later e found (eq_by_cmp path_cmp q b.0) refl

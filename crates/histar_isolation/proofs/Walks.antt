@@ -21,7 +21,8 @@ use Rattle.histar_isolation.proofs.Relation.{SameFiles}
 use Rattle.histar_isolation.proofs.Tests.{all_of, failed, guarded, left_holds, not_passed, stops_first, stops_later}
 
 -- an outsider can't read a class of the job
-pub closed_class : (session : Session) (p : Process) (job : ProcName) (c : Class) → knows p job ≡ false → carries job c ≡ true → may_read session p c ≡ false
+pub closed_class : (session : Session) (p : Process) (job : ProcName) (c : Class) → knows p job ≡ false → carries job c ≡ true
+    → may_read session p c ≡ false
 closed_class session p job (Private u) o h = absurd (true≢false (sym h))
 closed_class session p job (Readable u) o h = absurd (true≢false (sym h))
 closed_class session p job Open o h = absurd (true≢false (sym h))
@@ -32,19 +33,23 @@ closed_class session p job (Scratch u jobs) o h = by (may_read session p (Scratc
     by true e = absurd (true≢false (sym (all_of (knows p) jobs job ((and_parts (same p.user u) (list_all (knows p) jobs) e).1) h) ∙ o))
     by false e = e
 
-pub closed_dir : (session : Session) (p : Process) (job : ProcName) (n : Option Node) → knows p job ≡ false → is_dir_of job n ≡ true → is_some_and n (λ n'. may_read session p n'.class) ≡ false
+pub closed_dir : (session : Session) (p : Process) (job : ProcName) (n : Option Node) → knows p job ≡ false → is_dir_of job n ≡ true
+    → is_some_and n (λ n'. may_read session p n'.class) ≡ false
 closed_dir session p job None o h = refl
 closed_dir session p job (Some n) o h = closed_class session p job n.class o ((and_parts (is_dir n) (carries job n.class) h).1)
 
 -- the tests on the way at one directory
 at_dir : Session → Process → Option Node → Option Errno
-at_dir session p o = unless (is_some_and o (λ n. true)) ENOENT orelse unless (is_some_and o is_dir) ENOTDIR orelse unless (is_some_and o (λ n. may_read session p n.class)) EACCES
+at_dir session p o =
+    unless (is_some_and o (λ n. true)) ENOENT orelse unless (is_some_and o is_dir) ENOTDIR orelse unless (is_some_and o (λ n. may_read session p n.class)) EACCES
 
-into_step : (session : Session) (f : Flat) (p : Process) (n : Name) (d : Path) → into session f p (n ∷ d) ≡ (into session f p d orelse at_dir session p (get f.files (n ∷ d)))
+into_step : (session : Session) (f : Flat) (p : Process) (n : Name) (d : Path)
+    → into session f p (n ∷ d) ≡ (into session f p d orelse at_dir session p (get f.files (n ∷ d)))
 unfolding at_dir
 into_step session f p n d = refl
 
-at_dir_closed : (session : Session) (p : Process) (o : Option Node) → is_some_and o (λ n. may_read session p n.class) ≡ false → is_some (at_dir session p o) ≡ true
+at_dir_closed : (session : Session) (p : Process) (o : Option Node) → is_some_and o (λ n. may_read session p n.class) ≡ false
+    → is_some (at_dir session p o) ≡ true
 unfolding at_dir
 at_dir_closed session p o h =
     stops_later (unless (is_some_and o (λ n. true)) ENOENT) (unless (is_some_and o is_dir) ENOTDIR orelse unless (is_some_and o (λ n. may_read session p n.class)) EACCES)
@@ -53,7 +58,8 @@ at_dir_closed session p o h =
 
 module _ (job : ProcName) (session : Session) (p : Process) (f g : Flat) (r : SameFiles job f.files g.files) where
   -- outside the job's directories everyone walks alike
-  pub into_alike : (d : Path) → (is_dir_of job (get f.files d) || lies_in_job job f.files d) ≡ false → into session f p d ≡ into session g p d
+  pub into_alike : (d : Path) → (is_dir_of job (get f.files d) || lies_in_job job f.files d) ≡ false
+      → into session f p d ≡ into session g p d
   into_alike [] h = ap (λ o. unless (is_some_and o (λ n. may_read session p n.class)) EACCES) (r.same [] refl)
   into_alike (n ∷ d) h =
       let out = (or_parts (is_dir_of job (get f.files (n ∷ d))) (lies_in_job job f.files (n ∷ d)) h).1 in
@@ -62,7 +68,8 @@ module _ (job : ProcName) (session : Session) (p : Process) (f g : Flat) (r : Sa
       ∙ sym (into_step session g p n d)
 
   -- below them an outsider's walk is refused
-  pub into_refused : knows p job ≡ false → (d : Path) → (is_dir_of job (get f.files d) || lies_in_job job f.files d) ≡ true → is_some (into session f p d) ≡ true
+  pub into_refused : knows p job ≡ false → (d : Path) → (is_dir_of job (get f.files d) || lies_in_job job f.files d) ≡ true
+      → is_some (into session f p d) ≡ true
   into_refused o [] h = failed _ EACCES (closed_dir session p job (get f.files []) o (or_right (is_dir_of job (get f.files [])) h))
     where
       or_right : (b : Bool) → (b || false) ≡ true → b ≡ true
@@ -70,7 +77,8 @@ module _ (job : ProcName) (session : Session) (p : Process) (f g : Flat) (r : Sa
       or_right false e = e
   into_refused o (n ∷ d) h = ap is_some (into_step session f p n d) ∙ elim (true_or_false (lies_in_job job f.files (n ∷ d))) [
     | inl i ↦ stops_first (into session f p d) (at_dir session p (get f.files (n ∷ d))) (into_refused o d i)
-    | inr i ↦ stops_later (into session f p d) (at_dir session p (get f.files (n ∷ d))) (at_dir_closed session p (get f.files (n ∷ d)) (closed_dir session p job (get f.files (n ∷ d)) o (left_holds (is_dir_of job (get f.files (n ∷ d))) (lies_in_job job f.files (n ∷ d)) i h)))
+    | inr i ↦
+        stops_later (into session f p d) (at_dir session p (get f.files (n ∷ d))) (at_dir_closed session p (get f.files (n ∷ d)) (closed_dir session p job (get f.files (n ∷ d)) o (left_holds (is_dir_of job (get f.files (n ∷ d))) (lies_in_job job f.files (n ∷ d)) i h)))
   ]
 
   -- so an outsider walks alike in both trees
@@ -91,7 +99,7 @@ module _ (job : ProcName) (session : Session) (p : Process) (f g : Flat) (r : Sa
   outsider_walk o [] = refl
   outsider_walk o (n ∷ d) = outsider_into o d
 
-  -- what an outsider's walk reaches isn't hidden
+  -- what an outsider's walk reaches doesn't lie in the job
   pub reached : knows p job ≡ false → (q : Path) → walk session f p q ≡ None → lies_in_job job f.files q ≡ false
   reached o [] w = refl
   reached o (n ∷ d) w = elim (true_or_false (lies_in_job job f.files (n ∷ d))) [
@@ -102,19 +110,22 @@ module _ (job : ProcName) (session : Session) (p : Process) (f g : Flat) (r : Sa
 abbrev is_child : Path → Path → Bool
 is_child d q = elim q [ [] ↦ false | n ∷ above ↦ same_path d above ]
 
-only_children : (d : Path) (es : List (Path × Node)) → filter_map (entry_in d) es ≡ filter_map (entry_in d) (where_key path_cmp (is_child d) es)
+only_children : (d : Path) (es : List (Path × Node))
+    → filter_map (entry_in d) es ≡ filter_map (entry_in d) (where_key path_cmp (is_child d) es)
 only_children d [] = refl
 only_children d (e ∷ es) = one e.0 e.1 (only_children d es)
   where
-    one : (q : Path) (n : Node) → filter_map (entry_in d) es ≡ filter_map (entry_in d) (where_key path_cmp (is_child d) es) → filter_map (entry_in d) ((q, n) ∷ es) ≡ filter_map (entry_in d) (where_key path_cmp (is_child d) ((q, n) ∷ es))
+    one : (q : Path) (n : Node) → filter_map (entry_in d) es ≡ filter_map (entry_in d) (where_key path_cmp (is_child d) es)
+        → filter_map (entry_in d) ((q, n) ∷ es) ≡ filter_map (entry_in d) (where_key path_cmp (is_child d) ((q, n) ∷ es))
     one [] n rest = rest
     one (x ∷ above) n rest = elim (true_or_false (same_path d above)) [
       | inl t ↦ simp t (ap (λ (l : List Entry). (x, is_dir n) ∷ l) rest)
       | inr t ↦ simp t rest
     ]
 
--- a directory that is neither hidden nor the job's has the same entries
-pub entries_alike : (job : ProcName) (f g : Flat) → SameFiles job f.files g.files → (d : Path) → (is_dir_of job (get f.files d) || lies_in_job job f.files d) ≡ false → entries_in f d ≡ entries_in g d
+-- a directory that neither lies in the job nor is the job's has the same entries
+pub entries_alike : (job : ProcName) (f g : Flat) → SameFiles job f.files g.files → (d : Path)
+    → (is_dir_of job (get f.files d) || lies_in_job job f.files d) ≡ false → entries_in f d ≡ entries_in g d
 entries_alike job f g r d h =
     only_children d f.files.entries
     ∙ ap (filter_map (entry_in d)) (same_lists (keep f.files (is_child d)) (keep g.files (is_child d)) by)
@@ -123,7 +134,9 @@ entries_alike job f g r d h =
     at : (q : Path) → cond (is_child d q) (get f.files q) None ≡ cond (is_child d q) (get g.files q) None
     at [] = refl
     at (n ∷ e) = elim (same_path_found d e) [
-      | inl t ↦ ap (cond (same_path d e) (get f.files (n ∷ e))) refl ∙ ap (λ x. cond (same_path d e) x None) (r.same (n ∷ e) (subst (λ x. (is_dir_of job (get f.files x) || lies_in_job job f.files x) ≡ false) t.1 h))
+      | inl t ↦
+          ap (cond (same_path d e) (get f.files (n ∷ e))) refl
+          ∙ ap (λ x. cond (same_path d e) x None) (r.same (n ∷ e) (subst (λ x. (is_dir_of job (get f.files x) || lies_in_job job f.files x) ≡ false) t.1 h))
       | inr t ↦ ap (λ b. cond b (get f.files (n ∷ e)) None) t.0 ∙ sym (ap (λ b. cond b (get g.files (n ∷ e)) None) t.0)
     ]
 
