@@ -19,3 +19,4 @@ pub mod Followed
 pub mod Unions
 pub mod Trees
 pub mod WorkedVerdicts
+pub mod WorkedFollowing
