@@ -40,18 +40,22 @@ pub both_process : (job : ProcName) (f g : Flat) → SameOutside job f g → (a 
 both_process job f g r a x = record {
   files = r.files;
   processes = λ q u i. cond (same a q) (Some x) (r.processes q u i);
-  chain = one (same a job) (f.processes job) ∙ (λ i. cond (same a job) (Some x.chain) (r.chain i)) ∙ sym (one (same a job) (g.processes job));
+  chain = one (same a job) (f.processes job) ∙ (λ i. cond (same a job) (Some x.chain) (r.chain i)) ∙ sym
+      (one (same a job) (g.processes job));
 }
   where
     one : (b : Bool) (o : Option Process) → chain_of (cond b (Some x) o) ≡ cond b (Some x.chain) (chain_of o)
     one true o = refl
     one false o = refl
 
-module _ (m : ℕ) (w : ProcName) (session : Session) (f g : Flat) (r : SameOutside (m ∷ w) f g) (hf : IsStarted (m ∷ w) f) (hg : IsStarted (m ∷ w) g) (me : ProcName) (p : Process) where
+module _ (m : ℕ) (w : ProcName) (session : Session) (f g : Flat) (r : SameOutside (m ∷ w) f g) (hf : IsStarted (m ∷ w) f)
+    (hg : IsStarted (m ∷ w) g) (me : ProcName) (p : Process) where
   -- what is new, or written, on both sides
   room_free : (n : Name) (d : Path) → no_room session f p (n ∷ d) ≡ None → is_dir_of (m ∷ w) (get f.files (n ∷ d)) ≡ false
   room_free n d v =
-      ap (is_dir_of (m ∷ w)) (nothing_there (get f.files (n ∷ d)) ((three_pass (into session f p d) (not (is_there f (n ∷ d))) (nat_lt (length (entries_in f d)) most_entries) (writes session f p d) EEXIST ENOSPC EACCES v).1))
+      ap (is_dir_of (m ∷ w)) (nothing_there (get f.files (n ∷ d))
+      ((three_pass (into session f p d) (not (is_there f (n ∷ d))) (nat_lt (length (entries_in f d)) most_entries)
+      (writes session f p d) EEXIST ENOSPC EACCES v).1))
 
   put : (n : Name) (d : Path) (x : Node) → is_dir_of (m ∷ w) (get f.files (n ∷ d)) ≡ false
       → SameOutside (m ∷ w) (with_node f (n ∷ d) x.class x.content) (with_node g (n ∷ d) x.class x.content)
@@ -61,11 +65,15 @@ module _ (m : ℕ) (w : ProcName) (session : Session) (f g : Flat) (r : SameOuts
   overwrite : (n : Name) (d : Path) (bytes : Option Node → List ℕ) (fits : Bool)
       → (no_file session f p (n ∷ d) orelse unless (writes session f p (n ∷ d)) EACCES orelse unless fits EFBIG) ≡ None
       → lies_in_job (m ∷ w) f.files (n ∷ d) ≡ false
-      → SameOutside (m ∷ w) (with_node f (n ∷ d) (class_of (get f.files (n ∷ d))) (File (bytes (get f.files (n ∷ d))))) (with_node g (n ∷ d) (class_of (get g.files (n ∷ d))) (File (bytes (get g.files (n ∷ d)))))
+      → SameOutside (m ∷ w) (with_node f (n ∷ d) (class_of (get f.files (n ∷ d))) (File (bytes (get f.files (n ∷ d)))))
+      (with_node g (n ∷ d) (class_of (get g.files (n ∷ d))) (File (bytes (get g.files (n ∷ d)))))
   overwrite n d bytes fits v u =
-      let file = (two_pass (into session f p d) (is_there f (n ∷ d)) (is_file_at f (n ∷ d)) ENOENT EISDIR ((two_pass (no_file session f p (n ∷ d)) (writes session f p (n ∷ d)) fits EACCES EFBIG v).0)).2 in
-      subst (λ o. SameOutside (m ∷ w) (with_node f (n ∷ d) (class_of (get f.files (n ∷ d))) (File (bytes (get f.files (n ∷ d))))) (with_node g (n ∷ d) (class_of o) (File (bytes o))))
-      (r.files.same (n ∷ d) u) (put n d (record { class = class_of (get f.files (n ∷ d)); content = File (bytes (get f.files (n ∷ d))) }) (file_is_no_dir (m ∷ w) (get f.files (n ∷ d)) file))
+      let file = (two_pass (into session f p d) (is_there f (n ∷ d)) (is_file_at f (n ∷ d)) ENOENT EISDIR
+      ((two_pass (no_file session f p (n ∷ d)) (writes session f p (n ∷ d)) fits EACCES EFBIG v).0)).2 in
+      subst (λ o. SameOutside (m ∷ w) (with_node f (n ∷ d) (class_of (get f.files (n ∷ d))) (File (bytes (get f.files (n ∷ d)))))
+      (with_node g (n ∷ d) (class_of o) (File (bytes o))))
+      (r.files.same (n ∷ d) u) (put n d (record { class = class_of (get f.files (n ∷ d)); content = File (bytes (get f.files (n ∷ d))) })
+      (file_is_no_dir (m ∷ w) (get f.files (n ∷ d)) file))
 
   -- calls that pass on both sides
   changes_alike : (call : UnixCall) → refused session f me p call ≡ None → refused session g me p call ≡ None
@@ -74,10 +82,12 @@ module _ (m : ℕ) (w : ProcName) (session : Session) (f g : Flat) (r : SameOuts
   unfolding renamed room_free put overwrite
   changes_alike (Create [] mode) v v' u = absurd (not_passed _ refl v)
   changes_alike (Create (n ∷ d) mode) v v' u =
-      put n d (record { class = class_or_open (class_made session p mode); content = File [] }) (room_free n d (passes_first (no_room session f p (n ∷ d)) (unless (is_some (class_made session p mode)) EPERM) v))
+      put n d (record { class = class_or_open (class_made session p mode); content = File [] })
+      (room_free n d (passes_first (no_room session f p (n ∷ d)) (unless (is_some (class_made session p mode)) EPERM) v))
   changes_alike (Mkdir [] mode) v v' u = absurd (not_passed _ refl v)
   changes_alike (Mkdir (n ∷ d) mode) v v' u =
-      put n d (record { class = class_or_open (class_made session p mode); content = Dir }) (room_free n d (passes_first (no_room session f p (n ∷ d)) (unless (is_some (class_made session p mode)) EPERM) v))
+      put n d (record { class = class_or_open (class_made session p mode); content = Dir })
+      (room_free n d (passes_first (no_room session f p (n ∷ d)) (unless (is_some (class_made session p mode)) EPERM) v))
   changes_alike (Read q) v v' u = r
   changes_alike (Write [] bytes) v v' u = absurd (not_passed _ refl v)
   changes_alike (Write (n ∷ d) bytes) v v' u = overwrite n d (λ o. bytes) (nat_le (length bytes) most_bytes) v u
@@ -94,13 +104,15 @@ module _ (m : ℕ) (w : ProcName) (session : Session) (f g : Flat) (r : SameOuts
       let t = rename_tests session f me p n k d v in
       let t' = rename_tests session g me p n k d v' in
       record {
-        files = renamed_alike (m ∷ w) n k d t.0 f.files g.files r.files (nothing_below f hf.tree (k ∷ d) t.1) (nothing_below g hg.tree (k ∷ d) t'.1);
+        files = renamed_alike (m ∷ w) n k d t.0 f.files g.files r.files (nothing_below f hf.tree (k ∷ d) t.1)
+            (nothing_below g hg.tree (k ∷ d) t'.1);
         processes = r.processes;
         chain = r.chain;
       }
   changes_alike Spawn v v' u =
       both_process (m ∷ w) (with_process f me (record p { born = p.born + 1 })) (with_process g me (record p { born = p.born + 1 }))
-      (both_process (m ∷ w) f g r me (record p { born = p.born + 1 })) (next_child me p) (record { user = p.user; chain = p.chain; held = []; exited = None; born = 0 })
+      (both_process (m ∷ w) f g r me (record p { born = p.born + 1 })) (next_child me p)
+      (record { user = p.user; chain = p.chain; held = []; exited = None; born = 0 })
   changes_alike (Exit n) v v' u = both_process (m ∷ w) f g r me (record p { exited = Some n })
   changes_alike (Status q) v v' u = r
   changes_alike (Kill q) v v' u = kill_state m w f g r hf p q
@@ -110,9 +122,11 @@ module _ (m : ℕ) (w : ProcName) (session : Session) (f g : Flat) (r : SameOuts
   changes_alike (Wrap (n ∷ d)) v v' u =
       let x : Node = record { class = Scratch p.user (inner_chain me p); content = Dir } in
       let p' : Process = record p { held = p.held ++ next_child me p ∷ []; born = p.born + 1 } in
-      let room = passes_first (no_room session f p (n ∷ d)) (unless (not (same p.user nobody)) EPERM) (passes_later (no_child me p) (no_room session f p (n ∷ d) orelse unless (not (same p.user nobody)) EPERM) v) in
+      let room = passes_first (no_room session f p (n ∷ d)) (unless (not (same p.user nobody)) EPERM)
+      (passes_later (no_child me p) (no_room session f p (n ∷ d) orelse unless (not (same p.user nobody)) EPERM) v) in
       let made = put n d x (room_free n d room) in
-      both_process (m ∷ w) (with_process (with_node f (n ∷ d) x.class x.content) me p') (with_process (with_node g (n ∷ d) x.class x.content) me p')
+      both_process (m ∷ w) (with_process (with_node f (n ∷ d) x.class x.content) me p')
+      (with_process (with_node g (n ∷ d) x.class x.content) me p')
       (both_process (m ∷ w) (with_node f (n ∷ d) x.class x.content) (with_node g (n ∷ d) x.class x.content) made me p')
       (next_child me p) (record { user = p.user; chain = inner_chain me p; held = []; exited = None; born = 0 })
 
@@ -121,4 +135,5 @@ module _ (m : ℕ) (w : ProcName) (session : Session) (f g : Flat) (r : SameOuts
       → (refused session f me p call ≡ None → lies_in_job (m ∷ w) f.files (looked_at call) ≡ false)
       → SameOutside (m ∷ w) (flat_by session f me (Some p) call) (flat_by session g me (Some p) call)
   both call e u =
-      flat_alike (m ∷ w) f g (changed session f me p call) (changed session g me p call) (refused session f me p call) (refused session g me p call) r e (λ v. changes_alike call v (sym e ∙ v) (u v))
+      flat_alike (m ∷ w) f g (changed session f me p call) (changed session g me p call) (refused session f me p call)
+      (refused session g me p call) r e (λ v. changes_alike call v (sym e ∙ v) (u v))

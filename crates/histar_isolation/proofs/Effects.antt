@@ -48,7 +48,8 @@ module _ (job : ProcName) where
   lies_cut m q [] u = refl
   lies_cut m q (n ∷ d) u =
       let above = (or_parts (same_path q (n ∷ d)) (under_path q d) u).1 in
-      ap (λ o. is_dir_of job o || lies_in_job job (keep m (λ t. not (under_path q t))) d) (get-keep m (λ t. not (under_path q t)) d ∙ ap (λ b. cond (not b) (get m d) None) above)
+      ap (λ o. is_dir_of job o || lies_in_job job (keep m (λ t. not (under_path q t))) d)
+      (get-keep m (λ t. not (under_path q t)) d ∙ ap (λ b. cond (not b) (get m d) None) above)
       ∙ ap (λ b. is_dir_of job (get m d) || b) (lies_cut m q d above)
 
   -- and so does what is taken away in both

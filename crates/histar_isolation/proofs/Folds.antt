@@ -61,10 +61,12 @@ pub record RunAlike (job : ProcName) (as' bs : List Answered) (f g : Flat) : Typ
 module _ (job : ProcName) (session : Session) (steps : Steps job session) where
   pub runs_alike : (calls : List CallLine) (f g : Flat) → SameOutside job f g → IsStarted job f → IsStarted job g
       → is_quiet job (answered_from session f calls) ≡ true →
-      RunAlike job (answered_from session f calls) (answered_from session g (without_job_calls job calls)) (flat_end session f calls) (flat_end session g (without_job_calls job calls))
+      RunAlike job (answered_from session f calls) (answered_from session g (without_job_calls job calls)) (flat_end session f calls)
+      (flat_end session g (without_job_calls job calls))
   runs_alike [] f g r hf hg quiet = record { lines = refl; ends = r }
   runs_alike (c ∷ calls) f g r hf hg quiet =
-      let here = and_parts (not (same (parent job) c.process && is_rmdir_or_wrap c.call)) (is_quiet job (answered_from session f' calls)) quiet in
+      let here = and_parts (not (same (parent job) c.process && is_rmdir_or_wrap c.call))
+      (is_quiet job (answered_from session f' calls)) quiet in
       elim (true_or_false (under_process job c.process)) [
         | inl u ↦
             let rest = runs_alike calls f' g (steps.inside f g c.process c.call r hf u) hf' hg here.1 in
@@ -72,7 +74,8 @@ module _ (job : ProcName) (session : Session) (steps : Steps job session) where
         | inr u ↦ elim (true_or_false (same (parent job) c.process)) [
           | inl w ↦
               let calm = is_calm (same (parent job) c.process) (is_rmdir_or_wrap c.call) here.0 w in
-              let state = subst (λ me. SameOutside job (flat_after session f me c.call) (flat_after session g me c.call)) (is_same (parent job) c.process w) (steps.wrapper f g c.call r hf hg calm) in
+              let state = subst (λ me. SameOutside job (flat_after session f me c.call) (flat_after session g me c.call))
+              (is_same (parent job) c.process w) (steps.wrapper f g c.call r hf hg calm) in
               let rest = runs_alike calls f' g' state hf' hg' here.1 in
               record { lines = rw (u, u, w) rest.lines; ends = rw u rest.ends }
           | inr w ↦
@@ -80,7 +83,11 @@ module _ (job : ProcName) (session : Session) (steps : Steps job session) where
               let told = ap reply_text (steps.replies f g c.process c.call r hf hg outside) in
               let rest = runs_alike calls f' g' (steps.outsider f g c.process c.call r hf hg outside) hf' hg' here.1 in
               record {
-                lines = rw (u, u, w) (ap (λ b. cond b (first_line (outsiders job (answered_from session f' calls)) (outsiders job (answered_from session g' (without_job_calls job calls)))) (Some c.line)) (ap (λ x. same x (reply_text (reply_to session g c.process c.call))) told ∙ same_itself (reply_text (reply_to session g c.process c.call))) ∙ rest.lines);
+                lines = rw (u, u, w) (ap (λ b. cond b
+                    (first_line (outsiders job (answered_from session f' calls))
+                    (outsiders job (answered_from session g' (without_job_calls job calls)))) (Some c.line))
+                    (ap (λ x. same x (reply_text (reply_to session g c.process c.call))) told ∙ same_itself
+                    (reply_text (reply_to session g c.process c.call))) ∙ rest.lines);
                 ends = rw u rest.ends;
               }
         ]

@@ -52,7 +52,8 @@ by_reply session f me call Q gone refusal passes = by (running f me) refl
     by None e = gone
     by (Some p) e = step p (runs_is_there (f.processes me) p e) (refused session f me p call) refl
 
-module _ (job : ProcName) (session : Session) (f : Flat) (tree : IsTree f) (names : NamesAreGiven f) (directory : Option Path) (h : IsFollowed job f directory) (me : ProcName) where
+module _ (job : ProcName) (session : Session) (f : Flat) (tree : IsTree f) (names : NamesAreGiven f) (directory : Option Path)
+    (h : IsFollowed job f directory) (me : ProcName) where
   -- a directory that a process of the job writes is of the job
   writes_dir_of : (p : Process) (o : Option Node) → has p.chain job ≡ true → is_some_and o is_dir ≡ true
       → is_some_and o (λ n. may_write session p n.class) ≡ true → is_dir_of job o ≡ true
@@ -63,15 +64,18 @@ module _ (job : ProcName) (session : Session) (f : Flat) (tree : IsTree f) (name
   made_inside : (p : Process) (n : Name) (d : Path) → into session f p d ≡ None → writes session f p d ≡ true → has p.chain job ≡ true
       → lies_at directory (n ∷ d) ≡ true
   made_inside p n d walked w inside =
-      lies_at_entry directory n d (h.carried d (writes_dir_of p (get f.files d) inside (walked_into_directory session f p tree.root d walked) w))
+      lies_at_entry directory n d (h.carried d
+      (writes_dir_of p (get f.files d) inside (walked_into_directory session f p tree.root d walked) w))
 
   -- a call that takes nothing away, renames nothing and starts no job leaves the directory where it is
   plain_changes : (call : UnixCall) → ((q : Path) → takes_away call q ≡ false) → ((n : Name) (d : Path) → call ≡ Wrap (n ∷ d) → ⊥)
       → (p : Process) → EachChange session f me p call (λ g. IsFollowed job g directory)
   plain_changes call takes_none no_wrap p = record {
     stays = h;
-    makes = λ n d x walked free w own. put_followed job f directory h (n ∷ d) x (ap (is_dir_of job) free) (λ is. made_inside p n d walked w (own job (and_parts (is_dir x) (carries job x.class) is).1));
-    overwrites = λ n d bytes file w. put_followed job f directory h (n ∷ d) (record { class = class_of (get f.files (n ∷ d)); content = File bytes })
+    makes = λ n d x walked free w own. put_followed job f directory h (n ∷ d) x (ap (is_dir_of job) free)
+        (λ is. made_inside p n d walked w (own job (and_parts (is_dir x) (carries job x.class) is).1));
+    overwrites = λ n d bytes file w. put_followed job f directory h (n ∷ d)
+        (record { class = class_of (get f.files (n ∷ d)); content = File bytes })
         (file_is_no_dir job (get f.files (n ∷ d)) file) (λ is. absurd (true≢false (sym is)));
     cuts = λ n d takes w. absurd (taken n d takes);
     renames = λ n k d takes ne free w. absurd (taken n d takes);
@@ -114,12 +118,15 @@ module _ (job : ProcName) (session : Session) (f : Flat) (tree : IsTree f) (name
       none_before : (q : Path) (o : Option Node) → get f.files q ≡ o → is_dir_of job o ≡ true → ⊥
       none_before q None at dir = true≢false (sym dir)
       none_before q (Some y) at dir =
-          true≢false (sym (names.of_carried_jobs q y job at (and_parts (is_dir y) (carries job y.class) dir).1) ∙ ap (is_given f.processes) job_is ∙ next_is_new f me p here)
+          true≢false (sym (names.of_carried_jobs q y job at (and_parts (is_dir y) (carries job y.class) dir).1) ∙ ap
+          (is_given f.processes) job_is ∙ next_is_new f me p here)
   wrapped p here n d passes false is =
-      let room = passes_first (no_room session f p (n ∷ d)) (unless (not (same p.user nobody)) EPERM) (passes_later (no_child me p) (no_room session f p (n ∷ d) orelse unless (not (same p.user nobody)) EPERM) passes) in
+      let room = passes_first (no_room session f p (n ∷ d)) (unless (not (same p.user nobody)) EPERM)
+      (passes_later (no_child me p) (no_room session f p (n ∷ d) orelse unless (not (same p.user nobody)) EPERM) passes) in
       let tests = room_tests session f p n d room in
       let x : Node = record { class = Scratch p.user (inner_chain me p); content = Dir } in
-      let put = put_followed job f directory h (n ∷ d) x (ap (is_dir_of job) tests.1) (λ dir. made_inside p n d tests.0 tests.2 (sym (has_longer p.chain (next_child me p) job is) ∙ dir)) in
+      let put = put_followed job f directory h (n ∷ d) x (ap (is_dir_of job) tests.1)
+      (λ dir. made_inside p n d tests.0 tests.2 (sym (has_longer p.chain (next_child me p) job is) ∙ dir)) in
       record { carried = put.carried; there = put.there }
 
   -- Each line leaves the directory where its call and its reply say.
@@ -133,16 +140,21 @@ module _ (job : ProcName) (session : Session) (f : Flat) (tree : IsTree f) (name
       by [] p here passes = absurd (not_passed _ refl (passes_later (no_child me p) (Some EEXIST) passes))
       by (n ∷ d) p here passes = wrapped p here n d passes (same job (next_child me p)) refl
   line_followed (Unlink q) =
-      by_reply session f me (Unlink q) (λ g reply. IsFollowed job g (after_reply job directory (Unlink q) reply)) h (λ e. h) (λ p here passes. cut_followed job f directory h q)
+      by_reply session f me (Unlink q) (λ g reply. IsFollowed job g (after_reply job directory (Unlink q) reply)) h (λ e. h)
+      (λ p here passes. cut_followed job f directory h q)
   line_followed (Rmdir q) =
-      by_reply session f me (Rmdir q) (λ g reply. IsFollowed job g (after_reply job directory (Rmdir q) reply)) h (λ e. h) (λ p here passes. cut_followed job f directory h q)
+      by_reply session f me (Rmdir q) (λ g reply. IsFollowed job g (after_reply job directory (Rmdir q) reply)) h (λ e. h)
+      (λ p here passes. cut_followed job f directory h q)
   line_followed (Rmtree q) =
-      by_reply session f me (Rmtree q) (λ g reply. IsFollowed job g (after_reply job directory (Rmtree q) reply)) h (λ e. h) (λ p here passes. cut_followed job f directory h q)
+      by_reply session f me (Rmtree q) (λ g reply. IsFollowed job g (after_reply job directory (Rmtree q) reply)) h (λ e. h)
+      (λ p here passes. cut_followed job f directory h q)
   line_followed (Rename q name) =
-      by_reply session f me (Rename q name) (λ g reply. IsFollowed job g (after_reply job directory (Rename q name) reply)) h (λ e. h) (by q)
+      by_reply session f me (Rename q name) (λ g reply. IsFollowed job g (after_reply job directory (Rename q name) reply)) h (λ e. h)
+      (by q)
     where
       by : (q : Path) (p : Process) → f.processes me ≡ Some p → refused session f me p (Rename q name) ≡ None
-          → IsFollowed job (changed session f me p (Rename q name)) (after_reply job directory (Rename q name) (answer f me p (Rename q name)))
+          → IsFollowed job (changed session f me p (Rename q name))
+          (after_reply job directory (Rename q name) (answer f me p (Rename q name)))
       by [] p here passes = absurd (not_passed _ refl passes)
       by (n ∷ d) p here passes =
           let tests = rename_tests session f me p n name d passes in rename_followed job f directory h tree n name d tests.0 tests.1
@@ -154,8 +166,10 @@ all_followed : (job : ProcName) (session : Session) (f : Flat) → IsTree f → 
     → IsFollowed job (flat_end session f calls) (directory_of job directory (answered_from session f calls))
 all_followed job session f tree names directory h [] = h
 all_followed job session f tree names directory h (c ∷ calls) =
-    all_followed job session (flat_after session f c.process c.call) (tree_after f tree session c.process c.call) (given_after session f c.process c.call tree names)
-    (followed job directory c (reply_to session f c.process c.call)) (line_followed job session f tree names directory h c.process c.call) calls
+    all_followed job session (flat_after session f c.process c.call) (tree_after f tree session c.process c.call)
+    (given_after session f c.process c.call tree names)
+    (followed job directory c (reply_to session f c.process c.call))
+    (line_followed job session f tree names directory h c.process c.call) calls
 
 -- at the start no directory is of the job
 followed_at_start : (job : ProcName) (session : Session) → IsFollowed job (boot session) None
@@ -203,4 +217,5 @@ followed_is_left_out job f directory h (n ∷ d) =
 pub finds_left_out : FindsLeftOut
 finds_left_out session calls job q =
     followed_is_left_out job (flat_end session (boot session) calls) (directory_of job None (meaning session calls))
-    (all_followed job session (boot session) (paths_are_a_tree session []) (names_are_given_once.old session []) None (followed_at_start job session) calls) q
+    (all_followed job session (boot session) (paths_are_a_tree session []) (names_are_given_once.old session []) None
+    (followed_at_start job session) calls) q

@@ -47,7 +47,8 @@ module _ (job : ProcName) (f : Flat) (directory : Option Path) (h : IsFollowed j
       | inl t ↦ ap (lies_at directory) t.1 ∙ own (ap (is_dir_of job) (sym (ap (get (insert f.files q x)) t.1 ∙ get_new f.files q x)) ∙ is)
       | inr t ↦ h.carried r (ap (is_dir_of job) (sym (get_other f.files q x r t.1)) ∙ is)
     ];
-    there = λ p e. ap (is_dir_of job) (get_other f.files q x p (λ i. true≢false (sym (h.there p e) ∙ ap (λ z. is_dir_of job (get f.files z)) i ∙ free))) ∙ h.there p e;
+    there = λ p e. ap (is_dir_of job)
+        (get_other f.files q x p (λ i. true≢false (sym (h.there p e) ∙ ap (λ z. is_dir_of job (get f.files z)) i ∙ free))) ∙ h.there p e;
   }
 
   -- something is taken away with all below it
@@ -138,7 +139,8 @@ rename_followed job f directory h tree n k d ne free = record {
     by q is (inl u) =
         absurd (dir_is_there job (get (with_renamed f (n ∷ d) (k ∷ d)).files q) is (gone_renamed job n k d ne f.files below q u))
     by q is (inr u) =
-        moves directory q (moved (k ∷ d) (n ∷ d) q) (h.carried (moved (k ∷ d) (n ∷ d) q) (ap (is_dir_of job) (sym (kept_renamed job n k d ne f.files below q u)) ∙ is))
+        moves directory q (moved (k ∷ d) (n ∷ d) q)
+        (h.carried (moved (k ∷ d) (n ∷ d) q) (ap (is_dir_of job) (sym (kept_renamed job n k d ne f.files below q u)) ∙ is))
         (returns_from k n d (λ e. ne (sym e)) q u)
 
     moved_there : (o : Option Path) → directory ≡ o → (p : Path) → option_map (moved (n ∷ d) (k ∷ d)) o ≡ Some p
@@ -148,7 +150,8 @@ rename_followed job f directory h tree n k d ne free = record {
         let same_place : Some (moved (n ∷ d) (k ∷ d) r) ≡ Some p = e in
         let one : moved (n ∷ d) (k ∷ d) r ≡ p = cc in
         ap (λ z. is_dir_of job (get (with_renamed f (n ∷ d) (k ∷ d)).files z)) (sym one)
-        ∙ ap (is_dir_of job) (kept_renamed job n k d ne f.files below (moved (n ∷ d) (k ∷ d) r) (leaves n k d ne r) ∙ ap (get f.files) (returns_from n k d ne r (old_place r is)))
+        ∙ ap (is_dir_of job) (kept_renamed job n k d ne f.files below (moved (n ∷ d) (k ∷ d) r) (leaves n k d ne r) ∙ ap (get f.files)
+        (returns_from n k d ne r (old_place r is)))
         ∙ h.there r is
       where
         old_place : (z : Path) → directory ≡ Some z → under_path (k ∷ d) z ≡ false

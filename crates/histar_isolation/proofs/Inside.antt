@@ -42,7 +42,8 @@ pub rename_below : (job : ProcName) (m : Files Node) (n k : Name) (d : Path) (ne
     → ((q : Path) → under_path (k ∷ d) q ≡ true → get m q ≡ None) → ChangesBelow d m (renamed job n k d ne m)
 unfolding renamed
 rename_below job m n k d ne below = record {
-  rest = λ q h. get_renamed n k d ne m below q ∙ ap (λ b. cond b None (get m (moved_back q))) (not_below n d q h) ∙ ap (get m) (stays (k ∷ d) (n ∷ d) q (not_below k d q h));
+  rest = λ q h. get_renamed n k d ne m below q ∙ ap (λ b. cond b None (get m (moved_back q))) (not_below n d q h) ∙ ap (get m)
+      (stays (k ∷ d) (n ∷ d) q (not_below k d q h));
 }
   where
     moved_back : Path → Path
@@ -73,7 +74,8 @@ module _ (job : ProcName) (f g : Flat) (r : SameOutside job f g) where
     ];
   }
 
-module _ (job : ProcName) (session : Session) (f g : Flat) (r : SameOutside job f g) (h : IsStarted job f) (me : ProcName) (p : Process) (here : f.processes me ≡ Some p) (inside : under_process job me ≡ true) where
+module _ (job : ProcName) (session : Session) (f g : Flat) (r : SameOutside job f g) (h : IsStarted job f) (me : ProcName) (p : Process)
+    (here : f.processes me ≡ Some p) (inside : under_process job me ≡ true) where
   own : (p' : Process) → p'.chain ≡ p.chain → same me job ≡ true → chain_of (f.processes job) ≡ Some p'.chain
   own p' jobs t = ap (λ z. chain_of (f.processes z)) (sym (is_same me job t)) ∙ ap chain_of here ∙ ap Some (sym jobs)
 
@@ -83,7 +85,8 @@ module _ (job : ProcName) (session : Session) (f g : Flat) (r : SameOutside job 
   birth f' r' still p' c jobs = aside_process job (with_process f' me p') g
       (aside_process job f' g r' me p' inside (λ t. ap (λ m. chain_of (m job)) still ∙ own p' jobs t))
       (next_child me p) c (under_child nat_eq same_name_found job me (p.born + 1) inside)
-      (λ t. absurd (true≢false (sym (same_itself job) ∙ ap (same job) (sym (is_same (next_child me p) job t)) ∙ not_next job f h.given me p here)))
+      (λ t. absurd (true≢false (sym (same_itself job) ∙ ap (same job) (sym (is_same (next_child me p) job t))
+      ∙ not_next job f h.given me p here)))
 
   at : (q : Path) → writes session f p q ≡ true → (is_dir_of job (get f.files q) || lies_in_job job f.files q) ≡ true
   at q w = place job session f h me p here (h.inside me p here ∙ inside) q w
@@ -97,19 +100,28 @@ module _ (job : ProcName) (session : Session) (f g : Flat) (r : SameOutside job 
   unfolding birth own at file_inside renamed
   job_changes call = record {
     stays = r;
-    makes = λ n d x walked free w own. aside job f g r (with_node f (n ∷ d) x.class x.content) d (at d w) (record { files = insert_below job f.files n d x; processes = refl });
+    makes = λ n d x walked free w own. aside job f g r (with_node f (n ∷ d) x.class x.content) d (at d w)
+        (record { files = insert_below job f.files n d x; processes = refl });
     overwrites = λ n d bytes file w. aside job f g r (with_bytes f (n ∷ d) bytes) d (file_inside (n ∷ d) (at (n ∷ d) w) file)
-        (record { files = insert_below job f.files n d (record { class = class_of (get f.files (n ∷ d)); content = File bytes }); processes = refl });
+        (record {
+          files = insert_below job f.files n d
+              (record { class = class_of (get f.files (n ∷ d)); content = File bytes });
+          processes = refl;
+        });
     cuts = λ n d takes w. aside job f g r _ d (at d w) (record { files = cut_below job f.files n d; processes = refl });
-    renames = λ n k d takes ne free w. aside job f g r _ d (at d w) (record { files = rename_below job f.files n k d ne (nothing_below f h.tree (k ∷ d) free); processes = refl });
-    spawns = λ is. birth f r refl (record p { born = p.born + 1 }) (record { user = p.user; chain = p.chain; held = []; exited = None; born = 0 }) refl;
+    renames = λ n k d takes ne free w. aside job f g r _ d (at d w)
+        (record { files = rename_below job f.files n k d ne (nothing_below f h.tree (k ∷ d) free); processes = refl });
+    spawns = λ is. birth f r refl (record p { born = p.born + 1 })
+        (record { user = p.user; chain = p.chain; held = []; exited = None; born = 0 }) refl;
     exits = λ n is. aside_process job f g r me (record p { exited = Some n }) inside (own (record p { exited = Some n }) refl);
-    logs_in = λ name password is known free. aside_process job f g r me (record p { user = name; held = [] }) inside (own (record p { user = name; held = [] }) refl);
+    logs_in = λ name password is known free. aside_process job f g r me (record p { user = name; held = [] }) inside
+        (own (record p { user = name; held = [] }) refl);
     kills = λ n. record {
       files = r.files;
       processes = λ q v. elim (true_or_false (under_process (n ∷ me) q)) [
         | inl u ↦
-            absurd (true≢false (sym (under_all nat_eq same_name_found job (n ∷ me) q (under_child nat_eq same_name_found job me n inside) u) ∙ v))
+            absurd (true≢false (sym (under_all nat_eq same_name_found job (n ∷ me) q (under_child nat_eq same_name_found job me n inside) u)
+            ∙ v))
         | inr u ↦ ap (λ b. cond b None (f.processes q)) u ∙ r.processes q v
       ];
       chain = elim (true_or_false (under_process (n ∷ me) job)) [
@@ -122,11 +134,15 @@ module _ (job : ProcName) (session : Session) (f g : Flat) (r : SameOutside job 
     };
     wraps = λ n d is walked free w named.
         let x : Node = record { class = Scratch p.user (inner_chain me p); content = Dir } in
-        birth (with_node f (n ∷ d) x.class x.content) (aside job f g r (with_node f (n ∷ d) x.class x.content) d (at d w) (record { files = insert_below job f.files n d x; processes = refl })) refl
-        (record p { held = p.held ++ next_child me p ∷ []; born = p.born + 1 }) (record { user = p.user; chain = inner_chain me p; held = []; exited = None; born = 0 }) refl;
+        birth (with_node f (n ∷ d) x.class x.content)
+        (aside job f g r (with_node f (n ∷ d) x.class x.content) d (at d w)
+        (record { files = insert_below job f.files n d x; processes = refl })) refl
+        (record p { held = p.held ++ next_child me p ∷ []; born = p.born + 1 })
+        (record { user = p.user; chain = inner_chain me p; held = []; exited = None; born = 0 }) refl;
   }
 
 pub job_step : (job : ProcName) (session : Session) (f g : Flat) (me : ProcName) (call : UnixCall) → SameOutside job f g → IsStarted job f
     → under_process job me ≡ true → SameOutside job (flat_after session f me call) g
 job_step job session f g me call r h inside =
-    by_line session f me call (λ f'. SameOutside job f' g) r (λ p running. job_changes job session f g r h me p (runs_is_there (f.processes me) p running) inside call)
+    by_line session f me call (λ f'. SameOutside job f' g) r
+    (λ p running. job_changes job session f g r h me p (runs_is_there (f.processes me) p running) inside call)

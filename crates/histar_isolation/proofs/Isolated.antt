@@ -67,17 +67,21 @@ pub never_again : (session : Session) (job : ProcName) (calls : List CallLine) (
     → starts job (answered_from session f calls) ≡ false
 never_again session job [] f given = refl
 never_again session job (c ∷ calls) f given =
-    ap (λ b. b || starts job (answered_from session (flat_after session f c.process c.call) calls)) (by (true_or_false (is_wrap_reply job c.call (reply_to session f c.process c.call))))
+    ap (λ b. b || starts job (answered_from session (flat_after session f c.process c.call) calls))
+    (by (true_or_false (is_wrap_reply job c.call (reply_to session f c.process c.call))))
     ∙ never_again session job calls (flat_after session f c.process c.call) (given_stays session f c.process c.call job given)
   where
-    by : (is_wrap_reply job c.call (reply_to session f c.process c.call) ≡ true) ⊎ (is_wrap_reply job c.call (reply_to session f c.process c.call) ≡ false)
+    by : (is_wrap_reply job c.call (reply_to session f c.process c.call) ≡ true) ⊎
+        (is_wrap_reply job c.call (reply_to session f c.process c.call) ≡ false)
         → is_wrap_reply job c.call (reply_to session f c.process c.call) ≡ false
     by (inl w) =
-        absurd (wrap_line session f c.process job (λ x. ⊥) c.call (λ p n d here e. true≢false (sym given ∙ ap (is_given f.processes) e ∙ next_is_new f c.process p here)) w)
+        absurd (wrap_line session f c.process job (λ x. ⊥) c.call
+        (λ p n d here e. true≢false (sym given ∙ ap (is_given f.processes) e ∙ next_is_new f c.process p here)) w)
     by (inr w) = w
 
 -- the state right after the line of the wrap
-module _ (session : Session) (f : Flat) (names : NamesAreGiven f) (me : ProcName) (p : Process) (here : f.processes me ≡ Some p) (n : Name) (d : Path) where
+module _ (session : Session) (f : Flat) (names : NamesAreGiven f) (me : ProcName) (p : Process) (here : f.processes me ≡ Some p) (n : Name)
+    (d : Path) where
   abbrev new_job : ProcName
   new_job = next_child me p
 
@@ -101,18 +105,21 @@ module _ (session : Session) (f : Flat) (names : NamesAreGiven f) (me : ProcName
   ]
 
   in_not : (q : ProcName) (y : Process) → f.processes q ≡ Some y → has y.chain new_job ≡ under_process new_job q
-  in_not q y e = (or_parts (has y.chain new_job) (has y.held new_job) (known_not q y e)).0 ∙ sym (elim (true_or_false (under_process new_job q)) [
-    | inl u ↦ absurd (not_given (given_above f.processes new_job q u (names.of_processes q y e)))
-    | inr u ↦ u
-  ])
+  in_not q y e = (or_parts (has y.chain new_job) (has y.held new_job) (known_not q y e)).0 ∙ sym
+      (elim (true_or_false (under_process new_job q)) [
+        | inl u ↦ absurd (not_given (given_above f.processes new_job q u (names.of_processes q y e)))
+        | inr u ↦ u
+      ])
 
   pub started_now : IsTree wrapped → NamesAreGiven wrapped → IsStarted new_job wrapped
   started_now tree now = record {
     tree = tree;
-    given = now.of_processes new_job first (ap (λ b. cond b (Some first) (cond (same me new_job) (Some wrapper) (f.processes new_job))) (same_itself new_job));
+    given = now.of_processes new_job first
+        (ap (λ b. cond b (Some first) (cond (same me new_job) (Some wrapper) (f.processes new_job))) (same_itself new_job));
     files = λ q y e c file. elim (same_path_found q (n ∷ d)) [
       | inl t ↦
-          let found : Some scratch ≡ Some y = sym (get_new f.files (n ∷ d) scratch) ∙ ap (get (insert f.files (n ∷ d) scratch)) (sym t.1) ∙ e in
+          let found : Some scratch ≡ Some y = sym (get_new f.files (n ∷ d) scratch) ∙ ap (get (insert f.files (n ∷ d) scratch)) (sym t.1)
+          ∙ e in
           let one : scratch ≡ y = cc in
           absurd (true≢false (ap is_dir one ∙ file))
       | inr t ↦ absurd (not_given (names.of_carried_jobs q y new_job (sym (get_other f.files (n ∷ d) scratch q t.1) ∙ e) c))
@@ -148,25 +155,36 @@ module _ (m : ℕ) (w : ProcName) (session : Session) where
 
   before : (calls : List CallLine) (f : Flat) → IsTree f → NamesAreGiven f → starts job (answered_from session f calls) ≡ true
       → is_quiet job (after_start job (answered_from session f calls)) ≡ true
-      → RunAlike job (answered_from session f calls) (answered_from session f (without_job_calls job calls)) (flat_end session f calls) (flat_end session f (without_job_calls job calls))
+      → RunAlike job (answered_from session f calls) (answered_from session f (without_job_calls job calls)) (flat_end session f calls)
+      (flat_end session f (without_job_calls job calls))
   before [] f tree names st quiet = absurd (true≢false (sym st))
   before (c ∷ calls) f tree names st quiet = elim (true_or_false (is_wrap_reply job c.call (reply_to session f c.process c.call))) [
     | inl now ↦
         let is_wrapper : w ≡ c.process = wrap_line session f c.process job (λ x. w ≡ c.process) c.call (λ p n d here e. cc) now in
-        let outside : under_process job c.process ≡ false = ap (under_process job) (sym is_wrapper) ∙ above_is_not_under nat_eq same_name_found w m in
+        let outside : under_process job c.process ≡ false = ap (under_process job) (sym is_wrapper)
+        ∙ above_is_not_under nat_eq same_name_found w m in
         let is_parent : same w c.process ≡ true = ap (same w) (sym is_wrapper) ∙ same_itself w in
         let started : IsStarted job g = wrap_line session f c.process job (λ x. IsTree x → NamesAreGiven x → IsStarted job x) c.call
-        (λ p n d here e. subst (λ z. IsTree (changed session f c.process p (Wrap (n ∷ d))) → NamesAreGiven (changed session f c.process p (Wrap (n ∷ d))) → IsStarted z (changed session f c.process p (Wrap (n ∷ d)))) (sym e) (started_now session f names c.process p here n d)) now tree_now names_now in
-        let rest = runs_alike job session (all_steps m w session) calls g g (same_outside_itself job g) started started (sym (ap (λ b. is_quiet job (cond b (answered_from session g calls) (after_start job (answered_from session g calls)))) now) ∙ quiet) in
+        (λ p n d here e. subst (λ z. IsTree (changed session f c.process p (Wrap (n ∷ d))) → NamesAreGiven
+        (changed session f c.process p (Wrap (n ∷ d))) → IsStarted z (changed session f c.process p (Wrap (n ∷ d)))) (sym e)
+        (started_now session f names c.process p here n d)) now tree_now names_now in
+        let rest = runs_alike job session (all_steps m w session) calls g g (same_outside_itself job g) started started
+        (sym (ap (λ b. is_quiet job (cond b (answered_from session g calls) (after_start job (answered_from session g calls)))) now)
+        ∙ quiet) in
         record { lines = rw (outside, outside, is_parent) rest.lines; ends = rw outside rest.ends }
     | inr not_now ↦
-        let rest = before calls g tree_now names_now (sym (ap (λ b. b || starts job (answered_from session g calls)) not_now) ∙ st) (sym (ap (λ b. is_quiet job (cond b (answered_from session g calls) (after_start job (answered_from session g calls)))) not_now) ∙ quiet) in
+        let rest = before calls g tree_now names_now (sym (ap (λ b. b || starts job (answered_from session g calls)) not_now) ∙ st)
+        (sym (ap (λ b. is_quiet job (cond b (answered_from session g calls) (after_start job (answered_from session g calls)))) not_now)
+        ∙ quiet) in
         elim (true_or_false (under_process job c.process)) [
           | inl u ↦ inside_line u (unmoved u) rest
           | inr u ↦ elim (true_or_false (same w c.process)) [
             | inl v ↦ record { lines = rw (u, u, v) rest.lines; ends = rw u rest.ends }
             | inr v ↦ record {
-              lines = rw (u, u, v) (ap (λ b. cond b (first_line (outsiders job (answered_from session g calls)) (outsiders job (answered_from session g (without_job_calls job calls)))) (Some c.line)) (same_itself (reply_text (reply_to session f c.process c.call))) ∙ rest.lines);
+              lines = rw (u, u, v) (ap (λ b. cond b
+                  (first_line (outsiders job (answered_from session g calls))
+                  (outsiders job (answered_from session g (without_job_calls job calls)))) (Some c.line))
+                  (same_itself (reply_text (reply_to session f c.process c.call))) ∙ rest.lines);
               ends = rw u rest.ends;
             }
           ]
@@ -189,14 +207,19 @@ module _ (m : ℕ) (w : ProcName) (session : Session) where
           by : (o : Option Process) → running f c.process ≡ o → flat_by session f c.process o c.call ≡ f
           by None e = refl
           by (Some p) e =
-              absurd (true≢false (sym st ∙ never_again session job (c ∷ calls) f (given_above f.processes job c.process u (names.of_processes c.process p (runs_is_there (f.processes c.process) p e)))))
+              absurd (true≢false (sym st ∙ never_again session job (c ∷ calls) f
+              (given_above f.processes job c.process u (names.of_processes c.process p (runs_is_there (f.processes c.process) p e)))))
 
       inside_line : under_process job c.process ≡ true → g ≡ f
-          → RunAlike job (answered_from session g calls) (answered_from session g (without_job_calls job calls)) (flat_end session g calls) (flat_end session g (without_job_calls job calls))
-          → RunAlike job (answered_from session f (c ∷ calls)) (answered_from session f (without_job_calls job (c ∷ calls))) (flat_end session f (c ∷ calls)) (flat_end session f (without_job_calls job (c ∷ calls)))
+          → RunAlike job (answered_from session g calls) (answered_from session g (without_job_calls job calls)) (flat_end session g calls)
+          (flat_end session g (without_job_calls job calls))
+          → RunAlike job (answered_from session f (c ∷ calls)) (answered_from session f (without_job_calls job (c ∷ calls)))
+          (flat_end session f (c ∷ calls)) (flat_end session f (without_job_calls job (c ∷ calls)))
       inside_line u e rest = record {
-        lines = rw u (subst (λ x. first_line (outsiders job (answered_from session g calls)) (outsiders job (answered_from session x (without_job_calls job calls))) ≡ None) e rest.lines);
-        ends = rw u (subst (λ x. SameOutside job (flat_end session g calls) (flat_end session x (without_job_calls job calls))) e rest.ends);
+        lines = rw u (subst (λ x. first_line (outsiders job (answered_from session g calls))
+            (outsiders job (answered_from session x (without_job_calls job calls))) ≡ None) e rest.lines);
+        ends = rw u (subst (λ x. SameOutside job (flat_end session g calls)
+            (flat_end session x (without_job_calls job calls))) e rest.ends);
       }
 
 -- A job that was started changes nothing outside.
@@ -204,5 +227,7 @@ pub isolates_jobs : IsolatesJobs
 isolates_jobs session calls [] st quiet = absurd (true≢false (sym st ∙ never_again session [] calls (boot session) refl))
 isolates_jobs session calls (m ∷ w) st quiet =
     let run = before m w session calls (boot session) (paths_are_a_tree session []) (names_are_given_once.old session []) st quiet in
-    let trees : first_path (m ∷ w) (flat_end session (boot session) calls) (flat_end session (boot session) (without_job_calls (m ∷ w) calls)) ≡ None = no_path_differs (m ∷ w) (flat_end session (boot session) calls) (flat_end session (boot session) (without_job_calls (m ∷ w) calls)) run.ends in
+    let trees : first_path (m ∷ w) (flat_end session (boot session) calls)
+    (flat_end session (boot session) (without_job_calls (m ∷ w) calls)) ≡ None = no_path_differs (m ∷ w)
+    (flat_end session (boot session) calls) (flat_end session (boot session) (without_job_calls (m ∷ w) calls)) run.ends in
     rw (st, run.lines, trees) refl

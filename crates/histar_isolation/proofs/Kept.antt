@@ -81,7 +81,8 @@ module _ (job : ProcName) (f : Flat) (h : IsStarted job f) where
     tree = tree;
     given = given;
     files = λ q y e c file.
-        let left : cond (not (under_path (n ∷ d) q)) (get f.files q) None ≡ Some y = sym (get-keep f.files (λ t. not (under_path (n ∷ d) t)) q) ∙ e in
+        let left : cond (not (under_path (n ∷ d) q)) (get f.files q) None ≡ Some y = sym
+        (get-keep f.files (λ t. not (under_path (n ∷ d) t)) q) ∙ e in
         elim (true_or_false (under_path (n ∷ d) q)) [
           | inl u ↦ absurd (none_some y (sym (ap (λ b. cond (not b) (get f.files q) None) u) ∙ left))
           | inr u ↦ lies_cut job f.files (n ∷ d) q u ∙ h.files q y (sym (ap (λ b. cond (not b) (get f.files q) None) u) ∙ left) c file
@@ -111,7 +112,8 @@ module _ (job : ProcName) (f : Flat) (h : IsStarted job f) where
 
   -- processes change, and each is in the job and holds it as it may
   kept_processes : (ps : ProcName → Option Process)
-      → ((q : ProcName) (y : Process) → ps q ≡ Some y → (has y.chain job ≡ under_process job q) × (same (parent job) q ≡ false → has y.held job ≡ false))
+      → ((q : ProcName) (y : Process) → ps q ≡ Some y → (has y.chain job ≡ under_process job q) ×
+      (same (parent job) q ≡ false → has y.held job ≡ false))
       → IsKept (record f { processes = ps })
   kept_processes ps each tree given = record {
     tree = tree;
@@ -130,7 +132,11 @@ module _ (job : ProcName) (f : Flat) (h : IsStarted job f) where
     kept_process : (q : Process) → q.chain ≡ p.chain → (has p.held job ≡ false → has q.held job ≡ false) → IsKept (with_process f me q)
     kept_process q jobs less = kept_processes (with_process f me q).processes (λ x y e. elim (put_cases f me q x y e) [
       | inl t ↦ let is =
-          instead q jobs less in (ap (λ z. has z.chain job) (sym t.1) ∙ is.0 ∙ ap (under_process job) t.0, λ out. ap (λ z. has z.held job) (sym t.1) ∙ is.1 (ap (same (parent job)) t.0 ∙ out))
+          instead q jobs less in (
+            ap (λ z. has z.chain job) (sym t.1) ∙ is.0 ∙ ap (under_process job) t.0,
+            λ out. ap (λ z. has z.held job)
+                (sym t.1) ∙ is.1 (ap (same (parent job)) t.0 ∙ out),
+          )
       | inr t ↦ (h.inside x y t, h.held x y t)
     ])
 
@@ -138,20 +144,26 @@ module _ (job : ProcName) (f : Flat) (h : IsStarted job f) where
     kept_birth : (q child : Process) → q.chain ≡ p.chain → (has p.held job ≡ false → has q.held job ≡ false)
         → has child.chain job ≡ has p.chain job → has child.held job ≡ false
         → IsKept (with_process (with_process f me q) (next_child me p) child)
-    kept_birth q child jobs less same_jobs holds = kept_processes (with_process (with_process f me q) (next_child me p) child).processes (λ x y e. elim (born_cases f me q (next_child me p) child x y e) [
-      | inl t ↦ (
-        ap (λ z. has z.chain job) (sym t.1) ∙ same_jobs ∙ h.inside me p here
-            ∙ sym (ap (λ b. b || under_process job me) (not_next job f h.given me p here)) ∙ ap (under_process job) t.0,
-        λ out. ap (λ z. has z.held job) (sym t.1) ∙ holds,
-      )
-      | inr v ↦ elim v [
-        | inl t ↦ let is =
-            instead q jobs less in (ap (λ z. has z.chain job) (sym t.1) ∙ is.0 ∙ ap (under_process job) t.0, λ out. ap (λ z. has z.held job) (sym t.1) ∙ is.1 (ap (same (parent job)) t.0 ∙ out))
-        | inr t ↦ (h.inside x y t, h.held x y t)
-      ]
-    ])
+    kept_birth q child jobs less same_jobs holds = kept_processes (with_process (with_process f me q) (next_child me p) child).processes
+        (λ x y e. elim (born_cases f me q (next_child me p) child x y e) [
+          | inl t ↦ (
+            ap (λ z. has z.chain job) (sym t.1) ∙ same_jobs ∙ h.inside me p here
+                ∙ sym (ap (λ b. b || under_process job me) (not_next job f h.given me p here)) ∙ ap (under_process job) t.0,
+            λ out. ap (λ z. has z.held job) (sym t.1) ∙ holds,
+          )
+          | inr v ↦ elim v [
+            | inl t ↦ let is =
+                instead q jobs less in (
+                  ap (λ z. has z.chain job) (sym t.1) ∙ is.0 ∙ ap (under_process job) t.0,
+                  λ out. ap (λ z. has z.held job)
+                      (sym t.1) ∙ is.1 (ap (same (parent job)) t.0 ∙ out),
+                )
+            | inr t ↦ (h.inside x y t, h.held x y t)
+          ]
+        ])
 
-module _ (job : ProcName) (session : Session) (f : Flat) (h : IsStarted job f) (me : ProcName) (p : Process) (here : f.processes me ≡ Some p) where
+module _ (job : ProcName) (session : Session) (f : Flat) (h : IsStarted job f) (me : ProcName) (p : Process)
+    (here : f.processes me ≡ Some p) where
   -- what a process of the job writes is a directory of the job, or lies in the job
   pub place : has p.chain job ≡ true → (q : Path) → writes session f p q ≡ true
       → (is_dir_of job (get f.files q) || lies_in_job job f.files q) ≡ true
@@ -181,22 +193,27 @@ module _ (job : ProcName) (session : Session) (f : Flat) (h : IsStarted job f) (
         (file_is_no_dir job (get f.files (n ∷ d)) file) (λ c k. own_file (n ∷ d) (get f.files (n ∷ d)) refl file c);
     cuts = λ n d takes w. kept_cut job f h n d;
     renames = λ n k d takes ne free w. kept_rename job f h n k d ne free;
-    spawns = λ is. kept_birth job f h me p here (record p { born = p.born + 1 }) (record { user = p.user; chain = p.chain; held = []; exited = None; born = 0 }) refl (λ e. e) refl refl;
+    spawns = λ is. kept_birth job f h me p here (record p { born = p.born + 1 })
+        (record { user = p.user; chain = p.chain; held = []; exited = None; born = 0 }) refl (λ e. e) refl refl;
     exits = λ n is. kept_process job f h me p here (record p { exited = Some n }) refl (λ e. e);
     logs_in = λ name password is known free. kept_process job f h me p here (record p { user = name; held = [] }) refl (λ e. refl);
     kills = λ n. kept_processes job f h (without_process f (n ∷ me)).processes (λ q y e.
         let was = left (under_process (n ∷ me) q) (f.processes q) y e in (h.inside q y was, h.held q y was));
     wraps = λ n d is walked free w named tree given.
         let x : Node = record { class = Scratch p.user (inner_chain me p); content = Dir } in
-        let made = kept_put job f h (n ∷ d) x (ap (is_dir_of job) free) (λ c file. absurd (true≢false file)) (record { root = tree.root; below = tree.below }) h.given in
+        let made = kept_put job f h (n ∷ d) x (ap (is_dir_of job) free) (λ c file. absurd (true≢false file))
+        (record { root = tree.root; below = tree.below }) h.given in
         kept_birth job (with_node f (n ∷ d) x.class x.content) made me p here
-        (record p { held = p.held ++ next_child me p ∷ []; born = p.born + 1 }) (record { user = p.user; chain = inner_chain me p; held = []; exited = None; born = 0 }) refl
-        (λ e. has_longer p.held (next_child me p) job (not_next job f h.given me p here) ∙ e) (has_longer p.chain (next_child me p) job (not_next job f h.given me p here)) refl tree given;
+        (record p { held = p.held ++ next_child me p ∷ []; born = p.born + 1 })
+        (record { user = p.user; chain = inner_chain me p; held = []; exited = None; born = 0 }) refl
+        (λ e. has_longer p.held (next_child me p) job (not_next job f h.given me p here) ∙ e)
+        (has_longer p.chain (next_child me p) job (not_next job f h.given me p here)) refl tree given;
   }
 
 -- What holds after a job was started holds after each line.
 pub started_after : (job : ProcName) (session : Session) (f : Flat) (me : ProcName) (call : UnixCall) → IsStarted job f
     → IsStarted job (flat_after session f me call)
 started_after job session f me call h =
-    by_line session f me call (IsKept job f h) (λ tree given. h) (λ p running. started_changes job session f h me p (runs_is_there (f.processes me) p running) call)
+    by_line session f me call (IsKept job f h) (λ tree given. h)
+    (λ p running. started_changes job session f h me p (runs_is_there (f.processes me) p running) call)
     (tree_after f h.tree session me call) (given_stays session f me call job h.given)

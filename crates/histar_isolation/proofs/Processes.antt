@@ -67,7 +67,8 @@ module _ (m : ℕ) (w : ProcName) (f g : Flat) (r : SameOutside (m ∷ w) f g) (
   pub job_found_alike : not_found f p (m ∷ w) ≡ not_found g p (m ∷ w)
   job_found_alike =
       found_step f p m w
-      ∙ guarded (not_found f p w) (not_found g p w) _ _ (found_alike w (above_is_not_under nat_eq same_name_found w m)) (λ _. at_alike (m ∷ w) (inr refl))
+      ∙ guarded (not_found f p w) (not_found g p w) _ _ (found_alike w (above_is_not_under nat_eq same_name_found w m))
+      (λ _. at_alike (m ∷ w) (inr refl))
       ∙ sym (found_step g p m w)
 
   -- an outsider finds nothing of the job
@@ -82,7 +83,8 @@ module _ (m : ℕ) (w : ProcName) (f g : Flat) (r : SameOutside (m ∷ w) f g) (
     | inr h ↦ found_alike (n ∷ q) h
     | inl h ↦ elim (true_or_false (under_process (m ∷ w) q)) [
       | inl up ↦ found_step f p n q
-          ∙ guarded (not_found f p q) (not_found g p q) _ _ (outsider_finds o q) (λ found. absurd (not_passed (not_found f p q) (job_not_found o q up) found))
+          ∙ guarded (not_found f p q) (not_found g p q) _ _ (outsider_finds o q)
+          (λ found. absurd (not_passed (not_found f p q) (job_not_found o q up) found))
           ∙ sym (found_step g p n q)
       | inr up ↦
           subst (λ x. not_found f p x ≡ not_found g p x) (is_same (m ∷ w) (n ∷ q) (first (same (m ∷ w) (n ∷ q)) up h)) job_found_alike
@@ -105,7 +107,8 @@ module _ (m : ℕ) (w : ProcName) (f g : Flat) (r : SameOutside (m ∷ w) f g) (
   kill_state q = record {
     files = r.files;
     processes = λ x h i. cond (under_process q x) None (r.processes x h i);
-    chain = cut (under_process q (m ∷ w)) (f.processes (m ∷ w)) ∙ (λ i. cond (under_process q (m ∷ w)) None (r.chain i)) ∙ sym (cut (under_process q (m ∷ w)) (g.processes (m ∷ w)));
+    chain = cut (under_process q (m ∷ w)) (f.processes (m ∷ w)) ∙ (λ i. cond (under_process q (m ∷ w)) None (r.chain i)) ∙ sym
+        (cut (under_process q (m ∷ w)) (g.processes (m ∷ w)));
   }
     where
       cut : (b : Bool) (x : Option Process) → chain_of (cond b None x) ≡ cond b None (chain_of x)

@@ -31,7 +31,8 @@ use Rattle.histar_isolation.proofs.Tests.{not_passed}
 use Rattle.histar_isolation.proofs.Walks.{reached}
 use Rattle.histar_flat.specs.declared.replies.Reply.TheVariants as replies
 
-module _ (m : ℕ) (w : ProcName) (session : Session) (f g : Flat) (r : SameOutside (m ∷ w) f g) (hf : IsStarted (m ∷ w) f) (hg : IsStarted (m ∷ w) g) (me : ProcName) (p : Process) (o : knows p (m ∷ w) ≡ false) where
+module _ (m : ℕ) (w : ProcName) (session : Session) (f g : Flat) (r : SameOutside (m ∷ w) f g) (hf : IsStarted (m ∷ w) f)
+    (hg : IsStarted (m ∷ w) g) (me : ProcName) (p : Process) (o : knows p (m ∷ w) ≡ false) where
   refused_alike : (call : UnixCall) → refused session f me p call ≡ refused session g me p call
   refused_alike (Create q mode) = create_alike (m ∷ w) session p f g r.files o me q mode
   refused_alike (Mkdir q mode) = mkdir_alike (m ∷ w) session p f g r.files o me q mode
@@ -57,7 +58,9 @@ module _ (m : ℕ) (w : ProcName) (session : Session) (f g : Flat) (r : SameOuts
   file_outside : (n : Name) (d : Path) (e : Option Errno) → (no_file session f p (n ∷ d) orelse e) ≡ None
       → lies_in_job (m ∷ w) f.files (n ∷ d) ≡ false
   file_outside n d e v =
-      reached (m ∷ w) session p f g r.files o (n ∷ d) ((two_pass (into session f p d) (is_there f (n ∷ d)) (is_file_at f (n ∷ d)) ENOENT EISDIR (passes_first (no_file session f p (n ∷ d)) e v)).0)
+      reached (m ∷ w) session p f g r.files o (n ∷ d)
+      ((two_pass (into session f p d) (is_there f (n ∷ d)) (is_file_at f (n ∷ d)) ENOENT EISDIR
+      (passes_first (no_file session f p (n ∷ d)) e v)).0)
 
   looks_outside : (call : UnixCall) → refused session f me p call ≡ None → lies_in_job (m ∷ w) f.files (looked_at call) ≡ false
   looks_outside (Read []) v = refl
@@ -87,14 +90,18 @@ module _ (m : ℕ) (w : ProcName) (session : Session) (f g : Flat) (r : SameOuts
 
   outsider_reply : (call : UnixCall) → reply_by session f me (Some p) call ≡ reply_by session g me (Some p) call
   outsider_reply call =
-      reply_alike (refused session f me p call) (refused session g me p call) (answer f me p call) (answer g me p call) (refused_alike call) (answers_alike call)
+      reply_alike (refused session f me p call) (refused session g me p call) (answer f me p call) (answer g me p call) (refused_alike call)
+      (answers_alike call)
 
 -- a line of a process outside the job
-module _ (job : ProcName) (session : Session) (f g : Flat) (r : SameOutside job f g) (me : ProcName) (u : under_process job me ≡ false) (call : UnixCall) where
-  state_line : ((p : Process) → f.processes me ≡ Some p → SameOutside job (flat_by session f me (Some p) call) (flat_by session g me (Some p) call))
+module _ (job : ProcName) (session : Session) (f g : Flat) (r : SameOutside job f g) (me : ProcName) (u : under_process job me ≡ false)
+    (call : UnixCall) where
+  state_line : ((p : Process) → f.processes me ≡ Some p → SameOutside job (flat_by session f me (Some p) call)
+      (flat_by session g me (Some p) call))
       → SameOutside job (flat_after session f me call) (flat_after session g me call)
   state_line moves =
-      subst (λ o. SameOutside job (flat_after session f me call) (flat_by session g me (if_running o) call)) (r.processes me u) (by (running f me) refl)
+      subst (λ o. SameOutside job (flat_after session f me call) (flat_by session g me (if_running o) call)) (r.processes me u)
+      (by (running f me) refl)
     where
       by : (o : Option Process) → running f me ≡ o → SameOutside job (flat_by session f me o call) (flat_by session g me o call)
       by None e = r
@@ -126,7 +133,10 @@ unfolding outsider_state outsider_reply state_line reply_line knows_not not_insi
 all_steps m w session = record {
   keeps = started_after (m ∷ w) session;
   inside = job_step (m ∷ w) session;
-  wrapper = λ f g call r hf hg calm. state_line (m ∷ w) session f g r w (above_is_not_under nat_eq same_name_found w m) call (λ p here. anyone m w session f g r hf hg w p (above_is_not_under nat_eq same_name_found w m) call calm);
-  outsider = λ f g me call r hf hg out. state_line (m ∷ w) session f g r me (not_inside (m ∷ w) me out) call (λ p here. outsider_state m w session f g r hf hg me p (knows_not (m ∷ w) f hf me p out here) call);
-  replies = λ f g me call r hf hg out. reply_line (m ∷ w) session f g r me (not_inside (m ∷ w) me out) call (λ p here. outsider_reply m w session f g r hf hg me p (knows_not (m ∷ w) f hf me p out here) call);
+  wrapper = λ f g call r hf hg calm. state_line (m ∷ w) session f g r w (above_is_not_under nat_eq same_name_found w m) call
+      (λ p here. anyone m w session f g r hf hg w p (above_is_not_under nat_eq same_name_found w m) call calm);
+  outsider = λ f g me call r hf hg out. state_line (m ∷ w) session f g r me (not_inside (m ∷ w) me out) call
+      (λ p here. outsider_state m w session f g r hf hg me p (knows_not (m ∷ w) f hf me p out here) call);
+  replies = λ f g me call r hf hg out. reply_line (m ∷ w) session f g r me (not_inside (m ∷ w) me out) call
+      (λ p here. outsider_reply m w session f g r hf hg me p (knows_not (m ∷ w) f hf me p out here) call);
 }

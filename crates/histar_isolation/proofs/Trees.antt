@@ -103,17 +103,22 @@ module _ (left_out : Path → Bool) where
   one_list [] h = refl
   one_list (b ∷ bs) h =
       let parts = and_parts (below_all path_cmp b.0 bs) (is_sorted path_cmp bs) h in
-      one_step (differ [] (b ∷ bs)) b.0 (paths_of bs) (left_out b.0) (first_kept left_out (lines_of bs)) (in_second [] (b ∷ bs) b.0 b.1 refl (find_here b bs))
+      one_step (differ [] (b ∷ bs)) b.0 (paths_of bs) (left_out b.0) (first_kept left_out (lines_of bs))
+      (in_second [] (b ∷ bs) b.0 b.1 refl (find_here b bs))
       (agree (differ [] (b ∷ bs)) (differ [] bs) b.0 bs parts.0 (behind_second b [] bs) ∙ one_list bs parts.1)
 
   -- The test finds in the union what going through the lists side by side finds: where the first list begins with a ..
   from_first : (a : Path × Node) (as' : Nodes) → IsBelow a.0 as'
-      → ((cs : Nodes) → Rises cs → first_that (differ as' cs) (paths_of (union as' cs)) ≡ first_difference left_out (lines_of as') (lines_of cs))
+      → ((cs : Nodes) → Rises cs → first_that (differ as' cs) (paths_of (union as' cs)) ≡ first_difference left_out (lines_of as')
+      (lines_of cs))
       → (bs : Nodes) → Rises bs
-      → first_that (differ (a ∷ as') bs) (paths_of (union_from a (union as') bs)) ≡ difference_from left_out (a.0, node_text a.0 a.1) (first_difference left_out (lines_of as')) (lines_of bs)
+      → first_that (differ (a ∷ as') bs) (paths_of (union_from a (union as') bs)) ≡ difference_from left_out (a.0, node_text a.0 a.1)
+      (first_difference left_out (lines_of as')) (lines_of bs)
   from_first a as' ha each [] h =
-      one_step (differ (a ∷ as') []) a.0 (paths_of (union as' [])) (left_out a.0) (first_difference left_out (lines_of as') []) (in_first (a ∷ as') [] a.0 a.1 (find_here a as') refl)
-      (agree (differ (a ∷ as') []) (differ as' []) a.0 (union as' []) (below_union a.0 as' [] ha refl) (behind_first a as' []) ∙ each [] refl)
+      one_step (differ (a ∷ as') []) a.0 (paths_of (union as' [])) (left_out a.0) (first_difference left_out (lines_of as') [])
+      (in_first (a ∷ as') [] a.0 a.1 (find_here a as') refl)
+      (agree (differ (a ∷ as') []) (differ as' []) a.0 (union as' []) (below_union a.0 as' [] ha refl) (behind_first a as' [])
+      ∙ each [] refl)
   from_first a as' ha each (b ∷ bs) h = by (path_cmp a.0 b.0) refl (from_first a as' ha each bs parts.1)
     where
       parts : (below_all path_cmp b.0 bs ≡ true) × (is_sorted path_cmp bs ≡ true)
@@ -121,32 +126,42 @@ module _ (left_out : Path → Bool) where
 
       AlsoSo : Type 0
       AlsoSo =
-          first_that (differ (a ∷ as') bs) (paths_of (union_from a (union as') bs)) ≡ difference_from left_out (a.0, node_text a.0 a.1) (first_difference left_out (lines_of as')) (lines_of bs)
+          first_that (differ (a ∷ as') bs) (paths_of (union_from a (union as') bs)) ≡ difference_from left_out (a.0, node_text a.0 a.1)
+          (first_difference left_out (lines_of as')) (lines_of bs)
 
       by : (r : Ordering) → path_cmp a.0 b.0 ≡ r → AlsoSo
-          → first_that (differ (a ∷ as') (b ∷ bs)) (paths_of (by_order r (a ∷ union as' (b ∷ bs)) (a ∷ union as' bs) (b ∷ union_from a (union as') bs)))
+          → first_that (differ (a ∷ as') (b ∷ bs))
+          (paths_of (by_order r (a ∷ union as' (b ∷ bs)) (a ∷ union as' bs) (b ∷ union_from a (union as') bs)))
           ≡ by_order r (cond (left_out a.0) (first_difference left_out (lines_of as') (lines_of (b ∷ bs))) (Some a.0))
-          (cond (left_out a.0 || same (node_text a.0 a.1) (node_text b.0 b.1)) (first_difference left_out (lines_of as') (lines_of bs)) (Some a.0))
-          (cond (left_out b.0) (difference_from left_out (a.0, node_text a.0 a.1) (first_difference left_out (lines_of as')) (lines_of bs)) (Some b.0))
+          (cond (left_out a.0 || same (node_text a.0 a.1) (node_text b.0 b.1)) (first_difference left_out (lines_of as') (lines_of bs))
+          (Some a.0))
+          (cond (left_out b.0) (difference_from left_out (a.0, node_text a.0 a.1) (first_difference left_out (lines_of as')) (lines_of bs))
+          (Some b.0))
       by Less e later =
           let below = below_other a.0 b bs e parts.0 in
-          one_step (differ (a ∷ as') (b ∷ bs)) a.0 (paths_of (union as' (b ∷ bs))) (left_out a.0) (first_difference left_out (lines_of as') (lines_of (b ∷ bs)))
+          one_step (differ (a ∷ as') (b ∷ bs)) a.0 (paths_of (union as' (b ∷ bs))) (left_out a.0)
+          (first_difference left_out (lines_of as') (lines_of (b ∷ bs)))
           (in_first (a ∷ as') (b ∷ bs) a.0 a.1 (find_here a as') (find_below a.0 (b ∷ bs) below))
-          (agree (differ (a ∷ as') (b ∷ bs)) (differ as' (b ∷ bs)) a.0 (union as' (b ∷ bs)) (below_union a.0 as' (b ∷ bs) ha below) (behind_first a as' (b ∷ bs)) ∙ each (b ∷ bs) h)
+          (agree (differ (a ∷ as') (b ∷ bs)) (differ as' (b ∷ bs)) a.0 (union as' (b ∷ bs)) (below_union a.0 as' (b ∷ bs) ha below)
+          (behind_first a as' (b ∷ bs)) ∙ each (b ∷ bs) h)
       by Equal e later =
           let same_place = path_cmp_exact a.0 b.0 e in
-          one_step (differ (a ∷ as') (b ∷ bs)) a.0 (paths_of (union as' bs)) (left_out a.0 || same (node_text a.0 a.1) (node_text b.0 b.1)) (first_difference left_out (lines_of as') (lines_of bs))
+          one_step (differ (a ∷ as') (b ∷ bs)) a.0 (paths_of (union as' bs)) (left_out a.0 || same (node_text a.0 a.1) (node_text b.0 b.1))
+          (first_difference left_out (lines_of as') (lines_of bs))
           (in_both_lists (a ∷ as') (b ∷ bs) a.0 a.1 b.1 (find_here a as') (ap (λ q. find path_cmp q (b ∷ bs)) same_place ∙ find_here b bs)
           ∙ ap (λ q. not (left_out a.0 || same (node_text a.0 a.1) (node_text q b.1))) same_place)
-          (agree (differ (a ∷ as') (b ∷ bs)) (differ as' bs) a.0 (union as' bs) (below_union a.0 as' bs ha (below_tied a.0 b.0 bs e parts.0))
+          (agree (differ (a ∷ as') (b ∷ bs)) (differ as' bs) a.0 (union as' bs)
+          (below_union a.0 as' bs ha (below_tied a.0 b.0 bs e parts.0))
           (λ q less. behind_first a as' (b ∷ bs) q less ∙ behind_second b as' bs q (ap (λ z. path_cmp z q) (sym same_place) ∙ less))
           ∙ each bs parts.1)
       by Greater e later =
           let less = turned_greater a.0 b.0 e in
           let below = below_other b.0 a as' less ha in
-          one_step (differ (a ∷ as') (b ∷ bs)) b.0 (paths_of (union_from a (union as') bs)) (left_out b.0) (difference_from left_out (a.0, node_text a.0 a.1) (first_difference left_out (lines_of as')) (lines_of bs))
+          one_step (differ (a ∷ as') (b ∷ bs)) b.0 (paths_of (union_from a (union as') bs)) (left_out b.0)
+          (difference_from left_out (a.0, node_text a.0 a.1) (first_difference left_out (lines_of as')) (lines_of bs))
           (in_second (a ∷ as') (b ∷ bs) b.0 b.1 (find_below b.0 (a ∷ as') below) (find_here b bs))
-          (agree (differ (a ∷ as') (b ∷ bs)) (differ (a ∷ as') bs) b.0 (union_from a (union as') bs) (below_union b.0 (a ∷ as') bs below parts.0) (behind_second b (a ∷ as') bs)
+          (agree (differ (a ∷ as') (b ∷ bs)) (differ (a ∷ as') bs) b.0 (union_from a (union as') bs)
+          (below_union b.0 (a ∷ as') bs below parts.0) (behind_second b (a ∷ as') bs)
           ∙ later)
 
   -- .. and for all lists.
@@ -159,16 +174,19 @@ module _ (left_out : Path → Bool) where
 
   -- The first path of two trees that passes the test is the first difference of their lines.
   pub first_of_trees : (f g : Flat)
-      → first_that (differ f.files.entries g.files.entries) (paths_of (from_list (f.files.entries ++ g.files.entries)).entries) ≡ first_difference left_out (tree_lines f) (tree_lines g)
+      → first_that (differ f.files.entries g.files.entries)
+      (paths_of (from_list (f.files.entries ++ g.files.entries)).entries) ≡ first_difference left_out (tree_lines f) (tree_lines g)
   first_of_trees f g =
       ap (λ es. first_that (differ f.files.entries g.files.entries) (paths_of es)) (entries_of_both f.files g.files)
-      ∙ side_by_side f.files.entries g.files.entries (holds (is_sorted path_cmp f.files.entries) f.files.sorted) (holds (is_sorted path_cmp g.files.entries) g.files.sorted)
+      ∙ side_by_side f.files.entries g.files.entries (holds (is_sorted path_cmp f.files.entries) f.files.sorted)
+      (holds (is_sorted path_cmp g.files.entries) g.files.sorted)
 
 -- The first path at which the trees of two runs differ is the first difference of their lines, where what lies below the followed
 -- directories is left out.
 pub finds_first_path : FindsFirstPath
 finds_first_path session calls others job =
-    (λ i. first_that (λ q. not (finds_left_out session calls job q i || finds_left_out session others job q i) && not (same (text_at q (get f.files q)) (text_at q (get g.files q))))
+    (λ i. first_that (λ q. not (finds_left_out session calls job q i || finds_left_out session others job q i) && not
+    (same (text_at q (get f.files q)) (text_at q (get g.files q))))
     (paths_of (from_list (f.files.entries ++ g.files.entries)).entries))
     ∙ first_of_trees (is_below_either (directory_of job None (meaning session calls)) (directory_of job None (meaning session others))) f g
   where

@@ -58,7 +58,8 @@ pub below_less : (q r : Path) (es : Nodes) → path_cmp q r ≡ Less → IsBelow
 below_less q r [] less h = refl
 below_less q r (e ∷ es) less h =
     let parts = and_parts (is_lt (path_cmp r e.0)) (below_all path_cmp r es) h in
-    and_from (is_lt (path_cmp q e.0)) (below_all path_cmp q es) (ap is_lt (path_cmp_total.trans q r e.0 less (is_less (path_cmp r e.0) parts.0))) (below_less q r es less parts.1)
+    and_from (is_lt (path_cmp q e.0)) (below_all path_cmp q es)
+    (ap is_lt (path_cmp_total.trans q r e.0 less (is_less (path_cmp r e.0) parts.0))) (below_less q r es less parts.1)
 
 -- the greater of two paths is not the same
 pub turned_less : (q r : Path) → path_cmp q r ≡ Less → path_cmp r q ≡ Greater
@@ -123,9 +124,11 @@ union_from_rises a as' ha each (b ∷ bs) h = by (path_cmp a.0 b.0) refl (union_
     by : (r : Ordering) → path_cmp a.0 b.0 ≡ r → Rises (union_from a (union as') bs)
         → Rises (by_order r (a ∷ union as' (b ∷ bs)) (a ∷ union as' bs) (b ∷ union_from a (union as') bs))
     by Less e later =
-        and_from (below_all path_cmp a.0 (union as' (b ∷ bs))) (is_sorted path_cmp (union as' (b ∷ bs))) (below_union a.0 as' (b ∷ bs) ha (below_other a.0 b bs e parts.0)) (each (b ∷ bs) h)
+        and_from (below_all path_cmp a.0 (union as' (b ∷ bs))) (is_sorted path_cmp (union as' (b ∷ bs)))
+        (below_union a.0 as' (b ∷ bs) ha (below_other a.0 b bs e parts.0)) (each (b ∷ bs) h)
     by Equal e later =
-        and_from (below_all path_cmp a.0 (union as' bs)) (is_sorted path_cmp (union as' bs)) (below_union a.0 as' bs ha (below_tied a.0 b.0 bs e parts.0)) (each bs parts.1)
+        and_from (below_all path_cmp a.0 (union as' bs)) (is_sorted path_cmp (union as' bs))
+        (below_union a.0 as' bs ha (below_tied a.0 b.0 bs e parts.0)) (each bs parts.1)
     by Greater e later = and_from (below_all path_cmp b.0 (union_from a (union as') bs)) (is_sorted path_cmp (union_from a (union as') bs))
         (below_union b.0 (a ∷ as') bs (below_other b.0 a as' (turned_greater a.0 b.0 e) ha) parts.0) later
 
@@ -155,19 +158,24 @@ find_union_from q a as' ha each (b ∷ bs) = by (path_cmp a.0 b.0) refl (find_un
     tied e true t = refl
     tied e false t =
         each bs
-        ∙ ap (λ (o : Option Node). find path_cmp q as' orelse o) (sym (ap (λ c. cond c (Some b.1) (find path_cmp q bs)) (ap (eq_by_cmp path_cmp q) (sym (path_cmp_exact a.0 b.0 e)) ∙ t)))
+        ∙ ap (λ (o : Option Node). find path_cmp q as' orelse o)
+        (sym (ap (λ c. cond c (Some b.1) (find path_cmp q bs)) (ap (eq_by_cmp path_cmp q) (sym (path_cmp_exact a.0 b.0 e)) ∙ t)))
 
     AlsoFound : Type 0
     AlsoFound = find path_cmp q (union_from a (union as') bs) ≡ (find path_cmp q (a ∷ as') orelse find path_cmp q bs)
 
     later : path_cmp a.0 b.0 ≡ Greater → AlsoFound → (t : Bool) → eq_by_cmp path_cmp q b.0 ≡ t
-        → cond t (Some b.1) (find path_cmp q (union_from a (union as') bs)) ≡ (find path_cmp q (a ∷ as') orelse cond t (Some b.1) (find path_cmp q bs))
+        → cond t (Some b.1) (find path_cmp q (union_from a (union as') bs)) ≡
+        (find path_cmp q (a ∷ as') orelse cond t (Some b.1) (find path_cmp q bs))
     later e found true t =
-        sym (ap (λ (o : Option Node). o orelse Some b.1) (find_below q (a ∷ as') (subst (λ x. IsBelow x (a ∷ as')) (sym (is_same_path q b.0 (sym (ties q b.0) ∙ t))) (below_other b.0 a as' (turned_greater a.0 b.0 e) ha))))
+        sym (ap (λ (o : Option Node). o orelse Some b.1)
+        (find_below q (a ∷ as') (subst (λ x. IsBelow x (a ∷ as')) (sym (is_same_path q b.0 (sym (ties q b.0) ∙ t)))
+        (below_other b.0 a as' (turned_greater a.0 b.0 e) ha))))
     later e found false t = found
 
     by : (r : Ordering) → path_cmp a.0 b.0 ≡ r → AlsoFound
-        → find path_cmp q (by_order r (a ∷ union as' (b ∷ bs)) (a ∷ union as' bs) (b ∷ union_from a (union as') bs)) ≡ (find path_cmp q (a ∷ as') orelse find path_cmp q (b ∷ bs))
+        → find path_cmp q (by_order r (a ∷ union as' (b ∷ bs)) (a ∷ union as' bs) (b ∷ union_from a (union as') bs)) ≡
+        (find path_cmp q (a ∷ as') orelse find path_cmp q (b ∷ bs))
     by Less e found = in_both q a (union as' (b ∷ bs)) (find path_cmp q as') (find path_cmp q (b ∷ bs)) (each (b ∷ bs))
     by Equal e found = tied e (eq_by_cmp path_cmp q a.0) refl
     by Greater e found = later e found (eq_by_cmp path_cmp q b.0) refl
@@ -185,6 +193,9 @@ find_append q (a ∷ as') bs = in_both q a (as' ++ bs) (find path_cmp q as') (fi
 -- The map of both lists has the entries of their union.
 pub entries_of_both : (f g : Files Node) → (from_list (f.entries ++ g.entries)).entries ≡ union f.entries g.entries
 entries_of_both f g =
-    same_entries path_cmp path_cmp_total path_cmp_exact (from_list (f.entries ++ g.entries)).entries (union f.entries g.entries) (from_list (f.entries ++ g.entries)).sorted
-    (subst T (sym (union_rises f.entries g.entries (holds (is_sorted path_cmp f.entries) f.sorted) (holds (is_sorted path_cmp g.entries) g.sorted))) tt)
-    (λ q. get-from_list (f.entries ++ g.entries) q ∙ find_append q f.entries g.entries ∙ sym (find_union q f.entries g.entries (holds (is_sorted path_cmp f.entries) f.sorted)))
+    same_entries path_cmp path_cmp_total path_cmp_exact (from_list (f.entries ++ g.entries)).entries (union f.entries g.entries)
+    (from_list (f.entries ++ g.entries)).sorted
+    (subst T (sym (union_rises f.entries g.entries (holds (is_sorted path_cmp f.entries) f.sorted)
+    (holds (is_sorted path_cmp g.entries) g.sorted))) tt)
+    (λ q. get-from_list (f.entries ++ g.entries) q ∙ find_append q f.entries g.entries ∙ sym
+    (find_union q f.entries g.entries (holds (is_sorted path_cmp f.entries) f.sorted)))

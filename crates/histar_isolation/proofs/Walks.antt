@@ -41,7 +41,8 @@ closed_dir session p job (Some n) o h = closed_class session p job n.class o ((a
 -- the tests on the way at one directory
 at_dir : Session → Process → Option Node → Option Errno
 at_dir session p o =
-    unless (is_some_and o (λ n. true)) ENOENT orelse unless (is_some_and o is_dir) ENOTDIR orelse unless (is_some_and o (λ n. may_read session p n.class)) EACCES
+    unless (is_some_and o (λ n. true)) ENOENT orelse unless (is_some_and o is_dir) ENOTDIR orelse unless
+    (is_some_and o (λ n. may_read session p n.class)) EACCES
 
 into_step : (session : Session) (f : Flat) (p : Process) (n : Name) (d : Path)
     → into session f p (n ∷ d) ≡ (into session f p d orelse at_dir session p (get f.files (n ∷ d)))
@@ -52,7 +53,8 @@ at_dir_closed : (session : Session) (p : Process) (o : Option Node) → is_some_
     → is_some (at_dir session p o) ≡ true
 unfolding at_dir
 at_dir_closed session p o h =
-    stops_later (unless (is_some_and o (λ n. true)) ENOENT) (unless (is_some_and o is_dir) ENOTDIR orelse unless (is_some_and o (λ n. may_read session p n.class)) EACCES)
+    stops_later (unless (is_some_and o (λ n. true)) ENOENT)
+    (unless (is_some_and o is_dir) ENOTDIR orelse unless (is_some_and o (λ n. may_read session p n.class)) EACCES)
     (stops_later (unless (is_some_and o is_dir) ENOTDIR) (unless (is_some_and o (λ n. may_read session p n.class)) EACCES)
     (failed (is_some_and o (λ n. may_read session p n.class)) EACCES h))
 
@@ -78,7 +80,10 @@ module _ (job : ProcName) (session : Session) (p : Process) (f g : Flat) (r : Sa
   into_refused o (n ∷ d) h = ap is_some (into_step session f p n d) ∙ elim (true_or_false (lies_in_job job f.files (n ∷ d))) [
     | inl i ↦ stops_first (into session f p d) (at_dir session p (get f.files (n ∷ d))) (into_refused o d i)
     | inr i ↦
-        stops_later (into session f p d) (at_dir session p (get f.files (n ∷ d))) (at_dir_closed session p (get f.files (n ∷ d)) (closed_dir session p job (get f.files (n ∷ d)) o (left_holds (is_dir_of job (get f.files (n ∷ d))) (lies_in_job job f.files (n ∷ d)) i h)))
+        stops_later (into session f p d) (at_dir session p (get f.files (n ∷ d)))
+        (at_dir_closed session p (get f.files (n ∷ d))
+        (closed_dir session p job (get f.files (n ∷ d)) o
+        (left_holds (is_dir_of job (get f.files (n ∷ d))) (lies_in_job job f.files (n ∷ d)) i h)))
   ]
 
   -- so an outsider walks alike in both trees
@@ -136,7 +141,8 @@ entries_alike job f g r d h =
     at (n ∷ e) = elim (same_path_found d e) [
       | inl t ↦
           ap (cond (same_path d e) (get f.files (n ∷ e))) refl
-          ∙ ap (λ x. cond (same_path d e) x None) (r.same (n ∷ e) (subst (λ x. (is_dir_of job (get f.files x) || lies_in_job job f.files x) ≡ false) t.1 h))
+          ∙ ap (λ x. cond (same_path d e) x None)
+          (r.same (n ∷ e) (subst (λ x. (is_dir_of job (get f.files x) || lies_in_job job f.files x) ≡ false) t.1 h))
       | inr t ↦ ap (λ b. cond b (get f.files (n ∷ e)) None) t.0 ∙ sym (ap (λ b. cond b (get g.files (n ∷ e)) None) t.0)
     ]
 

@@ -1,4 +1,15 @@
 -- Worked sessions in which the directory of a job is followed, and whose trees are compared line by line.
+use Rattle.std.specs.Prelude.{List, None, Option, Some, [], codes, refl, ◌++◌, ◌∷◌, ◌≡◌}
+use Rattle.histar_flat.specs.declared.calls.CallLine.{CallLine}
+use Rattle.histar_flat.specs.declared.calls.Mode.TheVariants as modes
+use Rattle.histar_flat.specs.declared.calls.UnixCall.TheVariants.{Create, Rename, Rmtree, Wrap}
+use Rattle.histar_flat.specs.Meaning.{boot, flat_end, meaning}
+use Rattle.histar_flat.specs.Words.{Path}
+use Rattle.histar_flat.proofs.WorkedRuns.{calls_that_end_in_a_rmdir}
+use Rattle.histar_flat.proofs.WorkedScripts.{line_of, three_users, tmp_made}
+use Rattle.histar_isolation.specs.Comparison.{without_job_calls}
+use Rattle.histar_isolation.specs.Following.{directory_of}
+use Rattle.histar_isolation.specs.Trees.{first_difference, is_below_either, tree_lines}
 
 -- alice starts a job in /tmp/j, root gives /tmp another name, and alice one to the directory of the job
 abbrev calls_with_renames : List CallLine
@@ -19,7 +30,8 @@ pub refused_renames_are_not : directory_of (1 ∷ 1 ∷ []) None (meaning three_
 refused_renames_are_not = refl
 
 -- it is nowhere once /t is taken away with all below it
-pub removals_are_followed : directory_of (1 ∷ 1 ∷ []) None (meaning three_users (calls_with_renames ++ line_of 14 [] (Rmtree (codes "t" ∷ [])) ∷ [])) ≡ None
+pub removals_are_followed : directory_of (1 ∷ 1 ∷ []) None
+    (meaning three_users (calls_with_renames ++ line_of 14 [] (Rmtree (codes "t" ∷ [])) ∷ [])) ≡ None
 removals_are_followed = refl
 
 -- the first difference of the lines of a script's tree and of its tree without the job's calls
@@ -27,7 +39,8 @@ abbrev difference : List CallLine → Option Path
 difference calls =
     let others = without_job_calls (1 ∷ 1 ∷ []) calls in
     first_difference
-    (is_below_either (directory_of (1 ∷ 1 ∷ []) None (meaning three_users calls)) (directory_of (1 ∷ 1 ∷ []) None (meaning three_users others)))
+    (is_below_either (directory_of (1 ∷ 1 ∷ []) None (meaning three_users calls))
+    (directory_of (1 ∷ 1 ∷ []) None (meaning three_users others)))
     (tree_lines (flat_end three_users (boot three_users) calls)) (tree_lines (flat_end three_users (boot three_users) others))
 
 -- what the job made lies below its directory, and is left out
