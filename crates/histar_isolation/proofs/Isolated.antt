@@ -1,4 +1,4 @@
--- A job that was started, and whose starter calls no `rmdir` and no `wrap` after that, changes nothing outside.
+-- Where a `wrap` started a job, and who called it calls no `rmdir` and no `wrap` after that, the job changes nothing outside.
 use Rattle.std.specs.Prelude.{List, None, Option, Some, [], cond, false, nat_eq, refl, true, ℕ, ◌++◌, ◌+◌, ◌||◌, ◌∷◌, ◌≡◌, ◌⊎◌}
 use Rattle.std.proofs.Common.{ap, inl, inr, subst, sym, ◌∙◌}
 use Rattle.std.proofs.lemmas.Bool.{or_parts, true≢false}

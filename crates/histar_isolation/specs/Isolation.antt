@@ -26,7 +26,7 @@ is_rmdir_or_wrap _ = false
 abbrev pub is_quiet : ProcName → List Answered → Bool
 is_quiet job = list_all (λ (a : Answered). not (same (parent job) a.call.process && is_rmdir_or_wrap a.call.call))
 
--- a job that was started, and whose starter calls no `rmdir` and no `wrap` after that, changes nothing outside
+-- where a `wrap` started a job, and who called it calls no `rmdir` and no `wrap` after that, the job changes nothing outside
 abbrev pub IsolatesJobs : Type 0
 IsolatesJobs = (session : Session) (calls : List CallLine) (job : ProcName)
     → starts job (meaning session calls) ≡ true
