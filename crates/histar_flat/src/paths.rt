@@ -1,9 +1,11 @@
 //! Paths.
 ghost use Rattle.std.specs.Prelude.{◌≡◌, ◌<◌, ◌≤◌, [], ◌∷◌, length, slice_get, codes};
 ghost use Rattle.std.specs.Option.{option_copied};
+ghost use Rattle.histar_flat.specs.PathOrder.{under_path};
 ghost use Rattle.histar_flat.specs.Words.{most_names};
 
 use crate::names::Name;
+use crate::suffix::is_under;
 use std::marker::Model;
 
 /// The most names of a path.
@@ -72,6 +74,13 @@ impl Path {
         ensures { option_copied result ≡ slice_get self.now 0 }
     {
         self.names().first()
+    }
+
+    /// Whether what stands here is what stands at the other path, or lies below it.
+    pub fn is_at_or_below(&self, above: &Path) -> bool
+        ensures { result ≡ under_path above.now self.now }
+    {
+        is_under(above.names(), self.names())
     }
 
     /// How many names the path has.
