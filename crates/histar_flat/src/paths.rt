@@ -1,9 +1,12 @@
 //! Paths.
 ghost use Rattle.std.specs.Prelude.{◌≡◌, ◌<◌, ◌≤◌, [], ◌∷◌, length, slice_get, codes};
 ghost use Rattle.std.specs.Option.{option_copied};
+ghost use Rattle.histar_flat.specs.FlatState.{moved};
+ghost use Rattle.histar_flat.specs.PathOrder.{parent, under_path};
 ghost use Rattle.histar_flat.specs.Words.{most_names};
 
 use crate::names::Name;
+use crate::suffix::is_under;
 use std::marker::Model;
 
 /// The most names of a path.
@@ -72,6 +75,28 @@ impl Path {
         ensures { option_copied result ≡ slice_get self.now 0 }
     {
         self.names().first()
+    }
+
+    /// Whether what stands here is what stands at the other path, or lies below it.
+    pub fn is_at_or_below(&self, above: &Path) -> bool
+        ensures { result ≡ under_path above.now self.now }
+    {
+        is_under(above.names(), self.names())
+    }
+
+    /// Where this path leads once what stands at the other one has a new name in its directory.
+    pub fn renamed(&self, old: &Path, name: Name) -> Path
+        ensures { result ≡ moved old.now (name ∷ parent old.now) self.now }
+    {
+        if old.depth() == 0 || !self.is_at_or_below(old) {
+            return *self;
+        }
+        let mut names = self.names;
+        names[self.depth() - old.depth()] = name;
+        Path {
+            names,
+            len: self.len,
+        }
     }
 
     /// How many names the path has.
