@@ -2,7 +2,7 @@
 //! J.
 ghost use Rattle.std.specs.Prelude.{◌≡◌, IsSome};
 
-use crate::{Category, Label, LabelStore, Level, OutOfMemory, PlainStore};
+use crate::{Category, InternStore, Label, LabelStore, Level, OutOfMemory, PlainStore};
 use std::alloc::Global;
 use std::process::Abort;
 use std::test::Fail;
@@ -274,19 +274,91 @@ fn labels_stay_without_memory(rt: HostRuntime) -> Result<(), Fail> {
     Ok(())
 }
 
+/// Each comparison has its own answer, whichever was made before it.
+fn answers_in_turn<S: LabelStore>(
+    rt: &impl Abort,
+    alloc: Global,
+    store: &mut S,
+) -> Result<(), OutOfMemory> {
+    let open = store.put(Label::new(alloc, Level::L1))?;
+    let secret = store.put(at_seven(alloc, Level::L3)?)?;
+    let owner = store.put(at_seven(alloc, Level::Star)?)?;
+    let answer = store.below(open, secret);
+    assert!(rt; answer);
+    let answer = store.below(secret, open);
+    assert!(rt; !answer);
+    let answer = store.below(open, secret);
+    assert!(rt; answer);
+    let answer = store.below(secret, owner);
+    assert!(rt; !answer);
+    let answer = store.below_raised(secret, owner);
+    assert!(rt; answer);
+    let answer = store.below(secret, owner);
+    assert!(rt; !answer);
+    Ok(())
+}
+
+/// How many answers the stores of the tests remember.
+const CACHES: [usize; 2] = [1, 4];
+
+#[test]
+fn an_intern_store(rt: HostRuntime) -> Result<(), Fail> {
+    for &cache in &CACHES {
+        let mut store = InternStore::new(rt.alloc(), cache)?;
+        for &row in &ROWS {
+            store_agrees(&rt, rt.alloc(), &mut store, row)?;
+        }
+    }
+    Ok(())
+}
+
+/// Tried with each allocation failing in turn: a comparison whose answer finds no memory is
+/// answered.
+#[test]
+fn answers_that_are_driven_out(rt: HostRuntime) -> Result<(), Fail> {
+    for &cache in &CACHES {
+        let mut store = InternStore::new(rt.alloc(), cache)?;
+        answers_in_turn(&rt, rt.alloc(), &mut store)?;
+    }
+    Ok(())
+}
+
+/// A label that is put again has the Id that it had, and no other label has it.
+#[test]
+fn equal_labels_have_one_id(rt: HostRuntime) -> Result<(), Fail> {
+    let mut store = InternStore::new(rt.alloc(), 1)?;
+    let first = store.put(at_seven(rt.alloc(), Level::L2)?)?;
+    let other = store.put(at_seven(rt.alloc(), Level::L3)?)?;
+    let again = store.put(at_seven(rt.alloc(), Level::L2)?)?;
+    assert_eq!(rt; again, first);
+    assert!(rt; other != first);
+    Ok(())
+}
+
 /// Tried with each allocation failing in turn: a put that finds no memory leaves the labels of a
 /// store as they were.
-#[test]
-fn a_store_stays_without_memory(rt: HostRuntime) -> Result<(), Fail> {
-    let mut store = PlainStore::new(rt.alloc());
-    let first = store.put(at_seven(rt.alloc(), Level::L2)?)?;
+fn stays_without_memory<S: LabelStore>(
+    rt: &impl Abort,
+    alloc: Global,
+    store: &mut S,
+) -> Result<(), OutOfMemory> {
+    let first = store.put(at_seven(alloc, Level::L2)?)?;
     for &row in &ROWS {
-        if let Ok(id) = store.put(at_seven(rt.alloc(), row.0)?) {
+        if let Ok(id) = store.put(at_seven(alloc, row.0)?) {
             let found = store.get(id).map(|label| label.get(seven()));
             assert_eq!(rt; found, Some(row.0));
         }
         let found = store.get(first).map(|label| label.get(seven()));
         assert_eq!(rt; found, Some(Level::L2));
     }
+    Ok(())
+}
+
+#[test]
+fn stores_stay_without_memory(rt: HostRuntime) -> Result<(), Fail> {
+    let mut plain = PlainStore::new(rt.alloc());
+    stays_without_memory(&rt, rt.alloc(), &mut plain)?;
+    let mut interned = InternStore::new(rt.alloc(), 1)?;
+    stays_without_memory(&rt, rt.alloc(), &mut interned)?;
     Ok(())
 }

@@ -1,0 +1,168 @@
+//! A store that keeps each label once, and remembers answers of comparisons.
+ghost use Rattle.std.specs.Prelude.{◌≡◌, ◌<◌, ◌⊎◌, ℕ, Bool, Some, IfOk, IfSome, OnErr};
+ghost use Rattle.std.specs.Prelude.{[], length, slice_get, Contains, Ok};
+ghost use Rattle.std.specs.Option.{option_copied};
+ghost use Rattle.histar_label.specs.Store.{Keeps, HasOneId};
+ghost use Rattle.histar_label.specs.InternStore.{answer_of};
+ghost use Rattle.histar_label.specs.declared.intern_store.Comparison.{Comparison};
+
+use crate::levels::Reading;
+use crate::{Label, LabelStore, OutOfMemory};
+use indexmap::IndexSet;
+use lru::LruCache;
+use std::alloc::Global;
+use std::marker::Model;
+use std::num::NonZeroUsize;
+
+/// The Id of a label in an [`InternStore`]: how many other labels were put before it.
+#[derive(Clone, Copy, Debug, PartialEq, Eq, Hash)]
+pub struct InternId(usize);
+
+impl Model for InternId {
+    ghost use Rattle.std.specs.Prelude.{ℕ};
+
+    ghost Value = { ℕ };
+
+    ghost view = { λ id. id.0 };
+
+    ghost inverse = { λ n. record { 0 = n } };
+}
+
+/// A comparison of two labels, in this order.
+#[derive(Clone, Copy, Debug, PartialEq, Eq, Hash)]
+struct Comparison {
+    reading: Reading,
+    lower: InternId,
+    upper: InternId,
+}
+
+/// Keeps each label once, so that equal labels have one Id, and remembers the answers of the latest
+/// comparisons of two labels. It forgets no label, so it grows with each new one.
+///
+/// A put of a label that is there already needs no memory. A comparison whose answer finds no memory
+/// is answered, and made anew the next time.
+#[derive(Debug, Drop)]
+pub struct InternStore {
+    labels: IndexSet<Label>,
+    answers: LruCache<Comparison, bool>,
+}
+
+impl Model for InternStore {
+    ghost use Rattle.std.specs.Prelude.{List};
+    ghost use Rattle.std.specs.Coded.{coded_list};
+    ghost use Rattle.histar_label.specs.Levels.{Levels, coded_levels};
+    ghost use Rattle.histar_label.specs.InternStore.{IsInterned};
+
+    ghost Value = { List Levels };
+
+    ghost coded = { coded_list coded_levels };
+
+    ghost view = { λ s. s.labels.keys };
+
+    ghost invariant = { λ s. IsInterned s.labels.keys s.answers.entries };
+}
+
+impl InternStore {
+    /// A store with no labels, which remembers at most `cache` answers.
+    pub fn new(alloc: Global, cache: usize) -> Result<InternStore, OutOfMemory>
+        requires { 0 < cache }
+        ensures { IfOk result (λ store. store ≡ []) }
+    {
+        let capacity = NonZeroUsize::new(cache).unwrap();
+        Ok(InternStore {
+            labels: IndexSet::new(alloc),
+            answers: LruCache::new(alloc, capacity)?,
+        })
+    }
+
+    // The answer of a comparison, which is remembered where it was made or had been remembered. Each
+    // label is below itself, however its star is read.
+    fn answer(&mut self, comparison: Comparison) -> bool
+        requires lower_stands { comparison.lower < length self.old }
+        requires upper_stands { comparison.upper < length self.old }
+        ensures answer { result ≡ answer_of self.old comparison }
+        ensures unchanged { self.new ≡ self.old }
+    {
+        if comparison.lower == comparison.upper {
+            return true;
+        }
+        if let Some(answer) = recall(&mut self.answers, comparison) {
+            return answer;
+        }
+        let answer = compare(&self.labels, comparison);
+        remember(&mut self.answers, comparison, answer);
+        answer
+    }
+}
+
+impl LabelStore for InternStore {
+    type Id = InternId;
+
+    ghost labels = { slice_get };
+
+    /// Keeps a label, and answers its Id, which is the one that it had if it was there.
+    fn put(&mut self, label: Label) -> Result<InternId, OutOfMemory>
+        ensures stands { IfOk result (λ id. slice_get self.new id ≡ Some label) }
+        ensures keeps { Keeps (slice_get self.old) (slice_get self.new) }
+        ensures unchanged { OnErr result (slice_get self.new ≡ slice_get self.old) }
+        ensures one_id { HasOneId (slice_get self.new) }
+        ensures known { (id : ℕ) → slice_get self.old id ≡ Some label → result ≡ Ok id }
+    {
+        let (place, _) = self.labels.insert_full(label)?;
+        Ok(InternId(place))
+    }
+
+    /// The label of an Id. No other Id stands for an equal label.
+    fn get(&self, id: InternId) -> Option<&Label>
+        ensures label { option_copied result ≡ slice_get self.now id }
+        ensures one_id { HasOneId (slice_get self.now) }
+    {
+        self.labels.get_index(id.0)
+    }
+
+    fn below(&mut self, lower: InternId, upper: InternId) -> bool {
+        self.answer(Comparison {
+            reading: Reading::Plain,
+            lower,
+            upper,
+        })
+    }
+
+    fn below_raised(&mut self, lower: InternId, upper: InternId) -> bool {
+        self.answer(Comparison {
+            reading: Reading::Raised,
+            lower,
+            upper,
+        })
+    }
+}
+
+// The answer of a comparison, by the labels.
+fn compare(labels: &IndexSet<Label>, comparison: Comparison) -> bool
+    requires lower_stands { comparison.lower < length labels.now.keys }
+    requires upper_stands { comparison.upper < length labels.now.keys }
+    ensures { result ≡ answer_of labels.now.keys comparison }
+{
+    let lower = labels.get_index(comparison.lower.0).unwrap();
+    let upper = labels.get_index(comparison.upper.0).unwrap();
+    match comparison.reading {
+        Reading::Plain => lower.below(upper),
+        Reading::Raised => lower.below_raised(upper),
+    }
+}
+
+// The answer that was remembered for a comparison.
+fn recall(answers: &mut LruCache<Comparison, bool>, comparison: Comparison) -> Option<bool>
+    ensures found { IfSome result (λ answer. Contains answers.old.entries (comparison, answer)) }
+    ensures kept { (e : Comparison × Bool) → Contains answers.new.entries e → Contains answers.old.entries e }
+{
+    answers.get(&comparison).copied()
+}
+
+// Remembers an answer, unless memory is short.
+fn remember(answers: &mut LruCache<Comparison, bool>, comparison: Comparison, answer: bool)
+    ensures { (e : Comparison × Bool) → Contains answers.new.entries e
+        → Contains answers.old.entries e ⊎ (e ≡ (comparison, answer)) }
+{
+    let _ = answers.put(comparison, answer);
+}
