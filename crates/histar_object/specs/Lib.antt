@@ -3,3 +3,4 @@ pub mod Lending
 pub mod Objects
 pub mod Rights
 pub mod State
+pub mod Slots

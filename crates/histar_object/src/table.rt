@@ -1,31 +1,40 @@
 //! Objects by number.
-ghost use Rattle.std.specs.Prelude.{◌≡◌, OnOk, OnErr, None};
+ghost use Rattle.std.specs.Prelude.{◌≡◌, ◌≢◌, ◌↔◌, ℕ, OnOk, OnErr, None, Some, IsNone};
 ghost use Rattle.std.specs.Option.{option_copied, option_copied_mut};
 ghost use Rattle.histar_object.specs.Objects.{objects_of, put, without, bytes_there, no_objects};
 
 use crate::ids::ObjId;
 use crate::objects::{Kind, Object};
+use slab::Slab;
 use std::alloc::{AllocError, Global};
-use std::collections::BTreeMap;
+use std::collections::HashMap;
 use std::marker::Model;
 
 /// Objects by number. `L` is what stands for a label.
+///
+/// Each object has a slot, and a map tells the slot of a number. A slot is used again once its
+/// object is taken out; numbers are the caller's, who gives none again.
 #[derive(Drop)]
 pub struct Table<L> {
-    objects: BTreeMap<u64, Object<L>>,
+    slots: HashMap<ObjId, usize>,
+    objects: Slab<Object<L>>,
 }
 
 impl<L> Model for Table<L> {
     ghost use Rattle.std.specs.Prelude.{List, ℕ};
     ghost use Rattle.histar_object.specs.declared.objects.Object.{Object};
     ghost use Rattle.std.specs.Coded.{coded×, coded_ℕ, coded_list};
+    ghost use Rattle.slab.specs.Slab.{get};
     ghost use Rattle.histar_object.specs.Codes.{coded_object};
+    ghost use Rattle.histar_object.specs.Slots.{placed, IsPlaced};
 
     ghost Value = { List (ℕ × Object L) };
 
     ghost coded = { coded_list (coded× coded_ℕ (coded_object L.code)) };
 
-    ghost view = { λ t. t.objects.entries };
+    ghost view = { λ t. placed (get t.objects) t.slots.entries };
+
+    ghost invariant = { λ t. IsPlaced (get t.objects) t.slots.entries };
 }
 
 impl<L> Table<L> {
@@ -37,15 +46,37 @@ impl<L> Table<L> {
         ensures { objects_of result ≡ no_objects }
     {
         Table {
-            objects: BTreeMap::new(alloc),
+            slots: HashMap::new(alloc),
+            objects: Slab::new(alloc),
         }
+    }
+
+    /// The slot of this object: a small number, which another object may get once this one is taken
+    /// out.
+    pub fn slot(&self, id: ObjId) -> Option<usize>
+        ensures { IsNone result ↔ (objects_of self.now id ≡ None) }
+    {
+        self.slots.get(&id).copied()
+    }
+
+    /// The slots of two objects, as `slot` tells them. Two objects never have one slot.
+    pub fn slots(&self, first: ObjId, second: ObjId) -> (Option<usize>, Option<usize>)
+        ensures first { IsNone result.0 ↔ (objects_of self.now first ≡ None) }
+        ensures second { IsNone result.1 ↔ (objects_of self.now second ≡ None) }
+        ensures apart { first ≢ second → (k : ℕ) → result.0 ≡ Some k → result.1 ≢ Some k }
+    {
+        (
+            self.slots.get(&first).copied(),
+            self.slots.get(&second).copied(),
+        )
     }
 
     /// The object of this number.
     pub fn get(&self, id: ObjId) -> Option<&Object<L>>
         ensures { option_copied result ≡ objects_of self.now id }
     {
-        self.objects.get(&id.number())
+        let slot = *self.slots.get(&id)?;
+        self.objects.get(slot)
     }
 
     /// The object of this number, to be changed. All other objects stay.
@@ -53,7 +84,8 @@ impl<L> Table<L> {
         ensures* writes_back { sem 𝓛 (LendsObject L.row self.entry id result) }
         ensures value { option_copied_mut result ≡ objects_of self.old id }
     {
-        self.objects.get_mut(&id.number())
+        let slot = *self.slots.get(&id)?;
+        self.objects.get_mut(slot)
     }
 
     /// Keeps an object under a number that has none. Where memory runs out the object is dropped.
@@ -64,7 +96,10 @@ impl<L> Table<L> {
         ensures ok { OnOk result (objects_of self.new ≡ put (objects_of self.old) id object) }
         ensures err { OnErr result (objects_of self.new ≡ objects_of self.old) }
     {
-        self.objects.insert(id.number(), object)?;
+        self.objects.reserve(1)?;
+        let slot = self.objects.vacant_key();
+        self.slots.insert(id, slot)?;
+        self.objects.insert_reserved(object);
         Ok(())
     }
 
@@ -73,14 +108,15 @@ impl<L> Table<L> {
         ensures value { result ≡ objects_of self.old id }
         ensures without { objects_of self.new ≡ without (objects_of self.old) id }
     {
-        self.objects.remove(&id.number())
+        let slot = self.slots.remove(&id)?;
+        self.objects.try_remove(slot)
     }
 
     /// The bytes of the segment of this number.
     pub fn bytes(&self, id: ObjId) -> Option<&[u8]>
         ensures { option_copied result ≡ bytes_there (objects_of self.now id) }
     {
-        match &self.objects.get(&id.number())?.kind {
+        match &self.get(id)?.kind {
             Kind::Segment(bytes) => Some(bytes.as_slice()),
             _ => None,
         }

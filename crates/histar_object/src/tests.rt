@@ -1,4 +1,5 @@
 use super::*;
+use std::alloc::AllocError;
 use std::test::Fail;
 
 #[test]
@@ -12,5 +13,73 @@ fn links_are_what_was_inserted_and_not_removed(rt: HostRuntime) -> Result<(), Fa
     links.remove(ObjId::new(7));
     assert!(rt; !links.contains(ObjId::new(7)));
     assert!(rt; links.contains(ObjId::new(9)));
+    Ok(())
+}
+
+/// Adds a thread with this label under a number that has no object.
+fn add(table: &mut Table<u8>, number: u64, label: u8) -> Result<(), AllocError> {
+    let id = ObjId::new(number);
+    if table.slot(id).is_none() {
+        let kind = Kind::Thread(label);
+        table.add(id, Object { label, kind })?;
+    }
+    Ok(())
+}
+
+/// The label of the object of this number.
+fn label(table: &Table<u8>, number: u64) -> Option<u8> {
+    table.get(ObjId::new(number)).map(|object| object.label)
+}
+
+#[test]
+fn objects_are_found_by_their_numbers(rt: HostRuntime) -> Result<(), Fail> {
+    let mut table = Table::new(rt.alloc());
+    add(&mut table, 5, 1)?;
+    add(&mut table, 3, 3)?;
+    if let Some(object) = table.get_mut(ObjId::new(3)) {
+        object.label = 9;
+    }
+    assert_eq!(rt; label(&table, 5), Some(1));
+    assert_eq!(rt; label(&table, 3), Some(9));
+    assert!(rt; table.get(ObjId::new(4)).is_none());
+    assert!(rt; table.bytes(ObjId::new(3)).is_none());
+    Ok(())
+}
+
+/// An object that is added after another was taken out has the slot of that one, and a number of its
+/// own.
+#[test]
+fn a_slot_is_used_again(rt: HostRuntime) -> Result<(), Fail> {
+    let mut table = Table::new(rt.alloc());
+    add(&mut table, 1, 1)?;
+    add(&mut table, 2, 2)?;
+    let slot = table.slot(ObjId::new(1));
+    assert!(rt; slot.is_some());
+    assert!(rt; table.slot(ObjId::new(2)) != slot);
+    assert!(rt; table.remove(ObjId::new(1)).is_some());
+    add(&mut table, 3, 3)?;
+    assert_eq!(rt; table.slot(ObjId::new(3)), slot);
+    assert!(rt; table.slot(ObjId::new(1)).is_none());
+    assert_eq!(rt;
+        table.slots(ObjId::new(2), ObjId::new(3)),
+        (table.slot(ObjId::new(2)), slot)
+    );
+    assert_eq!(rt; label(&table, 2), Some(2));
+    assert_eq!(rt; label(&table, 3), Some(3));
+    Ok(())
+}
+
+/// Tried with each allocation failing in turn: an object that finds no memory isn't added, and the
+/// others stay.
+#[test]
+fn objects_stay_without_memory(rt: HostRuntime) -> Result<(), Fail> {
+    let mut table = Table::new(rt.alloc());
+    add(&mut table, 1, 1)?;
+    if add(&mut table, 2, 2).is_ok() {
+        assert!(rt; table.get(ObjId::new(2)).is_some());
+    } else {
+        assert!(rt; table.slot(ObjId::new(2)).is_none());
+    }
+    assert_eq!(rt; label(&table, 1), Some(1));
     Ok(())
 }

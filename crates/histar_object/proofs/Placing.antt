@@ -1,0 +1,221 @@
+-- What is found in a table whose objects stand in slots, and how it changes with one number.
+use Rattle.std.proofs.Common.{◌≡◌, ◌≢◌, ℕ, Bool, true, false, cond, List, [], ◌∷◌, Option, None, Some, IsSome, IsNone, ◌↔◌, inl, inr, if◌then◌else◌, refl, sym, ap, subst, ◌∙◌}
+use Rattle.std.specs.Prelude.{◌==◌, nat_eq, is_some}
+use mathlib.Core.Bool.{false≢true}
+use Rattle.std.proofs.lemmas.Bool.Decides.{eqb_tells}
+use Rattle.std.specs.Ordering.{nat_cmp}
+use Rattle.std.specs.Cmp.{unsigned_tied, nat_eq_equiv}
+use Rattle.std.specs.List.{IsDistinct, AllByRecursion}
+use Rattle.std.specs.Map.{keys_of, lookup}
+use Rattle.std.specs.BTreeMap.{is_at}
+use Rattle.histar_object.specs.Slots.{place, placed, IsPlaced}
+
+-- nothing is not something
+none_or_some : {A : Type 0} (k : A) → None ≡ Some k → ⊥
+none_or_some k h = cc
+
+-- one number is told once
+one_some : (j k : ℕ) → Some j ≡ Some k → j ≡ k
+one_some j k h = cc
+
+-- a number that is before the others stands at no later place
+none_behind : (n : ℕ) (slots : List (ℕ × ℕ)) → AllByRecursion (λ m. nat_eq n m ≡ false) (keys_of slots) → lookup (nat_eq n) slots ≡ None
+none_behind n [] apart = refl
+none_behind n (e ∷ slots) apart = ap (λ b. cond b (Some e.1) (lookup (nat_eq n) slots)) apart.0 ∙ none_behind n slots apart.1
+
+module _ {X : Type 0} (at : ℕ → Option X) where
+  -- the object of a slot that may be told
+  abbrev pub found : Option ℕ → Option X
+  found None = None
+  found (Some k) = at k
+
+  -- one step of a search: the object before the others has the number, or the search goes on
+  found_step : (e : ℕ × ℕ) (o : Option X) (others : List (ℕ × X)) (q : ℕ) (later : Option ℕ) → at e.1 ≡ o → IsSome o → lookup (is_at (nat_cmp q)) others ≡ found later → lookup (is_at (nat_cmp q)) (place e.0 o others) ≡ found (cond (nat_eq q e.0) (Some e.1) later)
+  found_step e None others q later is some rest = absurd (false≢true some)
+  found_step e (Some o) others q later is some rest =
+      ap (λ b. cond b (Some o) (lookup (is_at (nat_cmp q)) others)) (unsigned_tied q e.0)
+      ∙ elim (nat_eq q e.0) as (λ b. cond b (Some o) (lookup (is_at (nat_cmp q)) others) ≡ found (cond b (Some e.1) later)) [
+        | true ↦ sym is
+        | false ↦ rest
+      ]
+
+  -- the slots behind the first one have objects too
+  stands_behind : (e : ℕ × ℕ) (slots : List (ℕ × ℕ)) → AllByRecursion (λ m. nat_eq e.0 m ≡ false) (keys_of slots) → ((q k : ℕ) → lookup (nat_eq q) (e ∷ slots) ≡ Some k → IsSome (at k)) → (q k : ℕ) → lookup (nat_eq q) slots ≡ Some k → IsSome (at k)
+  stands_behind e slots apart stands q k is = elim (eqb_tells q e.0) [
+    | inl same ↦ absurd (none_or_some k (sym (none_behind e.0 slots apart) ∙ ap (λ n. lookup (nat_eq n) slots) (sym same.1) ∙ is))
+    | inr other ↦ stands q k (ap (λ b. cond b (Some e.1) (lookup (nat_eq q) slots)) other.0 ∙ is)
+  ]
+
+  -- the object of a number is that of its slot
+  found_by_slot : (slots : List (ℕ × ℕ)) → IsDistinct nat_eq (keys_of slots) → ((q k : ℕ) → lookup (nat_eq q) slots ≡ Some k → IsSome (at k)) → (q : ℕ) → lookup (is_at (nat_cmp q)) (placed at slots) ≡ found (lookup (nat_eq q) slots)
+  unfolding IsDistinct
+  found_by_slot [] once stands q = refl
+  found_by_slot (e ∷ slots) once stands q =
+      let here : IsSome (at e.1) = stands e.0 e.1 (ap (λ b. cond b (Some e.1) (lookup (nat_eq e.0) slots)) (nat_eq_equiv.refl e.0)) in
+      found_step e (at e.1) (placed at slots) q (lookup (nat_eq q) slots) refl here (found_by_slot slots once.1 (stands_behind e slots once.0 stands) q)
+
+  -- so it is in a table
+  pub lookup-placed : (slots : List (ℕ × ℕ)) → IsPlaced at slots → (q : ℕ) → lookup (is_at (nat_cmp q)) (placed at slots) ≡ found (lookup (nat_eq q) slots)
+  lookup-placed slots is q = found_by_slot slots is.once is.stands q
+
+  -- where the number has a slot, and that slot is told
+  pub found_at : (slots : List (ℕ × ℕ)) → IsPlaced at slots → (q k : ℕ) → Some k ≡ lookup (nat_eq q) slots → at k ≡ lookup (is_at (nat_cmp q)) (placed at slots)
+  found_at slots is q k here = ap found here ∙ sym (lookup-placed slots is q)
+
+  -- where the number has no slot
+  pub none_at : (slots : List (ℕ × ℕ)) → IsPlaced at slots → (q : ℕ) → lookup (nat_eq q) slots ≡ None → lookup (is_at (nat_cmp q)) (placed at slots) ≡ None
+  none_at slots is q none = lookup-placed slots is q ∙ ap found none
+
+  -- a slot that is told has an object
+  slot_told : (o : Option ℕ) → ((k : ℕ) → o ≡ Some k → IsSome (at k)) → found o ≡ None → o ≡ None
+  slot_told None stands none = refl
+  slot_told (Some k) stands none = absurd (false≢true (ap is_some (sym none) ∙ stands k refl))
+
+  -- where there is no object, the number has no slot
+  pub no_slot : (slots : List (ℕ × ℕ)) → IsPlaced at slots → (q : ℕ) → lookup (is_at (nat_cmp q)) (placed at slots) ≡ None → lookup (nat_eq q) slots ≡ None
+  no_slot slots is q none = slot_told (lookup (nat_eq q) slots) (is.stands q) (sym (lookup-placed slots is q) ∙ none)
+
+-- One number changes: n, whose slot is s where it has or had one. It has the slot w then, and s has the object x.
+module _ {X : Type 0} (at new_at : ℕ → Option X) (es fs : List (ℕ × ℕ)) (n s : ℕ) (w : Option ℕ) (x : Option X) where
+  -- what a change of one number does to the slots of numbers and to the objects of slots
+  pub record ChangesOne : Type 0 where
+    pub updated : (q : ℕ) → lookup (nat_eq q) fs ≡ cond (nat_eq n q) w (lookup (nat_eq q) es)
+    pub changed : new_at s ≡ x
+    pub others : (k : ℕ) → k ≢ s → new_at k ≡ at k
+    pub told : found new_at w ≡ x
+    pub only : (k : ℕ) → w ≡ Some k → (k ≡ s) × IsSome x
+    pub named : IsSome x → w ≡ Some s
+    pub own : (k : ℕ) → lookup (nat_eq n) es ≡ Some k → k ≡ s
+    pub apart : (q k : ℕ) → q ≢ n → lookup (nat_eq q) es ≡ Some k → k ≢ s
+
+  module _ (one : ChangesOne) (was : IsPlaced at es) where
+    -- the number itself has the new slot
+    at_own : (q : ℕ) → q ≡ n → lookup (nat_eq q) fs ≡ w
+    at_own q is = ap (λ m. lookup (nat_eq m) fs) is ∙ one.updated n ∙ ap (λ b. cond b w (lookup (nat_eq n) es)) (nat_eq_equiv.refl n)
+
+    -- every other number keeps its slot
+    at_other : (q : ℕ) → q ≢ n → lookup (nat_eq q) fs ≡ lookup (nat_eq q) es
+    at_other q differs = elim (eqb_tells n q) [
+      | inl same ↦ absurd (differs (sym same.1))
+      | inr other ↦ one.updated q ∙ ap (λ b. cond b w (lookup (nat_eq q) es)) other.0
+    ]
+
+    -- the slots of other numbers keep their objects
+    found_same : (o : Option ℕ) → ((k : ℕ) → o ≡ Some k → k ≢ s) → found new_at o ≡ found at o
+    found_same None apart = refl
+    found_same (Some k) apart = one.others k (apart k refl)
+
+    -- the number has the object x, and every other number the object that it had
+    found_after : (q : ℕ) → found new_at (lookup (nat_eq q) fs) ≡ (if q == n then x else found at (lookup (nat_eq q) es))
+    found_after q = elim (eqb_tells q n) [
+      | inl same ↦ ap (found new_at) (at_own q same.1) ∙ one.told ∙ sym (ap (λ b. if b then x else found at (lookup (nat_eq q) es)) same.0)
+      | inr other ↦ ap (found new_at) (at_other q other.1) ∙ found_same (lookup (nat_eq q) es) (λ k. one.apart q k other.1) ∙ sym (ap (λ b. if b then x else found at (lookup (nat_eq q) es)) other.0)
+    ]
+
+    -- each number's slot has an object
+    stands_after : (q k : ℕ) → lookup (nat_eq q) fs ≡ Some k → IsSome (new_at k)
+    stands_after q k is = elim (eqb_tells q n) [
+      | inl same ↦ (let here = one.only k (sym (at_own q same.1) ∙ is) in subst IsSome (sym one.changed ∙ ap new_at (sym here.0)) here.1)
+      | inr other ↦ (let before = sym (at_other q other.1) ∙ is in subst IsSome (sym (one.others k (one.apart q k other.1 before))) (was.stands q k before))
+    ]
+
+    -- no two numbers have one slot
+    apart_after : (p q k : ℕ) → lookup (nat_eq p) fs ≡ Some k → lookup (nat_eq q) fs ≡ Some k → p ≡ q
+    apart_after p q k at_p at_q = elim (eqb_tells p n) [
+      | inl first ↦ elim (eqb_tells q n) [
+        | inl second ↦ first.1 ∙ sym second.1
+        | inr second ↦ absurd (one.apart q k second.1 (sym (at_other q second.1) ∙ at_q) (one.only k (sym (at_own p first.1) ∙ at_p)).0)
+      ]
+      | inr first ↦ elim (eqb_tells q n) [
+        | inl second ↦ absurd (one.apart p k first.1 (sym (at_other p first.1) ∙ at_p) (one.only k (sym (at_own q second.1) ∙ at_q)).0)
+        | inr second ↦ was.apart p q k (sym (at_other p first.1) ∙ at_p) (sym (at_other q second.1) ∙ at_q)
+      ]
+    ]
+
+    -- no object is without a number
+    named_after : (k : ℕ) → IsSome (new_at k) → (q : ℕ) × (lookup (nat_eq q) fs ≡ Some k)
+    named_after k some = elim (eqb_tells k s) [
+      | inl here ↦ (n, at_own n refl ∙ one.named (subst IsSome (ap new_at here.1 ∙ one.changed) some) ∙ ap Some (sym here.1))
+      | inr there ↦ (let before = was.named k (subst IsSome (one.others k there.1) some) in
+          (before.0, at_other before.0 (λ same. there.1 (one.own k (ap (λ m. lookup (nat_eq m) es) (sym same) ∙ before.1))) ∙ before.1))
+    ]
+
+    -- the objects stand in slots still
+    pub IsPlaced-changed : IsDistinct nat_eq (keys_of fs) → IsPlaced new_at fs
+    IsPlaced-changed once = record { once = once; stands = stands_after; apart = apart_after; named = named_after }
+
+    -- the objects by number, with the object x at n
+    pub objects-changed : IsDistinct nat_eq (keys_of fs) → ◌≡◌ {A = ℕ → Option X} (λ q. lookup (is_at (nat_cmp q)) (placed new_at fs)) (λ q. if q == n then x else lookup (is_at (nat_cmp q)) (placed at es))
+    objects-changed once i q = (lookup-placed new_at fs (IsPlaced-changed once) q ∙ found_after q ∙ ap (λ o. if q == n then x else o) (sym (lookup-placed at es was q))) i
+
+module _ {X : Type 0} (at new_at : ℕ → Option X) (es : List (ℕ × ℕ)) (was : IsPlaced at es) (n s : ℕ) where
+  -- the slot of one number is the slot of no other
+  slot_apart : lookup (nat_eq n) es ≡ Some s → (q k : ℕ) → q ≢ n → lookup (nat_eq q) es ≡ Some k → k ≢ s
+  slot_apart here q k differs is same = differs (was.apart q n k is (here ∙ ap Some (sym same)))
+
+  -- the number has no slot but the one
+  slot_own : lookup (nat_eq n) es ≡ Some s → (k : ℕ) → lookup (nat_eq n) es ≡ Some k → k ≡ s
+  slot_own here k is = one_some k s (sym is ∙ here)
+
+  -- the number has the slot that it has
+  slot_stays : lookup (nat_eq n) es ≡ Some s → (q : ℕ) → lookup (nat_eq q) es ≡ cond (nat_eq n q) (Some s) (lookup (nat_eq q) es)
+  slot_stays here q = elim (eqb_tells n q) [
+    | inl same ↦ ap (λ m. lookup (nat_eq m) es) (sym same.1) ∙ here ∙ sym (ap (λ b. cond b (Some s) (lookup (nat_eq q) es)) same.0)
+    | inr other ↦ sym (ap (λ b. cond b (Some s) (lookup (nat_eq q) es)) other.0)
+  ]
+
+  -- an object is changed in its slot
+  pub written : (o : X) → lookup (nat_eq n) es ≡ Some s → new_at s ≡ Some o → ((k : ℕ) → k ≢ s → new_at k ≡ at k) → ChangesOne at new_at es es n s (Some s) (Some o)
+  written o here changed others = record {
+    updated = slot_stays here;
+    changed = changed;
+    others = others;
+    told = changed;
+    only = λ k is. (sym (one_some s k is), refl);
+    named = λ some. refl;
+    own = slot_own here;
+    apart = slot_apart here;
+  }
+
+  -- an object is added in a slot that has none
+  pub added : (fs : List (ℕ × ℕ)) (o : X) → lookup (nat_eq n) es ≡ None → ((q : ℕ) → lookup (nat_eq q) fs ≡ cond (nat_eq n q) (Some s) (lookup (nat_eq q) es)) → at s ≡ None → new_at s ≡ Some o → ((k : ℕ) → k ≢ s → new_at k ≡ at k) → ChangesOne at new_at es fs n s (Some s) (Some o)
+  added fs o none updated vacant changed others = record {
+    updated = updated;
+    changed = changed;
+    others = others;
+    told = changed;
+    only = λ k is. (sym (one_some s k is), refl);
+    named = λ some. refl;
+    own = λ k is. absurd (none_or_some k (sym none ∙ is));
+    apart = λ q k differs is same. false≢true (sym (ap is_some vacant) ∙ ap (λ j. is_some (at j)) (sym same) ∙ was.stands q k is);
+  }
+
+  -- an object is taken out of its slot
+  pub removed : (fs : List (ℕ × ℕ)) → lookup (nat_eq n) es ≡ Some s → ((q : ℕ) → lookup (nat_eq q) fs ≡ cond (nat_eq n q) None (lookup (nat_eq q) es)) → new_at s ≡ None → ((k : ℕ) → k ≢ s → new_at k ≡ at k) → ChangesOne at new_at es fs n s None None
+  removed fs here updated changed others = record {
+    updated = updated;
+    changed = changed;
+    others = others;
+    told = refl;
+    only = λ k is. absurd (none_or_some k is);
+    named = λ some. absurd (false≢true some);
+    own = slot_own here;
+    apart = slot_apart here;
+  }
+
+module _ {X : Type 0} (at : ℕ → Option X) (slots : List (ℕ × ℕ)) (is : IsPlaced at slots) where
+  -- a number has no slot exactly where it has no object
+  pub slot_none : (q : ℕ) (r : Option ℕ) → r ≡ lookup (nat_eq q) slots → IsNone r ↔ (lookup (is_at (nat_cmp q)) (placed at slots) ≡ None)
+  slot_none q None tells = (λ none. none_at at slots is q (sym tells), λ none. refl)
+  slot_none q (Some k) tells = (λ none. absurd (false≢true (sym none)), λ none. absurd (none_or_some k (sym (no_slot at slots is q none) ∙ sym tells)))
+
+  -- two numbers have different slots
+  pub slots_apart : (p q : ℕ) (r o : Option ℕ) → r ≡ lookup (nat_eq p) slots → o ≡ lookup (nat_eq q) slots → p ≢ q → (k : ℕ) → r ≡ Some k → o ≢ Some k
+  slots_apart p q r o tells_p tells_q differs k first second = differs (is.apart p q k (sym tells_p ∙ first) (sym tells_q ∙ second))
+
+  -- where there is no object, nothing is taken out
+  pub none_without : (n : ℕ) → lookup (nat_eq n) slots ≡ None → (q : ℕ) → lookup (is_at (nat_cmp q)) (placed at slots) ≡ (if q == n then None else lookup (is_at (nat_cmp q)) (placed at slots))
+  none_without n none q = elim (eqb_tells q n) [
+    | inl same ↦ ap (λ m. lookup (is_at (nat_cmp m)) (placed at slots)) same.1 ∙ none_at at slots is n none ∙ sym (ap (λ b. if b then None else lookup (is_at (nat_cmp q)) (placed at slots)) same.0)
+    | inr other ↦ sym (ap (λ b. if b then None else lookup (is_at (nat_cmp q)) (placed at slots)) other.0)
+  ]

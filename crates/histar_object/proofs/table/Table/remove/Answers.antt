@@ -1,0 +1,33 @@
+use Rattle.std.proofs.Common.{◌≡◌, None, Some, sym, ◌∙◌}
+use Rattle.std.specs.Prelude.{nat_eq}
+use Rattle.std.specs.Map.{lookup}
+use Rattle.slab.specs.Slab.{get}
+use Rattle.histar_object.proofs.Placing.{found_at, none_at, none_without, removed, IsPlaced-changed, objects-changed}
+use Rattle.histar_object.proofs.table.Table.remove.Goals as goal
+
+pub returns-in_err-slot-clause-value : goal.returns-in_err-slot-clause-value
+returns-in_err-slot-clause-value g c =
+    let none : lookup (nat_eq c.args.id) c.self.inside.slots.entries ≡ None = sym c.remove.ensures.value ∙ c.in_err-slot.was in
+    c.from_residual.ensures ∙ rw (← c.self.view_is) (sym (none_at (get c.self.inside.objects) c.self.inside.slots.entries c.self.invariant c.args.id none))
+
+pub returns-in_err-slot-clause-without : goal.returns-in_err-slot-clause-without
+returns-in_err-slot-clause-without g c =
+    let none : lookup (nat_eq c.args.id) c.self.inside.slots.entries ≡ None = sym c.remove.ensures.value ∙ c.in_err-slot.was in
+    rw (← c.self.view_is, c.in_err-slot.ensures.unchanged) (λ i q. none_without (get c.self.inside.objects) c.self.inside.slots.entries c.self.invariant c.args.id none q i)
+
+pub invariant_of-self-2 : goal.invariant_of-self-2
+invariant_of-self-2 g c =
+    let here : lookup (nat_eq c.args.id) c.self.inside.slots.entries ≡ Some c.in_ok-slot.slot = sym c.remove.ensures.value ∙ c.in_ok-slot.was in
+    let one = removed (get c.self.inside.objects) (get c.try_remove.new.self) c.self.inside.slots.entries c.self.invariant c.args.id c.in_ok-slot.slot c.remove.new.self.entries here c.remove.ensures.updates.0 c.try_remove.ensures.updates.changed c.try_remove.ensures.updates.others in
+    IsPlaced-changed (get c.self.inside.objects) (get c.try_remove.new.self) c.self.inside.slots.entries c.remove.new.self.entries c.args.id c.in_ok-slot.slot None None one c.self.invariant c.remove.ensures.unique
+
+pub returns-clause-value : goal.returns-clause-value
+returns-clause-value g c =
+    let here : Some c.in_ok-slot.slot ≡ lookup (nat_eq c.args.id) c.self.inside.slots.entries = sym c.in_ok-slot.was ∙ c.remove.ensures.value in
+    c.try_remove.ensures.value ∙ rw (← c.self.view_is) (found_at (get c.self.inside.objects) c.self.inside.slots.entries c.self.invariant c.args.id c.in_ok-slot.slot here)
+
+pub returns-clause-without : goal.returns-clause-without
+returns-clause-without g c =
+    let here : lookup (nat_eq c.args.id) c.self.inside.slots.entries ≡ Some c.in_ok-slot.slot = sym c.remove.ensures.value ∙ c.in_ok-slot.was in
+    let one = removed (get c.self.inside.objects) (get c.try_remove.new.self) c.self.inside.slots.entries c.self.invariant c.args.id c.in_ok-slot.slot c.remove.new.self.entries here c.remove.ensures.updates.0 c.try_remove.ensures.updates.changed c.try_remove.ensures.updates.others in
+    rw (← c.self.view_is) (objects-changed (get c.self.inside.objects) (get c.try_remove.new.self) c.self.inside.slots.entries c.remove.new.self.entries c.args.id c.in_ok-slot.slot None None one c.self.invariant c.remove.ensures.unique)
