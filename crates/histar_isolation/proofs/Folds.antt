@@ -7,14 +7,14 @@ use Rattle.histar_flat.specs.declared.calls.UnixCall.{UnixCall}
 use Rattle.histar_flat.specs.Files.{from_list, get}
 use Rattle.histar_flat.specs.FlatCalls.{flat_after, reply_to}
 use Rattle.histar_flat.specs.FlatState.{Flat}
-use Rattle.histar_flat.specs.Meaning.{Answered, answered_from, flat_end}
+use Rattle.histar_flat.specs.Meaning.{Answered, answered_from, flat_end, without}
 use Rattle.histar_flat.specs.PathOrder.{parent, same, under_process}
 use Rattle.histar_flat.specs.Sessions.{Session}
 use Rattle.histar_flat.specs.Texts.{reply_text}
 use Rattle.histar_flat.specs.Words.{Path, ProcName}
 use Rattle.histar_flat.proofs.FileLemmas.{same_itself}
 use Rattle.histar_flat.proofs.Under.{true_or_false}
-use Rattle.histar_isolation.specs.Comparison.{differs, first_line, first_path, first_that, is_left_out, is_outsider, lies_in_job, outsiders, text_at, without_job_calls}
+use Rattle.histar_isolation.specs.Comparison.{differs, first_line, first_path, first_that, is_left_out, is_outsider, lies_in_job, outsiders, text_at}
 use Rattle.histar_isolation.specs.Isolation.{is_quiet, is_rmdir_or_wrap}
 use Rattle.histar_isolation.proofs.Relation.{IsStarted, SameOutside}
 use Rattle.histar_isolation.proofs.Tests.{is_same}
@@ -61,8 +61,8 @@ pub record RunAlike (job : ProcName) (as' bs : List Answered) (f g : Flat) : Typ
 module _ (job : ProcName) (session : Session) (steps : Steps job session) where
   pub runs_alike : (calls : List CallLine) (f g : Flat) → SameOutside job f g → IsStarted job f → IsStarted job g
       → is_quiet job (answered_from session f calls) ≡ true →
-      RunAlike job (answered_from session f calls) (answered_from session g (without_job_calls job calls)) (flat_end session f calls)
-      (flat_end session g (without_job_calls job calls))
+      RunAlike job (answered_from session f calls) (answered_from session g (without job calls)) (flat_end session f calls)
+      (flat_end session g (without job calls))
   runs_alike [] f g r hf hg quiet = record { lines = refl; ends = r }
   runs_alike (c ∷ calls) f g r hf hg quiet =
       let here = and_parts (not (same (parent job) c.process && is_rmdir_or_wrap c.call))
@@ -85,7 +85,7 @@ module _ (job : ProcName) (session : Session) (steps : Steps job session) where
               record {
                 lines = rw (u, u, w) (ap (λ b. cond b
                     (first_line (outsiders job (answered_from session f' calls))
-                    (outsiders job (answered_from session g' (without_job_calls job calls)))) (Some c.line))
+                    (outsiders job (answered_from session g' (without job calls)))) (Some c.line))
                     (ap (λ x. same x (reply_text (reply_to session g c.process c.call))) told ∙ same_itself
                     (reply_text (reply_to session g c.process c.call))) ∙ rest.lines);
                 ends = rw u rest.ends;

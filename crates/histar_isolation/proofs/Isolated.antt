@@ -16,7 +16,7 @@ use Rattle.histar_flat.specs.FlatCalls.{changed, flat_after, flat_by, flat_or, i
 use Rattle.histar_flat.specs.FlatState.{Flat, IsTree, Node, is_dir, is_given}
 use Rattle.histar_flat.specs.FlatState.Content.{Dir}
 use Rattle.histar_flat.specs.Laws.{NamesAreGiven}
-use Rattle.histar_flat.specs.Meaning.{answered_from, boot, flat_end}
+use Rattle.histar_flat.specs.Meaning.{answered_from, boot, flat_end, without}
 use Rattle.histar_flat.specs.PathOrder.{same, under_process}
 use Rattle.histar_flat.specs.Sessions.{Session, has}
 use Rattle.histar_flat.specs.Texts.{reply_text}
@@ -27,7 +27,7 @@ use Rattle.histar_flat.proofs.GivenNames.{given_after, given_stays, names_are_gi
 use Rattle.histar_flat.proofs.Trees.{paths_are_a_tree, tree_after}
 use Rattle.histar_flat.proofs.Under.{above_is_not_under, true_or_false, under_itself}
 use Rattle.histar_flat.proofs.WrappedJobs.{given_above, has_last}
-use Rattle.histar_isolation.specs.Comparison.{first_line, first_path, is_wrap_reply, outsiders, starts, without_job_calls}
+use Rattle.histar_isolation.specs.Comparison.{first_line, first_path, is_wrap_reply, outsiders, starts}
 use Rattle.histar_isolation.specs.Isolation.{IsolatesJobs, after_start, is_quiet}
 use Rattle.histar_isolation.proofs.Folds.{RunAlike, no_path_differs, runs_alike}
 use Rattle.histar_isolation.proofs.Kept.{born_cases}
@@ -155,8 +155,8 @@ module _ (m : ℕ) (w : ProcName) (session : Session) where
 
   before : (calls : List CallLine) (f : Flat) → IsTree f → NamesAreGiven f → starts job (answered_from session f calls) ≡ true
       → is_quiet job (after_start job (answered_from session f calls)) ≡ true
-      → RunAlike job (answered_from session f calls) (answered_from session f (without_job_calls job calls)) (flat_end session f calls)
-      (flat_end session f (without_job_calls job calls))
+      → RunAlike job (answered_from session f calls) (answered_from session f (without job calls)) (flat_end session f calls)
+      (flat_end session f (without job calls))
   before [] f tree names st quiet = absurd (true≢false (sym st))
   before (c ∷ calls) f tree names st quiet = elim (true_or_false (is_wrap_reply job c.call (reply_to session f c.process c.call))) [
     | inl now ↦
@@ -183,7 +183,7 @@ module _ (m : ℕ) (w : ProcName) (session : Session) where
             | inr v ↦ record {
               lines = rw (u, u, v) (ap (λ b. cond b
                   (first_line (outsiders job (answered_from session g calls))
-                  (outsiders job (answered_from session g (without_job_calls job calls)))) (Some c.line))
+                  (outsiders job (answered_from session g (without job calls)))) (Some c.line))
                   (same_itself (reply_text (reply_to session f c.process c.call))) ∙ rest.lines);
               ends = rw u rest.ends;
             }
@@ -211,15 +211,15 @@ module _ (m : ℕ) (w : ProcName) (session : Session) where
               (given_above f.processes job c.process u (names.of_processes c.process p (runs_is_there (f.processes c.process) p e)))))
 
       inside_line : under_process job c.process ≡ true → g ≡ f
-          → RunAlike job (answered_from session g calls) (answered_from session g (without_job_calls job calls)) (flat_end session g calls)
-          (flat_end session g (without_job_calls job calls))
-          → RunAlike job (answered_from session f (c ∷ calls)) (answered_from session f (without_job_calls job (c ∷ calls)))
-          (flat_end session f (c ∷ calls)) (flat_end session f (without_job_calls job (c ∷ calls)))
+          → RunAlike job (answered_from session g calls) (answered_from session g (without job calls)) (flat_end session g calls)
+          (flat_end session g (without job calls))
+          → RunAlike job (answered_from session f (c ∷ calls)) (answered_from session f (without job (c ∷ calls)))
+          (flat_end session f (c ∷ calls)) (flat_end session f (without job (c ∷ calls)))
       inside_line u e rest = record {
         lines = rw u (subst (λ x. first_line (outsiders job (answered_from session g calls))
-            (outsiders job (answered_from session x (without_job_calls job calls))) ≡ None) e rest.lines);
+            (outsiders job (answered_from session x (without job calls))) ≡ None) e rest.lines);
         ends = rw u (subst (λ x. SameOutside job (flat_end session g calls)
-            (flat_end session x (without_job_calls job calls))) e rest.ends);
+            (flat_end session x (without job calls))) e rest.ends);
       }
 
 -- A job that was started changes nothing outside.
@@ -228,6 +228,6 @@ isolates_jobs session calls [] st quiet = absurd (true≢false (sym st ∙ never
 isolates_jobs session calls (m ∷ w) st quiet =
     let run = before m w session calls (boot session) (paths_are_a_tree session []) (names_are_given_once.old session []) st quiet in
     let trees : first_path (m ∷ w) (flat_end session (boot session) calls)
-    (flat_end session (boot session) (without_job_calls (m ∷ w) calls)) ≡ None = no_path_differs (m ∷ w)
-    (flat_end session (boot session) calls) (flat_end session (boot session) (without_job_calls (m ∷ w) calls)) run.ends in
+    (flat_end session (boot session) (without (m ∷ w) calls)) ≡ None = no_path_differs (m ∷ w)
+    (flat_end session (boot session) calls) (flat_end session (boot session) (without (m ∷ w) calls)) run.ends in
     rw (st, run.lines, trees) refl

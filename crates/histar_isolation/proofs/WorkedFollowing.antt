@@ -3,11 +3,10 @@ use Rattle.std.specs.Prelude.{List, None, Option, Some, [], codes, refl, ◌++�
 use Rattle.histar_flat.specs.declared.calls.CallLine.{CallLine}
 use Rattle.histar_flat.specs.declared.calls.Mode.TheVariants as modes
 use Rattle.histar_flat.specs.declared.calls.UnixCall.TheVariants.{Create, Rename, Rmtree, Wrap}
-use Rattle.histar_flat.specs.Meaning.{boot, flat_end, meaning}
+use Rattle.histar_flat.specs.Meaning.{boot, flat_end, meaning, without}
 use Rattle.histar_flat.specs.Words.{Path}
 use Rattle.histar_flat.proofs.WorkedRuns.{calls_that_end_in_a_rmdir}
 use Rattle.histar_flat.proofs.WorkedScripts.{line_of, three_users, tmp_made}
-use Rattle.histar_isolation.specs.Comparison.{without_job_calls}
 use Rattle.histar_isolation.specs.Following.{directory_of}
 use Rattle.histar_isolation.specs.Trees.{first_difference, is_below_either, tree_lines}
 
@@ -37,7 +36,7 @@ removals_are_followed = refl
 -- the first difference of the lines of a script's tree and of its tree without the job's calls
 abbrev difference : List CallLine → Option Path
 difference calls =
-    let others = without_job_calls (1 ∷ 1 ∷ []) calls in
+    let others = without (1 ∷ 1 ∷ []) calls in
     first_difference
     (is_below_either (directory_of (1 ∷ 1 ∷ []) None (meaning three_users calls))
     (directory_of (1 ∷ 1 ∷ []) None (meaning three_users others)))

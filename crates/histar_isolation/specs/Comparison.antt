@@ -13,13 +13,9 @@ use Rattle.histar_flat.specs.Files.{Files, get, from_list}
 use Rattle.histar_flat.specs.Classes.{carries, class_owner, class_mode}
 use Rattle.histar_flat.specs.FlatState.{Flat, Node, is_some_and, is_dir, bytes_of}
 use Rattle.histar_flat.specs.Texts.{path_text, stat_text, reply_text}
-use Rattle.histar_flat.specs.Meaning.{Answered, boot, flat_end, meaning}
+use Rattle.histar_flat.specs.Meaning.{Answered, boot, flat_end, meaning, without}
 use Rattle.histar_isolation.specs.declared.verdict.Verdict.{Verdict}
 use Rattle.histar_isolation.specs.declared.verdict.Verdict.TheVariants.{Same, NoJob, Line, Tree}
-
--- the calls without those of a job, which is named by its first process, and of names below it; the others keep their lines
-abbrev pub without_job_calls : ProcName → List CallLine → List CallLine
-without_job_calls job calls = filter (λ (c : CallLine). not (under_process job c.process)) calls
 
 -- an outsider: a process that is not in the job, and is not the one that started it
 abbrev pub is_outsider : ProcName → ProcName → Bool
@@ -97,6 +93,6 @@ abbrev pub verdict : Session → List CallLine → ProcName → Verdict
 verdict session calls job =
     cond (starts job (meaning session calls))
     (line_verdict
-    (first_line (outsiders job (meaning session calls)) (outsiders job (meaning session (without_job_calls job calls))))
-    (tree_verdict (first_path job (flat_end session (boot session) calls) (flat_end session (boot session) (without_job_calls job calls)))))
+    (first_line (outsiders job (meaning session calls)) (outsiders job (meaning session (without job calls))))
+    (tree_verdict (first_path job (flat_end session (boot session) calls) (flat_end session (boot session) (without job calls)))))
     NoJob
