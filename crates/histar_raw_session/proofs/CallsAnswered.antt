@@ -1,9 +1,9 @@
 -- Answering the calls of a session one by one.
 use Rattle.std.proofs.Common.{◌≡◌, ℕ, ◌+◌, ◌<◌, List, [], ◌∷◌, ◌++◌, length, take, drop, get_or, Option, Some, None, Result, Ok, Err, refl, sym, ap, ap₂, subst, ◌∙◌, inl, inr, append-nil, append_assoc, take-append-drop}
-use Rattle.std.specs.Prelude.{IfOk, OnErr}
+use Rattle.std.specs.Prelude.{IfOk}
 use Rattle.std.proofs.lemmas.List.{drop_more}
-use Rattle.std.proofs.KnownBytes.{Appends-nil, Appends-kept, Appends-trans, Keeps-refl}
-use Rattle.std.specs.Io.KnownBytes.{Appends, Keeps}
+use Rattle.std.proofs.KnownBytes.{Appends-nil, Appends-kept, Appends-trans}
+use Rattle.std.specs.Io.KnownBytes.{Appends}
 use Rattle.histar_devices.specs.Writing.{AppendsFront}
 use Rattle.histar_object.specs.State.{State}
 use Rattle.histar_rules.specs.declared.raw.Denied.{Denied}
@@ -11,7 +11,7 @@ use Rattle.histar_syscall.specs.declared.answers.Answer.{Answer}
 use Rattle.histar_syscall.specs.Answers.{answer}
 use Rattle.histar_syscall.specs.KernelModel.{KernelModel, state, Called}
 use Rattle.histar_raw_session.specs.declared.reading.RawLine.{RawLine}
-use Rattle.histar_raw_session.specs.Answers.{line_text, HasOutcome, TellsCall, TellsCalls, AnswersCall, BeginsAnswer, AnswersCalls, BeginsAnswers}
+use Rattle.histar_raw_session.specs.Answers.{line_text, TellsCall, TellsCalls, AnswersCall, BeginsAnswer, AnswersCalls, BeginsAnswers}
 
 -- ---- one call
 

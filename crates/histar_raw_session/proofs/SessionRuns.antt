@@ -17,7 +17,7 @@ use Rattle.histar_script.specs.Runs.{IsOutputFault, LeavesSink, StopsReading, Ru
 use Rattle.histar_raw_session.specs.declared.reading.RawLine.{RawLine}
 use Rattle.histar_raw_session.specs.Session.{IsSession, IsFaultOf}
 use Rattle.histar_raw_session.specs.Answers.{AnswersCalls, BeginsAnswers}
-use Rattle.histar_raw_session.specs.Run.{AnswersSession, BeginsSession, RunsSession}
+use Rattle.histar_raw_session.specs.Run.{BeginsSession, RunsSession}
 
 -- what a run answers
 abbrev Done : Type 0

@@ -1,5 +1,5 @@
 -- What a run of a raw session answers and writes.
-use Rattle.std.specs.Prelude.{◌≡◌, ℕ, ◌⊎◌, List, Option, Result, Ok, Err}
+use Rattle.std.specs.Prelude.{ℕ, ◌⊎◌, List, Option, Result, Ok, Err}
 use Rattle.std.specs.Io.KnownBytes.{Keeps}
 use Rattle.histar_object.specs.State.{State, empty_state}
 use Rattle.histar_script.specs.declared.fault.Fault.{Fault}

@@ -6,7 +6,7 @@ use std::alloc::AllocError;
 
 /// Why a text is not read.
 #[derive(Clone, Copy, Debug, PartialEq, Eq)]
-pub(crate) enum Unread {
+pub enum Unread {
     /// It is no raw call, nor a part of one.
     NoCall,
     OutOfMemory,

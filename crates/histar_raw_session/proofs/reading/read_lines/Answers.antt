@@ -1,4 +1,4 @@
-use Rattle.std.proofs.Common.{◌≡◌, true, length, sym, ◌∙◌, arith, rules}
+use Rattle.std.proofs.Common.{◌≡◌, true, length, sym, arith, rules}
 use Rattle.histar_raw_session.specs.Session.{is_comment}
 use Rattle.histar_raw_session.proofs.LinesRead.{read_comment, read_one, all_read}
 use Rattle.histar_raw_session.proofs.reading.read_lines.Goals as goal

@@ -1,4 +1,4 @@
-use Rattle.histar_raw_session.proofs.SessionRuns.{answered_text, faulty_text, no_failed_read, no_read, sink_called, sink_left}
+use Rattle.histar_raw_session.proofs.SessionRuns.{answered_text, no_read, sink_called}
 use Rattle.histar_raw_session.proofs.session.run_text.Goals as goal
 
 pub returns-clause-nothing : goal.returns-clause-nothing
