@@ -137,8 +137,8 @@ impl Script {
     }
 }
 
-/// Whether a script is over a limit.
-fn is_too_long(text: &[u8]) -> bool
+/// Whether a script is over a limit: more than 1,048,576 bytes, or more than 16,384 lines.
+pub fn is_too_long(text: &[u8]) -> bool
     ensures { result ≡ too_long text.now }
 {
     text.len() > MOST_SCRIPT_BYTES || count_lines(text) > MOST_SCRIPT_LINES
