@@ -1,5 +1,5 @@
 -- Where a path leads once an entry above it has another name.
-use Rattle.std.proofs.Common.{◌≡◌, ℕ, ◌-◌, ◌<◌, suc, Bool, true, false, List, [], ◌∷◌, length, slice_set, cond, refl, sym, ap, ◌∙◌, arith, inl, inr}
+use Rattle.std.proofs.Common.{◌≡◌, ℕ, ◌-◌, ◌<◌, suc, true, false, [], ◌∷◌, length, slice_set, cond, refl, sym, ap, ◌∙◌, arith, inl, inr}
 use Rattle.std.specs.Prelude.{◌||◌}
 use Rattle.std.proofs.lemmas.Bool.{true≢false}
 use Rattle.histar_flat.specs.Words.{Name, Path}

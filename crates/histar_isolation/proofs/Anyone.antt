@@ -28,7 +28,7 @@ use Rattle.histar_isolation.proofs.Processes.{found_alike, job_found_alike}
 use Rattle.histar_isolation.proofs.Relation.{IsStarted, SameOutside}
 use Rattle.histar_isolation.proofs.Renames.{renamed}
 use Rattle.histar_isolation.proofs.Steps.{outside_turned}
-use Rattle.histar_isolation.proofs.Tests.{failed, guarded, is_same, left_holds, or_same, stops_later}
+use Rattle.histar_isolation.proofs.TestLemmas.{failed, guarded, is_same, left_holds, or_same, stops_later}
 use Rattle.histar_isolation.proofs.Walks.{entries_alike, into_alike}
 
 -- a refused call changes nothing on either side

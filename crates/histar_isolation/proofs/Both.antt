@@ -24,7 +24,7 @@ use Rattle.histar_isolation.proofs.Processes.{kill_state}
 use Rattle.histar_isolation.proofs.Relation.{IsStarted, SameOutside, chain_of}
 use Rattle.histar_isolation.proofs.Renames.{renamed, renamed_alike}
 use Rattle.histar_isolation.proofs.Steps.{flat_alike}
-use Rattle.histar_isolation.proofs.Tests.{not_passed}
+use Rattle.histar_isolation.proofs.TestLemmas.{not_passed}
 
 -- the path at which a call reads or writes one file or directory
 abbrev pub looked_at : UnixCall → Path

@@ -11,7 +11,7 @@ use Rattle.histar_flat.proofs.Under.{or_true, true_or_false, under_itself}
 use Rattle.histar_isolation.specs.Comparison.{is_dir_of, lies_in_job}
 use Rattle.histar_isolation.proofs.Outside.{ChangesBelow, is_below}
 use Rattle.histar_isolation.proofs.Relation.{SameFiles}
-use Rattle.histar_isolation.proofs.Tests.{left_holds, parent_under}
+use Rattle.histar_isolation.proofs.TestLemmas.{left_holds, parent_under}
 
 module _ (job : ProcName) where
   -- what lay in the job still does once something new is made, where no directory of the job was

@@ -17,7 +17,7 @@ use Rattle.histar_flat.proofs.Under.{true_or_false}
 use Rattle.histar_isolation.specs.Comparison.{differs, first_line, first_path, first_that, is_left_out, is_outsider, lies_in_job, outsiders, text_at}
 use Rattle.histar_isolation.specs.Isolation.{is_quiet, is_rmdir_or_wrap}
 use Rattle.histar_isolation.proofs.Relation.{IsStarted, SameOutside}
-use Rattle.histar_isolation.proofs.Tests.{is_same}
+use Rattle.histar_isolation.proofs.TestLemmas.{is_same}
 
 alike_there : (job : ProcName) (f g : Flat) → SameOutside job f g → (q : Path) → differs job f g q ≡ false
 alike_there job f g r q = elim (true_or_false (lies_in_job job f.files q)) [

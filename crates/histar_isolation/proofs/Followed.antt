@@ -34,7 +34,7 @@ use Rattle.histar_isolation.specs.Following.{FindsLeftOut, after_reply, director
 use Rattle.histar_isolation.proofs.Following.{IsFollowed, cut_followed, lies_at, lies_at_entry, put_followed, rename_followed}
 use Rattle.histar_isolation.proofs.Kept.{file_is_no_dir}
 use Rattle.histar_isolation.proofs.Outside.{lies_below_it}
-use Rattle.histar_isolation.proofs.Tests.{has_longer, is_same, left_holds, none_some, not_passed}
+use Rattle.histar_isolation.proofs.TestLemmas.{has_longer, is_same, left_holds, none_some, not_passed}
 
 -- a line is answered `gone`, or is refused, and changes nothing; or it is answered, and the state is changed
 by_reply : (session : Session) (f : Flat) (me : ProcName) (call : UnixCall) (Q : Flat → Reply → Type 0) → Q f Gone

@@ -13,7 +13,7 @@ use Rattle.histar_flat.proofs.Under.{above_is_not_under, true_or_false, under_ch
 use Rattle.histar_isolation.specs.Comparison.{is_dir_of}
 use Rattle.histar_isolation.specs.Following.{left_without}
 use Rattle.histar_isolation.proofs.Renames.{gone_renamed, kept_renamed, renamed}
-use Rattle.histar_isolation.proofs.Tests.{is_same_path, none_some, under_all}
+use Rattle.histar_isolation.proofs.TestLemmas.{is_same_path, none_some, under_all}
 
 -- the followed directory, or what lies below it
 abbrev pub lies_at : Option Path → Path → Bool

@@ -23,7 +23,7 @@ use Rattle.histar_isolation.proofs.Kept.{file_is_no_dir, not_next, place}
 use Rattle.histar_isolation.proofs.Outside.{ChangesBelow, change_inside, is_below, joined, turned}
 use Rattle.histar_isolation.proofs.Relation.{IsStarted, SameOutside, chain_of}
 use Rattle.histar_isolation.proofs.Renames.{renamed}
-use Rattle.histar_isolation.proofs.Tests.{is_same, parent_under, under_all}
+use Rattle.histar_isolation.proofs.TestLemmas.{is_same, parent_under, under_all}
 
 -- a call that changes files alone, and only below d
 pub record ChangesFilesBelow (d : Path) (f f' : Flat) : Type 0 where

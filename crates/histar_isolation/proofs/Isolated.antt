@@ -33,7 +33,7 @@ use Rattle.histar_isolation.proofs.Folds.{RunAlike, no_path_differs, runs_alike}
 use Rattle.histar_isolation.proofs.Kept.{born_cases}
 use Rattle.histar_isolation.proofs.Outside.{same_files_itself}
 use Rattle.histar_isolation.proofs.Relation.{IsStarted, SameOutside}
-use Rattle.histar_isolation.proofs.Tests.{is_same}
+use Rattle.histar_isolation.proofs.TestLemmas.{is_same}
 use Rattle.histar_isolation.proofs.Told.{all_steps}
 
 -- the line of a `wrap` that was answered by the job's name

@@ -23,7 +23,7 @@ use Rattle.histar_isolation.specs.Comparison.{is_dir_of, lies_in_job}
 use Rattle.histar_isolation.proofs.Effects.{lies_cut, lies_inserted}
 use Rattle.histar_isolation.proofs.Relation.{IsStarted}
 use Rattle.histar_isolation.proofs.Renames.{gone_renamed, kept_renamed, lies_renamed, renamed}
-use Rattle.histar_isolation.proofs.Tests.{has_longer, none_some}
+use Rattle.histar_isolation.proofs.TestLemmas.{has_longer, none_some}
 
 -- a process that is put there, or one that was there
 pub put_cases : (f : Flat) (me : ProcName) (p : Process) (q : ProcName) (y : Process) → (with_process f me p).processes q ≡ Some y

@@ -1,5 +1,5 @@
 pub mod Relation
-pub mod Tests
+pub mod TestLemmas
 pub mod Outside
 pub mod Walks
 pub mod Outsiders
@@ -17,6 +17,7 @@ pub mod Isolated
 pub mod Following
 pub mod Followed
 pub mod Unions
-pub mod Trees
+pub mod TreeLines
 pub mod WorkedVerdicts
 pub mod WorkedFollowing
+pub mod ShownReplies

@@ -10,7 +10,7 @@ use Rattle.histar_flat.proofs.FileLemmas.{same_path_found}
 use Rattle.histar_flat.proofs.Under.{or_true, true_or_false}
 use Rattle.histar_isolation.specs.Comparison.{is_dir_of, lies_in_job}
 use Rattle.histar_isolation.proofs.Relation.{SameFiles}
-use Rattle.histar_isolation.proofs.Tests.{is_same_path}
+use Rattle.histar_isolation.proofs.TestLemmas.{is_same_path}
 
 -- strictly below a directory
 abbrev pub is_below : Path → Path → Bool

@@ -18,7 +18,7 @@ use Rattle.histar_flat.proofs.Refusals.{passed, passes_first, passes_later}
 use Rattle.histar_flat.proofs.Under.{true_or_false}
 use Rattle.histar_isolation.specs.Comparison.{is_dir_of, lies_in_job}
 use Rattle.histar_isolation.proofs.Relation.{SameFiles}
-use Rattle.histar_isolation.proofs.Tests.{guarded}
+use Rattle.histar_isolation.proofs.TestLemmas.{guarded}
 use Rattle.histar_isolation.proofs.Walks.{closed_dir, entries_alike, outsider_into, outsider_walk, reached}
 
 -- the tests after the walk, of what stands at the path and at the directory that it lies in

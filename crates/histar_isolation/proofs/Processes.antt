@@ -16,7 +16,7 @@ use Rattle.histar_flat.specs.Words.{ProcName}
 use Rattle.histar_flat.proofs.FileLemmas.{same_name_found}
 use Rattle.histar_flat.proofs.Under.{above_is_not_under, true_or_false}
 use Rattle.histar_isolation.proofs.Relation.{IsStarted, SameOutside, chain_of}
-use Rattle.histar_isolation.proofs.Tests.{all_of, failed, guarded, is_same, not_passed, stops_later}
+use Rattle.histar_isolation.proofs.TestLemmas.{all_of, failed, guarded, is_same, not_passed, stops_later}
 
 -- the tests at one process on the way
 at_process : Process → Option Process → Option Errno

@@ -27,7 +27,7 @@ use Rattle.histar_isolation.proofs.Outsiders.{append_alike, create_alike, list_a
 use Rattle.histar_isolation.proofs.Processes.{job_not_found, kill_alike, status_alike}
 use Rattle.histar_isolation.proofs.Relation.{IsStarted, SameOutside}
 use Rattle.histar_isolation.proofs.Steps.{reply_alike}
-use Rattle.histar_isolation.proofs.Tests.{not_passed}
+use Rattle.histar_isolation.proofs.TestLemmas.{not_passed}
 use Rattle.histar_isolation.proofs.Walks.{reached}
 use Rattle.histar_flat.specs.declared.replies.Reply.TheVariants as replies
 

@@ -16,7 +16,7 @@ use Rattle.histar_flat.specs.PathOrderLaws.{path_cmp_exact, path_cmp_total}
 use Rattle.histar_flat.specs.Words.{Path}
 use Rattle.histar_flat.proofs.FileLemmas.{ties}
 use Rattle.histar_flat.proofs.Renaming.{get-from_list}
-use Rattle.histar_isolation.proofs.Tests.{is_same_path}
+use Rattle.histar_isolation.proofs.TestLemmas.{is_same_path}
 
 -- what stands at each path of a tree, by rising paths
 abbrev pub Nodes : Type 0

@@ -18,7 +18,7 @@ use Rattle.histar_flat.proofs.FileLemmas.{get-keep, same_lists, same_path_found}
 use Rattle.histar_flat.proofs.Under.{true_or_false}
 use Rattle.histar_isolation.specs.Comparison.{is_dir_of, lies_in_job}
 use Rattle.histar_isolation.proofs.Relation.{SameFiles}
-use Rattle.histar_isolation.proofs.Tests.{all_of, failed, guarded, left_holds, not_passed, stops_first, stops_later}
+use Rattle.histar_isolation.proofs.TestLemmas.{all_of, failed, guarded, left_holds, not_passed, stops_first, stops_later}
 
 -- an outsider can't read a class of the job
 pub closed_class : (session : Session) (p : Process) (job : ProcName) (c : Class) → knows p job ≡ false → carries job c ≡ true

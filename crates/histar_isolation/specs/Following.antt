@@ -6,7 +6,7 @@ use Rattle.histar_flat.specs.declared.calls.UnixCall.TheVariants.{Unlink, Rmdir,
 use Rattle.histar_flat.specs.declared.replies.Reply.{Reply}
 use Rattle.histar_flat.specs.declared.replies.Reply.TheVariants.{Done}
 use Rattle.histar_flat.specs.Words.{Path, ProcName}
-use Rattle.histar_flat.specs.PathOrder.{parent, under_path}
+use Rattle.histar_flat.specs.PathOrder.{below_path, parent, under_path}
 use Rattle.histar_flat.specs.Sessions.{Session}
 use Rattle.histar_flat.specs.FlatState.{moved}
 use Rattle.histar_flat.specs.Meaning.{Answered, boot, flat_end, meaning}
@@ -44,8 +44,7 @@ directory_of job directory (a ∷ as') = directory_of job (followed job director
 -- the path lies below the directory
 abbrev pub lies_below : Option Path → Path → Bool
 lies_below None q = false
-lies_below (Some directory) [] = false
-lies_below (Some directory) (n ∷ d) = under_path directory d
+lies_below (Some directory) q = below_path directory q
 
 -- what lies below directories of a job is exactly what lies below the directory that was followed
 abbrev pub FindsLeftOut : Type 0

@@ -2,3 +2,4 @@ pub mod Comparison
 pub mod Isolation
 pub mod Following
 pub mod Trees
+pub mod Replies

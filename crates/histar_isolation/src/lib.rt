@@ -3,6 +3,12 @@
 #![tactic(auto)]
 
 pub mod isolation_laws;
+mod replies;
+#[cfg(test)]
+mod tests;
+mod trees;
 mod verdict;
 
+pub use replies::{ShownReply, first_line};
+pub use trees::first_difference;
 pub use verdict::Verdict;

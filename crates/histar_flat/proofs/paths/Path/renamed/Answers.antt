@@ -1,7 +1,7 @@
-use Rattle.std.proofs.Common.{rules, ◌≡◌, ◌<◌, ◌-◌, ◌∷◌, [], true, false, length, List, slice_set, ap, sym, ◌∙◌, arith}
+use Rattle.std.proofs.Common.{rules, ◌≡◌, ◌<◌, ◌-◌, ◌∷◌, [], true, false, length, slice_set, ap, sym, ◌∙◌, arith}
 use Rattle.std.proofs.lemmas.List.{nil_from_length}
 use Rattle.std.proofs.Math.Seq.{take-set-lt}
-use Rattle.histar_flat.specs.Words.{Name, Path, most_names}
+use Rattle.histar_flat.specs.Words.{Path, most_names}
 use Rattle.histar_flat.specs.Padding.{unused_name}
 use Rattle.histar_flat.specs.PaddingLaws.{length-kept}
 use Rattle.histar_flat.specs.PathOrder.{same, parent, under_path}

@@ -90,6 +90,11 @@ module _ (left_out : Path → Bool) where
       by true = refl
       by false = refl
 
+  -- where the other list is at its end, the lists differ at the first line that is not left out
+  pub first_difference-nil : (as' : List PathText) → first_difference left_out as' [] ≡ first_kept left_out as'
+  first_difference-nil [] = refl
+  first_difference-nil (a ∷ as') = λ i. cond (left_out a.0) (first_difference-nil as' i) (Some a.0)
+
   -- above the first entry of a list the test is that of the list behind it
   behind_first : (a : Path × Node) (as' bs : Nodes) (q : Path) → path_cmp a.0 q ≡ Less → differ (a ∷ as') bs q ≡ differ as' bs q
   behind_first a as' bs q less = λ i. not (left_out q) && not (same (text_at q (find_past a as' q less i)) (text_at q (find path_cmp q bs)))
