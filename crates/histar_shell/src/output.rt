@@ -160,8 +160,8 @@ fn push_names(line: &mut Vec<u8>, names: &[Name]) -> Result<(), AllocError>
     Ok(())
 }
 
-/// Adds a path.
-fn push_path(line: &mut Vec<u8>, path: &Path) -> Result<(), AllocError>
+/// Adds a path, each name after a slash.
+pub fn push_path(line: &mut Vec<u8>, path: &Path) -> Result<(), AllocError>
     ensures { OnOk result (line.new.items ≡ line.old.items ++ path_text path.now) }
 {
     match path.names() {

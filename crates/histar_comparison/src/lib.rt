@@ -1,0 +1,14 @@
+//! Compares the run of a script with the run of the script without the lines of a job.
+#![tactic(auto)]
+
+mod comparison;
+mod observation;
+mod replies;
+mod texts;
+
+#[cfg(test)]
+mod tests;
+
+pub use comparison::compare;
+pub use histar_isolation::Verdict;
+pub use texts::verdict_text;
