@@ -30,18 +30,18 @@ module _ (job : ProcName) where
   start_is (Wrap q) Gone = refl
   start_is _ reply = refl
 
-  -- a call that is no `wrap` moves the directory once it is done
-  once_granted : (directory done : Option Path) (reply : Reply) → directory_after job directory None done reply ≡ cond (is_done reply) done directory
-  once_granted directory done Done = refl
-  once_granted directory done (Data bytes) = refl
-  once_granted directory done (Entries entries) = refl
-  once_granted directory done (Stats stat) = refl
-  once_granted directory done (Child name) = refl
-  once_granted directory done Running = refl
-  once_granted directory done (Exited n) = refl
-  once_granted directory done (User name confined) = refl
-  once_granted directory done (Refused errno) = refl
-  once_granted directory done Gone = refl
+  -- a call that is no `wrap` moves the directory once it is granted
+  once_granted : (directory granted : Option Path) (reply : Reply) → directory_after job directory None granted reply ≡ cond (is_done reply) granted directory
+  once_granted directory granted Done = refl
+  once_granted directory granted (Data bytes) = refl
+  once_granted directory granted (Entries entries) = refl
+  once_granted directory granted (Stats stat) = refl
+  once_granted directory granted (Child name) = refl
+  once_granted directory granted Running = refl
+  once_granted directory granted (Exited n) = refl
+  once_granted directory granted (User name confined) = refl
+  once_granted directory granted (Refused errno) = refl
+  once_granted directory granted Gone = refl
 
   -- a `wrap` that is no answer to the job leaves it where it was
   once_wrapped : (directory : Option Path) (q : Path) (reply : Reply) → directory_after job directory (Some q) directory reply ≡ cond (is_wrap_reply job (Wrap q) reply) (Some q) directory
@@ -87,10 +87,10 @@ module _ (job : ProcName) where
   directory_is directory (Login name password) reply = stays directory reply
 
   -- a reply that was followed and shown is kept
-  pub reply_kept : (old mid new : RepliesModel) (a : Answered) (wraps done : Option Path) → wraps ≡ wrap_path a.call.call → done ≡ once_done old.directory a.call.call
-      → mid ≡ record { is_started = old.is_started || is_start job wraps a.reply; shown = old.shown; directory = directory_after job old.directory wraps done a.reply }
+  pub reply_kept : (old mid new : RepliesModel) (a : Answered) (wraps granted : Option Path) → wraps ≡ wrap_path a.call.call → granted ≡ once_done old.directory a.call.call
+      → mid ≡ record { is_started = old.is_started || is_start job wraps a.reply; shown = old.shown; directory = directory_after job old.directory wraps granted a.reply }
       → new ≡ record mid { shown = shown_by job mid.shown a.call.line a.call.process a.reply } → new ≡ with_reply job old a
-  reply_kept old mid new a wraps done wrapped moved followed shown =
+  reply_kept old mid new a wraps granted wrapped moved followed shown =
       let line = a.call.line in
       let process = a.call.process in
       let started = ap (λ (w : Option Path). is_start job w a.reply) wrapped ∙ start_is a.call.call a.reply in

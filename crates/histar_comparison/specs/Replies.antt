@@ -61,5 +61,5 @@ is_start job wraps reply = false
 
 -- where the job's directory is after a reply to a call, of which it is known where it wraps a job and where the directory is once it is done
 abbrev pub directory_after : ProcName → Option Path → Option Path → Option Path → Reply → Option Path
-directory_after job directory wraps done Done = done
-directory_after job directory wraps done reply = if is_start job wraps reply then wraps else directory
+directory_after job directory wraps granted Done = granted
+directory_after job directory wraps granted reply = if is_start job wraps reply then wraps else directory

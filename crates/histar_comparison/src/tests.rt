@@ -85,13 +85,20 @@ const TOLD_BY_THE_OUTER_JOB: [&str; 5] = [
     "0.1 list /tmp/j",
 ];
 
-/// These lines, each with its end, behind the ones of two users at work.
-fn script(alloc: Global, lines: &[&str]) -> Result<Vec<u8>, AllocError> {
-    let mut text = Vec::new(alloc);
-    for line in TWO_USERS_AT_WORK.iter().chain(lines) {
+/// Puts lines behind a text, each with its end.
+fn push_lines(text: &mut Vec<u8>, lines: &[&str]) -> Result<(), AllocError> {
+    for line in lines {
         text.extend_from_slice(line.as_bytes())?;
         text.push(b'\n')?;
     }
+    Ok(())
+}
+
+/// These lines behind the ones of two users at work.
+fn script(alloc: Global, lines: &[&str]) -> Result<Vec<u8>, AllocError> {
+    let mut text = Vec::new(alloc);
+    push_lines(&mut text, TWO_USERS_AT_WORK.as_slice())?;
+    push_lines(&mut text, lines)?;
     Ok(text)
 }
 

@@ -18,7 +18,7 @@ use Rattle.histar_devices.specs.Input.{most_taken, TakesAll, TakesSome}
 use Rattle.histar_flat.specs.Sessions.{Session}
 use Rattle.histar_shell.specs.declared.session.Options.{Options}
 use Rattle.histar_shell.specs.Ending.{AppendsEnding, BeginsTheEnding}
-use Rattle.histar_shell.specs.Outcome.{IsOutputFault, IsFaultAt, AgreesWith, AnswersScript, BeginsScript, WritesAtFault, WritesAnswers}
+use Rattle.histar_shell.specs.Outcome.{IsFaultAt, AgreesWith, AnswersScript, BeginsScript, WritesAtFault, WritesAnswers}
 use Rattle.histar_shell.specs.Meaning.{RunsAsMeant}
 use Rattle.histar_shell.specs.Run.{RunsText, RunsTaken, RunsInput}
 use Rattle.histar_shell.specs.Machine.{MachineModel, IsStart}
