@@ -68,8 +68,9 @@ fn raw_command<'a>(alloc: Global) -> Result<Command<'a>, AllocError>
     let file = Arg::new(alloc, "FILE")
         .required(true)
         .help("The session: raw calls, each of a thread");
-    let raw = Command::new(alloc, "raw")
-        .about("Run a session of raw kernel calls and print an answer or a denial for each");
+    let raw = Command::new(alloc, "raw").about(
+        "Run a session of raw kernel calls and print an answer or a denial for each",
+    );
     raw.arg(file)
 }
 
@@ -84,8 +85,9 @@ fn check_command<'a>(alloc: Global) -> Result<Command<'a>, AllocError>
     let file = Arg::new(alloc, "FILE")
         .required(true)
         .help("The script: users, groups, and calls of processes");
-    let check = Command::new(alloc, "check")
-        .about("Run a script with and without a job and print what differs for outsiders");
+    let check = Command::new(alloc, "check").about(
+        "Run a script with and without a job and print what differs for outsiders",
+    );
     let check = check.arg(job)?;
     check.arg(file)
 }

@@ -4,10 +4,9 @@
 mod comparison;
 mod observation;
 mod replies;
-mod texts;
-
 #[cfg(test)]
 mod tests;
+mod texts;
 
 pub use comparison::compare;
 pub use histar_isolation::Verdict;

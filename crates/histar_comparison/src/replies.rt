@@ -69,9 +69,10 @@ impl Replies {
     /// where the directory is once it is done.
     pub fn follow(&mut self, job: &ProcName, wraps: Option<Path>, done: Option<Path>, reply: &Reply)
         ensures { self.new ≡ record {
-            is_started = self.old.is_started || is_start job.now wraps reply.now;
-            shown = self.old.shown;
-            directory = directory_after job.now self.old.directory wraps done reply.now } }
+          is_started = self.old.is_started || is_start job.now wraps reply.now;
+          shown = self.old.shown;
+          directory = directory_after job.now self.old.directory wraps done reply.now;
+        } }
     {
         match reply {
             Reply::Done => self.directory = done,

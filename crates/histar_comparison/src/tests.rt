@@ -113,20 +113,44 @@ fn found(alloc: Global, job: &str, lines: &[&str]) -> Result<Vec<u8>, Fail> {
 #[test]
 fn a_job_is_told_by_its_wrapper_alone(rt: HostRuntime) -> Result<(), Fail> {
     let alloc = rt.alloc();
-    assert_eq!(rt; found(alloc, "0.1.1", A_JOB_AT_WORK.as_slice())?.as_slice(), b"same".as_slice());
-    assert_eq!(rt; found(alloc, "0.1.1", READ_BY_ITS_WRAPPER.as_slice())?.as_slice(), b"same".as_slice());
-    assert_eq!(rt; found(alloc, "0.1.1", CHANGED_BY_ITS_WRAPPER.as_slice())?.as_slice(), b"same".as_slice());
-    assert_eq!(rt; found(alloc, "0.1.1", TOLD_BY_A_TREE.as_slice())?.as_slice(), b"tree /tmp/j".as_slice());
-    assert_eq!(rt; found(alloc, "0.1.1", TOLD_BY_A_REPLY.as_slice())?.as_slice(), b"line 13".as_slice());
-    assert_eq!(rt; found(alloc, "0.2", A_JOB_AT_WORK.as_slice())?.as_slice(), b"no job".as_slice());
+    assert_eq!(rt;
+        found(alloc, "0.1.1", A_JOB_AT_WORK.as_slice())?.as_slice(),
+        b"same".as_slice()
+    );
+    assert_eq!(rt;
+        found(alloc, "0.1.1", READ_BY_ITS_WRAPPER.as_slice())?.as_slice(),
+        b"same".as_slice()
+    );
+    assert_eq!(rt;
+        found(alloc, "0.1.1", CHANGED_BY_ITS_WRAPPER.as_slice())?.as_slice(),
+        b"same".as_slice()
+    );
+    assert_eq!(rt;
+        found(alloc, "0.1.1", TOLD_BY_A_TREE.as_slice())?.as_slice(),
+        b"tree /tmp/j".as_slice()
+    );
+    assert_eq!(rt;
+        found(alloc, "0.1.1", TOLD_BY_A_REPLY.as_slice())?.as_slice(),
+        b"line 13".as_slice()
+    );
+    assert_eq!(rt;
+        found(alloc, "0.2", A_JOB_AT_WORK.as_slice())?.as_slice(),
+        b"no job".as_slice()
+    );
     Ok(())
 }
 
 #[test]
 fn a_job_in_a_job_is_told_by_its_wrapper_alone(rt: HostRuntime) -> Result<(), Fail> {
     let alloc = rt.alloc();
-    assert_eq!(rt; found(alloc, "0.1.1.1", A_JOB_IN_A_JOB.as_slice())?.as_slice(), b"same".as_slice());
-    assert_eq!(rt; found(alloc, "0.1.1.1", TOLD_BY_THE_OUTER_JOB.as_slice())?.as_slice(), b"line 14".as_slice());
+    assert_eq!(rt;
+        found(alloc, "0.1.1.1", A_JOB_IN_A_JOB.as_slice())?.as_slice(),
+        b"same".as_slice()
+    );
+    assert_eq!(rt;
+        found(alloc, "0.1.1.1", TOLD_BY_THE_OUTER_JOB.as_slice())?.as_slice(),
+        b"line 14".as_slice()
+    );
     Ok(())
 }
 
