@@ -4,27 +4,35 @@ use Rattle.std.specs.Str.{bytes_eq}
 use Rattle.clap.specs.Words.{App, Row, Rule, Text, first_of, new_app, new_rule, with_rule, with_subcommand}
 use Rattle.clap.specs.declared.builder.action.ArgAction.TheVariants.{SetTrue}
 use Rattle.histar_cli.specs.declared.task.Task.{Task}
-use Rattle.histar_cli.specs.declared.task.Task.TheVariants.{Run}
+use Rattle.histar_cli.specs.declared.task.Task.TheVariants.{Run, Raw, Check}
 
 -- a flag of this name
 abbrev pub flag_rule : Text → Rule
 flag_rule name = record (new_rule name) { long = Some name; action = Some SetTrue }
 
--- the word FILE, which has to be there
-abbrev pub file_rule : Rule
-file_rule = record (new_rule (codes "FILE")) { required = true }
+-- a word of this name, which has to be there
+abbrev pub word_rule : Text → Rule
+word_rule name = record (new_rule name) { required = true }
 
 -- `run [--tree] [--trace] FILE`
 abbrev pub run_app : App
-run_app = with_rule (with_rule (with_rule (new_app (codes "run")) (flag_rule (codes "tree"))) (flag_rule (codes "trace"))) file_rule
+run_app = with_rule (with_rule (with_rule (new_app (codes "run")) (flag_rule (codes "tree"))) (flag_rule (codes "trace"))) (word_rule (codes "FILE"))
+
+-- `raw FILE`
+abbrev pub raw_app : App
+raw_app = with_rule (new_app (codes "raw")) (word_rule (codes "FILE"))
+
+-- `check JOB FILE`
+abbrev pub check_app : App
+check_app = with_rule (with_rule (new_app (codes "check")) (word_rule (codes "JOB"))) (word_rule (codes "FILE"))
 
 -- the program, which tells its version
 abbrev pub named_app : App
 named_app = let app = new_app (codes "histar") in record app { top = record app.top { has_version = true } }
 
--- `histar run [--tree] [--trace] FILE`
+-- `histar run [--tree] [--trace] FILE`, `histar raw FILE` or `histar check JOB FILE`
 abbrev pub histar_app : App
-histar_app = with_subcommand named_app run_app.top
+histar_app = with_subcommand (with_subcommand (with_subcommand named_app run_app.top) raw_app.top) check_app.top
 
 -- the value of a flag that was given
 abbrev pub is_given : Option Text → Bool
@@ -43,3 +51,12 @@ IsTaskOf (Run file options) matches =
     × (first_of (codes "FILE") rows ≡ Some file.now)
     × (options.tree ≡ is_set (codes "tree") rows)
     × (options.trace ≡ is_set (codes "trace") rows)
+IsTaskOf (Raw file) matches =
+    (rows : List Row)
+    × (matches ≡ Some (codes "raw", rows))
+    × (first_of (codes "FILE") rows ≡ Some file.now)
+IsTaskOf (Check job file) matches =
+    (rows : List Row)
+    × (matches ≡ Some (codes "check", rows))
+    × (first_of (codes "JOB") rows ≡ Some job.now)
+    × (first_of (codes "FILE") rows ≡ Some file.now)

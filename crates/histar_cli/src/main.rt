@@ -1,4 +1,5 @@
-//! The program: `histar run FILE` runs a script and prints the replies, and on request the tree and the trace.
+//! The program: `histar run FILE` runs a script and prints the replies, and on request the tree and the trace;
+//! `histar raw FILE` runs a session of raw calls; `histar check JOB FILE` compares runs with and without a job.
 #![tactic(auto)]
 
 mod status;
@@ -6,6 +7,10 @@ mod task;
 
 use crate::status::status;
 use crate::task::{Task, read_words};
+use histar_comparison::{compare, verdict_text};
+use histar_devices::read_input;
+use histar_flat::{ProcName, read_process};
+use histar_raw_session::run_raw_script;
 use histar_script::Fault;
 use histar_shell::{Counted, Options, run};
 use std::alloc::Global;
@@ -37,6 +42,38 @@ fn run_file<R: Files + Print>(
     flushed.map_err(|_| Fault::WriteFailed)
 }
 
+/// Runs the raw session in a file, and prints what its calls are answered.
+fn run_raw_file<R: Files + Print>(rt: &R, alloc: Global, path: &str) -> Result<(), Fault> {
+    let file = fs::open(rt, path).map_err(|_| Fault::ReadFailed)?;
+    let output = BufWriter::new(alloc, io::writer(rt)).map_err(|_| Fault::OutOfMemory)?;
+    let mut reader = Counted::new(file);
+    let mut writer = Counted::new(output);
+    let ran = run_raw_script(alloc, &mut reader, &mut writer);
+    let flushed = writer.into_inner().flush();
+    ran?;
+    flushed.map_err(|_| Fault::WriteFailed)
+}
+
+/// Compares the script in a file with the script without a job, and prints what is found.
+fn check_file<R: Files + Print>(
+    rt: &R,
+    alloc: Global,
+    job: &ProcName,
+    path: &str,
+) -> Result<(), Fault> {
+    let file = fs::open(rt, path).map_err(|_| Fault::ReadFailed)?;
+    let mut reader = Counted::new(file);
+    let input = read_input(alloc, &mut reader)?;
+    let verdict = compare(alloc, input.as_slice(), job)?;
+    let mut line = verdict_text(alloc, verdict)?;
+    line.push(b'\n')?;
+    let mut output = io::writer(rt);
+    output
+        .write_all(line.as_slice())
+        .map_err(|_| Fault::WriteFailed)?;
+    output.flush().map_err(|_| Fault::WriteFailed)
+}
+
 /// Tells a fault on standard error, and gives its status.
 fn report<R: Eprint>(rt: &R, fault: &Fault) -> u8 {
     let _ = eprintln!(rt; "histar: {fault}");
@@ -50,6 +87,24 @@ fn command_line<R: Env + AllocGlobal>(rt: &R) -> io::Result<Vec<String>> {
     Ok(words)
 }
 
+/// Does a task. Nothing is done, and no file is opened, where a job is no name of a process.
+fn perform<R: Files + Print>(rt: &R, alloc: Global, task: Task<'_>) -> Option<Result<(), Fault>> {
+    match task {
+        Task::Run(path, options) => Some(run_file(rt, alloc, path, options)),
+        Task::Raw(path) => Some(run_raw_file(rt, alloc, path)),
+        Task::Check(job, path) => {
+            let job = read_process(job.as_bytes())?;
+            Some(check_file(rt, alloc, &job, path))
+        }
+    }
+}
+
+/// Tells that a job is no name of a process, and gives the status.
+fn refuse_job<R: Eprint>(rt: &R) -> u8 {
+    let _ = eprintln!(rt; "histar: bad job");
+    REFUSED
+}
+
 /// Does what the words ask for, and gives the status.
 ///
 /// What `clap` has to say goes to standard output where help was asked for, with status 0, and else
@@ -60,9 +115,10 @@ fn obey<R: Files + Print + Eprint>(rt: &R, alloc: Global, words: &[&str]) -> u8 
             let _ = error.print(rt);
             error.exit_code() as u8
         }
-        Ok(Task::Run(path, options)) => match run_file(rt, alloc, path, options) {
-            Ok(()) => 0,
-            Err(fault) => report(rt, &fault),
+        Ok(task) => match perform(rt, alloc, task) {
+            None => refuse_job(rt),
+            Some(Ok(())) => 0,
+            Some(Err(fault)) => report(rt, &fault),
         },
     }
 }

@@ -1,8 +1,8 @@
 //! What the command line asks for.
-ghost use Rattle.std.specs.Prelude.{◌≡◌, IfOk, false, map};
+ghost use Rattle.std.specs.Prelude.{◌≡◌, IfOk, IfSome, false, map};
 ghost use Rattle.clap.specs.declared.builder.command.Command.TheViews.{out-Command};
-ghost use Rattle.clap.specs.Words.{app_of, first_value, found_of, subcommand_of};
-ghost use Rattle.histar_cli.specs.CommandLine.{histar_app, IsTaskOf, is_given, run_app};
+ghost use Rattle.clap.specs.Words.{app_of, first_value, found_of, subcommand_of, subcommand_rows_of};
+ghost use Rattle.histar_cli.specs.CommandLine.{check_app, histar_app, IsTaskOf, is_given, raw_app, run_app};
 
 use clap::error::ErrorKind;
 use clap::{Arg, ArgAction, ArgMatches, Command, Error};
@@ -21,9 +21,9 @@ const AFTER_HELP: &str = "Example:
   histar run --tree --trace examples/first.histar
 
 Exit status:
-  0  the script was run, or help was asked for
-  1  the script is bad or too long
-  2  the command line is refused
+  0  it was done, or help was asked for
+  1  the script or the session is bad or too long
+  2  the command line is refused, or JOB is no process
   3  out of memory
   4  FILE can't be read, or the output can't be written";
 
@@ -32,6 +32,10 @@ Exit status:
 pub enum Task<'a> {
     /// Run the script in this file, and print what is asked for beside the replies.
     Run(&'a str, Options),
+    /// Run the session of raw calls in this file.
+    Raw(&'a str),
+    /// Compare the script in a file with the one without a job: first the job, then the file.
+    Check(&'a str, &'a str),
 }
 
 /// The subcommand that runs a script.
@@ -56,17 +60,53 @@ fn run_command<'a>(alloc: Global) -> Result<Command<'a>, AllocError>
     run.arg(file)
 }
 
+/// The subcommand that runs a session of raw calls.
+fn raw_command<'a>(alloc: Global) -> Result<Command<'a>, AllocError>
+    ensures app { IfOk result (λ c. app_of c ≡ raw_app) }
+    ensures local { IfOk result (λ c. (out-Command c).has_globals ≡ false) }
+{
+    let file = Arg::new(alloc, "FILE")
+        .required(true)
+        .help("The session: raw calls, each of a thread");
+    let raw = Command::new(alloc, "raw").about(
+        "Run a session of raw kernel calls and print an answer or a denial for each",
+    );
+    raw.arg(file)
+}
+
+/// The subcommand that compares a script with the one without a job.
+fn check_command<'a>(alloc: Global) -> Result<Command<'a>, AllocError>
+    ensures app { IfOk result (λ c. app_of c ≡ check_app) }
+    ensures local { IfOk result (λ c. (out-Command c).has_globals ≡ false) }
+{
+    let job = Arg::new(alloc, "JOB")
+        .required(true)
+        .help("The job: the name of its first process");
+    let file = Arg::new(alloc, "FILE")
+        .required(true)
+        .help("The script: users, groups, and calls of processes");
+    let check = Command::new(alloc, "check").about(
+        "Run a script with and without a job and print what differs for outsiders",
+    );
+    let check = check.arg(job)?;
+    check.arg(file)
+}
+
 /// The command line, as `clap` reads and explains it.
 fn command<'a>(alloc: Global) -> Result<Command<'a>, AllocError>
     ensures { IfOk result (λ c. app_of c ≡ histar_app) }
 {
     let run = run_command(alloc)?;
+    let raw = raw_command(alloc)?;
+    let check = check_command(alloc)?;
     let histar = Command::new(alloc, "histar")
         .version(VERSION)
         .about(ABOUT)
         .after_help(AFTER_HELP);
     let histar = histar.bin_name("histar")?;
-    histar.subcommand(run)
+    let histar = histar.subcommand(run)?;
+    let histar = histar.subcommand(raw)?;
+    histar.subcommand(check)
 }
 
 /// Whether a flag was given: its value is `true` then.
@@ -79,6 +119,26 @@ fn is_set(matches: &ArgMatches, name: &str) -> bool
     }
 }
 
+/// The task of the subcommand that was matched.
+fn task_of<'a>(matches: &ArgMatches<'a>) -> Option<Task<'a>>
+    ensures { IfSome result (λ task. IsTaskOf task (subcommand_rows_of matches.now)) }
+{
+    if let Some(run) = matches.subcommand_matches("run") {
+        let file = run.get_str("FILE")?;
+        let tree = is_set(run, "tree");
+        let trace = is_set(run, "trace");
+        return Some(Task::Run(file, Options { tree, trace }));
+    }
+    if let Some(raw) = matches.subcommand_matches("raw") {
+        let file = raw.get_str("FILE")?;
+        return Some(Task::Raw(file));
+    }
+    let check = matches.subcommand_matches("check")?;
+    let job = check.get_str("JOB")?;
+    let file = check.get_str("FILE")?;
+    Some(Task::Check(job, file))
+}
+
 /// The task that the words name, the program's own name first.
 ///
 /// An error is `clap`'s own: a wish for help or for the version, a refused command line, or want of
@@ -88,15 +148,8 @@ pub fn read_words<'a>(alloc: Global, words: &'a [&'a str]) -> Result<Task<'a>, E
 {
     let mut command = command(alloc)?;
     let matches = command.try_get_matches_from_mut(words)?;
-    match matches.subcommand_matches("run") {
-        None => Err(command.error(ErrorKind::MissingSubcommand, "no subcommand")?),
-        Some(run) => match run.get_str("FILE") {
-            None => Err(command.error(ErrorKind::MissingRequiredArgument, "no FILE")?),
-            Some(file) => {
-                let tree = is_set(run, "tree");
-                let trace = is_set(run, "trace");
-                Ok(Task::Run(file, Options { tree, trace }))
-            }
-        },
-    }
+    let Some(task) = task_of(&matches) else {
+        return Err(command.error(ErrorKind::MissingSubcommand, "no subcommand")?);
+    };
+    Ok(task)
 }

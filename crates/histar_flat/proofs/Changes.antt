@@ -50,7 +50,7 @@ made_in_job session p mode job h = by p.chain h
     by (k ∷ ks) h = h
 
 -- what making an entry has tested
-room_tests : (session : Session) (f : Flat) (p : Process) (n : Name) (d : Path) → no_room session f p (n ∷ d) ≡ None → (into session f p d ≡ None) × (get f.files (n ∷ d) ≡ None) × (writes session f p d ≡ true)
+pub room_tests : (session : Session) (f : Flat) (p : Process) (n : Name) (d : Path) → no_room session f p (n ∷ d) ≡ None → (into session f p d ≡ None) × (get f.files (n ∷ d) ≡ None) × (writes session f p d ≡ true)
 room_tests session f p n d h =
     let tests = three_pass (into session f p d) (not (is_there f (n ∷ d))) (nat_lt (length (entries_in f d)) most_entries) (writes session f p d) EEXIST ENOSPC EACCES h in
     (tests.0, nothing_there (get f.files (n ∷ d)) tests.1, tests.3)

@@ -1,16 +1,13 @@
 -- What a map of paths answers after a change.
 use Rattle.std.specs.Prelude.{◌≡◌, ◌≢◌, Bool, true, false, cond, ℕ, List, Some, None, refl}
 use Rattle.std.proofs.Common.{◌⊎◌, ap, inl, inr, sym, ◌∙◌}
-use Rattle.std.specs.declared.cmp.Ordering.{Ordering}
-use Rattle.std.specs.declared.cmp.Ordering.TheVariants.{Less, Equal, Greater}
-use Rattle.std.specs.Ordering.{eq_by_cmp, is_eq}
-use Rattle.std.specs.Cmp.{tied_itself}
+use Rattle.std.specs.Ordering.{eq_by_cmp}
 use Rattle.std.specs.Cmp.Lexicographic.{pointwise_decides, bytes_decides}
 use Rattle.std.specs.FinMap.Entries.{find-put, find-where_key, same_entries}
 use Rattle.std.proofs.lemmas.Bool.{true≢false}
 use Rattle.histar_flat.specs.Words.{Name, Path}
 use Rattle.histar_flat.specs.PathOrder.{path_cmp, same, same_path}
-use Rattle.histar_flat.specs.PathOrderLaws.{path_cmp_total, path_cmp_exact}
+use Rattle.histar_flat.specs.PathOrderLaws.{path_cmp_exact, path_cmp_ties, path_cmp_total}
 use Rattle.histar_flat.specs.Files.{Files, get, insert, keep}
 
 -- what a test has found: it is true at equal things, or false at different ones
@@ -33,21 +30,9 @@ same_path_found q r = found (same_path q r) q r (pointwise_decides bytes_decides
 pub same_itself : (n : Name) → same n n ≡ true
 same_itself n = (bytes_decides n n).1 refl
 
-is_equal : (r : Ordering) → is_eq r ≡ true → r ≡ Equal
-is_equal Less h = absurd (true≢false (sym h))
-is_equal Equal h = refl
-is_equal Greater h = absurd (true≢false (sym h))
-
 -- two paths tie where they are the same
 pub ties : (q r : Path) → eq_by_cmp path_cmp q r ≡ same_path q r
-ties q r = elim (same_path_found q r) [
-  | inl e ↦ ap (λ x. is_eq (path_cmp q x)) (sym e.1) ∙ ap is_eq (tied_itself path_cmp_total q) ∙ sym e.0
-  | inr n ↦ by n.1 (eq_by_cmp path_cmp q r) refl ∙ sym n.0
-]
-  where
-    by : q ≢ r → (b : Bool) → eq_by_cmp path_cmp q r ≡ b → eq_by_cmp path_cmp q r ≡ false
-    by n true h = absurd (n (path_cmp_exact q r (is_equal _ h)))
-    by n false h = h
+ties q r = sym (path_cmp_ties q r)
 
 module _ {X : Type 0} where
   -- after a change at a path, that path has the new value, and each other what it had

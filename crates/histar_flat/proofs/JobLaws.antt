@@ -48,7 +48,7 @@ module _ (session : Session) (p : Process) (job : ProcName) (inside : has p.chai
   busy = not_free p.chain job inside
 
   -- what it may write is of the job
-  writes_of_job : (class : Class) → may_write session p class ≡ true → carries job class ≡ true
+  pub writes_of_job : (class : Class) → may_write session p class ≡ true → carries job class ≡ true
   writes_of_job (Private owner) w = absurd (true≢false (sym (and_parts (same p.user owner) (is_free p) w).1 ∙ busy))
   writes_of_job (Readable owner) w = absurd (true≢false (sym (and_parts (same p.user owner) (is_free p) w).1 ∙ busy))
   writes_of_job Open w = absurd (true≢false (sym w ∙ busy))

@@ -10,6 +10,7 @@ pub mod FileLemmas
 pub mod Entries
 pub mod Choices
 pub mod Under
+pub mod Moved
 pub mod Renaming
 pub mod Changes
 pub mod Trees

@@ -1,6 +1,7 @@
 -- A list fits in an array that is filled up.
-use Rattle.std.proofs.Common.{◌≡◌, ℕ, zero, suc, ◌+◌, ◌-◌, ◌≤◌, List, [], ◌∷◌, ◌++◌, length, take, drop, replicate, slice_set, refl, sym, ap, ◌∙◌, arith, length-append}
-use Rattle.std.proofs.lemmas.List.{length-replicate, length-drop, take_at, take-replicate}
+use Rattle.std.proofs.Common.{◌≡◌, ℕ, zero, suc, ◌+◌, ◌-◌, ◌≤◌, ◌<◌, List, [], ◌∷◌, ◌++◌, length, take, drop, replicate, slice_set, refl, sym, ap, ◌∙◌, arith, length-append}
+use Rattle.std.proofs.lemmas.List.{length-replicate, length-drop, take_at, take-replicate, set-append_left, length-set}
+use Rattle.std.proofs.Math.Seq.{take-set-lt}
 use Rattle.histar_flat.specs.Padding.{padded, IsPadded}
 use Rattle.histar_flat.specs.PaddingLaws.{length-kept}
 
@@ -61,3 +62,19 @@ padded_front places fill item items len is room =
     let more : length (item ∷ take len items) ≡ len + 1 = omega (arith, kept) in
     let fits = padded_fits (suc places) fill (item ∷ take len items) (omega (arith, kept)) in
     rw (last, made, ← more) fits
+
+-- an item in the place of another
+pub padded_set : {A : Type 0} (places : ℕ) (fill item : A) (items : List A) (len i : ℕ) → IsPadded places fill items len → i < len → IsPadded places fill (slice_set items i item) len
+unfolding padded
+padded_set {A} places fill item items len i is here =
+    let kept : length (take len items) ≡ len = length-kept places fill items len is in
+    let front : take len (slice_set items i item) ≡ slice_set (take len items) i item = take-set-lt len items i item here in
+    let same : length (slice_set (take len items) i item) ≡ length (take len items) = length-set (take len items) i item in
+    let rest : List A = replicate (places - length (take len items)) fill in
+    let back : slice_set items i item ≡ slice_set (take len items) i item ++ rest =
+    ap (λ (l : List A). slice_set l i item) (sym is.filled) ∙ set-append_left (take len items) rest i item (omega (arith, here, kept)) in
+    record {
+      short = is.short;
+      whole = length-set items i item ∙ is.whole;
+      filled = ap (λ (l : List A). l ++ replicate (places - length l) fill) front ∙ ap (λ (n : ℕ). slice_set (take len items) i item ++ replicate (places - n) fill) same ∙ sym back;
+    }

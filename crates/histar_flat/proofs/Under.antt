@@ -1,7 +1,7 @@
 -- What lies below what.
-use Rattle.std.specs.Prelude.{◌≡◌, ◌≢◌, ◌≤◌, Bool, true, false, ◌||◌, List, [], ◌∷◌, length, refl}
+use Rattle.std.specs.Prelude.{ℕ, ◌≡◌, ◌≢◌, ◌≤◌, ◌<◌, ◌-◌, suc, Bool, true, false, ◌||◌, ◌&&◌, List, [], ◌∷◌, length, drop, refl}
 use Rattle.std.proofs.Common.{◌⊎◌, arith, ap, inl, inr, sym, ◌∙◌}
-use Rattle.std.proofs.lemmas.Bool.{true≢false}
+use Rattle.std.proofs.lemmas.Bool.{true≢false, cases_lt}
 use Rattle.std.specs.Cmp.Lexicographic.{pointwise}
 use Rattle.histar_flat.specs.PathOrder.{is_under}
 use Rattle.histar_flat.proofs.FileLemmas.{Found}
@@ -11,10 +11,44 @@ pub or_true : (b : Bool) → (b || true) ≡ true
 or_true true = refl
 or_true false = refl
 
+-- what is or is false is what it is
+or_false : (b : Bool) → (b || false) ≡ b
+or_false true = refl
+or_false false = refl
+
 -- a test is true or false
 pub true_or_false : (b : Bool) → (b ≡ true) ⊎ (b ≡ false)
 true_or_false true = inl refl
 true_or_false false = inr refl
+
+-- lists of different lengths are not the same
+differ : {A : Type 0} (equal : A → A → Bool) (p q : List A) → length p ≢ length q → pointwise equal p q ≡ false
+differ equal [] [] other = absurd (other refl)
+differ equal [] (n ∷ q) other = refl
+differ equal (m ∷ p) [] other = refl
+differ equal (m ∷ p) (n ∷ q) other = by (equal m n) (differ equal p q (λ e. other (ap suc e)))
+  where
+    by : (b : Bool) → pointwise equal p q ≡ false → (b && pointwise equal p q) ≡ false
+    by false e = refl
+    by true e = e
+
+-- a longer list lies above no other
+pub shorter : {A : Type 0} (equal : A → A → Bool) (p q : List A) → length q < length p → is_under equal p q ≡ false
+shorter equal p [] lt = differ equal p [] (λ e. omega (arith, e, lt))
+shorter equal p (n ∷ q) lt = rw (differ equal p (n ∷ q) (λ e. omega (arith, e, lt)), shorter equal p q (omega (arith, lt))) refl
+
+-- a list lies above those that it ends
+pub under_is_end : {A : Type 0} (equal : A → A → Bool) (p q : List A) → length p ≤ length q → is_under equal p q ≡ pointwise equal p (drop (length q - length p) q)
+under_is_end equal [] [] le = refl
+under_is_end equal (m ∷ p) [] le = absurd (omega (arith, le))
+under_is_end equal p (n ∷ q) le = elim (cases_lt (length q) (length p)) [
+  | inl lt ↦
+      let same : suc (length q) - length p ≡ 0 = omega (arith, lt, le) in
+      ap (λ b. pointwise equal p (n ∷ q) || b) (shorter equal p q lt) ∙ or_false (pointwise equal p (n ∷ q)) ∙ ap (λ (i : ℕ). pointwise equal p (drop i (n ∷ q))) (sym same)
+  | inr here ↦
+      let more : suc (length q) - length p ≡ suc (length q - length p) = omega (arith, here) in
+      ap (λ b. b || is_under equal p q) (differ equal p (n ∷ q) (λ e. omega (arith, e, here))) ∙ under_is_end equal p q here ∙ ap (λ (i : ℕ). pointwise equal p (drop i (n ∷ q))) (sym more)
+]
 
 module _ {A : Type 0} (equal : A → A → Bool) (found : (p q : List A) → Found (pointwise equal p q) p q) where
   -- each name lies below itself

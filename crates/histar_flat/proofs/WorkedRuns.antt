@@ -84,7 +84,7 @@ two_runs session job calls = record {
 }
 
 -- a job that makes a file, and two processes that list directories after it
-abbrev calls_around_a_job : List CallLine
+abbrev pub calls_around_a_job : List CallLine
 calls_around_a_job = tmp_made ++
     line_of 10 (1 ∷ []) (Wrap (codes "j" ∷ codes "tmp" ∷ [])) ∷
     line_of 11 (1 ∷ 1 ∷ []) (Create (codes "out" ∷ codes "j" ∷ codes "tmp" ∷ []) modes.Open) ∷
@@ -109,60 +109,72 @@ pub no_job : (two_runs three_users (2 ∷ []) calls_around_a_job).is_started ≡
 unfolding digits
 no_job = refl
 
--- who started the job may tell others of it by taking its directory away, which is refused where the job has made something
-pub rmdir_that_tells_of_a_job : two_runs three_users (1 ∷ 1 ∷ []) (tmp_made ++
+-- a job that makes a file, and who started it tries to take its directory away
+abbrev pub calls_with_a_rmdir : List CallLine
+calls_with_a_rmdir = tmp_made ++
     line_of 10 (1 ∷ []) (Wrap (codes "j" ∷ codes "tmp" ∷ [])) ∷
     line_of 11 (1 ∷ 1 ∷ []) (Create (codes "out" ∷ codes "j" ∷ codes "tmp" ∷ []) modes.Open) ∷
     line_of 12 (1 ∷ []) (Rmdir (codes "j" ∷ codes "tmp" ∷ [])) ∷
-    line_of 13 (2 ∷ []) (ListCall (codes "tmp" ∷ [])) ∷ []) ≡ record {
-      is_started = true;
-      lines_apart = 13 ∷ [];
-      paths_apart = (codes "j" ∷ codes "tmp" ∷ []) ∷ [];
-      printed_with = tmp_printed ++ codes "10 ok 0.1.1\n11 ok\n12 ENOTEMPTY\n13 ok j/\n";
-      printed_without = tmp_printed ++ codes "10 ok 0.1.1\n12 ok\n13 ok\n";
-      tree_with = codes "/ dir root readable\n/tmp dir - open\n/tmp/j dir alice scratch\n/tmp/j/out file alice scratch = \n";
-      tree_without = codes "/ dir root readable\n/tmp dir - open\n";
-    }
+    line_of 13 (2 ∷ []) (ListCall (codes "tmp" ∷ [])) ∷ []
+
+-- who started the job may tell others of it by taking its directory away, which is refused where the job has made something
+pub rmdir_that_tells_of_a_job : two_runs three_users (1 ∷ 1 ∷ []) calls_with_a_rmdir ≡ record {
+  is_started = true;
+  lines_apart = 13 ∷ [];
+  paths_apart = (codes "j" ∷ codes "tmp" ∷ []) ∷ [];
+  printed_with = tmp_printed ++ codes "10 ok 0.1.1\n11 ok\n12 ENOTEMPTY\n13 ok j/\n";
+  printed_without = tmp_printed ++ codes "10 ok 0.1.1\n12 ok\n13 ok\n";
+  tree_with = codes "/ dir root readable\n/tmp dir - open\n/tmp/j dir alice scratch\n/tmp/j/out file alice scratch = \n";
+  tree_without = codes "/ dir root readable\n/tmp dir - open\n";
+}
 unfolding digits
 rmdir_that_tells_of_a_job = refl
 
--- the same where no one lists anything after it: the trees alone tell it
-pub rmdir_that_the_tree_tells_of : two_runs three_users (1 ∷ 1 ∷ []) (tmp_made ++
+-- the same with nothing after it
+abbrev pub calls_that_end_in_a_rmdir : List CallLine
+calls_that_end_in_a_rmdir = tmp_made ++
     line_of 10 (1 ∷ []) (Wrap (codes "j" ∷ codes "tmp" ∷ [])) ∷
     line_of 11 (1 ∷ 1 ∷ []) (Create (codes "a" ∷ codes "j" ∷ codes "tmp" ∷ []) modes.Open) ∷
-    line_of 12 (1 ∷ []) (Rmdir (codes "j" ∷ codes "tmp" ∷ [])) ∷ []) ≡ record {
-      is_started = true;
-      lines_apart = [];
-      paths_apart = (codes "j" ∷ codes "tmp" ∷ []) ∷ [];
-      printed_with = tmp_printed ++ codes "10 ok 0.1.1\n11 ok\n12 ENOTEMPTY\n";
-      printed_without = tmp_printed ++ codes "10 ok 0.1.1\n12 ok\n";
-      tree_with = codes "/ dir root readable\n/tmp dir - open\n/tmp/j dir alice scratch\n/tmp/j/a file alice scratch = \n";
-      tree_without = codes "/ dir root readable\n/tmp dir - open\n";
-    }
+    line_of 12 (1 ∷ []) (Rmdir (codes "j" ∷ codes "tmp" ∷ [])) ∷ []
+
+-- the same where no one lists anything after it: the trees alone tell it
+pub rmdir_that_the_tree_tells_of : two_runs three_users (1 ∷ 1 ∷ []) calls_that_end_in_a_rmdir ≡ record {
+  is_started = true;
+  lines_apart = [];
+  paths_apart = (codes "j" ∷ codes "tmp" ∷ []) ∷ [];
+  printed_with = tmp_printed ++ codes "10 ok 0.1.1\n11 ok\n12 ENOTEMPTY\n";
+  printed_without = tmp_printed ++ codes "10 ok 0.1.1\n12 ok\n";
+  tree_with = codes "/ dir root readable\n/tmp dir - open\n/tmp/j dir alice scratch\n/tmp/j/a file alice scratch = \n";
+  tree_without = codes "/ dir root readable\n/tmp dir - open\n";
+}
 unfolding digits
 rmdir_that_the_tree_tells_of = refl
 
--- a further job that is started in the directory of the first one tells of it too: whether the name is taken there decides whether
--- the further job is
-pub wrap_that_tells_of_a_job : two_runs three_users (1 ∷ 1 ∷ []) (tmp_made ++
+-- a job that makes a file, and who started it tries to start a further job at the path of the file
+abbrev pub calls_with_a_further_wrap : List CallLine
+calls_with_a_further_wrap = tmp_made ++
     line_of 10 (1 ∷ []) (Wrap (codes "j" ∷ codes "tmp" ∷ [])) ∷
     line_of 11 (1 ∷ 1 ∷ []) (Create (codes "out" ∷ codes "j" ∷ codes "tmp" ∷ []) modes.Open) ∷
     line_of 12 (1 ∷ []) (Wrap (codes "out" ∷ codes "j" ∷ codes "tmp" ∷ [])) ∷
-    line_of 13 (2 ∷ []) (Status (2 ∷ 1 ∷ [])) ∷ []) ≡ record {
-      is_started = true;
-      lines_apart = 13 ∷ [];
-      paths_apart = [];
-      printed_with = tmp_printed ++ codes "10 ok 0.1.1\n11 ok\n12 EEXIST\n13 ESRCH\n";
-      printed_without = tmp_printed ++ codes "10 ok 0.1.1\n12 ok 0.1.2\n13 EACCES\n";
-      tree_with = codes "/ dir root readable\n/tmp dir - open\n/tmp/j dir alice scratch\n/tmp/j/out file alice scratch = \n";
-      tree_without = codes "/ dir root readable\n/tmp dir - open\n/tmp/j dir alice scratch\n/tmp/j/out dir alice scratch\n";
-    }
+    line_of 13 (2 ∷ []) (Status (2 ∷ 1 ∷ [])) ∷ []
+
+-- a further job that is started in the directory of the first one tells of it too: whether the name is taken there decides whether
+-- the further job is
+pub wrap_that_tells_of_a_job : two_runs three_users (1 ∷ 1 ∷ []) calls_with_a_further_wrap ≡ record {
+  is_started = true;
+  lines_apart = 13 ∷ [];
+  paths_apart = [];
+  printed_with = tmp_printed ++ codes "10 ok 0.1.1\n11 ok\n12 EEXIST\n13 ESRCH\n";
+  printed_without = tmp_printed ++ codes "10 ok 0.1.1\n12 ok 0.1.2\n13 EACCES\n";
+  tree_with = codes "/ dir root readable\n/tmp dir - open\n/tmp/j dir alice scratch\n/tmp/j/out file alice scratch = \n";
+  tree_without = codes "/ dir root readable\n/tmp dir - open\n/tmp/j dir alice scratch\n/tmp/j/out dir alice scratch\n";
+}
 unfolding digits
 wrap_that_tells_of_a_job = refl
 
--- who started a job reads, writes and renames what it made, asks how it ended, and takes its directory away: the replies to these
--- calls differ, and no one else notices
-pub output_used_by_who_started_the_job : two_runs three_users (1 ∷ 1 ∷ []) (tmp_made ++
+-- a job that makes a file and exits, and who started it uses the file
+abbrev pub calls_on_output : List CallLine
+calls_on_output = tmp_made ++
     line_of 10 (1 ∷ []) (Wrap (codes "j" ∷ codes "tmp" ∷ [])) ∷
     line_of 11 (1 ∷ 1 ∷ []) (Create (codes "a" ∷ codes "j" ∷ codes "tmp" ∷ []) modes.Open) ∷
     line_of 12 (1 ∷ 1 ∷ []) (Exit 3) ∷
@@ -172,57 +184,69 @@ pub output_used_by_who_started_the_job : two_runs three_users (1 ∷ 1 ∷ []) (
     line_of 16 (1 ∷ []) (Status (1 ∷ 1 ∷ [])) ∷
     line_of 17 (1 ∷ []) (Rmtree (codes "j" ∷ codes "tmp" ∷ [])) ∷
     line_of 18 (2 ∷ []) (ListCall (codes "tmp" ∷ [])) ∷
-    line_of 19 (1 ∷ []) (Kill (1 ∷ 1 ∷ [])) ∷ []) ≡ record {
-      is_started = true;
-      lines_apart = [];
-      paths_apart = [];
-      printed_with = tmp_printed ++ codes "10 ok 0.1.1\n11 ok\n12 ok\n13 = \n14 ok\n15 ok\n16 ok exited 3\n17 ok\n18 ok\n19 ok\n";
-      printed_without = tmp_printed ++ codes "10 ok 0.1.1\n13 ENOENT\n14 ENOENT\n15 ENOENT\n16 ok running\n17 ok\n18 ok\n19 ok\n";
-      tree_with = codes "/ dir root readable\n/tmp dir - open\n";
-      tree_without = codes "/ dir root readable\n/tmp dir - open\n";
-    }
+    line_of 19 (1 ∷ []) (Kill (1 ∷ 1 ∷ [])) ∷ []
+
+-- who started a job reads, writes and renames what it made, asks how it ended, and takes its directory away: the replies to these
+-- calls differ, and no one else notices
+pub output_used_by_who_started_the_job : two_runs three_users (1 ∷ 1 ∷ []) calls_on_output ≡ record {
+  is_started = true;
+  lines_apart = [];
+  paths_apart = [];
+  printed_with = tmp_printed ++ codes "10 ok 0.1.1\n11 ok\n12 ok\n13 = \n14 ok\n15 ok\n16 ok exited 3\n17 ok\n18 ok\n19 ok\n";
+  printed_without = tmp_printed ++ codes "10 ok 0.1.1\n13 ENOENT\n14 ENOENT\n15 ENOENT\n16 ok running\n17 ok\n18 ok\n19 ok\n";
+  tree_with = codes "/ dir root readable\n/tmp dir - open\n";
+  tree_without = codes "/ dir root readable\n/tmp dir - open\n";
+}
 unfolding digits
 output_used_by_who_started_the_job = refl
 
--- a job in a job: the outer one sees what the inner one makes, and who started the outer one doesn't notice
-pub unnoticed_inner_job : two_runs three_users (1 ∷ 1 ∷ 1 ∷ []) (tmp_made ++
+-- a job that starts a job
+abbrev pub calls_of_an_inner_job : List CallLine
+calls_of_an_inner_job = tmp_made ++
     line_of 10 (1 ∷ []) (Wrap (codes "j" ∷ codes "tmp" ∷ [])) ∷
     line_of 11 (1 ∷ 1 ∷ []) (Wrap (codes "k" ∷ codes "j" ∷ codes "tmp" ∷ [])) ∷
     line_of 12 (1 ∷ 1 ∷ 1 ∷ []) (Create (codes "o" ∷ codes "k" ∷ codes "j" ∷ codes "tmp" ∷ []) modes.Open) ∷
     line_of 13 (1 ∷ 1 ∷ []) (ListCall (codes "k" ∷ codes "j" ∷ codes "tmp" ∷ [])) ∷
-    line_of 14 (1 ∷ []) (ListCall (codes "j" ∷ codes "tmp" ∷ [])) ∷ []) ≡ record {
-      is_started = true;
-      lines_apart = [];
-      paths_apart = [];
-      printed_with = tmp_printed ++ codes "10 ok 0.1.1\n11 ok 0.1.1.1\n12 ok\n13 ok o\n14 ok k/\n";
-      printed_without = tmp_printed ++ codes "10 ok 0.1.1\n11 ok 0.1.1.1\n13 ok\n14 ok k/\n";
-      tree_with = codes "/ dir root readable\n/tmp dir - open\n/tmp/j dir alice scratch\n/tmp/j/k dir alice scratch\n/tmp/j/k/o file alice scratch = \n";
-      tree_without = codes "/ dir root readable\n/tmp dir - open\n/tmp/j dir alice scratch\n/tmp/j/k dir alice scratch\n";
-    }
+    line_of 14 (1 ∷ []) (ListCall (codes "j" ∷ codes "tmp" ∷ [])) ∷ []
+
+-- a job in a job: the outer one sees what the inner one makes, and who started the outer one doesn't notice
+pub unnoticed_inner_job : two_runs three_users (1 ∷ 1 ∷ 1 ∷ []) calls_of_an_inner_job ≡ record {
+  is_started = true;
+  lines_apart = [];
+  paths_apart = [];
+  printed_with = tmp_printed ++ codes "10 ok 0.1.1\n11 ok 0.1.1.1\n12 ok\n13 ok o\n14 ok k/\n";
+  printed_without = tmp_printed ++ codes "10 ok 0.1.1\n11 ok 0.1.1.1\n13 ok\n14 ok k/\n";
+  tree_with = codes "/ dir root readable\n/tmp dir - open\n/tmp/j dir alice scratch\n/tmp/j/k dir alice scratch\n/tmp/j/k/o file alice scratch = \n";
+  tree_without = codes "/ dir root readable\n/tmp dir - open\n/tmp/j dir alice scratch\n/tmp/j/k dir alice scratch\n";
+}
 unfolding digits
 unnoticed_inner_job = refl
 
--- there too a directory that is taken away tells of the inner job
-pub rmdir_that_tells_of_an_inner_job : two_runs three_users (1 ∷ 1 ∷ 1 ∷ []) (tmp_made ++
+-- a job that starts a job, and tries to take its directory away
+abbrev pub calls_with_an_inner_rmdir : List CallLine
+calls_with_an_inner_rmdir = tmp_made ++
     line_of 10 (1 ∷ []) (Wrap (codes "j" ∷ codes "tmp" ∷ [])) ∷
     line_of 11 (1 ∷ 1 ∷ []) (Wrap (codes "k" ∷ codes "j" ∷ codes "tmp" ∷ [])) ∷
     line_of 12 (1 ∷ 1 ∷ 1 ∷ []) (Create (codes "o" ∷ codes "k" ∷ codes "j" ∷ codes "tmp" ∷ []) modes.Open) ∷
     line_of 13 (1 ∷ 1 ∷ []) (Rmdir (codes "k" ∷ codes "j" ∷ codes "tmp" ∷ [])) ∷
-    line_of 14 (1 ∷ []) (ListCall (codes "j" ∷ codes "tmp" ∷ [])) ∷ []) ≡ record {
-      is_started = true;
-      lines_apart = 14 ∷ [];
-      paths_apart = (codes "k" ∷ codes "j" ∷ codes "tmp" ∷ []) ∷ [];
-      printed_with = tmp_printed ++ codes "10 ok 0.1.1\n11 ok 0.1.1.1\n12 ok\n13 ENOTEMPTY\n14 ok k/\n";
-      printed_without = tmp_printed ++ codes "10 ok 0.1.1\n11 ok 0.1.1.1\n13 ok\n14 ok\n";
-      tree_with = codes "/ dir root readable\n/tmp dir - open\n/tmp/j dir alice scratch\n/tmp/j/k dir alice scratch\n/tmp/j/k/o file alice scratch = \n";
-      tree_without = codes "/ dir root readable\n/tmp dir - open\n/tmp/j dir alice scratch\n";
-    }
+    line_of 14 (1 ∷ []) (ListCall (codes "j" ∷ codes "tmp" ∷ [])) ∷ []
+
+-- there too a directory that is taken away tells of the inner job
+pub rmdir_that_tells_of_an_inner_job : two_runs three_users (1 ∷ 1 ∷ 1 ∷ []) calls_with_an_inner_rmdir ≡ record {
+  is_started = true;
+  lines_apart = 14 ∷ [];
+  paths_apart = (codes "k" ∷ codes "j" ∷ codes "tmp" ∷ []) ∷ [];
+  printed_with = tmp_printed ++ codes "10 ok 0.1.1\n11 ok 0.1.1.1\n12 ok\n13 ENOTEMPTY\n14 ok k/\n";
+  printed_without = tmp_printed ++ codes "10 ok 0.1.1\n11 ok 0.1.1.1\n13 ok\n14 ok\n";
+  tree_with = codes "/ dir root readable\n/tmp dir - open\n/tmp/j dir alice scratch\n/tmp/j/k dir alice scratch\n/tmp/j/k/o file alice scratch = \n";
+  tree_without = codes "/ dir root readable\n/tmp dir - open\n/tmp/j dir alice scratch\n";
+}
 unfolding digits
 rmdir_that_tells_of_an_inner_job = refl
 
--- an outer job that starts an inner one, with all that both do: without them the inner one was never there, and who started the outer
--- one alone is told so
-pub unnoticed_job_with_a_job_in_it : two_runs three_users (1 ∷ 1 ∷ []) (tmp_made ++
+-- a job that starts a job, and all that both do
+abbrev pub calls_of_a_job_with_a_job_in_it : List CallLine
+calls_of_a_job_with_a_job_in_it = tmp_made ++
     line_of 10 (1 ∷ []) (Wrap (codes "j" ∷ codes "tmp" ∷ [])) ∷
     line_of 11 (1 ∷ 1 ∷ []) (Wrap (codes "k" ∷ codes "j" ∷ codes "tmp" ∷ [])) ∷
     line_of 12 (1 ∷ 1 ∷ 1 ∷ []) (Create (codes "o" ∷ codes "k" ∷ codes "j" ∷ codes "tmp" ∷ []) modes.Private) ∷
@@ -238,20 +262,25 @@ pub unnoticed_job_with_a_job_in_it : two_runs three_users (1 ∷ 1 ∷ []) (tmp_
     line_of 22 (1 ∷ 1 ∷ []) (Wrap (codes "k" ∷ codes "tmp" ∷ [])) ∷
     line_of 23 (1 ∷ 1 ∷ 1 ∷ []) (Login (codes "bob") (codes "bb")) ∷
     line_of 24 (1 ∷ []) (Kill (1 ∷ 1 ∷ [])) ∷
-    line_of 25 (1 ∷ []) (Rmtree (codes "j" ∷ codes "tmp" ∷ [])) ∷ []) ≡ record {
-      is_started = true;
-      lines_apart = [];
-      paths_apart = [];
-      printed_with = tmp_printed ++ codes "10 ok 0.1.1\n11 ok 0.1.1.1\n12 ok\n13 ok file alice scratch\n14 ok k/\n15 EACCES\n16 EACCES\n17 ok\n18 = \n19 EACCES\n20 EACCES\n21 ok running\n22 EACCES\n23 EACCES\n24 ok\n25 ok\n";
-      printed_without = tmp_printed ++ codes "10 ok 0.1.1\n14 ok\n15 ENOENT\n20 ESRCH\n24 ok\n25 ok\n";
-      tree_with = codes "/ dir root readable\n/tmp dir - open\n";
-      tree_without = codes "/ dir root readable\n/tmp dir - open\n";
-    }
+    line_of 25 (1 ∷ []) (Rmtree (codes "j" ∷ codes "tmp" ∷ [])) ∷ []
+
+-- an outer job that starts an inner one, with all that both do: without them the inner one was never there, and who started the outer
+-- one alone is told so
+pub unnoticed_job_with_a_job_in_it : two_runs three_users (1 ∷ 1 ∷ []) calls_of_a_job_with_a_job_in_it ≡ record {
+  is_started = true;
+  lines_apart = [];
+  paths_apart = [];
+  printed_with = tmp_printed ++ codes "10 ok 0.1.1\n11 ok 0.1.1.1\n12 ok\n13 ok file alice scratch\n14 ok k/\n15 EACCES\n16 EACCES\n17 ok\n18 = \n19 EACCES\n20 EACCES\n21 ok running\n22 EACCES\n23 EACCES\n24 ok\n25 ok\n";
+  printed_without = tmp_printed ++ codes "10 ok 0.1.1\n14 ok\n15 ENOENT\n20 ESRCH\n24 ok\n25 ok\n";
+  tree_with = codes "/ dir root readable\n/tmp dir - open\n";
+  tree_without = codes "/ dir root readable\n/tmp dir - open\n";
+}
 unfolding digits
 unnoticed_job_with_a_job_in_it = refl
 
--- a member's job reads a file of the group and tries to append to it: neither another member nor who is none notices
-pub unnoticed_job_of_a_member : two_runs with_a_team (1 ∷ 2 ∷ []) (logins ++
+-- a member's job, at a file of the group
+abbrev pub calls_of_a_members_job : List CallLine
+calls_of_a_members_job = logins ++
     line_of 14 (1 ∷ []) (Create (codes "g" ∷ codes "tmp" ∷ []) (modes.Group (codes "team"))) ∷
     line_of 15 (2 ∷ []) (Write (codes "g" ∷ codes "tmp" ∷ []) (codes "hi")) ∷
     line_of 16 (2 ∷ []) (Wrap (codes "j" ∷ codes "tmp" ∷ [])) ∷
@@ -260,14 +289,17 @@ pub unnoticed_job_of_a_member : two_runs with_a_team (1 ∷ 2 ∷ []) (logins ++
     line_of 19 (1 ∷ 2 ∷ []) (Create (codes "o" ∷ codes "j" ∷ codes "tmp" ∷ []) (modes.Group (codes "team"))) ∷
     line_of 20 (2 ∷ []) (ListCall (codes "j" ∷ codes "tmp" ∷ [])) ∷
     line_of 21 (1 ∷ []) (Read (codes "g" ∷ codes "tmp" ∷ [])) ∷
-    line_of 22 (3 ∷ []) (ListCall (codes "tmp" ∷ [])) ∷ []) ≡ record {
-      is_started = true;
-      lines_apart = [];
-      paths_apart = [];
-      printed_with = logins_printed ++ codes "14 ok\n15 ok\n16 ok 0.2.1\n17 = hi\n18 EACCES\n19 ok\n20 ok o\n21 = hi\n22 ok g j/\n";
-      printed_without = logins_printed ++ codes "14 ok\n15 ok\n16 ok 0.2.1\n20 ok\n21 = hi\n22 ok g j/\n";
-      tree_with = codes "/ dir root readable\n/tmp dir - open\n/tmp/g file - group:team = hi\n/tmp/j dir bob scratch\n/tmp/j/o file bob scratch = \n";
-      tree_without = codes "/ dir root readable\n/tmp dir - open\n/tmp/g file - group:team = hi\n/tmp/j dir bob scratch\n";
-    }
+    line_of 22 (3 ∷ []) (ListCall (codes "tmp" ∷ [])) ∷ []
+
+-- a member's job reads a file of the group and tries to append to it: neither another member nor who is none notices
+pub unnoticed_job_of_a_member : two_runs with_a_team (1 ∷ 2 ∷ []) calls_of_a_members_job ≡ record {
+  is_started = true;
+  lines_apart = [];
+  paths_apart = [];
+  printed_with = logins_printed ++ codes "14 ok\n15 ok\n16 ok 0.2.1\n17 = hi\n18 EACCES\n19 ok\n20 ok o\n21 = hi\n22 ok g j/\n";
+  printed_without = logins_printed ++ codes "14 ok\n15 ok\n16 ok 0.2.1\n20 ok\n21 = hi\n22 ok g j/\n";
+  tree_with = codes "/ dir root readable\n/tmp dir - open\n/tmp/g file - group:team = hi\n/tmp/j dir bob scratch\n/tmp/j/o file bob scratch = \n";
+  tree_without = codes "/ dir root readable\n/tmp dir - open\n/tmp/g file - group:team = hi\n/tmp/j dir bob scratch\n";
+}
 unfolding digits
 unnoticed_job_of_a_member = refl

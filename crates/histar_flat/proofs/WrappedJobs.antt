@@ -33,7 +33,7 @@ use Rattle.histar_flat.proofs.Under.{or_true, under_itself}
 -- ---- lists of jobs
 
 -- what is put last is in the list
-has_last : (jobs : List ProcName) (job : ProcName) → has (jobs ++ job ∷ []) job ≡ true
+pub has_last : (jobs : List ProcName) (job : ProcName) → has (jobs ++ job ∷ []) job ≡ true
 has_last [] job = ap (λ b. b || false) (same_itself job)
 has_last (k ∷ jobs) job = ap (λ b. same job k || b) (has_last jobs job) ∙ or_true (same job k)
 
@@ -49,7 +49,7 @@ has_longer (k ∷ jobs) job last h = by (same job k) refl (has_longer jobs job l
 -- ---- the processes of a job
 
 -- a name of which a longer one was given was given
-given_above : (processes : ProcName → Option Process) (above q : ProcName) → under_process above q ≡ true → is_given processes q ≡ true → is_given processes above ≡ true
+pub given_above : (processes : ProcName → Option Process) (above q : ProcName) → under_process above q ≡ true → is_given processes q ≡ true → is_given processes above ≡ true
 given_above processes above [] under given = elim (same_name_found above []) [
   | inl e ↦ subst (λ x. is_given processes x ≡ true) (sym e.1) given
   | inr e ↦ absurd (true≢false (sym under ∙ e.0))

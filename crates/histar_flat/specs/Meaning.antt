@@ -1,9 +1,10 @@
 -- The meaning of a script: its calls, one after another, on the flat state, and the replies to them.
-use Rattle.std.specs.Prelude.{List, [], ◌∷◌, None}
+use Rattle.std.specs.Prelude.{List, [], ◌∷◌, None, filter, not}
 use Rattle.histar_flat.specs.declared.calls.User.{User}
 use Rattle.histar_flat.specs.declared.calls.CallLine.{CallLine}
 use Rattle.histar_flat.specs.declared.replies.Reply.{Reply}
-use Rattle.histar_flat.specs.Words.{Name}
+use Rattle.histar_flat.specs.Words.{Name, ProcName}
+use Rattle.histar_flat.specs.PathOrder.{under_process}
 use Rattle.histar_flat.specs.Sessions.{Session}
 use Rattle.histar_flat.specs.Files.{empty, insert}
 use Rattle.histar_flat.specs.Classes.{Process, nobody}
@@ -49,3 +50,7 @@ flat_end session f (c ∷ calls) = flat_end session (flat_after session f c.proc
 -- what a script of this session and these calls means: each call with its reply, from the start on
 abbrev pub meaning : Session → List CallLine → List Answered
 meaning session calls = answered_from session (boot session) calls
+
+-- the calls but those of this process and of what is below it
+abbrev pub without : ProcName → List CallLine → List CallLine
+without job calls = filter (λ c. not (under_process job c.process)) calls

@@ -1,5 +1,5 @@
 -- The same name, the same path, and the order in which paths are listed.
-use Rattle.std.specs.Prelude.{ℕ, Bool, ◌||◌, nat_eq, List, [], ◌∷◌}
+use Rattle.std.specs.Prelude.{ℕ, Bool, false, ◌||◌, nat_eq, List, [], ◌∷◌}
 use Rattle.std.specs.declared.cmp.Ordering.{Ordering}
 use Rattle.std.specs.Ordering.{nat_cmp}
 use Rattle.std.specs.Cmp.Lexicographic.{pointwise, slice_cmp}
@@ -21,6 +21,11 @@ is_under equal above (n ∷ q) = pointwise equal above (n ∷ q) || is_under equ
 -- the path is `above`, or lies below it
 abbrev pub under_path : Path → Path → Bool
 under_path = is_under same
+
+-- the path lies below `above`
+abbrev pub below_path : Path → Path → Bool
+below_path above [] = false
+below_path above (n ∷ d) = under_path above d
 
 -- the process is `above`, or below it
 abbrev pub under_process : ProcName → ProcName → Bool

@@ -12,6 +12,7 @@ mod processes;
 mod readers;
 mod replies;
 mod sessions;
+mod suffix;
 mod words;
 
 pub use calls::{CallLine, Mode, UnixCall, User};

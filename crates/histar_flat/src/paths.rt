@@ -1,9 +1,13 @@
 //! Paths.
 ghost use Rattle.std.specs.Prelude.{◌≡◌, ◌<◌, ◌≤◌, [], ◌∷◌, length, slice_get, codes};
 ghost use Rattle.std.specs.Option.{option_copied};
+ghost use Rattle.histar_flat.specs.FlatState.{moved};
+ghost use Rattle.histar_flat.specs.PathOrder.{below_path, parent, under_path};
 ghost use Rattle.histar_flat.specs.Words.{most_names};
 
 use crate::names::Name;
+use crate::suffix::is_under;
+use std::cmp::Ordering;
 use std::marker::Model;
 
 /// The most names of a path.
@@ -74,6 +78,38 @@ impl Path {
         self.names().first()
     }
 
+    /// Whether what stands here is what stands at the other path, or lies below it.
+    pub fn is_at_or_below(&self, above: &Path) -> bool
+        ensures { result ≡ under_path above.now self.now }
+    {
+        is_under(above.names(), self.names())
+    }
+
+    /// Whether what stands here lies below what stands at the other path.
+    pub fn is_below(&self, above: &Path) -> bool
+        ensures { result ≡ below_path above.now self.now }
+    {
+        match self.names() {
+            [] => false,
+            [_, directory @ ..] => is_under(above.names(), directory),
+        }
+    }
+
+    /// Where this path leads once what stands at the other one has a new name in its directory.
+    pub fn renamed(&self, old: &Path, name: Name) -> Path
+        ensures { result ≡ moved old.now (name ∷ parent old.now) self.now }
+    {
+        if old.depth() == 0 || !self.is_at_or_below(old) {
+            return *self;
+        }
+        let mut names = self.names;
+        names[self.depth() - old.depth()] = name;
+        Path {
+            names,
+            len: self.len,
+        }
+    }
+
     /// How many names the path has.
     pub fn depth(&self) -> usize
         ensures value { result ≡ length self.now }
@@ -103,6 +139,39 @@ impl Eq for Path {
     ghost use Rattle.std.proofs.lemmas.Cmp.{lists_equiv};
 
     ghost laws = { lists_equiv nat_list_eq_equiv };
+}
+
+impl PartialOrd for Path {
+    ghost use Rattle.std.specs.Prelude.{Some};
+    ghost use Rattle.histar_flat.specs.PathOrder.{path_cmp};
+    ghost use Rattle.histar_flat.specs.PathOrderLaws.{path_cmp_po};
+
+    ghost partial_cmp = { λ p q. Some (path_cmp p q) };
+
+    ghost laws = { path_cmp_po };
+
+    fn partial_cmp(&self, other: &Path) -> Option<Ordering> {
+        Some(self.cmp(other))
+    }
+}
+
+/// Paths are ordered by their names from `/` on, as a tree is listed.
+impl Ord for Path {
+    ghost use Rattle.std.proofs.Common.{refl};
+    ghost use Rattle.histar_flat.specs.PathOrder.{path_cmp};
+    ghost use Rattle.histar_flat.specs.PathOrderLaws.{path_cmp_total, path_cmp_ties};
+
+    ghost cmp = { path_cmp };
+
+    ghost total = { path_cmp_total };
+
+    ghost matches_partial_cmp = { λ p q. refl };
+
+    ghost matches_eq = { path_cmp_ties };
+
+    fn cmp(&self, other: &Path) -> Ordering {
+        self.names().iter().rev().cmp(other.names().iter().rev())
+    }
 }
 
 /// The name that stands in the places of a path that are not used.

@@ -1,7 +1,9 @@
 //! Names of processes.
 ghost use Rattle.std.specs.Prelude.{◌≡◌, ◌<◌, ◌≤◌, [], ◌∷◌, length};
+ghost use Rattle.histar_flat.specs.PathOrder.{under_process};
 ghost use Rattle.histar_flat.specs.Words.{most_numbers};
 
+use crate::suffix::is_under;
 use std::marker::Model;
 
 /// The most numbers after the leading 0 of a process's name.
@@ -65,6 +67,13 @@ impl ProcName {
         ensures most { length self.now ≤ most_numbers }
     {
         &self.numbers[..self.len as usize]
+    }
+
+    /// Whether this process is the other one, or below it: a child of it, or of such a child.
+    pub fn is_at_or_below(&self, above: &ProcName) -> bool
+        ensures { result ≡ under_process above.now self.now }
+    {
+        is_under(above.numbers(), self.numbers())
     }
 }
 

@@ -12,7 +12,7 @@ use Rattle.histar_rawtext.proofs.WordTexts.{lacks-decimal, space_is_no_digit, la
 use Rattle.histar_rawtext.proofs.LabelTexts.{lacks-label, same_label}
 
 -- the words of a call after its name
-abbrev words_of : RawCall → List (List ℕ)
+abbrev pub words_of : RawCall → List (List ℕ)
 words_of MakeCategory = []
 words_of OwnLabel = []
 words_of (SetLabel label) = label_text label ∷ []
@@ -61,7 +61,7 @@ words_spelled (Unlink container object) = two_words (decimal container) (decimal
 words_spelled (LabelOf container object) = two_words (decimal container) (decimal object)
 
 -- the words of a call have no space
-are_words : (a : RawCall) → IsWritable a → AreWords (words_of a)
+pub are_words : (a : RawCall) → IsWritable a → AreWords (words_of a)
 are_words MakeCategory p = tt
 are_words OwnLabel p = tt
 are_words (SetLabel label) p = (lacks-label label p, tt)
@@ -77,7 +77,7 @@ are_words (Unlink container object) p = (lacks-decimal 32 container space_is_no_
 are_words (LabelOf container object) p = (lacks-decimal 32 container space_is_no_digit p.0, (lacks-decimal 32 object space_is_no_digit p.1, tt))
 
 -- nor has its name
-name_is_word : (a : RawCall) → lacks 32 (call_name a) ≡ true
+pub name_is_word : (a : RawCall) → lacks 32 (call_name a) ≡ true
 name_is_word MakeCategory = refl
 name_is_word OwnLabel = refl
 name_is_word (SetLabel label) = refl
@@ -197,7 +197,7 @@ same_call (LabelOf container object) (LabelOf container' object') p q names word
 same_call (LabelOf container object) b p q names words = absurd (omega (arith, ap weight names))
 
 -- a thread's call is the number of the thread, and then words
-call_spelled : (t : ℕ) (a : RawCall) → thread_call_text t a ≡ decimal t ++ spaced (call_name a ∷ words_of a)
+pub call_spelled : (t : ℕ) (a : RawCall) → thread_call_text t a ≡ decimal t ++ spaced (call_name a ∷ words_of a)
 call_spelled t a = append_assoc (decimal t) (32 ∷ []) (call_text a) ∙ ap (λ text. decimal t ++ 32 ∷ (call_name a ++ text)) (words_spelled a)
 
 -- a thread's call is told by its text

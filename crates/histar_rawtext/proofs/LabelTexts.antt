@@ -39,7 +39,7 @@ lacks-level_colon L1 = refl
 lacks-level_colon L2 = refl
 lacks-level_colon L3 = refl
 
-lacks-level_comma : (l : Level) → lacks 44 (level_text l) ≡ true
+pub lacks-level_comma : (l : Level) → lacks 44 (level_text l) ≡ true
 lacks-level_comma Star = refl
 lacks-level_comma L0 = refl
 lacks-level_comma L1 = refl
@@ -54,7 +54,7 @@ lacks-level_space L2 = refl
 lacks-level_space L3 = refl
 
 -- what follows the exceptions of a label: its default, and the brace
-abbrev ending : Level → List ℕ
+abbrev pub ending : Level → List ℕ
 ending d = level_text d ++ 125 ∷ []
 
 -- what follows the category of a label's first exception

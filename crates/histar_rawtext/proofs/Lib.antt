@@ -2,3 +2,10 @@ pub mod Parting
 pub mod WordTexts
 pub mod LabelTexts
 pub mod CallTexts
+pub mod Numbers
+pub mod LabelsRead
+pub mod Failing
+pub mod Splits
+pub mod WordsRead
+pub mod CallsRead
+pub mod CallsRight

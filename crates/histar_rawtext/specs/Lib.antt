@@ -1,2 +1,5 @@
 pub mod RawText
 pub mod RawTextLaws
+pub mod Readable
+pub mod Reading
+pub mod Outcome

@@ -11,6 +11,8 @@ use Rattle.histar_rules.specs.declared.raw.Denied.{Denied}
 use Rattle.histar_rules.specs.declared.raw.Denied.TheVariants.{Observe, Modify, Range, Gate, NoEntry, NoThread, BadKind, TooBig}
 use Rattle.histar_rules.specs.declared.raw.RawCall.{RawCall}
 use Rattle.histar_rules.specs.declared.raw.RawCall.TheVariants.{MakeCategory, OwnLabel, SetLabel, SetClearance, MakeSegment, MakeContainer, MakeThread, MakeGate, Enter, Read, Write, Unlink, LabelOf}
+use Rattle.histar_syscall.specs.declared.answers.Answer.{Answer}
+use Rattle.histar_syscall.specs.declared.answers.Answer.TheVariants as answers
 use Rattle.histar_syscall.specs.declared.trace.TraceEntry.{TraceEntry}
 
 -- a level as it is written
@@ -125,3 +127,14 @@ trace_line entry = codes "@" ++ decimal entry.line ++ codes " " ++ thread_call_t
 -- the trace: the lines of its entries
 abbrev pub trace_text : List TraceEntry → List ℕ
 trace_text entries = flat_map trace_line entries
+
+-- what a granted raw call answers: ok, the category or the object that was made, the thread's label and clearance, what the gate
+-- gives, the bytes of the segment, or the label of the object
+abbrev pub answer_text : Answer → List ℕ
+answer_text answers.Done = codes "ok"
+answer_text (answers.Category category) = codes "cat " ++ decimal category
+answer_text (answers.OwnLabel label clearance) = label_text label ++ codes " " ++ label_text clearance
+answer_text (answers.Object object) = codes "obj " ++ decimal object
+answer_text (answers.Entry entry) = entry_text entry
+answer_text (answers.Bytes bytes) = bytes_text bytes
+answer_text (answers.Label label) = label_text label

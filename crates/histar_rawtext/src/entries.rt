@@ -1,6 +1,6 @@
 //! Writing the entries of the trace.
 ghost use Rattle.std.specs.Prelude.{◌≡◌, ◌++◌, IfOk, OnOk};
-ghost use Rattle.histar_rawtext.specs.RawText.{outcome_text, trace_line};
+ghost use Rattle.histar_rawtext.specs.RawText.{denied_text, outcome_text, trace_line};
 
 use crate::raw_calls::push_thread_call;
 use crate::words::push_number;
@@ -8,20 +8,29 @@ use histar_rules::Denied;
 use histar_syscall::TraceEntry;
 use std::alloc::{AllocError, Global};
 
+/// The name of a denial.
+pub fn denial_name(denied: Denied) -> &'static str
+    ensures { result.now ≡ denied_text denied }
+{
+    match denied {
+        Denied::Observe => "Observe",
+        Denied::Modify => "Modify",
+        Denied::Range => "Range",
+        Denied::Gate => "Gate",
+        Denied::NoEntry => "NoEntry",
+        Denied::NoThread => "NoThread",
+        Denied::BadKind => "BadKind",
+        Denied::TooBig => "TooBig",
+    }
+}
+
 /// Adds what became of a call: ok, or the name of its denial.
 fn push_outcome(line: &mut Vec<u8>, denied: Option<Denied>) -> Result<(), AllocError>
     ensures { OnOk result (line.new.items ≡ line.old.items ++ outcome_text denied) }
 {
     match denied {
         None => line.extend_from_slice(b"ok"),
-        Some(Denied::Observe) => line.extend_from_slice(b"Observe"),
-        Some(Denied::Modify) => line.extend_from_slice(b"Modify"),
-        Some(Denied::Range) => line.extend_from_slice(b"Range"),
-        Some(Denied::Gate) => line.extend_from_slice(b"Gate"),
-        Some(Denied::NoEntry) => line.extend_from_slice(b"NoEntry"),
-        Some(Denied::NoThread) => line.extend_from_slice(b"NoThread"),
-        Some(Denied::BadKind) => line.extend_from_slice(b"BadKind"),
-        Some(Denied::TooBig) => line.extend_from_slice(b"TooBig"),
+        Some(denied) => line.extend_from_slice(denial_name(denied).as_bytes()),
     }
 }
 

@@ -41,7 +41,7 @@ fn push_exceptions(line: &mut Vec<u8>, exceptions: &[(Category, Level)]) -> Resu
 }
 
 /// Adds a label: in braces its exceptions, and then its default.
-fn push_label(line: &mut Vec<u8>, label: &Label) -> Result<(), AllocError>
+pub(crate) fn push_label(line: &mut Vec<u8>, label: &Label) -> Result<(), AllocError>
     ensures { OnOk result (line.new.items ≡ line.old.items ++ label_text label.now) }
 {
     line.extend_from_slice(b"{")?;

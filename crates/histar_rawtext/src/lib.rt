@@ -1,16 +1,23 @@
-//! The texts of raw kernel calls, and of the entries of the trace.
+//! The texts of raw kernel calls, written and read, of what they answer, and of the entries of the trace.
 //!
 //! [`rawtext_laws`] says that a text tells the call that it was written of.
 #![tactic(auto)]
 
+mod answers;
 mod entries;
 mod labels;
 mod raw_calls;
 pub mod rawtext_laws;
+mod read_calls;
+mod read_labels;
+mod read_words;
+mod unread;
 mod words;
 
-pub use entries::trace_line;
+pub use answers::write_answer;
+pub use entries::{denial_name, trace_line};
 pub use raw_calls::write_call;
+pub use read_calls::read_raw;
 
 #[cfg(test)]
 mod tests;

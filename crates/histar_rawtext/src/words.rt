@@ -2,7 +2,7 @@
 ghost use Rattle.std.specs.Prelude.{◌≡◌, ◌<◌, ◌++◌, OnOk};
 ghost use Rattle.std.specs.List.{flat_map};
 ghost use Rattle.std.specs.Fmt.{decimal};
-ghost use Rattle.histar_rawtext.specs.RawText.{hex_digit, byte_text, bytes_word, entry_text, entry_word, number_word};
+ghost use Rattle.histar_rawtext.specs.RawText.{hex_digit, byte_text, bytes_text, bytes_word, entry_text, entry_word, number_word};
 
 use histar_base::Bytes;
 use histar_object::Entry;
@@ -56,16 +56,24 @@ fn push_digits(line: &mut Vec<u8>, bytes: &[u8]) -> Result<(), AllocError>
     Ok(())
 }
 
+/// Adds bytes.
+pub(crate) fn push_bytes(line: &mut Vec<u8>, bytes: &Bytes) -> Result<(), AllocError>
+    ensures { OnOk result (line.new.items ≡ line.old.items ++ bytes_text bytes.now) }
+{
+    line.extend_from_slice(b"x")?;
+    push_digits(line, bytes.as_slice())
+}
+
 /// Adds a space, and bytes.
 pub(crate) fn push_bytes_word(line: &mut Vec<u8>, bytes: &Bytes) -> Result<(), AllocError>
     ensures { OnOk result (line.new.items ≡ line.old.items ++ bytes_word bytes.now) }
 {
-    line.extend_from_slice(b" x")?;
-    push_digits(line, bytes.as_slice())
+    line.extend_from_slice(b" ")?;
+    push_bytes(line, bytes)
 }
 
 /// Adds what a gate gives.
-fn push_entry(line: &mut Vec<u8>, entry: Entry) -> Result<(), AllocError>
+pub(crate) fn push_entry(line: &mut Vec<u8>, entry: Entry) -> Result<(), AllocError>
     ensures { OnOk result (line.new.items ≡ line.old.items ++ entry_text entry) }
 {
     match entry {

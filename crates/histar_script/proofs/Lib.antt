@@ -16,3 +16,4 @@ pub mod Kept
 pub mod FirstBad
 pub mod Answered
 pub mod BadLines
+pub mod LeftOut

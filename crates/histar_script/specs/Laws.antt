@@ -1,8 +1,13 @@
 -- What reading comes to, whatever memory does: the grammar, and its first bad lines.
-use Rattle.std.specs.Prelude.{◌≡◌, ◌↔◌, ◌⊎◌, ℕ, List, Ok, Err}
+use Rattle.std.specs.Prelude.{◌≡◌, ◌↔◌, ◌⊎◌, ℕ, Bool, false, List, map, codes, Option, None, Some, Ok, Err, if◌then◌else◌}
+use Rattle.histar_flat.specs.Words.{ProcName}
+use Rattle.histar_flat.specs.PathOrder.{under_process}
+use Rattle.histar_script.specs.declared.items.Item.{Item}
+use Rattle.histar_script.specs.declared.items.Item.TheVariants as items
 use Rattle.histar_script.specs.declared.fault.Fault.TheVariants.{BadScript}
-use Rattle.histar_script.specs.Script.{Reading}
-use Rattle.histar_script.specs.Reading.{reading}
+use Rattle.histar_script.specs.Script.{Reading, without_job}
+use Rattle.histar_script.specs.Lines.{lines_of}
+use Rattle.histar_script.specs.Reading.{item_of, reading}
 use Rattle.histar_script.specs.Grammar.{IsScript, IsFirstBad}
 
 -- a text is read as a script exactly where it is this script by the grammar
@@ -20,3 +25,19 @@ ScriptOrBadLine = (text : List ℕ) → ((s : Reading) × IsScript text s) ⊎ (
 -- a text is one script at most
 abbrev pub OneReading : Type 0
 OneReading = (text : List ℕ) (a b : Reading) → IsScript text a → IsScript text b → a ≡ b
+
+-- what a line says is a call of the job: of its first process, or of one below that
+abbrev pub is_job_item : ProcName → Option Item → Bool
+is_job_item job (Some (items.Call p c)) = under_process job p
+is_job_item job (Some (items.User u)) = false
+is_job_item job (Some (items.Group g)) = false
+is_job_item job (Some items.Comment) = false
+is_job_item job None = false
+
+-- the line, or `#` where it is a call of the job
+abbrev pub line_without : ProcName → List ℕ → List ℕ
+line_without job line = if is_job_item job (item_of line) then codes "#" else line
+
+-- a script in which each line of a job is made the comment `#` is the script without the job's calls
+abbrev pub CommentsLeaveOut : Type 0
+CommentsLeaveOut = (job : ProcName) (text other : List ℕ) (s : Reading) → IsScript text s → lines_of other ≡ map (line_without job) (lines_of text) → IsScript other (without_job job s)

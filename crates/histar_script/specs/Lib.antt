@@ -4,3 +4,4 @@ pub mod Reading
 pub mod Outcome
 pub mod Grammar
 pub mod Laws
+pub mod Runs

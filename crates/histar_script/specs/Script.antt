@@ -5,7 +5,8 @@ use Rattle.histar_flat.specs.declared.calls.User.{User}
 use Rattle.histar_flat.specs.declared.calls.UnixCall.{UnixCall}
 use Rattle.histar_flat.specs.declared.calls.UnixCall.TheVariants.{Create, Mkdir}
 use Rattle.histar_flat.specs.declared.calls.CallLine.{CallLine}
-use Rattle.histar_flat.specs.Words.{Name, is_user_name}
+use Rattle.histar_flat.specs.Words.{Name, ProcName, is_user_name}
+use Rattle.histar_flat.specs.Meaning.{without}
 use Rattle.histar_flat.specs.Sessions.{Session, Group, most_users, most_groups, most_members, no_session, is_declared_mode}
 
 -- the users and the groups in their order, and the calls with the numbers of their lines
@@ -16,6 +17,10 @@ pub record Reading : Type 0 where
 -- what was read before the first line
 abbrev pub nothing_read : Reading
 nothing_read = record { session = no_session; calls = [] }
+
+-- the script without the calls of a job: of its first process, and of processes below that
+abbrev pub without_job : ProcName → Reading → Reading
+without_job job script = record { session = script.session; calls = without job script.calls }
 
 -- the users of a script: 1 to 16, each with a name that a user may have and that no other one has
 pub record IsUserList (users : List User) : Type 0 where

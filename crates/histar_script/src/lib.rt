@@ -11,7 +11,8 @@ mod script;
 mod script_laws;
 
 pub use fault::Fault;
-pub use script::{Script, read_script};
+pub use lines::{is_plain, split_line};
+pub use script::{Script, is_too_long, read_script};
 pub use script_laws::{bad_line_is_first, one_reading, reading_is_grammar, script_or_bad_line};
 
 #[cfg(test)]

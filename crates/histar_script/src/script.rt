@@ -1,7 +1,7 @@
 //! Reading a whole script.
 ghost use Rattle.std.specs.Prelude.{ℕ, IfOk, false, ◌≡◌, ◌≤◌, length, IsTrue, IsErrOf, Ok, Err};
 ghost use Rattle.histar_script.specs.Lines.{lines_of, most_script_bytes, is_too_long as too_long};
-ghost use Rattle.histar_script.specs.Script.{Reading, IsDeclared, IsNumbered, nothing_read};
+ghost use Rattle.histar_script.specs.Script.{Reading, IsDeclared, IsNumbered, nothing_read, without_job};
 ghost use Rattle.histar_script.specs.Grammar.{IsScript, IsFirstBad};
 ghost use Rattle.histar_script.specs.Reading.{reading, script_of, with_item};
 ghost use Rattle.histar_script.specs.Outcome.{Gives, GivesNext};
@@ -56,6 +56,15 @@ impl Script {
         ensures calls { result.1.items ≡ self.calls }
     {
         (self.session, self.calls)
+    }
+
+    /// The script in which each line of a job, of its first process or of one below it, is a comment.
+    pub fn without(self, job: &ProcName) -> Script
+        ensures { result ≡ without_job job.now self }
+    {
+        let Script { session, mut calls } = self;
+        calls.retain(|call| !call.process.is_at_or_below(job));
+        Script { session, calls }
     }
 
     fn new(alloc: Global) -> Script
@@ -128,8 +137,8 @@ impl Script {
     }
 }
 
-/// Whether a script is over a limit.
-fn is_too_long(text: &[u8]) -> bool
+/// Whether a script is over a limit: more than 1,048,576 bytes, or more than 16,384 lines.
+pub fn is_too_long(text: &[u8]) -> bool
     ensures { result ≡ too_long text.now }
 {
     text.len() > MOST_SCRIPT_BYTES || count_lines(text) > MOST_SCRIPT_LINES

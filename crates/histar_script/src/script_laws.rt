@@ -1,5 +1,5 @@
 //! What reading comes to, whatever memory does. Each law is the contract of a function that does nothing.
-ghost use Rattle.histar_script.specs.Laws.{ReadingIsGrammar, BadLineIsFirst, ScriptOrBadLine, OneReading};
+ghost use Rattle.histar_script.specs.Laws.{ReadingIsGrammar, BadLineIsFirst, ScriptOrBadLine, OneReading, CommentsLeaveOut};
 
 /// A text is read as a script exactly where it is that script by the grammar.
 pub fn reading_is_grammar()
@@ -19,4 +19,9 @@ pub fn script_or_bad_line()
 /// A text is one script at most.
 pub fn one_reading()
     ensures { OneReading }
+{}
+
+/// A script in which each line of a job is made a comment says what it says without the job's calls.
+pub fn comments_leave_out()
+    ensures { CommentsLeaveOut }
 {}

@@ -544,6 +544,20 @@ fn says_what_calls_on_processes_say(rt: HostRuntime) -> Result<(), Fail> {
     Ok(())
 }
 
+#[test]
+fn leaves_out_the_lines_of_a_job(rt: HostRuntime) -> Result<(), Fail> {
+    let text = b"user root rr\n0 spawn\n0.1 spawn\n0.1.1 whoami\n0.2 whoami\n0 kill 0.1".as_slice();
+    let script = read_script(rt.alloc(), text)?;
+    let job = ProcName::zero().child(1);
+    let (_, calls) = script.without(&job).into_parts();
+    let lines = [2, 5, 6];
+    assert_eq!(rt; calls.len(), lines.len());
+    for (call, line) in calls.iter().zip(lines.iter()) {
+        assert_eq!(rt; call.line, *line);
+    }
+    Ok(())
+}
+
 /// A user line, then `count` comment lines of `length` bytes, and one of `last` bytes where there is to be one.
 fn comments(
     alloc: Global,

@@ -31,7 +31,7 @@ front_after a b c text next rest whole begun = (
 )
 
 -- one more call line
-in_turn_more : (first mid last : MachineModel) (answers : List Answered) (a : Answered) → AnswersInTurn first answers mid → AnswersLine mid last a.call.line a.call.process a.call.call (Ok a.reply) → AnswersInTurn first (answers ++ a ∷ []) last
+pub in_turn_more : (first mid last : MachineModel) (answers : List Answered) (a : Answered) → AnswersInTurn first answers mid → AnswersLine mid last a.call.line a.call.process a.call.call (Ok a.reply) → AnswersInTurn first (answers ++ a ∷ []) last
 in_turn_more first mid last [] a same one = (last, subst (λ (m : MachineModel). AnswersLine m last a.call.line a.call.process a.call.call (Ok a.reply)) same one, refl)
 in_turn_more first mid last (b ∷ answers) a done one = (done.0, done.1, in_turn_more done.0 mid last answers a done.2 one)
 
@@ -40,7 +40,7 @@ text_more : (answers : List Answered) (a : Answered) → answers_text (answers +
 text_more answers a = flat_map-append answer_text answers (a ∷ []) ∙ ap (λ (l : List ℕ). answers_text answers ++ l) (append-nil (answer_text a))
 
 -- the call line of one more answer
-calls_more : (answers : List Answered) (a : Answered) → calls_of (answers ++ a ∷ []) ≡ calls_of answers ++ a.call ∷ []
+pub calls_more : (answers : List Answered) (a : Answered) → calls_of (answers ++ a ∷ []) ≡ calls_of answers ++ a.call ∷ []
 calls_more answers a = map-append (λ (x : Answered). x.call) answers (a ∷ [])
 
 -- before the first call line nothing is written

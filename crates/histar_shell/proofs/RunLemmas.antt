@@ -13,13 +13,14 @@ use Rattle.histar_devices.specs.declared.input.InputError.TheVariants as input
 use Rattle.histar_script.specs.Outcome.{Gives, input_fault}
 use Rattle.histar_script.specs.Lines.{most_script_bytes}
 use Rattle.histar_script.specs.Reading.{script_of}
+use Rattle.histar_script.specs.Runs.{IsOutputFault, StopsReading, LeavesSink, is_read_failed}
 use Rattle.histar_devices.specs.Input.{most_taken, TakesAll, TakesSome}
 use Rattle.histar_flat.specs.Sessions.{Session}
 use Rattle.histar_shell.specs.declared.session.Options.{Options}
 use Rattle.histar_shell.specs.Ending.{AppendsEnding, BeginsTheEnding}
-use Rattle.histar_shell.specs.Outcome.{IsOutputFault, IsFaultAt, AgreesWith, AnswersScript, BeginsScript, WritesAtFault, WritesAnswers, is_read_failed}
+use Rattle.histar_shell.specs.Outcome.{IsFaultAt, AgreesWith, AnswersScript, BeginsScript, WritesAtFault, WritesAnswers}
 use Rattle.histar_shell.specs.Meaning.{RunsAsMeant}
-use Rattle.histar_shell.specs.Run.{RunsText, RunsTaken, StopsReading, RunsInput, LeavesSink}
+use Rattle.histar_shell.specs.Run.{RunsText, RunsTaken, RunsInput}
 use Rattle.histar_shell.specs.Machine.{MachineModel, IsStart}
 use Rattle.histar_shell.specs.AnsweredCalls.{AnswersCalls, BeginsAnswers}
 use Rattle.histar_syscall.specs.declared.trace.TraceEntry.{TraceEntry}

@@ -43,7 +43,7 @@ use Rattle.histar_shell.proofs.Starts.{start_is_laid, start_shows}
 
 -- What the lines of a session have done, from a machine that shows a flat state on.
 pub record IsMeantSession (m : MachineModel) (f : Flat) (answers : List Answered) (end : MachineModel) : Type 0 where
-  pub text : answers_text answers ≡ answers_text (answered_from m.session f (calls_of answers))
+  pub replies : answers ≡ answered_from m.session f (calls_of answers)
   pub entries : List TraceEntry
   pub trace : end.kernel.trace ≡ m.kernel.trace ++ entries
   pub rows : AreRows m.session (state m.kernel) f (calls_of answers) entries (state end.kernel)
@@ -52,7 +52,7 @@ pub record IsMeantSession (m : MachineModel) (f : Flat) (answers : List Answered
 -- a session of no line
 session_none : (m : MachineModel) (f : Flat) (end : MachineModel) → end ≡ m → Shows m f → IsMeantSession m f [] end
 session_none m f end same shows = record {
-  text = refl;
+  replies = refl;
   entries = [];
   trace = ap (λ (x : MachineModel). x.kernel.trace) same ∙ sym (append-nil m.kernel.trace);
   rows = (refl, ap (λ (x : MachineModel). state x.kernel) same);
@@ -66,7 +66,7 @@ session_first m mid f a answers end same line later =
     let g = flat_after m.session f a.call.process a.call.call in
     let asked = calls_of answers in
     record {
-      text = (λ i. line_text a.call.line (line.told i) ++ later.text i) ∙ ap (λ (declared : Session). line_text a.call.line (reply_of line) ++ answers_text (answered_from declared g asked)) same;
+      replies = (λ i. record { call = a.call; reply = line.told i } ∷ later.replies i) ∙ ap (λ (declared : Session). record { call = a.call; reply = reply_of line } ∷ answered_from declared g asked) same;
       entries = line.entries ++ later.entries;
       trace = later.trace ∙ ap (λ (es : List TraceEntry). es ++ later.entries) line.trace ∙ append_assoc m.kernel.trace line.entries later.entries;
       rows = (line.entries, later.entries, state mid.kernel, refl, line.row, subst (λ (declared : Session). AreRows declared (state mid.kernel) g asked later.entries (state end.kernel)) same later.rows);
@@ -116,30 +116,38 @@ module _ (rows : LinesAreRows) (script : Reading) (declared : IsDeclared script.
   from_start : (answers : List Answered) (end : MachineModel) → AreScriptable (calls_of answers) → AnswersInTurn start answers end → IsMeantSession start (boot script.session) answers end
   from_start answers end these session = session_means rows start (boot script.session) answers end session (start_shows script.session declared start starts) these
 
-  -- the text of the lines that were answered
-  text_is : (answers : List Answered) (end : MachineModel) → AreScriptable (calls_of answers) → AnswersInTurn start answers end → answers_text answers ≡ answers_text (meaning script.session (calls_of answers))
-  text_is answers end these session = (from_start answers end these session).text ∙ ap (λ (us : Session). answers_text (answered_from us (boot script.session) (calls_of answers))) starts.session
+  -- the replies to the lines that were answered
+  replies_to : (answers : List Answered) (end : MachineModel) → AreScriptable (calls_of answers) → AnswersInTurn start answers end → answers ≡ meaning script.session (calls_of answers)
+  replies_to answers end these session = (from_start answers end these session).replies ∙ ap (λ (us : Session). answered_from us (boot script.session) (calls_of answers)) starts.session
 
   -- the flat state after all lines
   abbrev last : Flat
   last = last_state script
 
   -- no path of it has more names than can be named
-  shallow : AreShallow last
+  pub shallow : AreShallow last
   shallow = shallow_at_end script.session script.calls can
 
   -- which the machine shows
+  pub shows_end : (end : MachineModel) (answers : List Answered) → calls_of answers ≡ script.calls → AnswersInTurn start answers end → Shows end last
+  shows_end end answers each in_turn =
+      let these : AreScriptable (calls_of answers) = subst AreScriptable (sym each) can in
+      subst (λ (calls : List CallLine). Shows end (flat_end script.session (boot script.session) calls)) each
+      (subst (λ (us : Session). Shows end (flat_end us (boot script.session) (calls_of answers))) starts.session (from_start answers end these in_turn).shows)
+
+  -- also where the replies were written
   pub shows_last : (old replied : Option (List ℕ)) (end : MachineModel) → AnswersCalls start end old replied script.calls → Shows end last
-  shows_last old replied end answered =
-      let these : AreScriptable (calls_of answered.answers) = subst AreScriptable (sym answered.each) can in
-      subst (λ (calls : List CallLine). Shows end (flat_end script.session (boot script.session) calls)) answered.each
-      (subst (λ (us : Session). Shows end (flat_end us (boot script.session) (calls_of answered.answers))) starts.session (from_start answered.answers end these answered.in_turn).shows)
+  shows_last old replied end answered = shows_end end answered.answers answered.each answered.in_turn
 
   -- the replies to all lines
+  pub all_replies : (end : MachineModel) (answers : List Answered) → calls_of answers ≡ script.calls → AnswersInTurn start answers end → answers ≡ meaning script.session script.calls
+  all_replies end answers each in_turn =
+      let these : AreScriptable (calls_of answers) = subst AreScriptable (sym each) can in
+      replies_to answers end these in_turn ∙ ap (meaning script.session) each
+
+  -- their text
   replies_are : (old replied : Option (List ℕ)) (end : MachineModel) (answered : AnswersCalls start end old replied script.calls) → answers_text answered.answers ≡ answers_text (meaning script.session script.calls)
-  replies_are old replied end answered =
-      let these : AreScriptable (calls_of answered.answers) = subst AreScriptable (sym answered.each) can in
-      text_is answered.answers end these answered.in_turn ∙ ap (λ (calls : List CallLine). answers_text (meaning script.session calls)) answered.each
+  replies_are old replied end answered = ap answers_text (all_replies end answered.answers answered.each answered.in_turn)
 
   -- the trace of all lines
   trace_is : (old replied : Option (List ℕ)) (end : MachineModel) → AnswersCalls start end old replied script.calls → (trace : List TraceEntry) → trace ≡ end.kernel.trace → IsMeantTrace script trace
@@ -208,7 +216,7 @@ module _ (rows : LinesAreRows) (script : Reading) (declared : IsDeclared script.
     answers_begin old new begun =
         let front = calls_of begun.answers in
         let these : AreScriptable front = front_can front begun.rest (subst AreScriptable begun.parts can) in
-        let text = text_is begun.answers begun.end these begun.in_turn in
+        let text = ap answers_text (replies_to begun.answers begun.end these begun.in_turn) in
         let rest_text = answers_text (answered_from script.session (flat_end script.session (boot script.session) front) begun.rest) in
         let replies : answers_text (meaning script.session script.calls) ≡ answers_text begun.answers ++ rest_text =
         ap (λ (calls : List CallLine). answers_text (meaning script.session calls)) begun.parts

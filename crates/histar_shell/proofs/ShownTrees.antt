@@ -29,7 +29,7 @@ module _ (m : MachineModel) (f : Flat) (shows : Shows m f) (shallow : AreShallow
   shown_tree = (has_tree.tree, tree_here)
 
   -- each tree that it has is told as the flat state is
-  same_lines : (tree : List TreeNode) → IsTreeIn m tree → lines_at (state m.kernel) tree ≡ flat_lines f
+  pub same_lines : (tree : List TreeNode) → IsTreeIn m tree → lines_at (state m.kernel) tree ≡ flat_lines f
   same_lines tree is = ap (lines_at (state m.kernel)) (states_have_one_tree m.session (state m.kernel) m.places tree has_tree.tree is tree_here) ∙ has_tree.lines
 
   -- so where the tree is asked for, the text that tells it is that of the flat state

@@ -1,5 +1,5 @@
 -- What the answer of a run says of its script and of its output.
-use Rattle.std.specs.Prelude.{◌≡◌, ℕ, ◌⊎◌, Bool, true, false, List, Option, Result, Ok, Err, IsOk, MatchResult}
+use Rattle.std.specs.Prelude.{◌≡◌, ℕ, ◌⊎◌, List, Option, Result, Ok, Err, IsOk, MatchResult}
 use Rattle.std.specs.Io.KnownBytes.{Appends, Keeps}
 use Rattle.histar_script.specs.declared.fault.Fault.{Fault}
 use Rattle.histar_script.specs.declared.fault.Fault.TheVariants.{BadScript, TooLong, OutOfMemory, ReadFailed, WriteFailed}
@@ -11,32 +11,6 @@ use Rattle.histar_shell.specs.declared.session.Options.{Options}
 use Rattle.histar_shell.specs.Ending.{IsEnding}
 use Rattle.histar_shell.specs.AnsweredCalls.{AnswersCalls, BeginsAnswers}
 use Rattle.histar_syscall.specs.declared.trace.TraceEntry.{TraceEntry}
-
--- the answer is that a read failed
-abbrev pub is_read_failed : {A : Type 0} → Result A Fault → Bool
-is_read_failed (Ok x) = false
-is_read_failed (Err (BadScript n)) = false
-is_read_failed (Err TooLong) = false
-is_read_failed (Err OutOfMemory) = false
-is_read_failed (Err ReadFailed) = true
-is_read_failed (Err WriteFailed) = false
-
--- the answer is that a write failed
-abbrev pub is_write_failed : {A : Type 0} → Result A Fault → Bool
-is_write_failed (Ok x) = false
-is_write_failed (Err (BadScript n)) = false
-is_write_failed (Err TooLong) = false
-is_write_failed (Err OutOfMemory) = false
-is_write_failed (Err ReadFailed) = false
-is_write_failed (Err WriteFailed) = true
-
--- the faults that answering calls can have
-abbrev pub IsOutputFault : Fault → Type 0
-IsOutputFault (BadScript n) = ⊥
-IsOutputFault TooLong = ⊥
-IsOutputFault OutOfMemory = Unit {0}
-IsOutputFault ReadFailed = ⊥
-IsOutputFault WriteFailed = Unit {0}
 
 -- A fault in a script is answered as what it is. The others are no faults of a script, and a write fails only after a
 -- right one.

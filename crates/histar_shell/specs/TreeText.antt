@@ -8,9 +8,13 @@ use Rattle.histar_tree.specs.TreeLines.{TreeLine}
 abbrev pub content_text : TreeLine → List ℕ
 content_text line = if line.stat.is_directory then [] else codes " = " ++ line.bytes
 
--- a path, what stands there, its owner and its mode, its bytes, and a line end
+-- a path, what stands there, its owner and its mode, and its bytes
+abbrev pub node_text : TreeLine → List ℕ
+node_text line = path_text line.path ++ codes " " ++ stat_text line.stat ++ content_text line
+
+-- that, and a line end
 abbrev pub tree_line_text : TreeLine → List ℕ
-tree_line_text line = path_text line.path ++ codes " " ++ stat_text line.stat ++ content_text line ++ codes "\n"
+tree_line_text line = node_text line ++ codes "\n"
 
 -- the lines of all of them
 abbrev pub tree_text : List TreeLine → List ℕ

@@ -4,10 +4,10 @@ ghost use Rattle.std.specs.Io.KnownBytes.{Appends};
 ghost use Rattle.histar_devices.specs.Device.{CountsFailure};
 ghost use Rattle.histar_devices.specs.Writing.{AppendsFront};
 ghost use Rattle.histar_rawtext.specs.RawText.{trace_text};
+ghost use Rattle.histar_script.specs.Runs.{IsOutputFault, is_write_failed};
 ghost use Rattle.histar_syscall.specs.KernelModel.{state};
 ghost use Rattle.histar_tree.specs.TreeLines.{lines_at};
 ghost use Rattle.histar_shell.specs.Ending.{AppendsEnding, AppendsTree, BeginsTheEnding, BeginsTree, HasTree, asked_trace};
-ghost use Rattle.histar_shell.specs.Outcome.{IsOutputFault, is_write_failed};
 ghost use Rattle.histar_shell.specs.TreeText.{tree_text};
 
 use crate::machine::Machine;

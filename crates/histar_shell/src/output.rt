@@ -4,7 +4,7 @@ ghost use Rattle.std.specs.List.{flat_map};
 ghost use Rattle.std.specs.Fmt.{decimal};
 ghost use Rattle.histar_flat.specs.Texts.{entry_text, file_mode_text, owner_text, names_text, path_text, process_text, reply_text, stat_text};
 ghost use Rattle.histar_shell.specs.Answers.{line_text};
-ghost use Rattle.histar_shell.specs.TreeText.{tree_line_text};
+ghost use Rattle.histar_shell.specs.TreeText.{node_text, tree_line_text};
 
 use histar_flat::{FileMode, Name, Path, ProcName, Reply, Stat};
 use itoa::Buffer;
@@ -128,6 +128,15 @@ fn push_reply(line: &mut Vec<u8>, reply: &Reply) -> Result<(), AllocError>
     }
 }
 
+/// The text of a reply.
+pub fn reply_text(alloc: Global, reply: &Reply) -> Result<Vec<u8>, AllocError>
+    ensures { IfOk result (λ text. text.items ≡ reply_text reply.now) }
+{
+    let mut text = Vec::new(alloc);
+    push_reply(&mut text, reply)?;
+    Ok(text)
+}
+
 /// The line that answers a call line: its number, a space, the text of the reply, and a line end.
 pub fn reply_line(alloc: Global, number: u32, reply: &Reply) -> Result<Vec<u8>, AllocError>
     ensures { IfOk result (λ line. line.items ≡ line_text number reply.now) }
@@ -151,8 +160,8 @@ fn push_names(line: &mut Vec<u8>, names: &[Name]) -> Result<(), AllocError>
     Ok(())
 }
 
-/// Adds a path.
-fn push_path(line: &mut Vec<u8>, path: &Path) -> Result<(), AllocError>
+/// Adds a path, each name after a slash.
+pub fn push_path(line: &mut Vec<u8>, path: &Path) -> Result<(), AllocError>
     ensures { OnOk result (line.new.items ≡ line.old.items ++ path_text path.now) }
 {
     match path.names() {
@@ -161,8 +170,29 @@ fn push_path(line: &mut Vec<u8>, path: &Path) -> Result<(), AllocError>
     }
 }
 
-/// The line that tells a file or a directory: its path, its kind, its owner and its mode, of a file its
-/// bytes after an equals sign, and a line end.
+/// What is printed of a file or a directory: its path, its kind, its owner and its mode, and of a file
+/// its bytes after an equals sign.
+pub fn node_text(
+    alloc: Global,
+    path: &Path,
+    stat: Stat,
+    bytes: &[u8],
+) -> Result<Vec<u8>, AllocError>
+    ensures { IfOk result (λ text. text.items ≡ node_text (record { path = path.now; stat = stat; bytes = bytes.now })) }
+{
+    let is_directory = stat.is_directory;
+    let mut text = Vec::new(alloc);
+    push_path(&mut text, path)?;
+    text.extend_from_slice(b" ")?;
+    push_stat(&mut text, stat)?;
+    if !is_directory {
+        text.extend_from_slice(b" = ")?;
+        text.extend_from_slice(bytes)?;
+    }
+    Ok(text)
+}
+
+/// The line that tells a file or a directory: what is printed of it, and a line end.
 pub fn tree_line(
     alloc: Global,
     path: &Path,
@@ -171,15 +201,7 @@ pub fn tree_line(
 ) -> Result<Vec<u8>, AllocError>
     ensures { IfOk result (λ line. line.items ≡ tree_line_text (record { path = path.now; stat = stat; bytes = bytes.now })) }
 {
-    let is_directory = stat.is_directory;
-    let mut line = Vec::new(alloc);
-    push_path(&mut line, path)?;
-    line.extend_from_slice(b" ")?;
-    push_stat(&mut line, stat)?;
-    if !is_directory {
-        line.extend_from_slice(b" = ")?;
-        line.extend_from_slice(bytes)?;
-    }
+    let mut line = node_text(alloc, path, stat, bytes)?;
     line.extend_from_slice(b"\n")?;
     Ok(line)
 }

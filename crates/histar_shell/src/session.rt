@@ -1,9 +1,9 @@
 //! A run, from bytes to bytes.
 ghost use Rattle.std.specs.Prelude.{◌≡◌, false, IfErr, IfSome, OnOk, OnErr};
 ghost use Rattle.histar_devices.specs.Device.{CountsFailure};
+ghost use Rattle.histar_script.specs.Runs.{IsOutputFault, LeavesSink, is_read_failed, is_write_failed};
 ghost use Rattle.histar_shell.specs.AnsweredCalls.{AnswersCall, AnswersCalls, BeginsAnswer, BeginsAnswers};
-ghost use Rattle.histar_shell.specs.Outcome.{IsOutputFault, is_read_failed, is_write_failed};
-ghost use Rattle.histar_shell.specs.Run.{LeavesSink, RunsInput, RunsText};
+ghost use Rattle.histar_shell.specs.Run.{RunsInput, RunsText};
 
 use crate::ending::write_ending;
 use crate::machine::{Machine, Trace};

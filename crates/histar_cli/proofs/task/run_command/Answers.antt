@@ -4,14 +4,14 @@ use Rattle.std.proofs.lemmas.Result.{IfOk-weaker}
 use Rattle.clap.specs.declared.builder.command.Command.TheViews.{out-Command}
 use Rattle.clap.specs.Simple.{app_of_fields}
 use Rattle.clap.specs.Words.{app_of, new_app, rule_of, with_rule}
-use Rattle.histar_cli.specs.CommandLine.{file_rule, flag_rule}
+use Rattle.histar_cli.specs.CommandLine.{flag_rule, word_rule}
 use Rattle.histar_cli.proofs.task.run_command.Goals as goal
 
 pub returns-clause-app : goal.returns-clause-app
 returns-clause-app c =
     let tree_is : rule_of c.help-tree.result ≡ flag_rule (codes "tree") = search rules in
     let trace_is : rule_of c.help-trace.result ≡ flag_rule (codes "trace") = search rules in
-    let file_is : rule_of c.help-file.result ≡ file_rule = search rules in
+    let file_is : rule_of c.help-file.result ≡ word_rule (codes "FILE") = search rules in
     let run_is : app_of c.about-run.result ≡ new_app (codes "run") = ap app_of_fields c.about-run.ensures ∙ c.new-4.ensures.app in
     IfOk-weaker c.arg-3.result _ _
     (λ r adds.

@@ -1,0 +1,3 @@
+pub mod Kept
+pub mod Observed
+pub mod Verdicts

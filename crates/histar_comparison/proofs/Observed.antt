@@ -1,0 +1,48 @@
+-- What a run shows is what its script means.
+use Rattle.std.proofs.Common.{◌≡◌, ℕ, Bool, true, List, [], ◌∷◌, ◌++◌, map, Option, None, refl, sym, ap, ◌∙◌, subst}
+use Rattle.std.specs.List.{AllByRecursion}
+use Rattle.histar_flat.specs.declared.calls.CallLine.{CallLine}
+use Rattle.histar_flat.specs.Words.{Path, ProcName}
+use Rattle.histar_flat.specs.Sessions.{Session}
+use Rattle.histar_flat.specs.FlatState.{Flat, Node}
+use Rattle.histar_flat.specs.Meaning.{Answered, boot, flat_end, meaning}
+use Rattle.histar_script.specs.Script.{Reading}
+use Rattle.histar_syscall.specs.KernelModel.{state}
+use Rattle.histar_tree.specs.declared.tree.TreeNode.{TreeNode}
+use Rattle.histar_tree.specs.TreeLines.{TreeLine, flat_line, flat_lines, line_at, lines_at}
+use Rattle.histar_isolation.specs.Comparison.{node_text}
+use Rattle.histar_isolation.specs.Trees.{PathText, tree_lines}
+use Rattle.histar_shell.specs.Machine.{MachineModel, IsStart}
+use Rattle.histar_shell.specs.Ending.{HasTree}
+use Rattle.histar_shell.specs.Meaning.{Shows, last_state}
+use Rattle.histar_shell.proofs.CallRows.{LinesAreRows, lines_are_rows}
+use Rattle.histar_shell.proofs.SessionMeanings.{all_replies, shallow, shows_end}
+use Rattle.histar_shell.proofs.ShownTrees.{shown_tree, same_lines}
+use Rattle.histar_comparison.specs.Replies.{RepliesModel, no_replies, with_replies}
+use Rattle.histar_comparison.specs.Observation.{CanRun, KeepsReplies, ObservationModel, observation, line_text, ShowsTree}
+
+-- each line of two
+map_twice : {A B C : Type 0} (f : B → C) (g : A → B) (xs : List A) → map (λ x. f (g x)) xs ≡ map f (map g xs)
+map_twice f g [] = refl
+map_twice f g (x ∷ xs) = ap (λ l. f (g x) ∷ l) (map_twice f g xs)
+
+-- the lines of a flat state
+lines_of_flat : (entries : List (Path × Node)) → map line_text (map flat_line entries) ≡ map (λ e. (e.0, node_text e.0 e.1)) entries
+lines_of_flat entries = sym (map_twice line_text flat_line entries)
+
+module _ (job : ProcName) (script : Reading) (can : CanRun script) (start end : MachineModel) (starts : IsStart script.session start) (old new : RepliesModel) (kept : KeepsReplies job start end old new script.calls) where
+  -- the flat state at the end is shown
+  shows : Shows end (last_state script)
+  shows = shows_end lines_are_rows script can.declared can.calls start starts end kept.answers kept.each kept.in_turn
+
+  -- so there is a tree
+  pub has_tree : HasTree end
+  has_tree = shown_tree end (last_state script) shows (shallow lines_are_rows script can.declared can.calls start starts)
+
+  -- the replies are those that the script means
+  pub replies_are : old ≡ no_replies → new ≡ with_replies job no_replies (meaning script.session script.calls)
+  replies_are empty = kept.kept ∙ (λ i. with_replies job (empty i) (all_replies lines_are_rows script can.declared can.calls start starts end kept.answers kept.each kept.in_turn i))
+
+  -- and the lines are those of the tree
+  pub tree_is : (lines : List PathText) → ShowsTree end lines → lines ≡ tree_lines (last_state script)
+  tree_is lines told = told.2 ∙ map_twice line_text (line_at (state end.kernel)) told.0 ∙ ap (map line_text) (same_lines end (last_state script) shows (shallow lines_are_rows script can.declared can.calls start starts) told.0 told.1) ∙ lines_of_flat (last_state script).files.entries

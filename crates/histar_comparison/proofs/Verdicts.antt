@@ -1,0 +1,130 @@
+-- What is found in what two runs show is their verdict.
+use Rattle.std.proofs.Common.{◌≡◌, ℕ, Bool, true, false, List, [], ◌∷◌, ◌++◌, map, cond, Option, None, Some, Result, Ok, Err, refl, sym, ap, ◌∙◌, subst, append-nil, append_assoc}
+use Rattle.std.specs.Prelude.{◌||◌, not, filter, IfOk}
+use Rattle.std.specs.List.{AllByRecursion}
+use Rattle.histar_flat.specs.declared.calls.CallLine.{CallLine}
+use Rattle.histar_flat.specs.Words.{Path, ProcName}
+use Rattle.histar_flat.specs.PathOrder.{same, under_process}
+use Rattle.histar_rows.specs.Rows.{IsScriptable}
+use Rattle.histar_shell.specs.Meaning.{last_state}
+use Rattle.histar_shell.proofs.Users.{script_says}
+use Rattle.histar_flat.specs.Texts.{reply_text}
+use Rattle.histar_flat.specs.Meaning.{Answered, boot, flat_end, meaning}
+use Rattle.histar_script.specs.declared.fault.Fault.{Fault}
+use Rattle.histar_script.specs.declared.fault.Fault.TheVariants.{BadScript, TooLong, OutOfMemory, ReadFailed, WriteFailed}
+use Rattle.histar_script.specs.Script.{Reading, without_job}
+use Rattle.histar_script.specs.Reading.{script_of}
+use Rattle.histar_script.specs.Outcome.{Gives}
+use Rattle.histar_isolation.specs.declared.verdict.Verdict.{Verdict}
+use Rattle.histar_isolation.specs.declared.verdict.Verdict.TheVariants.{NoJob, Same}
+use Rattle.histar_isolation.specs.Comparison.{first_line, is_outsider, is_wrap_reply, line_verdict, outsiders, starts, tree_verdict, verdict}
+use Rattle.histar_isolation.specs.Following.{directory_of}
+use Rattle.histar_isolation.specs.Isolation.{IsolatesJobs}
+use Rattle.histar_isolation.specs.Trees.{FindsFirstPath, first_difference, is_below_either, tree_lines}
+use Rattle.histar_isolation.specs.Replies.{first_shown, shown}
+use Rattle.histar_isolation.proofs.ShownReplies.{finds_first_line}
+use Rattle.histar_comparison.specs.Replies.{RepliesModel, no_replies, with_reply, with_replies}
+use Rattle.histar_comparison.specs.Observation.{CanRun, ObservationModel, observation}
+use Rattle.histar_comparison.specs.Compared.{difference, verdict_of, comparison, IsQuietScript}
+
+-- two of three
+or_assoc : (a b c : Bool) → ((a || b) || c) ≡ (a || (b || c))
+or_assoc true b c = refl
+or_assoc false b c = refl
+
+-- of calls of which each passes, those that are left pass
+left_pass : {A : Type 0} (P : A → Type 0) (test : A → Bool) (xs : List A) → AllByRecursion P xs → AllByRecursion P (filter test xs)
+left_pass P test [] h = tt
+left_pass P test (x ∷ xs) h = by (test x) (left_pass P test xs h.1)
+  where
+    by : (b : Bool) → AllByRecursion P (filter test xs) → AllByRecursion P (cond b (x ∷ filter test xs) (filter test xs))
+    by true rest = (h.0, rest)
+    by false rest = rest
+
+-- the choice that a test makes
+chosen : (b : Bool) (x y : Verdict) → b ≡ true → cond b x y ≡ x
+chosen b x y e = ap (λ (t : Bool). cond t x y) e
+
+-- the other one
+other : (b : Bool) (x y : Verdict) → b ≡ false → cond b x y ≡ y
+other b x y e = ap (λ (t : Bool). cond t x y) e
+
+-- what was answered well is what was meant
+ok_inner : {A : Type 0} {x y : A} → ◌≡◌ {A = Result A Fault} (Ok x) (Ok y) → x ≡ y
+ok_inner {A} {x} e = ap (λ (r : Result A Fault). elim r [ Ok z ↦ z | Err f ↦ x ]) e
+
+-- a text is one script
+pub read_again : (text : List ℕ) (a b : Reading) → script_of text ≡ Ok a → script_of text ≡ Ok b → b ≡ a
+read_again text a b is again = ok_inner (sym again ∙ is)
+
+module _ (job : ProcName) where
+  -- whether a `wrap` started the job was kept
+  started : (r : RepliesModel) (answers : List Answered) → (with_replies job r answers).is_started ≡ (r.is_started || starts job answers)
+  started r [] = sym (or_false r.is_started)
+    where
+      or_false : (b : Bool) → (b || false) ≡ b
+      or_false true = refl
+      or_false false = refl
+  started r (a ∷ answers) = started (with_reply job r a) answers ∙ or_assoc r.is_started (is_wrap_reply job a.call.call a.reply) (starts job answers)
+
+  -- the directory was followed
+  directory : (r : RepliesModel) (answers : List Answered) → (with_replies job r answers).directory ≡ directory_of job r.directory answers
+  directory r [] = refl
+  directory r (a ∷ answers) = directory (with_reply job r a) answers
+
+  -- the replies to outsiders were kept
+  kept : (r : RepliesModel) (answers : List Answered) → (with_replies job r answers).shown ≡ r.shown ++ map shown (outsiders job answers)
+  kept r [] = sym (append-nil r.shown)
+  kept r (a ∷ answers) = kept (with_reply job r a) answers ∙ by (is_outsider job a.call.process)
+    where
+      by : (b : Bool) → (cond b (r.shown ++ shown a ∷ []) r.shown) ++ map shown (outsiders job answers) ≡ r.shown ++ map shown (cond b (a ∷ outsiders job answers) (outsiders job answers))
+      by true = append_assoc r.shown (shown a ∷ []) (map shown (outsiders job answers))
+      by false = refl
+
+  -- what is left of a script can be run
+  pub rest_runs : (script : Reading) → CanRun script → CanRun (without_job job script)
+  rest_runs script can = record { declared = can.declared; calls = left_pass (λ (c : CallLine). IsScriptable c.call) (λ (c : CallLine). not (under_process job c.process)) script.calls can.calls }
+
+  -- a `wrap` started the job where that was kept
+  starts_as : (script : Reading) (b : Bool) → (observation job script).replies.is_started ≡ b → starts job (meaning script.session script.calls) ≡ b
+  starts_as script b e = sym (started no_replies (meaning script.session script.calls)) ∙ e
+
+  -- where no `wrap` started the job, that is the verdict
+  no_job : (script : Reading) → (observation job script).replies.is_started ≡ false → verdict script.session script.calls job ≡ NoJob
+  no_job script none = other (starts job (meaning script.session script.calls)) _ NoJob (starts_as script false none)
+
+  -- and else what is found is
+  found : FindsFirstPath → (script : Reading) → (observation job script).replies.is_started ≡ true → difference (observation job script) (observation job (without_job job script)) ≡ verdict script.session script.calls job
+  found finds script some =
+      let rest = without_job job script in
+      let as' = meaning script.session script.calls in
+      let bs = meaning script.session rest.calls in
+      let lines = (λ i. first_shown (kept no_replies as' i) (kept no_replies bs i)) ∙ sym (finds_first_line (outsiders job as') (outsiders job bs)) in
+      let trees = (λ i. first_difference (is_below_either (directory no_replies as' i) (directory no_replies bs i)) (tree_lines (last_state script)) (tree_lines (last_state rest)))
+      ∙ sym (finds script.session script.calls rest.calls job) in
+      (λ i. line_verdict (lines i) (tree_verdict (trees i))) ∙ sym (chosen (starts job as') _ NoJob (starts_as script true some))
+
+  module _ (text : List ℕ) (script : Reading) (is_read : script_of text ≡ Ok script) where
+    -- the script can be run
+    pub can_run : CanRun script
+    can_run = let says = script_says text script is_read in record { declared = says.0; calls = says.1 }
+
+    -- a text is compared as the script that it is
+    compared : (v : Verdict) → verdict script.session script.calls job ≡ v → comparison job text ≡ Ok v
+    compared v e = ap (verdict_of job) is_read ∙ ap (λ (x : Verdict). Ok x) e
+
+    -- where no `wrap` started the job
+    pub compared_none : (seen : ObservationModel) → seen ≡ observation job script → seen.replies.is_started ≡ false → comparison job text ≡ Ok NoJob
+    compared_none seen is none = compared NoJob (no_job script (sym (ap (λ (o : ObservationModel). o.replies.is_started) is) ∙ none))
+
+    -- where one did
+    pub compared_found : FindsFirstPath → (first second : ObservationModel) → first ≡ observation job script → second ≡ observation job (without_job job script) → first.replies.is_started ≡ true
+        → (v : Verdict) → v ≡ difference first second → comparison job text ≡ Ok v
+    compared_found finds first second is are some v found_in =
+        compared v (sym (found_in ∙ (λ i. difference (is i) (are i)) ∙ found finds script (sym (ap (λ (o : ObservationModel). o.replies.is_started) is) ∙ some)))
+
+  -- what is found in a quiet script is nothing
+  pub quiet_is_same : IsolatesJobs → (text : List ℕ) (v : Verdict) → IsQuietScript job text → comparison job text ≡ Ok v → v ≡ Same
+  quiet_is_same isolates text v quiet e =
+      let same : Ok v ≡ Ok (verdict quiet.script.session quiet.script.calls job) = sym e ∙ ap (verdict_of job) quiet.is_read in
+      ok_inner same ∙ isolates quiet.script.session quiet.script.calls job quiet.starts quiet.quiet

@@ -1,0 +1,16 @@
+use Rattle.std.proofs.Common.{◌∙◌, ap}
+use Rattle.histar_shell.proofs.EachLine.{ok_so}
+use Rattle.histar_comparison.specs.Replies.{once_done}
+use Rattle.histar_comparison.proofs.Kept.{reply_kept}
+use Rattle.histar_comparison.proofs.observation.observe_call.Goals as goal
+
+pub returns : goal.returns
+returns g c =
+    let directory = c.once_done-done.ensures ∙ ap (λ d. once_done d c.args.call.call) c.directory.ensures in
+    ok_so c.show.result _ _
+    (λ shown. record {
+      reply = c.in-Ok.reply;
+      answered = c.in-Ok.ensures.answers;
+      kept = reply_kept c.args.job.now c.args.replies.now c.follow.new.self c.show.new.self (record { call = c.args.call; reply = c.in-Ok.reply }) _ _ c.wrap_path-wraps.ensures directory c.follow.ensures shown;
+    })
+    c.show.ensures

@@ -1,0 +1,5 @@
+use Rattle.histar_comparison.specs.Observation.{KeepsReplies}
+use Rattle.histar_comparison.proofs.observation.observe_calls.Given as goal
+
+abbrev pub invariant-calls : goal.invariant-calls
+invariant-calls g l = KeepsReplies l.fn.job l.fn.machine l.machine l.fn.replies l.replies l.yielded

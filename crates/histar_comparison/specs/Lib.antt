@@ -1,0 +1,4 @@
+pub mod Replies
+pub mod Observation
+pub mod Compared
+pub mod Texts

@@ -1,0 +1,55 @@
+-- What is looked at of the run of a script.
+use Rattle.std.specs.Prelude.{◌≡◌, ℕ, List, map, Ok}
+use Rattle.std.specs.List.{AllByRecursion}
+use Rattle.histar_flat.specs.declared.calls.CallLine.{CallLine}
+use Rattle.histar_flat.specs.declared.replies.Reply.{Reply}
+use Rattle.histar_flat.specs.Words.{ProcName}
+use Rattle.histar_flat.specs.Meaning.{Answered, meaning}
+use Rattle.histar_script.specs.Script.{Reading, IsDeclared}
+use Rattle.histar_syscall.specs.KernelModel.{state}
+use Rattle.histar_rows.specs.Rows.{IsScriptable}
+use Rattle.histar_tree.specs.declared.tree.TreeNode.{TreeNode}
+use Rattle.histar_tree.specs.TreeLines.{TreeLine, line_at}
+use Rattle.histar_isolation.specs.Trees.{PathText, tree_lines}
+use Rattle.histar_shell.specs.Machine.{MachineModel, AnswersLine}
+use Rattle.histar_shell.specs.AnsweredCalls.{AnswersInTurn}
+use Rattle.histar_shell.specs.Answers.{calls_of}
+use Rattle.histar_shell.specs.Meaning.{last_state}
+use Rattle.histar_shell.specs.Ending.{IsTreeIn}
+use Rattle.histar_shell.specs.TreeText.{node_text}
+use Rattle.histar_comparison.specs.Replies.{RepliesModel, no_replies, with_reply, with_replies}
+
+-- users, groups and calls that a script can have
+pub record CanRun (script : Reading) : Type 0 where
+  pub declared : IsDeclared script.session
+  pub calls : AllByRecursion (λ (c : CallLine). IsScriptable c.call) script.calls
+
+-- the machine answered this call line, and the reply was kept
+pub record KeepsReply (job : ProcName) (before after : MachineModel) (old new : RepliesModel) (call : CallLine) : Type 0 where
+  pub reply : Reply
+  pub answered : AnswersLine before after call.line call.process call.call (Ok reply)
+  pub kept : new ≡ with_reply job old (record { call = call; reply = reply })
+
+-- the machine answered these call lines, one after another, and the replies were kept
+pub record KeepsReplies (job : ProcName) (before after : MachineModel) (old new : RepliesModel) (calls : List CallLine) : Type 0 where
+  pub answers : List Answered
+  pub each : calls_of answers ≡ calls
+  pub in_turn : AnswersInTurn before answers after
+  pub kept : new ≡ with_replies job old answers
+
+-- what is kept of the replies that a script means, and the lines of the tree after all its calls
+pub record ObservationModel : Type 0 where
+  pub replies : RepliesModel
+  pub tree : List PathText
+
+-- what is looked at of the run of a script
+abbrev pub observation : ProcName → Reading → ObservationModel
+observation job script = record { replies = with_replies job no_replies (meaning script.session script.calls); tree = tree_lines (last_state script) }
+
+-- a path, and what is printed of it
+abbrev pub line_text : TreeLine → PathText
+line_text line = (line.path, node_text line)
+
+-- these are the lines of the tree that the objects of a machine's kernel list
+abbrev pub ShowsTree : MachineModel → List PathText → Type 0
+ShowsTree m lines = (tree : List TreeNode) × IsTreeIn m tree × (lines ≡ map (λ node. line_text (line_at (state m.kernel) node)) tree)

@@ -1,0 +1,65 @@
+-- What is kept of the replies to a script while it runs.
+use Rattle.std.specs.Prelude.{ℕ, Bool, true, false, ◌||◌, List, [], ◌∷◌, ◌++◌, Option, None, Some, option_map, if◌then◌else◌}
+use Rattle.histar_flat.specs.declared.calls.CallLine.{CallLine}
+use Rattle.histar_flat.specs.declared.calls.UnixCall.{UnixCall}
+use Rattle.histar_flat.specs.declared.calls.UnixCall.TheVariants.{Unlink, Rmdir, Rmtree, Rename, Wrap}
+use Rattle.histar_flat.specs.declared.replies.Reply.{Reply}
+use Rattle.histar_flat.specs.declared.replies.Reply.TheVariants.{Done, Child}
+use Rattle.histar_flat.specs.Words.{Path, ProcName}
+use Rattle.histar_flat.specs.PathOrder.{same, parent}
+use Rattle.histar_flat.specs.FlatState.{moved}
+use Rattle.histar_flat.specs.Texts.{reply_text}
+use Rattle.histar_flat.specs.Meaning.{Answered}
+use Rattle.histar_isolation.specs.Comparison.{is_outsider, is_wrap_reply}
+use Rattle.histar_isolation.specs.Following.{followed, left_without}
+use Rattle.histar_isolation.specs.declared.replies.ShownReply.{ShownReply}
+
+-- whether a `wrap` started the job, the replies to outsiders as they are printed, and where the job's directory is
+pub record RepliesModel : Type 0 where
+  pub is_started : Bool
+  pub shown : List ShownReply
+  pub directory : Option Path
+
+-- what is kept before the first line
+abbrev pub no_replies : RepliesModel
+no_replies = record { is_started = false; shown = []; directory = None }
+
+-- the reply to a line of a process, where it is an outsider
+abbrev pub shown_by : ProcName → List ShownReply → ℕ → ProcName → Reply → List ShownReply
+shown_by job shown line process reply = if is_outsider job process then shown ++ (record { line = line; text = reply_text reply }) ∷ [] else shown
+
+-- what is kept after one more reply
+abbrev pub with_reply : ProcName → RepliesModel → Answered → RepliesModel
+with_reply job replies a = record {
+  is_started = replies.is_started || is_wrap_reply job a.call.call a.reply;
+  shown = shown_by job replies.shown a.call.line a.call.process a.reply;
+  directory = followed job replies.directory a.call a.reply;
+}
+
+-- what is kept after these replies
+abbrev pub with_replies : ProcName → RepliesModel → List Answered → RepliesModel
+with_replies job replies [] = replies
+with_replies job replies (a ∷ answers) = with_replies job (with_reply job replies a) answers
+
+-- the directory that a call wraps a job in
+abbrev pub wrap_path : UnixCall → Option Path
+wrap_path (Wrap q) = Some q
+wrap_path call = None
+
+-- where the job's directory is once a call is done: what is taken away and renamed alone matters
+abbrev pub once_done : Option Path → UnixCall → Option Path
+once_done directory (Unlink q) = left_without q directory
+once_done directory (Rmdir q) = left_without q directory
+once_done directory (Rmtree q) = left_without q directory
+once_done directory (Rename q name) = option_map (moved q (name ∷ parent q)) directory
+once_done directory call = directory
+
+-- a `wrap` in this directory was answered by the job's name
+abbrev pub is_start : ProcName → Option Path → Reply → Bool
+is_start job (Some q) (Child name) = same job name
+is_start job wraps reply = false
+
+-- where the job's directory is after a reply to a call, of which it is known where it wraps a job and where the directory is once it is done
+abbrev pub directory_after : ProcName → Option Path → Option Path → Option Path → Reply → Option Path
+directory_after job directory wraps granted Done = granted
+directory_after job directory wraps granted reply = if is_start job wraps reply then wraps else directory

@@ -1,0 +1,57 @@
+//! Comparing two runs of a script.
+ghost use Rattle.std.specs.Prelude.{◌≡◌, IfOk, IsErrOf, IsTrue};
+ghost use Rattle.histar_comparison.specs.Compared.{IsQuietScript, comparison, difference};
+ghost use Rattle.histar_isolation.specs.declared.verdict.Verdict.TheVariants.{Same};
+ghost use Rattle.histar_script.specs.Lines.{is_too_long as too_long};
+ghost use Rattle.histar_script.specs.Outcome.{Gives};
+
+use crate::observation::{Observation, observe};
+use histar_flat::ProcName;
+use histar_isolation::{Verdict, first_difference, first_line};
+use histar_script::{Fault, read_script};
+use std::alloc::Global;
+
+/// Runs a script twice, each time on a machine of its own: as it is, and without the lines of a job,
+/// which is named by its first process. It compares what outsiders are answered, and then the trees
+/// after the last line, but for what lies below the job's directory. An outsider is any process that is
+/// neither in the job nor the one that started it.
+///
+/// A script that `run` refuses is refused with the same fault; the faults of devices are never
+/// answered.
+pub fn compare(alloc: Global, text: &[u8], job: &ProcName) -> Result<Verdict, Fault>
+    // What the flat rules say of the two runs, unless memory runs out.
+    ensures exact { Gives result (comparison job.now text.now) }
+    // The length of the script is looked at first, and takes no memory.
+    ensures long { IsTrue (too_long text.now) → IsErrOf result Fault.TooLong }
+    // Where who started the job calls no `rmdir` and no `wrap` later, the job changes nothing that outsiders see.
+    ensures isolated { IsQuietScript job.now text.now → IfOk result (λ found. found ≡ Same) }
+{
+    let script = read_script(alloc, text)?;
+    let first = observe(alloc, script, job)?;
+    if !first.replies.is_started() {
+        return Ok(Verdict::NoJob);
+    }
+    let rest = read_script(alloc, text)?.without(job);
+    let second = observe(alloc, rest, job)?;
+    Ok(find_difference(&first, &second))
+}
+
+/// What is found in what two runs show.
+fn find_difference(first: &Observation, second: &Observation) -> Verdict
+    ensures { result ≡ difference first.now second.now }
+{
+    let replies = &first.replies;
+    let others = &second.replies;
+    if let Some(line) = first_line(replies.shown(), others.shown()) {
+        return Verdict::Line(line);
+    }
+    match first_difference(
+        first.tree.as_slice(),
+        second.tree.as_slice(),
+        replies.directory(),
+        others.directory(),
+    ) {
+        Some(path) => Verdict::Tree(path),
+        None => Verdict::Same,
+    }
+}

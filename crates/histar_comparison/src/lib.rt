@@ -1,0 +1,13 @@
+//! Compares the run of a script with the run of the script without the lines of a job.
+#![tactic(auto)]
+
+mod comparison;
+mod observation;
+mod replies;
+#[cfg(test)]
+mod tests;
+mod texts;
+
+pub use comparison::compare;
+pub use histar_isolation::Verdict;
+pub use texts::verdict_text;

@@ -1,0 +1,102 @@
+//! Running a script, and keeping what a comparison looks at.
+ghost use Rattle.std.specs.Prelude.{◌≡◌, IfOk, OnOk};
+ghost use Rattle.histar_comparison.specs.Observation.{CanRun, KeepsReplies, KeepsReply, ShowsTree, observation};
+ghost use Rattle.histar_shell.specs.Ending.{HasTree};
+
+use crate::replies::{Replies, once_done, wrap_path};
+use histar_base::Bytes;
+use histar_flat::{CallLine, Path, ProcName};
+use histar_label::{LabelStore, PlainStore};
+use histar_script::Script;
+use histar_shell::{Machine, node_text};
+use std::alloc::{AllocError, Global};
+use std::marker::Model;
+
+/// What a comparison looks at of the run of a script.
+#[derive(Drop)]
+pub struct Observation {
+    pub replies: Replies,
+    /// Each path of the tree after the last call with what is printed of it, by rising paths.
+    pub tree: Vec<(Path, Bytes)>,
+}
+
+impl Model for Observation {
+    ghost use Rattle.histar_comparison.specs.Observation.{ObservationModel};
+
+    ghost Value = { ObservationModel };
+
+    ghost view = { λ o. record { replies = o.replies; tree = o.tree.items } };
+}
+
+/// Runs a script on a machine of its own.
+pub fn observe(alloc: Global, script: Script, job: &ProcName) -> Result<Observation, AllocError>
+    requires { CanRun script }
+    ensures { IfOk result (λ seen. seen ≡ observation job.now script) }
+{
+    let (session, calls) = script.into_parts();
+    let Ok(mut machine) = Machine::boot(alloc, PlainStore::new(alloc), session) else {
+        return Err(AllocError);
+    };
+    let mut replies = Replies::new(alloc);
+    observe_calls(alloc, &mut machine, job, calls, &mut replies)?;
+    let tree = show_tree(alloc, &machine)?;
+    Ok(Observation { replies, tree })
+}
+
+/// Has the machine do the calls in their order, and keeps the replies.
+fn observe_calls<S: LabelStore + Drop>(
+    alloc: Global,
+    machine: &mut Machine<S>,
+    job: &ProcName,
+    calls: Vec<CallLine>,
+    replies: &mut Replies,
+) -> Result<(), AllocError>
+    ensures { OnOk result (KeepsReplies job.now machine.old machine.new replies.old replies.new calls.items) }
+{
+    'calls: for call in calls {
+        observe_call(alloc, machine, job, call, replies)?;
+    }
+    Ok(())
+}
+
+/// Has the machine do one call, and keeps the reply.
+fn observe_call<S: LabelStore + Drop>(
+    alloc: Global,
+    machine: &mut Machine<S>,
+    job: &ProcName,
+    call: CallLine,
+    replies: &mut Replies,
+) -> Result<(), AllocError>
+    ensures { OnOk result (KeepsReply job.now machine.old machine.new replies.old replies.new call) }
+{
+    let CallLine {
+        line,
+        process,
+        call,
+    } = call;
+    let wraps = wrap_path(&call);
+    let done = once_done(replies.directory(), &call);
+    let Ok(reply) = machine.step(alloc, line, &process, call) else {
+        return Err(AllocError);
+    };
+    replies.follow(job, wraps, done, &reply);
+    replies.show(alloc, job, line, &process, &reply)
+}
+
+/// The lines of the tree of a machine.
+fn show_tree<S: LabelStore + Drop>(
+    alloc: Global,
+    machine: &Machine<S>,
+) -> Result<Vec<(Path, Bytes)>, AllocError>
+    requires { HasTree machine.now }
+    ensures { IfOk result (λ lines. ShowsTree machine.now lines.items) }
+{
+    let tree = machine.tree(alloc)?;
+    let mut lines = Vec::new(alloc);
+    'nodes: for node in &tree {
+        let bytes = machine.bytes_of(node.target);
+        let text = node_text(alloc, &node.path, node.stat, bytes)?;
+        lines.push((node.path, Bytes::from_vec(text)))?;
+    }
+    Ok(lines)
+}

@@ -1,0 +1,51 @@
+use Rattle.std.proofs.Common.{rules, ◌≡◌, ◌<◌, ◌-◌, ◌∷◌, [], true, false, length, slice_set, ap, sym, ◌∙◌, arith}
+use Rattle.std.proofs.lemmas.List.{nil_from_length}
+use Rattle.std.proofs.Math.Seq.{take-set-lt}
+use Rattle.histar_flat.specs.Words.{Path, most_names}
+use Rattle.histar_flat.specs.Padding.{unused_name}
+use Rattle.histar_flat.specs.PaddingLaws.{length-kept}
+use Rattle.histar_flat.specs.PathOrder.{same, parent, under_path}
+use Rattle.histar_flat.specs.FlatState.{moved}
+use Rattle.histar_flat.proofs.FileLemmas.{same_path_found}
+use Rattle.histar_flat.proofs.PaddingLemmas.{padded_set}
+use Rattle.histar_flat.proofs.Under.{under_is_longer}
+use Rattle.histar_flat.proofs.Moved.{moved_aside, moved_below, moved_root}
+use Rattle.histar_flat.proofs.paths.Path.renamed.Goals.{then-depth-eq0-via-then-depth-eq0, then-depth-eq0-via-else-depth-eq0+then-not-is_at_or_below}
+use Rattle.histar_flat.proofs.paths.Path.renamed.Goals as goal
+
+pub returns-then-depth-eq0 : goal.returns-then-depth-eq0
+returns-then-depth-eq0 c = elim c.then-depth-eq0.branch [
+  | then-depth-eq0-via-then-depth-eq0 w ↦
+      let root : c.args.old.now ≡ [] = nil_from_length c.args.old.now (search (rules, arith)) in
+      c.self.view_is ∙ sym (ap (λ (old : Path). moved old (c.args.name ∷ parent old) c.args.self.now) root ∙ moved_root (c.args.name ∷ []) c.args.self.now)
+  | then-depth-eq0-via-else-depth-eq0+then-not-is_at_or_below w ↦
+      let aside : under_path c.args.old.now c.args.self.now ≡ false = search rules in
+      c.self.view_is ∙ sym (moved_aside c.args.old.now (c.args.name ∷ parent c.args.old.now) c.args.self.now aside)
+]
+
+pub overflow_sub-name : goal.overflow_sub-name
+overflow_sub-name c =
+    let below : under_path c.args.old.now c.args.self.now ≡ true = search rules in
+    let longer = under_is_longer same same_path_found c.args.old.now c.args.self.now below in
+    omega (arith, longer, c.depth-2.ensures.value, c.depth-3.ensures.value)
+
+pub invariant_of-result-2 : goal.invariant_of-result-2
+invariant_of-result-2 c =
+    let inside = c.self.inside in
+    let below : under_path c.args.old.now c.args.self.now ≡ true = search rules in
+    let longer = under_is_longer same same_path_found c.args.old.now c.args.self.now below in
+    let depth : length c.args.self.now ≡ inside.len = ap length (sym c.self.view_is) ∙ length-kept most_names unused_name inside.names inside.len c.self.invariant in
+    let here : c.depth-2.result - c.depth-3.result < inside.len = omega (arith, longer, depth, c.depth.ensures.value, c.depth-2.ensures.value, c.depth-3.ensures.value, c.if-depth-eq0.false) in
+    padded_set most_names unused_name c.args.name inside.names inside.len (c.depth-2.result - c.depth-3.result) c.self.invariant here
+
+pub returns : goal.returns
+returns c =
+    let inside = c.self.inside in
+    let below : under_path c.args.old.now c.args.self.now ≡ true = search rules in
+    let depth : length c.args.self.now ≡ inside.len = ap length (sym c.self.view_is) ∙ length-kept most_names unused_name inside.names inside.len c.self.invariant in
+    let longer = under_is_longer same same_path_found c.args.old.now c.args.self.now below in
+    let i = c.depth-2.result - c.depth-3.result in
+    let here : i < inside.len = omega (arith, depth, c.depth.ensures.value, c.depth-2.ensures.value, c.depth-3.ensures.value, c.if-depth-eq0.false) in
+    let at : i ≡ length c.args.self.now - length c.args.old.now = omega (arith, c.depth-2.ensures.value, c.depth-3.ensures.value) in
+    let some : 0 < length c.args.old.now = omega (arith, c.depth.ensures.value, c.if-depth-eq0.false) in
+    take-set-lt inside.len inside.names i c.args.name here ∙ ap (λ (l : Path). slice_set l i c.args.name) c.self.view_is ∙ ap (λ n. slice_set c.args.self.now n c.args.name) at ∙ sym (moved_below c.args.old.now c.args.name c.args.self.now some below)

@@ -1,0 +1,5 @@
+pub mod Comparison
+pub mod Isolation
+pub mod Following
+pub mod Trees
+pub mod Replies

@@ -1,0 +1,3 @@
+pub mod Session
+pub mod Answers
+pub mod Run

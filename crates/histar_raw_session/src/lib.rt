@@ -1,0 +1,13 @@
+//! Raw sessions: comments, and lines with a raw call of a thread each, which the kernel answers or denies
+//! one by one, from its empty state on.
+#![tactic(auto)]
+
+mod lines;
+mod reading;
+mod session;
+
+pub use reading::RawLine;
+pub use session::run_raw_script;
+
+#[cfg(test)]
+mod tests;

@@ -1,0 +1,76 @@
+//! Reading a whole raw session.
+ghost use Rattle.std.specs.Prelude.{◌≡◌, ◌≤◌, false, length, IfOk, IfErr};
+ghost use Rattle.histar_script.specs.Lines.{lines_of, most_script_bytes};
+ghost use Rattle.histar_raw_session.specs.Session.{is_comment as comment, SaysCall, IsBadLine, SayCalls, IsFirstBadLine, IsSession, IsBadLineOf, IsFaultOf};
+
+use histar_object::ObjId;
+use histar_rawtext::read_raw;
+use histar_rules::RawCall;
+use histar_script::{Fault, is_plain, is_too_long, split_line};
+use std::alloc::Global;
+
+/// A raw call of a thread, on a line of a session.
+#[derive(Drop)]
+pub struct RawLine {
+    pub line: u32,
+    pub thread: ObjId,
+    pub call: RawCall,
+}
+
+/// Whether a line says nothing.
+fn is_comment(line: &[u8]) -> bool
+    ensures { result ≡ comment line.now }
+{
+    match line {
+        [] => true,
+        [first, ..] => *first == b'#' && is_plain(line),
+    }
+}
+
+/// The raw call of line `number`, which is no comment.
+fn read_call(alloc: Global, number: u32, line: &[u8]) -> Result<RawLine, Fault>
+    requires { comment line.now ≡ false }
+    ensures ok { IfOk result (SaysCall number line.now) }
+    ensures err { IfErr result (IsBadLineOf (λ n. (n ≡ number) × IsBadLine line.now)) }
+{
+    if !is_plain(line) {
+        return Err(Fault::BadScript(number));
+    }
+    let (thread, call) = read_raw(alloc, line)?.ok_or(Fault::BadScript(number))?;
+    Ok(RawLine {
+        line: number,
+        thread,
+        call,
+    })
+}
+
+/// The calls of a text that is not too long.
+fn read_lines(alloc: Global, text: &[u8]) -> Result<Vec<RawLine>, Fault>
+    requires { length text.now ≤ most_script_bytes }
+    ensures ok { IfOk result (λ calls. SayCalls 0 (lines_of text.now) calls.items) }
+    ensures err { IfErr result (IsBadLineOf (IsFirstBadLine text.now)) }
+{
+    let mut calls = Vec::new(alloc);
+    let mut rest = text;
+    let mut count = 0u32;
+    while !rest.is_empty() {
+        let (line, after) = split_line(rest);
+        count += 1;
+        if !is_comment(line) {
+            calls.push(read_call(alloc, count, line)?)?;
+        }
+        rest = after;
+    }
+    Ok(calls)
+}
+
+/// The calls of the raw session that the bytes are. The whole text is read before a call is made.
+pub(crate) fn read_session(alloc: Global, text: &[u8]) -> Result<Vec<RawLine>, Fault>
+    ensures ok { IfOk result (λ calls. IsSession text.now calls.items) }
+    ensures err { IfErr result (IsFaultOf text.now) }
+{
+    if is_too_long(text) {
+        return Err(Fault::TooLong);
+    }
+    read_lines(alloc, text)
+}

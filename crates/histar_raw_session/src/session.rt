@@ -1,0 +1,111 @@
+//! A raw session, from bytes to bytes.
+ghost use Rattle.std.specs.Prelude.{◌≡◌, false, IfErr, IfOk, IfSome, OnOk, OnErr};
+ghost use Rattle.histar_devices.specs.Device.{CountsFailure};
+ghost use Rattle.histar_script.specs.Runs.{IsOutputFault, LeavesSink, RunsInput, is_read_failed, is_write_failed};
+ghost use Rattle.histar_syscall.specs.KernelModel.{state};
+ghost use Rattle.histar_raw_session.specs.Answers.{AnswersCall, AnswersCalls, BeginsAnswer, BeginsAnswers, TellsCall};
+ghost use Rattle.histar_raw_session.specs.Run.{RunsSession};
+
+use crate::lines::{answer_line, denial_line};
+use crate::reading::{RawLine, read_session};
+use histar_devices::{Sink, Source, read_input, write_bytes};
+use histar_label::{LabelStore, OutOfMemory, PlainStore};
+use histar_script::Fault;
+use histar_syscall::{Kernel, Refusal};
+use std::alloc::Global;
+
+/// Reads a raw session, has the kernel make its calls from the empty kernel on, and writes one line for
+/// each as soon as it is made: what it answers, or why it is denied.
+///
+/// The whole session is read and checked before the first call. A session without a call is right, and
+/// writes nothing. It doesn't flush the sink.
+pub fn run_raw_script<R: Source, W: Sink>(
+    alloc: Global,
+    reader: &mut R,
+    writer: &mut W,
+) -> Result<(), Fault>
+    // After a bad session, one that is too long and a failed read the sink is as it was.
+    ensures nothing { IfErr result (LeavesSink writer.old writer.new) }
+
+    // A device has failed exactly where its fault is the answer.
+    ensures reads { CountsFailure (R.failures reader.old) (R.failures reader.new) (is_read_failed result) }
+    ensures writes { CountsFailure (W.failures writer.old) (W.failures writer.new) (is_write_failed result) }
+
+    // Whatever the source tells, the run took bytes of it, to its end but never more than 1,048,577, and ran the session that
+    // these are: their fault is answered, or exactly the lines of the outcomes that the rules give are written.
+    ensures runs { RunsInput RunsSession (R.left reader.old) (R.left reader.new) (W.written writer.old) (W.written writer.new) result }
+
+    // So where the input is known, the session of the whole input was run.
+    ensures known { IfSome (R.left reader.old) (λ input. RunsSession input (W.written writer.old) (W.written writer.new) result) }
+{
+    let input = read_input(alloc, reader)?;
+    run_text(alloc, input.as_slice(), writer)
+}
+
+/// Runs the raw session that a text is.
+fn run_text<W: Sink>(alloc: Global, text: &[u8], writer: &mut W) -> Result<(), Fault>
+    ensures nothing { IfErr result (LeavesSink writer.old writer.new) }
+    ensures reads { is_read_failed result ≡ false }
+    ensures writes { CountsFailure (W.failures writer.old) (W.failures writer.new) (is_write_failed result) }
+    ensures runs { RunsSession text.now (W.written writer.old) (W.written writer.new) result }
+{
+    let calls = read_session(alloc, text)?;
+    let mut kernel = Kernel::new(alloc, PlainStore::new(alloc))?;
+    answer_calls(alloc, &mut kernel, calls, writer)
+}
+
+/// Has the kernel make the calls in their order, and writes a line for each.
+fn answer_calls<S: LabelStore + Drop, W: Sink>(
+    alloc: Global,
+    kernel: &mut Kernel<S>,
+    calls: Vec<RawLine>,
+    writer: &mut W,
+) -> Result<(), Fault>
+    ensures ok { OnOk result (AnswersCalls (state kernel.old) (state kernel.new) (W.written writer.old) (W.written writer.new) calls.items) }
+    ensures err { OnErr result (BeginsAnswers (state kernel.old) (W.written writer.old) (W.written writer.new) calls.items) }
+    ensures faults { IfErr result IsOutputFault }
+    ensures count { CountsFailure (W.failures writer.old) (W.failures writer.new) (is_write_failed result) }
+{
+    'calls: for asked in calls {
+        answer_call(alloc, kernel, asked, writer)?;
+    }
+    Ok(())
+}
+
+/// Has the kernel make one call, and writes its line.
+fn answer_call<S: LabelStore + Drop, W: Sink>(
+    alloc: Global,
+    kernel: &mut Kernel<S>,
+    asked: RawLine,
+    writer: &mut W,
+) -> Result<(), Fault>
+    ensures ok { OnOk result (AnswersCall (state kernel.old) (state kernel.new) (W.written writer.old) (W.written writer.new) asked) }
+    ensures err { OnErr result (BeginsAnswer (state kernel.old) (state kernel.new) (W.written writer.old) (W.written writer.new) asked) }
+    ensures faults { IfErr result IsOutputFault }
+    ensures count { CountsFailure (W.failures writer.old) (W.failures writer.new) (is_write_failed result) }
+{
+    let line = make_call(alloc, kernel, asked)?;
+    write_bytes(writer, line.as_slice())?;
+    Ok(())
+}
+
+/// Has the kernel make one call, and tells in a line what became of it.
+fn make_call<S: LabelStore + Drop>(
+    alloc: Global,
+    kernel: &mut Kernel<S>,
+    asked: RawLine,
+) -> Result<Vec<u8>, OutOfMemory>
+    ensures { IfOk result (λ line. TellsCall (state kernel.old) (state kernel.new) asked line.items) }
+{
+    let RawLine {
+        line: number,
+        thread,
+        call,
+    } = asked;
+    kernel.begin(number);
+    match kernel.call(alloc, thread, call) {
+        Ok(answer) => answer_line(alloc, number, &answer),
+        Err(Refusal::Denied(denied)) => denial_line(alloc, number, denied),
+        Err(Refusal::OutOfMemory) => Err(OutOfMemory),
+    }
+}

@@ -1,0 +1,210 @@
+//! Reading raw calls.
+ghost use Rattle.std.specs.Prelude.{◌≡◌, IfOk};
+ghost use Rattle.std.specs.Option.{option_copied};
+ghost use Rattle.histar_rawtext.specs.Outcome.{Gives};
+ghost use Rattle.histar_rawtext.specs.Readable.{IsReadAs};
+ghost use Rattle.histar_rawtext.specs.Reading.{make_segment_in, make_container_in, make_thread_in, make_gate_in, enter_in, write_in, pair_in, own_label_in, pair_named, making_named, call_named, thread_call_in};
+
+use crate::raw_calls::write_call;
+use crate::read_labels::read_label;
+use crate::read_words::{next_word, read_bytes, read_entry, read_object, read_short_number};
+use crate::unread::Unread;
+use histar_label::Label;
+use histar_object::ObjId;
+use histar_rules::RawCall;
+use std::alloc::{AllocError, Global};
+
+/// A container, the label of a segment in it, and bytes.
+#[tactic(auto, unfolding(crate::specs::Reading::make_segment_in))]
+fn read_make_segment(alloc: Global, words: Option<&[u8]>) -> Result<RawCall, Unread>
+    ensures { Gives result (make_segment_in (option_copied words.entry)) }
+{
+    let (container, words) = next_word(words)?;
+    let (label, words) = next_word(words)?;
+    let (bytes, _) = next_word(words)?;
+    Ok(RawCall::MakeSegment(
+        read_object(container)?,
+        read_label(alloc, label)?,
+        read_bytes(alloc, bytes)?,
+    ))
+}
+
+/// A container, and the label of a container in it.
+#[tactic(auto, unfolding(crate::specs::Reading::make_container_in))]
+fn read_make_container(alloc: Global, words: Option<&[u8]>) -> Result<RawCall, Unread>
+    ensures { Gives result (make_container_in (option_copied words.entry)) }
+{
+    let (container, words) = next_word(words)?;
+    let (label, _) = next_word(words)?;
+    Ok(RawCall::MakeContainer(read_object(container)?, read_label(alloc, label)?))
+}
+
+/// A container, and the label and the clearance of a thread in it.
+#[tactic(auto, unfolding(crate::specs::Reading::make_thread_in))]
+fn read_make_thread(alloc: Global, words: Option<&[u8]>) -> Result<RawCall, Unread>
+    ensures { Gives result (make_thread_in (option_copied words.entry)) }
+{
+    let (container, words) = next_word(words)?;
+    let (label, words) = next_word(words)?;
+    let (clearance, _) = next_word(words)?;
+    Ok(RawCall::MakeThread(
+        read_object(container)?,
+        read_label(alloc, label)?,
+        read_label(alloc, clearance)?,
+    ))
+}
+
+/// A container, the label and the clearance of a gate in it, and what the gate gives.
+#[tactic(auto, unfolding(crate::specs::Reading::make_gate_in))]
+fn read_make_gate(alloc: Global, words: Option<&[u8]>) -> Result<RawCall, Unread>
+    ensures { Gives result (make_gate_in (option_copied words.entry)) }
+{
+    let (container, words) = next_word(words)?;
+    let (label, words) = next_word(words)?;
+    let (clearance, words) = next_word(words)?;
+    let (entry, _) = next_word(words)?;
+    Ok(RawCall::MakeGate(
+        read_object(container)?,
+        read_label(alloc, label)?,
+        read_label(alloc, clearance)?,
+        read_entry(entry)?,
+    ))
+}
+
+/// A container, a gate in it, and three labels.
+#[tactic(auto, unfolding(crate::specs::Reading::enter_in))]
+fn read_enter(alloc: Global, words: Option<&[u8]>) -> Result<RawCall, Unread>
+    ensures { Gives result (enter_in (option_copied words.entry)) }
+{
+    let (container, words) = next_word(words)?;
+    let (gate, words) = next_word(words)?;
+    let (wanted, words) = next_word(words)?;
+    let (clearance, words) = next_word(words)?;
+    let (shown, _) = next_word(words)?;
+    Ok(RawCall::Enter(
+        read_object(container)?,
+        read_object(gate)?,
+        read_label(alloc, wanted)?,
+        read_label(alloc, clearance)?,
+        read_label(alloc, shown)?,
+    ))
+}
+
+/// A container, a segment in it, how many of its bytes are kept, and bytes.
+#[tactic(auto, unfolding(crate::specs::Reading::write_in))]
+fn read_write(alloc: Global, words: Option<&[u8]>) -> Result<RawCall, Unread>
+    ensures { Gives result (write_in (option_copied words.entry)) }
+{
+    let (container, words) = next_word(words)?;
+    let (segment, words) = next_word(words)?;
+    let (keep, words) = next_word(words)?;
+    let (bytes, _) = next_word(words)?;
+    Ok(RawCall::Write(
+        read_object(container)?,
+        read_object(segment)?,
+        read_short_number(keep)?,
+        read_bytes(alloc, bytes)?,
+    ))
+}
+
+/// A container, and an object in it.
+#[tactic(auto, unfolding(crate::specs::Reading::pair_in))]
+fn read_pair(words: Option<&[u8]>) -> Result<(ObjId, ObjId), Unread>
+    ensures { Gives result (pair_in (option_copied words.entry)) }
+{
+    let (container, words) = next_word(words)?;
+    let (object, _) = next_word(words)?;
+    Ok((read_object(container)?, read_object(object)?))
+}
+
+/// The call of this name on a container and an object in it.
+fn read_pair_named(name: &[u8], words: Option<&[u8]>) -> Result<RawCall, Unread>
+    ensures { Gives result (pair_named name.now (option_copied words.entry)) }
+{
+    if name == b"read".as_slice() {
+        let (container, segment) = read_pair(words)?;
+        Ok(RawCall::Read(container, segment))
+    } else if name == b"unlink".as_slice() {
+        let (container, object) = read_pair(words)?;
+        Ok(RawCall::Unlink(container, object))
+    } else if name == b"label".as_slice() {
+        let (container, object) = read_pair(words)?;
+        Ok(RawCall::LabelOf(container, object))
+    } else {
+        Err(Unread::NoCall)
+    }
+}
+
+/// The call of this name on a container.
+fn read_making_named(alloc: Global, name: &[u8], words: Option<&[u8]>) -> Result<RawCall, Unread>
+    ensures { Gives result (making_named name.now (option_copied words.entry)) }
+{
+    if name == b"make_segment".as_slice() {
+        read_make_segment(alloc, words)
+    } else if name == b"make_container".as_slice() {
+        read_make_container(alloc, words)
+    } else if name == b"make_thread".as_slice() {
+        read_make_thread(alloc, words)
+    } else if name == b"make_gate".as_slice() {
+        read_make_gate(alloc, words)
+    } else if name == b"enter".as_slice() {
+        read_enter(alloc, words)
+    } else if name == b"write".as_slice() {
+        read_write(alloc, words)
+    } else {
+        read_pair_named(name, words)
+    }
+}
+
+/// A label.
+#[tactic(auto, unfolding(crate::specs::Reading::own_label_in))]
+fn read_own_label(alloc: Global, words: Option<&[u8]>) -> Result<Label, Unread>
+    ensures { Gives result (own_label_in (option_copied words.entry)) }
+{
+    let (label, _) = next_word(words)?;
+    read_label(alloc, label)
+}
+
+/// The call of this name.
+fn read_named(alloc: Global, name: &[u8], words: Option<&[u8]>) -> Result<RawCall, Unread>
+    ensures { Gives result (call_named name.now (option_copied words.entry)) }
+{
+    if name == b"make_category".as_slice() {
+        Ok(RawCall::MakeCategory)
+    } else if name == b"self".as_slice() {
+        Ok(RawCall::OwnLabel)
+    } else if name == b"set_label".as_slice() {
+        Ok(RawCall::SetLabel(read_own_label(alloc, words)?))
+    } else if name == b"set_clearance".as_slice() {
+        Ok(RawCall::SetClearance(read_own_label(alloc, words)?))
+    } else {
+        read_making_named(alloc, name, words)
+    }
+}
+
+/// A thread and its call. Other spellings of it are read too.
+#[tactic(auto, unfolding(crate::specs::Reading::thread_call_in))]
+fn read_thread_call(alloc: Global, line: &[u8]) -> Result<(ObjId, RawCall), Unread>
+    ensures { Gives result (thread_call_in line.now) }
+{
+    let (thread, words) = next_word(Some(line))?;
+    let (name, words) = next_word(words)?;
+    Ok((read_object(thread)?, read_named(alloc, name, words)?))
+}
+
+/// The raw call that a line is, and its thread. What is no raw call is `None`, and so is each other
+/// spelling of one: a line is read only where it is the very text that would be written.
+pub fn read_raw(alloc: Global, line: &[u8]) -> Result<Option<(ObjId, RawCall)>, AllocError>
+    ensures { IfOk result (IsReadAs line.now) }
+{
+    let (thread, call) = match read_thread_call(alloc, line) {
+        Ok(asked) => asked,
+        Err(Unread::NoCall) => return Ok(None),
+        Err(Unread::OutOfMemory) => return Err(AllocError),
+    };
+    let text = write_call(alloc, thread, &call)?;
+    if text.as_slice() != line {
+        return Ok(None);
+    }
+    Ok(Some((thread, call)))
+}

@@ -1,0 +1,101 @@
+//! Reading the words of a raw call that are numbers, bytes or what a gate gives.
+ghost use Rattle.std.specs.Option.{option_copied};
+ghost use Rattle.histar_rawtext.specs.Outcome.{Gives, GivesWord};
+ghost use Rattle.histar_rawtext.specs.Reading.{number_in, short_number_in, bytes_in, user_in, entry_named, entry_in, next_word};
+
+use crate::unread::Unread;
+use hex::FromHexError;
+use histar_base::Bytes;
+use histar_flat::split_at_first;
+use histar_object::{Entry, ObjId};
+use itoa::Buffer;
+use std::alloc::Global;
+
+/// A number, in decimal digits and without a zero before it.
+pub(crate) fn read_number(word: &[u8]) -> Result<u64, Unread>
+    ensures { Gives result (number_in word.now) }
+{
+    let Ok(text) = std::str::from_utf8(word) else {
+        return Err(Unread::NoCall);
+    };
+    let Ok(number) = text.parse::<u64>() else {
+        return Err(Unread::NoCall);
+    };
+    let mut digits = Buffer::new();
+    if digits.format(number).as_bytes() != word {
+        return Err(Unread::NoCall);
+    }
+    Ok(number)
+}
+
+/// The number of an object.
+pub(crate) fn read_object(word: &[u8]) -> Result<ObjId, Unread>
+    ensures { Gives result (number_in word.now) }
+{
+    Ok(ObjId::new(read_number(word)?))
+}
+
+/// A number of 32 bits.
+pub(crate) fn read_short_number(word: &[u8]) -> Result<u32, Unread>
+    ensures { Gives result (short_number_in word.now) }
+{
+    let number = read_number(word)?;
+    if number > u64::from(u32::MAX) {
+        return Err(Unread::NoCall);
+    }
+    Ok(number as u32)
+}
+
+/// The number of a user, from 1 on.
+fn read_user(word: &[u8]) -> Result<u8, Unread>
+    ensures { Gives result (user_in word.now) }
+{
+    let number = read_number(word)?;
+    if number < 1 || number > u64::from(u8::MAX) {
+        return Err(Unread::NoCall);
+    }
+    Ok(number as u8)
+}
+
+/// Bytes, as their digits after an x.
+pub(crate) fn read_bytes(alloc: Global, word: &[u8]) -> Result<Bytes, Unread>
+    ensures { Gives result (bytes_in word.now) }
+{
+    let [_, digits @ ..] = word else {
+        return Err(Unread::NoCall);
+    };
+    match hex::decode(alloc, digits) {
+        Ok(bytes) => Ok(Bytes::from_vec(bytes)),
+        Err(FromHexError::OutOfMemory) => Err(Unread::OutOfMemory),
+        Err(_) => Err(Unread::NoCall),
+    }
+}
+
+/// What a gate gives, by its name and its number.
+fn read_entry_named(name: &[u8], number: &[u8]) -> Result<Entry, Unread>
+    ensures { Gives result (entry_named name.now number.now) }
+{
+    if name == b"login".as_slice() {
+        Ok(Entry::Login(read_user(number)?))
+    } else if name == b"mark".as_slice() {
+        Ok(Entry::Mark(read_short_number(number)?))
+    } else {
+        Err(Unread::NoCall)
+    }
+}
+
+/// What a gate gives: a name and a number, with a colon between.
+pub(crate) fn read_entry(word: &[u8]) -> Result<Entry, Unread>
+    ensures { Gives result (entry_in word.now) }
+{
+    let (name, number) = split_at_first(word, b':');
+    read_entry_named(name, number.ok_or(Unread::NoCall)?)
+}
+
+/// The first of the words, which have a space between two, and those after it, if there are any.
+pub(crate) fn next_word(words: Option<&[u8]>) -> Result<(&[u8], Option<&[u8]>), Unread>
+    ensures { GivesWord result (next_word (option_copied words.entry)) }
+{
+    let text = words.ok_or(Unread::NoCall)?;
+    Ok(split_at_first(text, b' '))
+}
