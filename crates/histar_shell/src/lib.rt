@@ -9,4 +9,4 @@ mod session;
 pub use histar_devices::{Counted, Sink, Source};
 pub use machine::{Machine, Trace};
 pub use output::{node_text, push_path, reply_text};
-pub use session::{Options, run};
+pub use session::{Options, run, run_with};

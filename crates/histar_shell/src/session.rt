@@ -10,7 +10,7 @@ use crate::machine::{Machine, Trace};
 use crate::output::reply_line;
 use histar_devices::{Sink, Source, read_input, write_bytes};
 use histar_flat::CallLine;
-use histar_label::{LabelStore, PlainStore};
+use histar_label::{InternStore, LabelStore};
 use histar_script::{Fault, read_script};
 use std::alloc::Global;
 
@@ -23,10 +23,14 @@ pub struct Options {
     pub trace: bool,
 }
 
+/// How many answers of label comparisons a run remembers.
+const REMEMBERED_ANSWERS: usize = 256;
+
 /// Reads a script, runs it on a machine of its own, and writes one line for each call line as soon
 /// as the call is done; and then, where they are asked for, the tree and the trace.
 ///
-/// The whole script is read and checked before the first call. It doesn't flush the sink.
+/// The whole script is read and checked before the first call. It doesn't flush the sink. Equal labels are
+/// kept once, and the answers of the latest comparisons are remembered.
 pub fn run<R: Source, W: Sink>(
     alloc: Global,
     reader: &mut R,
@@ -48,13 +52,33 @@ pub fn run<R: Source, W: Sink>(
     // So where the input is known, the script of the whole input was run.
     ensures known { IfSome (R.left reader.old) (λ input. RunsText options input (W.written writer.old) (W.written writer.new) result) }
 {
+    let store = InternStore::new(alloc, REMEMBERED_ANSWERS)?;
+    run_with(alloc, store, reader, writer, options)
+}
+
+/// The same over any store of labels, which is handed over with no label in use: whatever it remembers, the
+/// replies, the tree and the trace are the same.
+pub fn run_with<S: LabelStore + Drop, R: Source, W: Sink>(
+    alloc: Global,
+    store: S,
+    reader: &mut R,
+    writer: &mut W,
+    options: Options,
+) -> Result<Trace, Fault>
+    ensures nothing { IfErr result (LeavesSink writer.old writer.new) }
+    ensures reads { CountsFailure (R.failures reader.old) (R.failures reader.new) (is_read_failed result) }
+    ensures writes { CountsFailure (W.failures writer.old) (W.failures writer.new) (is_write_failed result) }
+    ensures runs { RunsInput options (R.left reader.old) (R.left reader.new) (W.written writer.old) (W.written writer.new) result }
+    ensures known { IfSome (R.left reader.old) (λ input. RunsText options input (W.written writer.old) (W.written writer.new) result) }
+{
     let input = read_input(alloc, reader)?;
-    run_text(alloc, input.as_slice(), writer, options)
+    run_text(alloc, store, input.as_slice(), writer, options)
 }
 
 /// Runs the script that a text is.
-fn run_text<W: Sink>(
+fn run_text<S: LabelStore + Drop, W: Sink>(
     alloc: Global,
+    store: S,
     text: &[u8],
     writer: &mut W,
     options: Options,
@@ -66,7 +90,6 @@ fn run_text<W: Sink>(
 {
     let script = read_script(alloc, text)?;
     let (session, calls) = script.into_parts();
-    let store = PlainStore::new(alloc);
     let Ok(mut machine) = Machine::boot(alloc, store, session) else {
         return Err(Fault::OutOfMemory);
     };
