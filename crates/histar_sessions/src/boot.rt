@@ -2,7 +2,7 @@
 //! with users and groups.
 ghost use Rattle.std.specs.Prelude.{◌≡◌, [], length, IfOk};
 
-use crate::session::REPLIES;
+use crate::runs::REPLIES;
 use crate::texts::call_text;
 use histar_flat::{Group, Name, Session, User, read_password, read_user_name};
 use histar_label::PlainStore;

@@ -7,14 +7,6 @@ mod boot;
 #[cfg(test)]
 mod endings;
 #[cfg(test)]
-mod files;
-#[cfg(test)]
-mod groups;
-#[cfg(test)]
-mod jobs;
-#[cfg(test)]
-mod processes;
-#[cfg(test)]
 mod raw_confined;
 #[cfg(test)]
 mod raw_gates;
@@ -28,7 +20,5 @@ mod raw_segments;
 mod raw_sessions;
 #[cfg(test)]
 mod runs;
-#[cfg(test)]
-mod session;
 #[cfg(test)]
 mod texts;

@@ -1,11 +1,16 @@
 //! Runs over readers and writers that move few bytes a call, or fail.
-use crate::session::REPLIES;
 use histar_script::Fault;
-use histar_shell::{Counted, run};
+use histar_shell::{Counted, Options, run};
 use std::alloc::{AllocError, Global};
 use std::io;
 use std::io::{ErrorKind, Read, Write};
 use std::test::Fail;
+
+/// A run that prints the replies alone.
+pub const REPLIES: Options = Options {
+    tree: false,
+    trace: false,
+};
 
 /// The first session: two users, and what each may do with the other's file.
 const SCRIPT: &[u8] = b"user root rr\n\
