@@ -1,10 +1,10 @@
 -- What a run says, put together from what its parts say.
-use Rattle.std.proofs.Common.{◌≡◌, ℕ, ◌<◌, true, false, ltb, List, ◌++◌, length, Option, Some, None, Result, Ok, Err, refl, sym, ap, subst, ◌∙◌, arith, rules, tests, append-nil, inl, inr}
+use Rattle.std.proofs.Common.{◌≡◌, ℕ, ◌<◌, true, false, ltb, List, [], ◌++◌, length, Option, Some, None, Result, Ok, Err, refl, sym, ap, subst, ◌∙◌, arith, rules, tests, append-nil, inl, inr}
 use Rattle.std.specs.Prelude.{IfSome, IsOk, is_ok}
 use Rattle.std.specs.Io.KnownBytes.{Keeps}
 use Rattle.std.proofs.lemmas.Bool.{cases_lt, false≢true}
 use Rattle.std.proofs.lemmas.List.{length-append}
-use Rattle.std.proofs.KnownBytes.{Keeps-refl}
+use Rattle.std.proofs.KnownBytes.{Keeps-refl, Consumes-nil}
 use Rattle.histar_script.specs.declared.fault.Fault.{Fault}
 use Rattle.histar_script.specs.declared.fault.Fault.TheVariants.{BadScript, TooLong, OutOfMemory, ReadFailed, WriteFailed}
 use Rattle.histar_script.specs.Script.{Reading}
@@ -129,6 +129,10 @@ module _ (options : Options) where
   pub stops_reading : (e : InputError) (left rest w : Option (List ℕ)) → TakesSome left rest → RunsInput options left rest w w (Err (input_fault e))
   stops_reading input.OutOfMemory left rest w takes = inl (record { takes = takes; keeps = Keeps-refl w })
   stops_reading input.ReadFailed left rest w takes = record { takes = takes; keeps = Keeps-refl w }
+
+  -- a run that finds no memory for its store takes nothing
+  pub gives_up_first : (left w : Option (List ℕ)) → RunsInput options left left w w (Err OutOfMemory)
+  gives_up_first left w = stops_reading input.OutOfMemory left left w (record { taken = []; consumed = Consumes-nil left; within = omega arith })
 
   -- what was taken is run
   pub runs_taken : (left rest old new : Option (List ℕ)) (taken text : List ℕ) (result : Answer) → TakesAll left rest taken → text ≡ taken → RunsText options text old new result → is_read_failed result ≡ false → RunsInput options left rest old new result

@@ -1,0 +1,12 @@
+use Rattle.std.proofs.lemmas.Result.{err_from_is_err_and}
+use Rattle.histar_script.specs.declared.fault.Fault.TheVariants.{OutOfMemory}
+use Rattle.histar_shell.proofs.RunLemmas.{gives_up_first, input_known, sink_left}
+use Rattle.histar_shell.proofs.session.run.Goals as goal
+
+pub returns-in_err-store-clause-runs : goal.returns-in_err-store-clause-runs
+returns-in_err-store-clause-runs g c =
+    let p = err_from_is_err_and c.from_residual.result c.from_residual.ensures.1 in
+    rw (p.1, p.2) (gives_up_first c.args.options _ _)
+
+pub returns-in_err-store-clause-known : goal.returns-in_err-store-clause-known
+returns-in_err-store-clause-known g c = input_known c.args.options _ _ _ _ _ (returns-in_err-store-clause-runs g c)
