@@ -1,0 +1,224 @@
+-- One pass over the exceptions of three labels meets each category that one of them lists.
+use Rattle.std.proofs.Common.{◌≡◌, ◌≢◌, ℕ, suc, ◌<◌, ◌≤◌, ◌+◌, [], ◌∷◌, length, max, min, leb, is_some, eq-eqb, subst, Option, Some, None, unwrap_or, eqb, true, false, refl, sym, ap, ◌∙◌, ◌⊎◌, inl, inr, arith}
+use Rattle.std.specs.Ordering.{nat_cmp}
+use mathlib.Core.Bool.{false≢true}
+use Rattle.std.specs.FinMap.{find}
+use Rattle.std.proofs.lemmas.Bool.Decides.{nat_tests}
+use Rattle.histar_label.specs.declared.levels.Level.{Level}
+use Rattle.histar_label.specs.declared.levels.Reading.{Reading}
+use Rattle.histar_label.specs.Level.{rank, read}
+use Rattle.histar_label.specs.Levels.{Levels, level_of, default_of, exceptions_of, level_of-exceptions, beyond, level_of-beyond, Fits}
+use Rattle.histar_label.specs.Exceptions.{Exceptions, IsRising}
+use Rattle.histar_label.specs.Front.{first_category, earlier, lowest, level_at, after}
+use Rattle.histar_label.proofs.Canonical.{rising_tail}
+use Rattle.histar_label.proofs.Finds.{find_absent}
+
+-- what is there is not missing
+some_is_there : (a : ℕ) → Some a ≡ None → ⊥
+some_is_there a e = false≢true (sym (ap is_some e))
+
+-- no exception comes before a category
+abbrev pub IsUnder : ℕ → Exceptions → Type 0
+IsUnder c [] = Unit {0}
+IsUnder c (e ∷ es) = c ≤ e.0
+
+-- the level that a list gives a category
+abbrev pub looked : Level → Exceptions → ℕ → Level
+looked d es q = unwrap_or (find nat_cmp q es) d
+
+-- in a list that rises the rest has none of the first categories
+none_later : (e : ℕ × Level) (es : Exceptions) → IsRising (e ∷ es) → (c : ℕ) → c ≤ e.0 → find nat_cmp c es ≡ None
+none_later e es rising c under = find_absent es c (λ j lt same. let rises = rising 0 (suc j) (omega arith) (omega arith) in absurd (omega (arith, rises, under, same)))
+
+-- the level at the front is the one that the list gives
+pub level_at_front : (d : Level) (es : Exceptions) → IsRising es → (c : ℕ) → IsUnder c es → looked d es c ≡ level_at es c d
+level_at_front d [] rising c under = refl
+level_at_front d (e ∷ es) rising c under =
+    let later = none_later e es rising c under in
+    grind (arith, nat_tests, later)
+
+-- another category has the level that it had
+pub level_after : (d : Level) (es : Exceptions) (c q : ℕ) → c ≢ q → looked d (after es c) q ≡ looked d es q
+level_after d [] c q other = refl
+level_after d (e ∷ es) c q other = grind (arith, nat_tests, other)
+
+-- after it the category has the default
+pub level_gone : (d : Level) (es : Exceptions) → IsRising es → (c : ℕ) → IsUnder c es → looked d (after es c) c ≡ d
+level_gone d [] rising c under = refl
+level_gone d (e ∷ es) rising c under =
+    let later = none_later e es rising c under in
+    grind (arith, nat_tests, later)
+
+-- what is left rises
+pub rising_after : (es : Exceptions) (c : ℕ) → IsRising es → IsRising (after es c)
+rising_after [] c rising = rising
+rising_after (e ∷ es) c rising = elim (eqb e.0 c) as (λ b. eqb e.0 c ≡ b → IsRising (after (e ∷ es) c)) [
+  | true ↦ λ same. rw same (rising_tail e es rising)
+  | false ↦ λ other. rw other rising
+] refl
+
+-- and is no longer
+pub shorter_after : (es : Exceptions) (c : ℕ) → length (after es c) ≤ length es
+shorter_after [] c = omega arith
+shorter_after (e ∷ es) c = grind (arith, nat_tests)
+
+-- a category is not above another, if this is there
+abbrev IsUnderFirst : ℕ → Option ℕ → Type 0
+IsUnderFirst c None = Unit {0}
+IsUnderFirst c (Some d) = c ≤ d
+
+-- what is not above the lower of two is above none of them
+under_both : (x y : Option ℕ) (c : ℕ) → IsUnderFirst c (earlier x y) → IsUnderFirst c x × IsUnderFirst c y
+under_both None y c h = (tt, h)
+under_both (Some a) None c h = (h, tt)
+under_both (Some a) (Some b) c h = (omega (arith, h), omega (arith, h))
+
+-- the lower of two is one of them
+is_either : (x y : Option ℕ) (c : ℕ) → earlier x y ≡ Some c → (x ≡ Some c) ⊎ (y ≡ Some c)
+is_either None y c e = inr e
+is_either (Some a) None c e = inl e
+is_either (Some a) (Some b) c e =
+    let is : min a b ≡ c = ap (λ o. unwrap_or o 0) e in
+    elim (leb a b) as (λ t. leb a b ≡ t → (Some a ≡ Some c) ⊎ (Some b ≡ Some c)) [
+      | true ↦ λ less. inl (ap Some (grind (arith, nat_tests, less, is)))
+      | false ↦ λ more. inr (ap Some (grind (arith, nat_tests, more, is)))
+    ] refl
+
+-- where there is none of two, there is neither
+earlier_none : (x y : Option ℕ) → earlier x y ≡ None → (x ≡ None) × (y ≡ None)
+earlier_none None y e = (refl, e)
+earlier_none (Some a) None e = absurd (some_is_there a e)
+earlier_none (Some a) (Some b) e = absurd (some_is_there (min a b) e)
+
+-- no exception comes before a category that is not above the first
+under_first : (es : Exceptions) (c : ℕ) → IsUnderFirst c (first_category es) → IsUnder c es
+under_first [] c h = tt
+under_first (e ∷ es) c h = h
+
+-- a list with no first category is empty
+empty_from_none : (es : Exceptions) → first_category es ≡ None → es ≡ []
+empty_from_none [] h = refl
+empty_from_none (e ∷ es) h = absurd (some_is_there e.0 h)
+
+-- without the first exception a list is shorter
+shorter_first : (es : Exceptions) (c : ℕ) → first_category es ≡ Some c → length (after es c) < length es
+shorter_first [] c h = absurd (some_is_there c (sym h))
+shorter_first (e ∷ es) c h = let is : e.0 ≡ c = ap (λ o. unwrap_or o 0) h in grind (arith, nat_tests, is)
+
+module _ (A B C : Exceptions) where
+  -- no exception comes before the lowest category
+  pub lowest_under : (c : ℕ) → lowest A B C ≡ Some c → IsUnder c A × IsUnder c B × IsUnder c C
+  lowest_under c h =
+      let under : IsUnderFirst c (lowest A B C) = rw h (omega arith) in
+      let first = under_both (first_category A) (earlier (first_category B) (first_category C)) c under in
+      let others = under_both (first_category B) (first_category C) c first.1 in
+      (under_first A c first.0, under_first B c others.0, under_first C c others.1)
+
+  -- without it the lists are shorter together
+  pub lowest_shorter : (c : ℕ) → lowest A B C ≡ Some c → length (after A c) + (length (after B c) + length (after C c)) < length A + (length B + length C)
+  lowest_shorter c h =
+      elim (is_either (first_category A) (earlier (first_category B) (first_category C)) c h) [
+        | inl first ↦ omega (arith, shorter_first A c first, shorter_after B c, shorter_after C c)
+        | inr other ↦ elim (is_either (first_category B) (first_category C) c other) [
+          | inl second ↦ omega (arith, shorter_after A c, shorter_first B c second, shorter_after C c)
+          | inr third ↦ omega (arith, shorter_after A c, shorter_after B c, shorter_first C c third)
+        ]
+      ]
+
+  -- where there is none, all are empty
+  pub lowest_none : lowest A B C ≡ None → (A ≡ []) × (B ≡ []) × (C ≡ [])
+  lowest_none h =
+      let first = earlier_none (first_category A) (earlier (first_category B) (first_category C)) h in
+      let others = earlier_none (first_category B) (first_category C) first.1 in
+      (empty_from_none A first.0, empty_from_none B others.0, empty_from_none C others.1)
+
+-- three lists fit at a category, where else three labels have their defaults
+abbrev pub FitsAt : Reading → Levels → Levels → Levels → Exceptions → Exceptions → Exceptions → ℕ → Type 0
+FitsAt reading L F S A B C q = rank (looked (default_of L) A q) ≤ max (rank (looked (default_of F) B q)) (read reading (looked (default_of S) C q))
+
+-- the defaults of three labels fit
+abbrev pub DefaultsFit : Reading → Levels → Levels → Levels → Type 0
+DefaultsFit reading L F S = rank (default_of L) ≤ max (rank (default_of F)) (read reading (default_of S))
+
+-- the levels at the front of three lists fit
+abbrev pub FrontFits : Reading → Levels → Levels → Levels → Exceptions → Exceptions → Exceptions → ℕ → Type 0
+FrontFits reading L F S A B C c = rank (level_at A c (default_of L)) ≤ max (rank (level_at B c (default_of F))) (read reading (level_at C c (default_of S)))
+
+-- Of the exceptions of three labels these are left, which fit everywhere exactly where the labels do.
+pub record IsLeft (reading : Reading) (L F S : Levels) (A B C : Exceptions) : Type 0 where
+  pub first_rises : IsRising A
+  pub second_rises : IsRising B
+  pub third_rises : IsRising C
+  pub whole : ((q : ℕ) → FitsAt reading L F S A B C q) → (q : ℕ) → Fits L F S reading q
+  pub part : ((q : ℕ) → Fits L F S reading q) → (q : ℕ) → FitsAt reading L F S A B C q
+
+module _ (reading : Reading) (L F S : Levels) where
+  -- where the labels fit everywhere, their defaults do
+  pub defaults_fit : ((q : ℕ) → Fits L F S reading q) → DefaultsFit reading L F S
+  defaults_fit all =
+      let far = max (beyond L) (max (beyond F) (beyond S)) in
+      rw (sym (level_of-beyond L far (omega arith)), sym (level_of-beyond F far (omega arith)), sym (level_of-beyond S far (omega arith))) (all far)
+
+  -- before the pass everything is left
+  pub left_at_first : (A B C : Exceptions) → IsRising A → IsRising B → IsRising C → A ≡ exceptions_of L → B ≡ exceptions_of F → C ≡ exceptions_of S → IsLeft reading L F S A B C
+  left_at_first A B C a b c l f s = record {
+    first_rises = a;
+    second_rises = b;
+    third_rises = c;
+    whole = λ all q. rw (at_l q, at_f q, at_s q) (all q);
+    part = λ all q. rw (sym (at_l q), sym (at_f q), sym (at_s q)) (all q);
+  }
+    where
+      at_l : (q : ℕ) → level_of L q ≡ looked (default_of L) A q
+      at_l q = level_of-exceptions L q ∙ ap (λ es. looked (default_of L) es q) (sym l)
+
+      at_f : (q : ℕ) → level_of F q ≡ looked (default_of F) B q
+      at_f q = level_of-exceptions F q ∙ ap (λ es. looked (default_of F) es q) (sym f)
+
+      at_s : (q : ℕ) → level_of S q ≡ looked (default_of S) C q
+      at_s q = level_of-exceptions S q ∙ ap (λ es. looked (default_of S) es q) (sym s)
+
+  module _ (A B C : Exceptions) (left : IsLeft reading L F S A B C) where
+    -- where nothing is left, the labels fit everywhere
+    pub all_fit : lowest A B C ≡ None → DefaultsFit reading L F S → (q : ℕ) → Fits L F S reading q
+    all_fit none default_fits =
+        let empty = lowest_none A B C none in
+        left.whole (λ q. rw (empty.0, empty.1, empty.2) default_fits)
+
+    module _ (c : ℕ) (low : lowest A B C ≡ Some c) where
+      -- the levels at the front are those that the lists give the category
+      front_is : FitsAt reading L F S A B C c ≡ FrontFits reading L F S A B C c
+      front_is =
+          let under = lowest_under A B C c low in
+          rw (level_at_front (default_of L) A left.first_rises c under.0, level_at_front (default_of F) B left.second_rises c under.1, level_at_front (default_of S) C left.third_rises c under.2) refl
+
+      -- after the front the category has the defaults
+      gone_is : FitsAt reading L F S (after A c) (after B c) (after C c) c ≡ DefaultsFit reading L F S
+      gone_is =
+          let under = lowest_under A B C c low in
+          rw (level_gone (default_of L) A left.first_rises c under.0, level_gone (default_of F) B left.second_rises c under.1, level_gone (default_of S) C left.third_rises c under.2) refl
+
+      -- another category has the levels that it had
+      other_is : (q : ℕ) → c ≢ q → FitsAt reading L F S (after A c) (after B c) (after C c) q ≡ FitsAt reading L F S A B C q
+      other_is q other = rw (level_after (default_of L) A c q other, level_after (default_of F) B c q other, level_after (default_of S) C c q other) refl
+
+      -- where the labels fit everywhere, the levels at the front do
+      pub front_fits : ((q : ℕ) → Fits L F S reading q) → FrontFits reading L F S A B C c
+      front_fits all = subst (λ T. T) front_is (left.part all c)
+
+      -- where the defaults and the levels at the front fit, what is left after these is as good
+      pub left_after : DefaultsFit reading L F S → FrontFits reading L F S A B C c → IsLeft reading L F S (after A c) (after B c) (after C c)
+      left_after default_fits fits = record {
+        first_rises = rising_after A c left.first_rises;
+        second_rises = rising_after B c left.second_rises;
+        third_rises = rising_after C c left.third_rises;
+        whole = λ all. left.whole (λ q. at_each q (FitsAt reading L F S A B C) (subst (λ T. T) (sym front_is) fits) (λ other. subst (λ T. T) (other_is q other) (all q)));
+        part = λ all q. at_each q (FitsAt reading L F S (after A c) (after B c) (after C c)) (subst (λ T. T) (sym gone_is) default_fits) (λ other. subst (λ T. T) (sym (other_is q other)) (left.part all q));
+      }
+        where
+          -- what holds at the category and at each other holds at each
+          at_each : (q : ℕ) (P : ℕ → Type 0) → P c → (c ≢ q → P q) → P q
+          at_each q P here there = elim (eqb c q) as (λ b. eqb c q ≡ b → P q) [
+            | true ↦ λ same. let is : c ≡ q = grind (arith, nat_tests, same) in subst P is here
+            | false ↦ λ differ. there (λ e. false≢true (sym differ ∙ eq-eqb c q e))
+          ] refl
