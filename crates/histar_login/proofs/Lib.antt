@@ -6,6 +6,10 @@ pub mod Parts
 pub mod ProcessStage
 pub mod Stages
 pub mod StartLemmas
+pub mod TableLengths
 pub mod Tables
 pub mod LoginRuns
+pub mod AllowedCalls
+pub mod Beginnings
+pub mod MadeLabels
 pub mod TellingLogins

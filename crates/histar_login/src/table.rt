@@ -1,6 +1,6 @@
 //! The bytes of the user table: who the users are, which groups they are in, and where boot left what
 //! is theirs.
-ghost use Rattle.std.specs.Prelude.{◌≡◌, ◌+◌, ◌<◌, ◌≤◌, ◌++◌, length, IfOk, OnOk};
+ghost use Rattle.std.specs.Prelude.{◌≡◌, ◌+◌, ◌*◌, ◌<◌, ◌≤◌, ◌++◌, length, IfOk, OnOk};
 ghost use Rattle.histar_flat.specs.Sessions.{most_groups, most_users};
 ghost use Rattle.histar_login.specs.Login.{place_of};
 ghost use Rattle.histar_login.specs.Start.{numbers_among, user_entry, group_entry, group_part, user_table};
@@ -68,7 +68,8 @@ fn push_group(
     group: &Group,
 ) -> Result<(), AllocError>
     requires { number ≤ most_groups }
-    ensures { OnOk result (table.new.items ≡ table.old.items ++ group_entry session.now.users number group.now) }
+    ensures adds { OnOk result (table.new.items ≡ table.old.items ++ group_entry session.now.users number group.now) }
+    ensures few { OnOk result (length table.new.items ≤ length table.old.items + 66) }
 {
     let name = group.name();
     let owner = group_owner(session, number);
@@ -82,7 +83,8 @@ fn push_group(
 
 /// Adds the groups to the user table, which has a zero before them where a group is.
 fn push_groups(table: &mut Vec<u8>, session: &Session) -> Result<(), AllocError>
-    ensures { OnOk result (table.new.items ≡ table.old.items ++ group_part session.now.users session.now.groups) }
+    ensures adds { OnOk result (table.new.items ≡ table.old.items ++ group_part session.now.users session.now.groups) }
+    ensures few { OnOk result (length table.new.items ≤ length table.old.items + 1 + 66 * length session.now.groups) }
 {
     let groups = session.groups();
     if groups.is_empty() {
@@ -97,7 +99,10 @@ fn push_groups(table: &mut Vec<u8>, session: &Session) -> Result<(), AllocError>
 
 /// The bytes of the user table: nobody first, then the users in their order, and then the groups.
 pub(crate) fn user_table(alloc: Global, session: &Session) -> Result<Bytes, AllocError>
-    ensures { IfOk result (λ b. b ≡ user_table session.now) }
+    ensures value { IfOk result (λ b. b ≡ user_table session.now) }
+
+    // They fit into a segment.
+    ensures few { IfOk result (λ b. length b ≤ 4096) }
 {
     let mut table = Vec::new(alloc);
     push_user(&mut table, b"nobody", 0, 0, 0)?;
