@@ -5,6 +5,7 @@ pub mod LastStage
 pub mod Parts
 pub mod ProcessStage
 pub mod Stages
+pub mod Stops
 pub mod StartLemmas
 pub mod TableLengths
 pub mod Tables

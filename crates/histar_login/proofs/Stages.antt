@@ -77,8 +77,7 @@ categories_next old mid new i before more first p at b =
 -- where there is room for categories, there is room for two of them
 pub categories_room : (old mid : KernelModel) (count i : ℕ) → i < count → IsUnderWay (HasRoom (2 * count) 0) old → BootsOn old mid IsAnywhere (categories_part i) → IsUnderWay (HasRoom 2 0) mid
 categories_room old mid count i lt way before =
-    let room = way.2 in
-    (
+    let room = way.2 in (
       way.0,
       and_then way.1 (categories_part i),
       record { room_for_categories = omega (arith, lt, room.room_for_categories); room_for_objects = omega (arith, room.room_for_objects, length-append {A = Found} way.1.objects []) },
@@ -100,6 +99,18 @@ categories_begun old mid new count i lt before begins first p at b =
     let begun = begins first (and_then p (categories_part i)) tt (before first p tt b) in
     subst (HasBegun first new p.calls) (sym behind.1)
     (begun_more first new p.calls (category_calls i ++ two_categories.calls) behind.0 (begun_after first new p.calls (category_calls i) two_categories.calls begun))
+
+-- the password that was made is this one
+pub password_made : (old new : KernelModel) (i : ℕ) (password told : List ℕ) → password ≡ told → Called old new boot_thread_number (password_call i password) None → Called old new boot_thread_number (password_call i told) None
+password_made old new i password told same called = subst (λ (l : List ℕ). Called old new boot_thread_number (password_call i l) None) same called
+
+-- the gate that was made gives what these own
+pub gate_made : (old new : KernelModel) (i : ℕ) (owners told : List ℕ) → owners ≡ told → Called old new boot_thread_number (gate_call i owners) None → Called old new boot_thread_number (gate_call i told) None
+gate_made old new i owners told same called = subst (λ (l : List ℕ). Called old new boot_thread_number (gate_call i l) None) same called
+
+-- a gate that is to be made is allowed under equal texts
+pub gate_allowed_for : (k : KernelModel) (i : ℕ) (owners listed told : List ℕ) → owners ≡ listed → listed ≡ told → Allows k (gate_call i told) → Allows k (gate_call i owners)
+gate_allowed_for k i owners listed told same is allowed = subst (λ (l : List ℕ). Allows k (gate_call i l)) (sym (same ∙ is)) allowed
 
 module _ (session : Session) (i : ℕ) (user : User) (first k0 : KernelModel) (p : Part) (b0 : Boots first k0 p) where
   -- the rules allow to make the password
@@ -195,8 +206,7 @@ pub users_way : (session : Session) (old mid : KernelModel) (i : ℕ) → i < le
     → IsUnderWay (IsBeforeUser session (i + 1)) mid
 users_way session old mid i lt way before =
     let some = take i session.users in
-    let count : length some ≡ i = length-take-le i session.users (omega (arith, lt)) in
-    (
+    let count : length some ≡ i = length-take-le i session.users (omega (arith, lt)) in (
       way.0,
       and_then way.1 (users_part session some),
       (omega (arith, way.2.0, count, length-append way.1.objects (of_users session some), length-numbered session 1 some), omega (arith, way.2.1)),

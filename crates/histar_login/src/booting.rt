@@ -184,21 +184,18 @@ fn make_user_table<S: LabelStore + Drop>(
 }
 
 /// The label of what the first user alone may write, and everyone may read.
-fn first_users(alloc: Global) -> Result<Label, AllocError>
+fn first_users_label(alloc: Global) -> Result<Label, AllocError>
     ensures { IfOk result (λ label. label ≡ written_by (write_category 1)) }
 {
     label_of(alloc, Level::L1, &[(write_category(1), Level::L0)])
 }
 
 /// Makes the container of `/`.
-fn make_slash<S: LabelStore + Drop>(
-    alloc: Global,
-    kernel: &mut Kernel<S>,
-) -> Result<ObjId, Stopped>
+fn make_slash<S: LabelStore + Drop>(alloc: Global, kernel: &mut Kernel<S>) -> Result<ObjId, Stopped>
     requires { Allows kernel.old slash_call }
     ensures { MakesObject kernel.old kernel.new slash_call result }
 {
-    let label = first_users(alloc)?;
+    let label = first_users_label(alloc)?;
     granted(kernel.make_container(alloc, boot_thread(), root_container(), label))
 }
 
@@ -211,7 +208,7 @@ fn make_listing<S: LabelStore + Drop>(
     requires { Allows kernel.old (listing_call slash) }
     ensures { MakesObject kernel.old kernel.new (listing_call slash) result }
 {
-    let label = first_users(alloc)?;
+    let label = first_users_label(alloc)?;
     let empty = Bytes::new(alloc);
     granted(kernel.make_segment(alloc, boot_thread(), slash, label, empty))
 }

@@ -1,6 +1,6 @@
 //! The bytes of the user table: who the users are, which groups they are in, and where boot left what
 //! is theirs.
-ghost use Rattle.std.specs.Prelude.{◌≡◌, ◌+◌, ◌*◌, ◌<◌, ◌≤◌, ◌++◌, length, IfOk, OnOk};
+ghost use Rattle.std.specs.Prelude.{◌≡◌, ◌+◌, ◌<◌, ◌≤◌, ◌++◌, length, IfOk, OnOk};
 ghost use Rattle.histar_flat.specs.Sessions.{most_groups, most_users};
 ghost use Rattle.histar_login.specs.Login.{place_of};
 ghost use Rattle.histar_login.specs.Start.{numbers_among, user_entry, group_entry, group_part, user_table};
@@ -35,7 +35,8 @@ fn push_user(
     password: u64,
 ) -> Result<(), AllocError>
     requires { length name.now ≤ 32 }
-    ensures { OnOk result (table.new.items ≡ table.old.items ++ user_entry name.now number gate password) }
+    ensures { OnOk result (table.new.items
+        ≡ table.old.items ++ user_entry name.now number gate password) }
 {
     table.push(name.len() as u8)?;
     table.extend_from_slice(name)?;
@@ -49,7 +50,8 @@ fn push_user(
 /// Adds the numbers of the members of a group, which rise.
 fn push_members(table: &mut Vec<u8>, users: &[User], group: &Group) -> Result<(), AllocError>
     requires { length users.now ≤ most_users }
-    ensures { OnOk result (table.new.items ≡ table.old.items ++ numbers_among 1 users.now group.now.members) }
+    ensures { OnOk result (table.new.items
+        ≡ table.old.items ++ numbers_among 1 users.now group.now.members) }
 {
     for (i, user) in users.iter().enumerate() {
         if group.has(user.name) {
@@ -68,7 +70,8 @@ fn push_group(
     group: &Group,
 ) -> Result<(), AllocError>
     requires { number ≤ most_groups }
-    ensures adds { OnOk result (table.new.items ≡ table.old.items ++ group_entry session.now.users number group.now) }
+    ensures adds { OnOk result (table.new.items
+        ≡ table.old.items ++ group_entry session.now.users number group.now) }
     ensures few { OnOk result (length table.new.items ≤ length table.old.items + 66) }
 {
     let name = group.name();
@@ -83,8 +86,9 @@ fn push_group(
 
 /// Adds the groups to the user table, which has a zero before them where a group is.
 fn push_groups(table: &mut Vec<u8>, session: &Session) -> Result<(), AllocError>
-    ensures adds { OnOk result (table.new.items ≡ table.old.items ++ group_part session.now.users session.now.groups) }
-    ensures few { OnOk result (length table.new.items ≤ length table.old.items + 1 + 66 * length session.now.groups) }
+    ensures adds { OnOk result (table.new.items
+        ≡ table.old.items ++ group_part session.now.users session.now.groups) }
+    ensures few { OnOk result (length table.new.items ≤ length table.old.items + 529) }
 {
     let groups = session.groups();
     if groups.is_empty() {

@@ -4,7 +4,8 @@ use Rattle.histar_flat.specs.declared.calls.User.{User}
 use Rattle.histar_flat.specs.Sessions.{Group, Session}
 use Rattle.histar_login.specs.Booting.{BootsOn, IsAnywhere, categories_part}
 use Rattle.histar_login.specs.Start.{declared, places_of}
-use Rattle.histar_login.proofs.LastStage.{HasParts, has_parts, booted, started, first_parts, more_parts, categories_way, categories_stop, first_user_way, users_stop, directory_way, directory_stop, process_way, process_stop, unlink_way, unlink_stop}
+use Rattle.histar_login.proofs.LastStage.{HasParts, has_parts, booted, started, first_parts, more_parts}
+use Rattle.histar_login.proofs.Stops.{categories_way, categories_stop, first_user_way, users_stop, directory_way, directory_stop, process_way, process_stop, unlink_way, unlink_stop}
 use Rattle.histar_login.proofs.booting.boot_on.Given as given
 use Rattle.histar_login.proofs.booting.boot_on.Goals as goal
 

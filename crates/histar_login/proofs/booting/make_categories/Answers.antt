@@ -1,5 +1,5 @@
 use Rattle.std.proofs.Common.{◌≡◌, ℕ, subst, arith}
-use Rattle.histar_container.proofs.Keeping.{on_err, on_err_from}
+use Rattle.histar_container.proofs.Keeping.{on_err}
 use Rattle.histar_login.specs.Booting.{BootsOn, IsAnywhere, categories_part}
 use Rattle.histar_login.proofs.Stages.{categories_none, categories_next, categories_room, categories_begun}
 use Rattle.histar_login.proofs.booting.make_categories.Goals as goal

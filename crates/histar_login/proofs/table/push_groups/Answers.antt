@@ -12,9 +12,9 @@ loop-k-init c = record { adds = sym (append-nil c.push.new.self.items); few = om
 pub loop-k-preserved : goal.loop-k-preserved
 loop-k-preserved c = record {
   adds =
-    groups_next c.args.session.now.users c.args.session.now.groups c.loop-k.k c.index-groups-k.result c.push.new.self.items c.loop-k.table.items c.push_group.new.table.items
-    (subst (λ (groups : List Group). c.loop-k.k < length groups) c.groups-groups.ensures.groups c.loop-k-test.true)
-    (subst (λ (groups : List Group). c.index-groups-k.result ≡ get_or groups c.loop-k.k c.index-groups-k.result) c.groups-groups.ensures.groups c.index-groups-k.is) c.loop-k.invariant.adds c.in_ok-push_group.ensures.adds;
+      groups_next c.args.session.now.users c.args.session.now.groups c.loop-k.k c.index-groups-k.result c.push.new.self.items c.loop-k.table.items c.push_group.new.table.items
+      (subst (λ (groups : List Group). c.loop-k.k < length groups) c.groups-groups.ensures.groups c.loop-k-test.true)
+      (subst (λ (groups : List Group). c.index-groups-k.result ≡ get_or groups c.loop-k.k c.index-groups-k.result) c.groups-groups.ensures.groups c.index-groups-k.is) c.loop-k.invariant.adds c.in_ok-push_group.ensures.adds;
   few = omega (arith, c.loop-k.invariant.few, c.in_ok-push_group.ensures.few);
 }
 
@@ -26,4 +26,4 @@ returns-clause-adds c =
 
 pub returns-clause-few : goal.returns-clause-few
 returns-clause-few c =
-    omega (arith, c.loop-k.invariant.few, ap length c.in_ok-push.ensures.items, ap length c.groups-groups.ensures.groups, c.loop-k.auto.k-end, length-append c.args.table.now.items (0 ∷ []))
+    omega (arith, c.loop-k.invariant.few, c.groups-groups.ensures.few.groups, ap length c.in_ok-push.ensures.items, ap length c.groups-groups.ensures.groups, c.loop-k.auto.k-end, length-append c.args.table.now.items (0 ∷ []))
