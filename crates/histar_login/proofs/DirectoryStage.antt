@@ -1,115 +1,150 @@
 -- What the part of boot that makes `/` adds to what stands.
-use Rattle.std.proofs.Common.{◌≡◌, ℕ, ◌+◌, ◌*◌, List, [], ◌∷◌, ◌++◌, length, None, Some, refl, ap, ◌∙◌, arith, append_assoc}
+use Rattle.std.proofs.Common.{◌≡◌, ℕ, ◌+◌, ◌*◌, ◌<◌, ◌≤◌, [], ◌∷◌, ◌++◌, length, None, Some, refl, sym, ap, ◌∙◌, arith, append_assoc, append-nil}
 use Rattle.std.proofs.lemmas.List.{length-append}
 use Rattle.std.specs.FinSet as set
 use Rattle.histar_flat.specs.Sessions.{Session}
 use Rattle.histar_label.specs.Levels.{Levels}
 use Rattle.histar_object.specs.declared.objects.Kind.TheVariants.{Segment, Container}
 use Rattle.histar_object.specs.declared.objects.Object.{Object}
-use Rattle.histar_rules.specs.declared.raw.RawCall.{RawCall}
-use Rattle.histar_rules.specs.declared.raw.RawCall.TheVariants as calls
 use Rattle.histar_rules.specs.Sound.{root_number}
-use Rattle.histar_syscall.specs.KernelModel.{KernelModel, Called}
+use Rattle.histar_syscall.specs.KernelModel.{KernelModel, Called, IsUnchanged}
 use Rattle.histar_calls.specs.Categories.{write_category}
 use Rattle.histar_calls.specs.Labelling.{written_by}
 use Rattle.histar_login.specs.Start.{boot_category, container, user_table}
-use Rattle.histar_login.specs.Boot.{boot_thread_number}
-use Rattle.histar_login.specs.Booting.{Part, and_then, next_number, Boots, directory_part}
+use Rattle.histar_login.specs.Boot.{boot_thread_number, table_call, slash_call, listing_call, directory_calls}
+use Rattle.histar_login.specs.Booting.{Part, and_then, next_number, next_made, Boots, HasBegun, Allows, IsBeforeDirectory, directory_part}
 use Rattle.histar_login.proofs.Stages.{boots_same}
-use Rattle.histar_login.proofs.Parts.{next_number_is, boots_shared, boots_within}
-
--- three put behind one by one are put behind together
-three_more : {A : Type 0} (xs : List A) (a b c : A) → (((xs ++ a ∷ []) ++ b ∷ []) ++ c ∷ []) ≡ xs ++ a ∷ b ∷ c ∷ []
-three_more xs a b c = simp append_assoc
+use Rattle.histar_login.proofs.MadeLabels.{IsMadeGuard, written_made}
+use Rattle.histar_login.proofs.AllowedCalls.{segment_allowed, container_allowed, root_there, inside_there}
+use Rattle.histar_login.proofs.Beginnings.{begun_at, calls_more}
+use Rattle.histar_login.proofs.Parts.{one_object, next_number_is, boots_shared, boots_within}
 
 -- the user table and `/`, of which the container is used under the number that the kernel answered
-module _ (first k0 k1 k2 k3 : KernelModel) (p : Part) (n : ℕ) (session : Session) (root listing : ℕ) (at : next_number p ≡ 3 + 2 * n) (b0 : Boots first k0 p)
-    (c1 : Called k0 k1 boot_thread_number (calls.MakeSegment root_number (written_by boot_category) (user_table session)) None)
-    (c2 : Called k1 k2 boot_thread_number (calls.MakeContainer root_number (written_by (write_category 1))) None) (is_root : root ≡ k1.kept.next_object)
-    (c3 : Called k2 k3 boot_thread_number (calls.MakeSegment root (written_by (write_category 1)) []) None) (is_listing : listing ≡ k2.kept.next_object) where
-  -- the user table
-  table_object : Object Levels
-  table_object = record { label = written_by boot_category; kind = Segment (user_table session) }
+module _ (session : Session) (first k0 : KernelModel) (p : Part) (b0 : Boots first k0 p) where
+  -- the rules allow to make the user table
+  pub table_allowed : IsBeforeDirectory session p → length (user_table session) ≤ 4096 → Allows k0 (table_call session)
+  table_allowed before few =
+      segment_allowed first k0 p b0 root_number (root_there first k0 p b0) (omega (arith, before.room.room_for_objects)) (written_by boot_category) (user_table session)
+      (written_made (next_made p) boot_category (omega arith) (omega arith)) few
 
-  -- `/`
-  root_object : Object Levels
-  root_object = record { label = written_by (write_category 1); kind = Container set.empty }
+  -- boot stops before the user table
+  pub directory_begun_none : (n : ℕ) (new : KernelModel) → IsUnchanged k0 new → HasBegun first new p.calls (directory_calls n session)
+  directory_begun_none n new same = begun_at first k0 new p.calls p (directory_calls n session) 0 b0 same (sym (append-nil p.calls)) (omega arith)
 
-  -- its directory segment
-  listing_object : Object Levels
-  listing_object = record { label = written_by (write_category 1); kind = Segment [] }
+  module _ (k1 : KernelModel) (c1 : Called k0 k1 boot_thread_number (table_call session) None) where
+    -- the user table
+    table_object : Object Levels
+    table_object = record { label = written_by boot_category; kind = Segment (user_table session) }
 
-  -- the three raw calls
-  call1 : RawCall
-  call1 = calls.MakeSegment root_number (written_by boot_category) (user_table session)
+    -- what stands with it
+    p1 : Part
+    p1 = one_object p (table_call session) table_object
 
-  call2 : RawCall
-  call2 = calls.MakeContainer root_number (written_by (write_category 1))
+    b1 : Boots first k1 p1
+    unfolding table_object p1
+    b1 = boots_shared first k0 k1 p b0 (table_call session) table_object c1 c1.state
 
-  call3 : RawCall
-  call3 = calls.MakeSegment root (written_by (write_category 1)) []
+    -- what the first user writes may be given this label
+    first_made : IsBeforeDirectory session p → 0 < length session.users → IsMadeGuard (next_made p) (written_by (write_category 1))
+    first_made before some = written_made (next_made p) (write_category 1) (omega arith) (omega (arith, before.comes.1, some))
 
-  -- what stands after each
-  p1 : Part
-  p1 = record { calls = p.calls ++ call1 ∷ []; linked = p.linked ++ next_number p ∷ []; objects = p.objects ++ Some table_object ∷ []; categories = p.categories }
+    -- the rules allow to make `/`
+    pub slash_allowed : IsBeforeDirectory session p → 0 < length session.users → Allows k1 slash_call
+    unfolding p1
+    slash_allowed before some =
+        container_allowed first k1 p1 b1 root_number (root_there first k1 p1 b1) (omega (arith, before.room.room_for_objects, length-append p.objects (Some table_object ∷ []))) (written_by (write_category 1)) (first_made before some)
 
-  p2 : Part
-  p2 = record { calls = p1.calls ++ call2 ∷ []; linked = p1.linked ++ next_number p1 ∷ []; objects = p1.objects ++ Some root_object ∷ []; categories = p.categories }
+    -- boot stops before `/`
+    pub directory_begun_one : (n : ℕ) (new : KernelModel) → IsUnchanged k1 new → HasBegun first new p.calls (directory_calls n session)
+    unfolding p1
+    directory_begun_one n new same = begun_at first k1 new p.calls p1 (directory_calls n session) 1 b1 same refl (omega arith)
 
-  p3 : Part
-  p3 = record {
-    calls = p2.calls ++ call3 ∷ [];
-    linked = p2.linked;
-    objects = (p.objects ++ Some table_object ∷ []) ++ container (written_by (write_category 1)) (next_number p2 ∷ []) ∷ Some listing_object ∷ [];
-    categories = p.categories;
-  }
+    module _ (root : ℕ) (k2 : KernelModel) (c2 : Called k1 k2 boot_thread_number slash_call None) (is_root : root ≡ k1.kept.next_object) where
+      -- `/`
+      root_object : Object Levels
+      root_object = record { label = written_by (write_category 1); kind = Container set.empty }
 
-  -- and that it stands
-  b1 : Boots first k1 p1
-  unfolding call1 table_object p1
-  b1 = boots_shared first k0 k1 p b0 call1 table_object c1 c1.state
+      -- what stands with it
+      p2 : Part
+      p2 = one_object p1 slash_call root_object
 
-  b2 : Boots first k2 p2
-  unfolding call2 root_object p1 p2
-  b2 = boots_shared first k1 k2 p1 b1 call2 root_object c2 c2.state
+      b2 : Boots first k2 p2
+      unfolding root_object p1 p2
+      b2 = boots_shared first k1 k2 p1 b1 slash_call root_object c2 c2.state
 
-  -- where `/` stands
-  root_at : root ≡ 3 + length (p.objects ++ Some table_object ∷ [])
-  unfolding p1
-  root_at = is_root ∙ next_number_is first k1 k1 p1 b1
+      -- where `/` stands
+      root_at : root ≡ 3 + length (p.objects ++ Some table_object ∷ [])
+      unfolding p1
+      root_at = is_root ∙ next_number_is first k1 k1 p1 b1
 
-  b3 : Boots first k3 p3
-  unfolding call3 listing_object root_object p1 p2 p3
-  b3 = boots_within first k2 k3 p2 b2 call3 listing_object root (p.objects ++ Some table_object ∷ []) [] (written_by (write_category 1)) [] refl root_at c3 c3.state
+      -- the raw calls so far
+      calls2 : p2.calls ≡ p.calls ++ table_call session ∷ slash_call ∷ []
+      unfolding p1 p2
+      calls2 = calls_more p.calls (table_call session ∷ []) p1.calls slash_call refl
 
-  -- the numbers of the objects
-  next1 : next_number p1 ≡ 4 + 2 * n
-  unfolding p1
-  next1 = omega (arith, at, length-append p.objects (Some table_object ∷ []))
+      -- the number behind both
+      after2 : next_number p2 ≡ 2 + next_number p
+      unfolding p1 p2
+      after2 = omega (arith, length-append p.objects (Some table_object ∷ []), length-append (p.objects ++ Some table_object ∷ []) (Some root_object ∷ []))
 
-  next2 : next_number p2 ≡ 5 + 2 * n
-  unfolding p1 p2
-  next2 = omega (arith, at, length-append p.objects (Some table_object ∷ []), length-append (p.objects ++ Some table_object ∷ []) (Some root_object ∷ []))
+      -- the rules allow to make its directory segment
+      pub listing_allowed : IsBeforeDirectory session p → 0 < length session.users → Allows k2 (listing_call root)
+      unfolding p1 p2 root_object
+      listing_allowed before some =
+          let guard = first_made before some in
+          segment_allowed first k2 p2 b2 root
+          (inside_there first k2 p2 b2 root (p.objects ++ Some table_object ∷ []) [] (written_by (write_category 1)) [] refl root_at guard.label)
+          (omega (arith, before.room.room_for_objects, after2)) (written_by (write_category 1)) [] guard (omega arith)
 
-  -- the container of `/` has its number
-  directory_root : root ≡ 4 + 2 * n
-  directory_root = is_root ∙ next_number_is first k1 k1 p1 b1 ∙ next1
+      -- boot stops before the directory segment
+      pub directory_begun_two : (n : ℕ) (new : KernelModel) → IsUnchanged k2 new → HasBegun first new p.calls (directory_calls n session)
+      directory_begun_two n new same = begun_at first k2 new p.calls p2 (directory_calls n session) 2 b2 same calls2 (omega arith)
 
-  -- and so has its directory segment
-  directory_listing : listing ≡ 5 + 2 * n
-  directory_listing = is_listing ∙ next_number_is first k2 k2 p2 b2 ∙ next2
+      module _ (listing : ℕ) (k3 : KernelModel) (c3 : Called k2 k3 boot_thread_number (listing_call root) None) (is_listing : listing ≡ k2.kept.next_object) (n : ℕ) (at : next_number p ≡ 3 + 2 * n) where
+        -- its directory segment
+        listing_object : Object Levels
+        listing_object = record { label = written_by (write_category 1); kind = Segment [] }
 
-  -- all three together
-  directory_boots : Boots first k3 (and_then p (directory_part n session))
-  unfolding call1 call2 call3 table_object root_object listing_object p1 p2 p3
-  directory_boots =
-      boots_same first k3 p3 (and_then p (directory_part n session)) b3
-      (three_more p.calls call1 call2 call3 ∙ ap (λ (k : ℕ). p.calls ++ call1 ∷ call2 ∷ calls.MakeSegment k (written_by (write_category 1)) [] ∷ []) directory_root)
-      (append_assoc p.linked (next_number p ∷ []) (next_number p1 ∷ []) ∙ (λ j. p.linked ++ at j ∷ next1 j ∷ []))
-      (append_assoc p.objects (Some table_object ∷ []) (container (written_by (write_category 1)) (next_number p2 ∷ []) ∷ Some listing_object ∷ [])
-      ∙ ap (λ (k : ℕ). p.objects ++ Some table_object ∷ container (written_by (write_category 1)) (k ∷ []) ∷ Some listing_object ∷ []) next2)
-      (omega arith)
+        -- what stands with it
+        p3 : Part
+        p3 = record {
+          calls = p2.calls ++ listing_call root ∷ [];
+          linked = p2.linked;
+          objects = (p.objects ++ Some table_object ∷ []) ++ container (written_by (write_category 1)) (next_number p2 ∷ []) ∷ Some listing_object ∷ [];
+          categories = p.categories;
+        }
 
-  -- what stands then, and the two numbers
-  pub directory_stage : Boots first k3 (and_then p (directory_part n session)) × (root ≡ 4 + 2 * n) × (listing ≡ 5 + 2 * n)
-  directory_stage = (directory_boots, directory_root, directory_listing)
+        b3 : Boots first k3 p3
+        unfolding listing_object root_object p1 p2 p3
+        b3 = boots_within first k2 k3 p2 b2 (listing_call root) listing_object root (p.objects ++ Some table_object ∷ []) [] (written_by (write_category 1)) [] refl root_at c3 c3.state
+
+        -- the numbers of the objects
+        next1 : next_number p1 ≡ 4 + 2 * n
+        unfolding p1
+        next1 = omega (arith, at, length-append p.objects (Some table_object ∷ []))
+
+        next2 : next_number p2 ≡ 5 + 2 * n
+        next2 = omega (arith, at, after2)
+
+        -- the container of `/` has its number
+        directory_root : root ≡ 4 + 2 * n
+        directory_root = is_root ∙ next_number_is first k1 k1 p1 b1 ∙ next1
+
+        -- and so has its directory segment
+        directory_listing : listing ≡ 5 + 2 * n
+        directory_listing = is_listing ∙ next_number_is first k2 k2 p2 b2 ∙ next2
+
+        -- all three together
+        directory_boots : Boots first k3 (and_then p (directory_part n session))
+        unfolding table_object root_object listing_object p1 p2 p3
+        directory_boots =
+            boots_same first k3 p3 (and_then p (directory_part n session)) b3
+            (calls_more p.calls (table_call session ∷ slash_call ∷ []) p2.calls (listing_call root) calls2 ∙ ap (λ (k : ℕ). p.calls ++ table_call session ∷ slash_call ∷ listing_call k ∷ []) directory_root)
+            (append_assoc p.linked (next_number p ∷ []) (next_number p1 ∷ []) ∙ (λ j. p.linked ++ at j ∷ next1 j ∷ []))
+            (append_assoc p.objects (Some table_object ∷ []) (container (written_by (write_category 1)) (next_number p2 ∷ []) ∷ Some listing_object ∷ [])
+            ∙ (λ j. p.objects ++ Some table_object ∷ container (written_by (write_category 1)) (next2 j ∷ []) ∷ Some listing_object ∷ []))
+            (omega arith)
+
+        -- what stands then, and the two numbers
+        pub directory_stage : Boots first k3 (and_then p (directory_part n session)) × (root ≡ 4 + 2 * n) × (listing ≡ 5 + 2 * n)
+        directory_stage = (directory_boots, directory_root, directory_listing)

@@ -1,16 +1,18 @@
 -- What groups add to the gates and to the user table, one group after another.
-use Rattle.std.proofs.Common.{◌≡◌, ℕ, ◌+◌, ◌<◌, Bool, true, false, List, [], ◌∷◌, ◌++◌, length, get_or, take, refl, sym, ap, ◌∙◌, arith, add-zero, append-nil, append_assoc, if◌then◌else◌}
+use Rattle.std.proofs.Common.{◌≡◌, ℕ, ◌+◌, ◌*◌, ◌<◌, ◌≤◌, Bool, All, true, false, List, [], ◌∷◌, ◌++◌, length, get_or, take, refl, sym, ap, ◌∙◌, arith, add-zero, append-nil, append_assoc, if◌then◌else◌}
+use Rattle.std.specs.Prelude.{map}
+use Rattle.std.proofs.lemmas.List.Elements.{All-nil, All-cons}
 use Rattle.std.specs.Int.{w64, to_be_bytes}
 use Rattle.std.proofs.lemmas.List.{get_or_default, length-take-le}
 use Rattle.histar_flat.specs.declared.calls.User.{User}
-use Rattle.histar_flat.specs.Sessions.{Group, has}
+use Rattle.histar_flat.specs.Sessions.{Group, Session, has, numbers_with}
 use Rattle.histar_flat.specs.Words.{Name}
 use Rattle.histar_label.specs.declared.levels.Level.{Level}
 use Rattle.histar_label.specs.Levels.{Levels, with_level}
-use Rattle.histar_calls.specs.Categories.{read_category, write_category, group_owner}
+use Rattle.histar_calls.specs.Categories.{read_category, write_category, group_owner, owners_of}
 use Rattle.histar_calls.specs.Labelling.{with_levels, labelled}
 use Rattle.histar_calls.proofs.LabellingLemmas.{take_next}
-use Rattle.histar_login.specs.Start.{numbered, at_both, numbers_among, group_entry, group_part}
+use Rattle.histar_login.specs.Start.{numbered, at_both, declared, own_read_category, numbers_among, group_entry, group_part}
 use Rattle.histar_login.proofs.StartLemmas.{numbered_next}
 
 -- both categories of one more come last
@@ -93,3 +95,19 @@ groups_all users (g ∷ groups) front after some e = e ∙ append_assoc front (0
 pub groups_none : (users : List User) (groups : List Group) (front : List ℕ) → length groups ≡ 0 → front ≡ front ++ group_part users groups
 groups_none users [] front none = sym (append-nil front)
 groups_none users (g ∷ groups) front none = absurd (omega (arith, none))
+
+-- by whether a group has the member: what holds of the group's number and of all others holds of all that the member owns
+choice_within : (b : Bool) (P : ℕ → Type 0) (n k : ℕ) (ks : List ℕ) → P (group_owner n k) → All P (map (group_owner n) ks) → All P (map (group_owner n) (if b then k ∷ ks else ks))
+choice_within true P n k ks here rest = All-cons P (group_owner n k) (map (group_owner n) ks) here rest
+choice_within false P n k ks here rest = rest
+
+-- the categories of a member's groups were made, where the last group's are
+groups_within : (n next k : ℕ) (groups : List Group) (name : Name) → 2 + 2 * (n + k + length groups) ≤ next → All (λ o. write_category o < next) (map (group_owner n) (numbers_with k groups name))
+groups_within n next k [] name enough = All-nil (λ o. write_category o < next)
+groups_within n next k (g ∷ groups) name enough =
+    choice_within (has g.members name) (λ o. write_category o < next) n k (numbers_with (k + 1) groups name) (omega (arith, enough)) (groups_within n next (k + 1) groups name (omega (arith, enough)))
+
+-- the categories that a user owns were made before process 0
+pub owners_within : (session : Session) (i : ℕ) (name : Name) (next : ℕ) → i ≤ length session.users → next ≡ own_read_category (declared session) → All (λ o. write_category o < next) (owners_of session i name)
+owners_within session i name next within is =
+    All-cons (λ o. write_category o < next) i _ (omega (arith, within, is)) (groups_within (length session.users) next 1 session.groups name (omega (arith, is)))

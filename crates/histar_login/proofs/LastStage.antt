@@ -30,11 +30,11 @@ abbrev pub all_parts : Session → Part
 all_parts session = and_then (more_parts session) (process_part (length session.users) (declared session))
 
 -- where the user table and `/` begin
-directory_is_next : (session : Session) → next_number (first_parts session) ≡ 3 + 2 * length session.users
+pub directory_is_next : (session : Session) → next_number (first_parts session) ≡ 3 + 2 * length session.users
 directory_is_next session = ap (λ (k : ℕ). 3 + k) (length-numbered session 1 session.users)
 
 -- where process 0 begins
-process_is_next : (session : Session) → IsBeforeBoth (6 + 2 * length session.users) (own_read_category (declared session)) (more_parts session)
+pub process_is_next : (session : Session) → IsBeforeBoth (6 + 2 * length session.users) (own_read_category (declared session)) (more_parts session)
 process_is_next session = (omega (arith, length-numbered session 1 session.users, length-append (of_users session session.users) (of_directory (length session.users) session)), omega arith)
 
 -- the parts of boot, one after another

@@ -1,10 +1,11 @@
 -- What the parts of boot add to what stands.
-use Rattle.std.proofs.Common.{◌≡◌, ℕ, zero, suc, ◌+◌, ◌*◌, ◌<◌, List, [], ◌∷◌, ◌++◌, length, get_or, take, None, Some, refl, sym, ap, ◌∙◌, subst, arith, append_assoc, append-nil}
-use Rattle.std.proofs.lemmas.List.{length-append, length-take-le}
+use Rattle.std.proofs.Common.{◌≡◌, ℕ, zero, suc, ◌+◌, ◌*◌, ◌<◌, ◌≤◌, List, [], ◌∷◌, ◌++◌, length, get_or, take, drop, add-zero, None, Some, refl, sym, ap, ◌∙◌, subst, arith, append_assoc, append-nil}
+use Rattle.std.proofs.lemmas.List.{length-append, length-take-le, take-append-drop}
 use Rattle.std.specs.List.{range_with_len}
 use Rattle.histar_flat.specs.declared.calls.User.{User}
 use Rattle.histar_flat.specs.Sessions.{Session}
-use Rattle.histar_label.specs.Levels.{Levels}
+use Rattle.histar_label.specs.declared.levels.Level.TheVariants.{Star, L1, L2, L3}
+use Rattle.histar_label.specs.Levels.{Levels, constant}
 use Rattle.histar_object.specs.declared.objects.Entry.TheVariants.{Login}
 use Rattle.histar_object.specs.declared.objects.Kind.TheVariants.{Segment, Gate}
 use Rattle.histar_object.specs.declared.objects.Object.{Object}
@@ -12,27 +13,47 @@ use Rattle.histar_object.specs.State.{Found}
 use Rattle.histar_rules.specs.declared.raw.RawCall.{RawCall}
 use Rattle.histar_rules.specs.declared.raw.RawCall.TheVariants as calls
 use Rattle.histar_rules.specs.Sound.{root_number}
-use Rattle.histar_syscall.specs.KernelModel.{KernelModel, Called}
-use Rattle.histar_calls.specs.Categories.{read_category, write_category}
+use Rattle.histar_syscall.specs.KernelModel.{KernelModel, Called, IsUnchanged}
+use Rattle.histar_calls.specs.Categories.{read_category, write_category, owners_of}
 use Rattle.histar_calls.specs.Labelling.{secret_of}
-use Rattle.histar_login.specs.Start.{numbered, gate_label, gate_clearance, of_user, of_users}
-use Rattle.histar_login.specs.Boot.{boot_thread_number, category_calls, user_calls}
-use Rattle.histar_login.specs.Booting.{Part, and_then, next_number, Boots, BootsOn, IsAnywhere, IsBefore, two_categories, categories_part, user_part, users_part}
+use Rattle.histar_login.specs.Start.{numbered, gate_label, gate_clearance, owners_label, owners_clearance, of_user, of_users}
+use Rattle.histar_login.specs.Boot.{boot_thread_number, category_calls, user_calls, password_call, gate_call}
+use Rattle.histar_login.specs.Booting.{Part, and_then, next_number, next_made, Boots, BootsOn, BeginsOn, BeginsUser, BeginsUsers, HasBegun, HasRoom, Allows, IsUnderWay, IsAnywhere, IsBefore, IsBeforeUser, two_categories, categories_part, user_part, users_part}
 use Rattle.histar_login.proofs.StartLemmas.{numbered_next, range-suc}
-use Rattle.histar_login.proofs.Parts.{boots_category, boots_shared}
+use Rattle.histar_login.proofs.GroupLemmas.{owners_within}
+use Rattle.histar_login.proofs.MadeLabels.{made_constant, secret_made, both_made, owners_below}
+use Rattle.histar_login.proofs.AllowedCalls.{category_allowed, segment_allowed, gate_allowed, root_there}
+use Rattle.histar_login.proofs.Beginnings.{begun_at, begun_more, begun_after}
+use Rattle.histar_login.proofs.Parts.{one_category, one_object, boots_category, boots_shared}
 
 -- parts that are equal in all are equal
 pub boots_same : (first now : KernelModel) (p q : Part) → Boots first now p → p.calls ≡ q.calls → p.linked ≡ q.linked → p.objects ≡ q.objects → p.categories ≡ q.categories → Boots first now q
 boots_same first now p q boots calls linked objects categories = subst (Boots first now) (λ i. record { calls = calls i; linked = linked i; objects = objects i; categories = categories i }) boots
 
--- two categories
-pub two_boot : (first k0 k1 k2 : KernelModel) (p : Part) → Boots first k0 p → Called k0 k1 boot_thread_number calls.MakeCategory None → Called k1 k2 boot_thread_number calls.MakeCategory None → Boots first k2 (and_then p two_categories)
-two_boot first k0 k1 k2 p b0 c1 c2 =
-    let p1 : Part = record { calls = p.calls ++ calls.MakeCategory ∷ []; linked = p.linked; objects = p.objects; categories = p.categories + 1 } in
-    let p2 : Part = record { calls = p1.calls ++ calls.MakeCategory ∷ []; linked = p.linked; objects = p.objects; categories = p1.categories + 1 } in
-    let b1 : Boots first k1 p1 = boots_category first k0 k1 p b0 c1 in
-    let b2 : Boots first k2 p2 = boots_category first k1 k2 p1 b1 c2 in
-    boots_same first k2 p2 (and_then p two_categories) b2 (append_assoc p.calls (calls.MakeCategory ∷ []) (calls.MakeCategory ∷ [])) (sym (append-nil p.linked)) (sym (append-nil p.objects)) (omega arith)
+module _ (first k0 : KernelModel) (p : Part) (b0 : Boots first k0 p) where
+  -- the first of two categories
+  pub first_allowed : HasRoom 2 0 p → Allows k0 calls.MakeCategory
+  first_allowed room = category_allowed first k0 p b0 (omega (arith, room.room_for_categories))
+
+  -- boot stops before them
+  pub two_begun_none : (new : KernelModel) → IsUnchanged k0 new → HasBegun first new p.calls two_categories.calls
+  two_begun_none new same = begun_at first k0 new p.calls p two_categories.calls 0 b0 same (sym (append-nil p.calls)) (omega arith)
+
+  module _ (k1 : KernelModel) (c1 : Called k0 k1 boot_thread_number calls.MakeCategory None) where
+    -- the second
+    pub second_allowed : HasRoom 2 0 p → Allows k1 calls.MakeCategory
+    second_allowed room = category_allowed first k1 (one_category p) (boots_category first k0 k1 p b0 c1) (omega (arith, room.room_for_categories))
+
+    -- boot stops between them
+    pub two_begun_one : (new : KernelModel) → IsUnchanged k1 new → HasBegun first new p.calls two_categories.calls
+    two_begun_one new same = begun_at first k1 new p.calls (one_category p) two_categories.calls 1 (boots_category first k0 k1 p b0 c1) same refl (omega arith)
+
+    -- both
+    pub two_boot : (k2 : KernelModel) → Called k1 k2 boot_thread_number calls.MakeCategory None → Boots first k2 (and_then p two_categories)
+    two_boot k2 c2 =
+        let b1 : Boots first k1 (one_category p) = boots_category first k0 k1 p b0 c1 in
+        let b2 : Boots first k2 (one_category (one_category p)) = boots_category first k1 k2 (one_category p) b1 c2 in
+        boots_same first k2 (one_category (one_category p)) (and_then p two_categories) b2 (append_assoc p.calls (calls.MakeCategory ∷ []) (calls.MakeCategory ∷ [])) (sym (append-nil p.linked)) (sym (append-nil p.objects)) (omega arith)
 
 -- one more of two calls each
 category_calls-more : (count : ℕ) → category_calls (suc count) ≡ category_calls count ++ calls.MakeCategory ∷ calls.MakeCategory ∷ []
@@ -53,26 +74,95 @@ categories_next old mid new i before more first p at b =
     (append_assoc p.calls (category_calls i) (calls.MakeCategory ∷ calls.MakeCategory ∷ []) ∙ ap (λ (l : List RawCall). p.calls ++ l) (sym (category_calls-more i) ∙ ap category_calls next))
     (append-nil (p.linked ++ [])) (append-nil (p.objects ++ [])) (omega arith)
 
--- the password and the gate of a user
-pub user_boots : (session : Session) (first k0 k1 k2 : KernelModel) (p : Part) (i : ℕ) (user : User) → next_number p ≡ 1 + 2 * i → Boots first k0 p
-    → Called k0 k1 boot_thread_number (calls.MakeSegment root_number (secret_of (read_category i) (write_category i)) user.password) None
-    → Called k1 k2 boot_thread_number (calls.MakeGate root_number (gate_label session i user.name) (gate_clearance session i user.name) (Login i)) None
-    → Boots first k2 (and_then p (user_part session i user))
-user_boots session first k0 k1 k2 p i user at b0 c1 c2 =
-    let call1 = calls.MakeSegment root_number (secret_of (read_category i) (write_category i)) user.password in
-    let call2 = calls.MakeGate root_number (gate_label session i user.name) (gate_clearance session i user.name) (Login i) in
-    let o1 : Object Levels = record { label = secret_of (read_category i) (write_category i); kind = Segment user.password } in
-    let o2 : Object Levels = record { label = gate_label session i user.name; kind = Gate (gate_clearance session i user.name) (Login i) } in
-    let p1 : Part = record { calls = p.calls ++ call1 ∷ []; linked = p.linked ++ next_number p ∷ []; objects = p.objects ++ Some o1 ∷ []; categories = p.categories } in
-    let p2 : Part = record { calls = p1.calls ++ call2 ∷ []; linked = p1.linked ++ next_number p1 ∷ []; objects = p1.objects ++ Some o2 ∷ []; categories = p.categories } in
-    let b1 : Boots first k1 p1 = boots_shared first k0 k1 p b0 call1 o1 c1 c1.state in
-    let b2 : Boots first k2 p2 = boots_shared first k1 k2 p1 b1 call2 o2 c2 c2.state in
-    let next : next_number p1 ≡ 2 + 2 * i = omega (arith, at, length-append p.objects (Some o1 ∷ [])) in
-    boots_same first k2 p2 (and_then p (user_part session i user)) b2
-    (append_assoc p.calls (call1 ∷ []) (call2 ∷ []))
-    (append_assoc p.linked (next_number p ∷ []) (next_number p1 ∷ []) ∙ (λ j. p.linked ++ at j ∷ next j ∷ []))
-    (append_assoc p.objects (Some o1 ∷ []) (Some o2 ∷ []))
-    (omega arith)
+-- where there is room for categories, there is room for two of them
+pub categories_room : (old mid : KernelModel) (count i : ℕ) → i < count → IsUnderWay (HasRoom (2 * count) 0) old → BootsOn old mid IsAnywhere (categories_part i) → IsUnderWay (HasRoom 2 0) mid
+categories_room old mid count i lt way before =
+    let room = way.2 in (
+      way.0,
+      and_then way.1 (categories_part i),
+      record { room_for_categories = omega (arith, lt, room.room_for_categories); room_for_objects = omega (arith, room.room_for_objects, length-append {A = Found} way.1.objects []) },
+      before way.0 way.1 tt way.3,
+    )
+
+-- the calls that come behind the first ones
+calls_behind : (i count : ℕ) → i < count → (rest : List RawCall) × (category_calls count ≡ (category_calls i ++ two_categories.calls) ++ rest)
+calls_behind i zero lt = absurd (omega (arith, lt))
+calls_behind zero (suc count) lt = (category_calls count, refl)
+calls_behind (suc i) (suc count) lt =
+    let behind = calls_behind i count (omega (arith, lt)) in
+    (behind.0, ap (λ (l : List RawCall). calls.MakeCategory ∷ calls.MakeCategory ∷ l) behind.1)
+
+-- boot stops in the middle of categories
+pub categories_begun : (old mid new : KernelModel) (count i : ℕ) → i < count → BootsOn old mid IsAnywhere (categories_part i) → BeginsOn mid new IsAnywhere two_categories → BeginsOn old new IsAnywhere (categories_part count)
+categories_begun old mid new count i lt before begins first p at b =
+    let behind = calls_behind i count lt in
+    let begun = begins first (and_then p (categories_part i)) tt (before first p tt b) in
+    subst (HasBegun first new p.calls) (sym behind.1)
+    (begun_more first new p.calls (category_calls i ++ two_categories.calls) behind.0 (begun_after first new p.calls (category_calls i) two_categories.calls begun))
+
+-- the password that was made is this one
+pub password_made : (old new : KernelModel) (i : ℕ) (password told : List ℕ) → password ≡ told → Called old new boot_thread_number (password_call i password) None → Called old new boot_thread_number (password_call i told) None
+password_made old new i password told same called = subst (λ (l : List ℕ). Called old new boot_thread_number (password_call i l) None) same called
+
+-- the gate that was made gives what these own
+pub gate_made : (old new : KernelModel) (i : ℕ) (owners told : List ℕ) → owners ≡ told → Called old new boot_thread_number (gate_call i owners) None → Called old new boot_thread_number (gate_call i told) None
+gate_made old new i owners told same called = subst (λ (l : List ℕ). Called old new boot_thread_number (gate_call i l) None) same called
+
+-- a gate that is to be made is allowed under equal texts
+pub gate_allowed_for : (k : KernelModel) (i : ℕ) (owners listed told : List ℕ) → owners ≡ listed → listed ≡ told → Allows k (gate_call i told) → Allows k (gate_call i owners)
+gate_allowed_for k i owners listed told same is allowed = subst (λ (l : List ℕ). Allows k (gate_call i l)) (sym (same ∙ is)) allowed
+
+module _ (session : Session) (i : ℕ) (user : User) (first k0 : KernelModel) (p : Part) (b0 : Boots first k0 p) where
+  -- the rules allow to make the password
+  pub password_allowed : IsBeforeUser session i p → i < 256 → i ≤ length session.users → length user.password ≤ 4096 → Allows k0 (password_call i user.password)
+  password_allowed at small within few =
+      segment_allowed first k0 p b0 root_number (root_there first k0 p b0) (omega (arith, at.0, small)) (secret_of (read_category i) (write_category i)) user.password
+      (secret_made (next_made p) (read_category i) (write_category i) (omega arith) (omega (arith, at.1, within)) (omega arith) (omega (arith, at.1, within))) few
+
+  -- boot stops before the password
+  pub user_begun_none : (new : KernelModel) → IsUnchanged k0 new → HasBegun first new p.calls (user_calls session i user)
+  user_begun_none new same = begun_at first k0 new p.calls p (user_calls session i user) 0 b0 same (sym (append-nil p.calls)) (omega arith)
+
+  module _ (k1 : KernelModel) (c1 : Called k0 k1 boot_thread_number (password_call i user.password) None) where
+    -- the password
+    password_object : Object Levels
+    password_object = record { label = secret_of (read_category i) (write_category i); kind = Segment user.password }
+
+    -- what stands with it
+    p1 : Part
+    p1 = one_object p (password_call i user.password) password_object
+
+    b1 : Boots first k1 p1
+    unfolding p1 password_object
+    b1 = boots_shared first k0 k1 p b0 (password_call i user.password) password_object c1 c1.state
+
+    -- the rules allow to make the gate
+    pub login_allowed : IsBeforeUser session i p → i < 256 → i ≤ length session.users → Allows k1 (gate_call i (owners_of session i user.name))
+    unfolding p1
+    login_allowed at small within =
+        let owners = owners_of session i user.name in
+        let all = owners_within session i user.name (next_made p1) within at.1 in
+        gate_allowed first k1 p1 b1 root_number (root_there first k1 p1 b1) (omega (arith, at.0, small, length-append p.objects (Some password_object ∷ []))) (owners_label owners) (owners_clearance owners) (Login i)
+        (both_made (next_made p1) L1 Star (constant L1) owners all (made_constant (next_made p1) L1)) (both_made (next_made p1) L2 L3 (constant L2) owners all (made_constant (next_made p1) L2)) (owners_below owners)
+
+    -- boot stops before the gate
+    pub user_begun_one : (new : KernelModel) → IsUnchanged k1 new → HasBegun first new p.calls (user_calls session i user)
+    unfolding p1
+    user_begun_one new same = begun_at first k1 new p.calls p1 (user_calls session i user) 1 b1 same refl (omega arith)
+
+    -- the password and the gate of a user
+    pub user_boots : (k2 : KernelModel) → next_number p ≡ 1 + 2 * i → Called k1 k2 boot_thread_number (gate_call i (owners_of session i user.name)) None → Boots first k2 (and_then p (user_part session i user))
+    unfolding p1 password_object
+    user_boots k2 at c2 =
+        let o2 : Object Levels = record { label = gate_label session i user.name; kind = Gate (gate_clearance session i user.name) (Login i) } in
+        let p2 : Part = one_object p1 (gate_call i (owners_of session i user.name)) o2 in
+        let b2 : Boots first k2 p2 = boots_shared first k1 k2 p1 b1 (gate_call i (owners_of session i user.name)) o2 c2 c2.state in
+        let next : next_number p1 ≡ 2 + 2 * i = omega (arith, at, length-append p.objects (Some password_object ∷ [])) in
+        boots_same first k2 p2 (and_then p (user_part session i user)) b2
+        (append_assoc p.calls (password_call i user.password ∷ []) (gate_call i (owners_of session i user.name) ∷ []))
+        (append_assoc p.linked (next_number p ∷ []) (next_number p1 ∷ []) ∙ (λ j. p.linked ++ at j ∷ next j ∷ []))
+        (append_assoc p.objects (Some password_object ∷ []) (Some o2 ∷ []))
+        (omega arith)
 
 -- each user has two objects
 pub length-numbered : (session : Session) (i : ℕ) (users : List User) → length (numbered (of_user session) i users) ≡ 2 * length users
@@ -110,3 +200,40 @@ users_next session old mid new users i user lt is before more first p at b =
     ∙ ap (λ (l : List ℕ). p.linked ++ l) (row_next (length some) (i + 1) (omega (arith, count)) ∙ ap (λ (n : ℕ). range_with_len 3 (2 * n)) (sym one_more)))
     (append_assoc p.objects (of_users session some) (of_user session (i + 1) user) ∙ ap (λ (l : List Found). p.objects ++ l) (sym (numbered_next (of_user session) users i user lt is)))
     (omega arith)
+
+-- where boot comes to one user after another
+pub users_way : (session : Session) (old mid : KernelModel) (i : ℕ) → i < length session.users → IsUnderWay (IsBeforeUser session 1) old → BootsOn old mid (IsBefore 3) (users_part session (take i session.users))
+    → IsUnderWay (IsBeforeUser session (i + 1)) mid
+users_way session old mid i lt way before =
+    let some = take i session.users in
+    let count : length some ≡ i = length-take-le i session.users (omega (arith, lt)) in (
+      way.0,
+      and_then way.1 (users_part session some),
+      (omega (arith, way.2.0, count, length-append way.1.objects (of_users session some), length-numbered session 1 some), omega (arith, way.2.1)),
+      before way.0 way.1 way.2.0 way.3,
+    )
+
+-- what is put together of all from number k on begins with what is put together of the first
+numbered_split : {A B : Type 0} (f : ℕ → B → List A) (k : ℕ) (xs ys : List B) → numbered f k (xs ++ ys) ≡ numbered f k xs ++ numbered f (k + length xs) ys
+numbered_split f k [] ys = ap (λ n. numbered f n ys) (sym (add-zero k))
+numbered_split f k (x ∷ xs) ys =
+    let later : k + 1 + length xs ≡ k + length (x ∷ xs) = omega arith in
+    ap (λ l. f k x ++ l) (numbered_split f (k + 1) xs ys) ∙ ap (λ n. f k x ++ (numbered f (k + 1) xs ++ numbered f n ys)) later
+    ∙ sym (append_assoc (f k x) (numbered f (k + 1) xs) (numbered f (k + length (x ∷ xs)) ys))
+
+-- boot stops at a user
+pub users_begun : (session : Session) (old mid new : KernelModel) (i : ℕ) (user : User) → i < length session.users → user ≡ get_or session.users i user
+    → BootsOn old mid (IsBefore 3) (users_part session (take i session.users)) → BeginsUser mid new session (i + 1) user → BeginsUsers old new session
+users_begun session old mid new i user lt is before begins first p at b =
+    let some = take i session.users in
+    let rest = drop (i + 1) session.users in
+    let so_far = and_then p (users_part session some) in
+    let count : length some ≡ i = length-take-le i session.users (omega (arith, lt)) in
+    let next : next_number so_far ≡ 1 + 2 * (i + 1) = omega (arith, at, count, length-append p.objects (of_users session some), length-numbered session 1 some) in
+    let begun = begins first so_far next (before first p at b) in
+    let all : numbered (user_calls session) 1 session.users ≡ (numbered (user_calls session) 1 some ++ user_calls session (i + 1) user) ++ numbered (user_calls session) (1 + length (take (i + 1) session.users)) rest =
+    ap (numbered (user_calls session) 1) (sym (take-append-drop (i + 1) session.users)) ∙ numbered_split (user_calls session) 1 (take (i + 1) session.users) rest
+    ∙ ap (λ (l : List RawCall). l ++ numbered (user_calls session) (1 + length (take (i + 1) session.users)) rest) (numbered_next (user_calls session) session.users i user lt is) in
+    subst (HasBegun first new p.calls) (sym all)
+    (begun_more first new p.calls (numbered (user_calls session) 1 some ++ user_calls session (i + 1) user) (numbered (user_calls session) (1 + length (take (i + 1) session.users)) rest)
+    (begun_after first new p.calls (numbered (user_calls session) 1 some) (user_calls session (i + 1) user) begun))

@@ -1,7 +1,8 @@
 -- How a machine boots: the raw calls of boot, in their order, and a kernel that was booted by them alone.
-use Rattle.std.specs.Prelude.{◌≡◌, ℕ, zero, suc, ◌+◌, ◌*◌, List, [], ◌∷◌, ◌++◌, length}
+use Rattle.std.specs.Prelude.{◌≡◌, ℕ, zero, suc, ◌+◌, ◌*◌, ◌<◌, List, [], ◌∷◌, ◌++◌, length, take}
 use Rattle.histar_flat.specs.declared.calls.User.{User}
 use Rattle.histar_flat.specs.Sessions.{Session}
+use Rattle.histar_flat.specs.Words.{Password}
 use Rattle.histar_object.specs.declared.objects.Entry.TheVariants.{Login}
 use Rattle.histar_object.specs.State.{empty_state}
 use Rattle.histar_rules.specs.declared.raw.RawCall.{RawCall}
@@ -9,9 +10,9 @@ use Rattle.histar_rules.specs.declared.raw.RawCall.TheVariants.{MakeCategory, Ma
 use Rattle.histar_rules.specs.Sound.{root_number}
 use Rattle.histar_syscall.specs.KernelModel.{KernelModel, state}
 use Rattle.histar_syscall.specs.Runs.{Granted}
-use Rattle.histar_calls.specs.Categories.{read_category, write_category}
+use Rattle.histar_calls.specs.Categories.{read_category, write_category, owners_of}
 use Rattle.histar_calls.specs.Labelling.{written_by, secret_of, owner_of, cleared_of}
-use Rattle.histar_login.specs.Start.{numbered, boot_category, declared, own_read_category, own_write_category, gate_label, gate_clearance, user_table, process_bytes}
+use Rattle.histar_login.specs.Start.{numbered, boot_category, declared, own_read_category, own_write_category, owners_label, owners_clearance, user_table, process_bytes}
 
 -- the boot thread, which makes all raw calls of boot
 abbrev pub boot_thread_number : ℕ
@@ -22,20 +23,49 @@ abbrev pub category_calls : ℕ → List RawCall
 category_calls zero = []
 category_calls (suc more) = MakeCategory ∷ MakeCategory ∷ category_calls more
 
--- the password of user i, which its owner alone may read, and the gate that gives what the user and its groups own
-abbrev pub user_calls : Session → ℕ → User → List RawCall
-user_calls session i user =
-    MakeSegment root_number (secret_of (read_category i) (write_category i)) user.password
-    ∷ MakeGate root_number (gate_label session i user.name) (gate_clearance session i user.name) (Login i)
-    ∷ []
+-- the password of user i, which its owner alone may read
+abbrev pub password_call : ℕ → Password → RawCall
+password_call i password = MakeSegment root_number (secret_of (read_category i) (write_category i)) password
 
--- the user table, and `/`, which is the object 4 + 2n, with its directory segment; the first user alone may write the last two
+-- the gate of user i, which gives what these users and groups own
+abbrev pub gate_call : ℕ → List ℕ → RawCall
+gate_call i owners = MakeGate root_number (owners_label owners) (owners_clearance owners) (Login i)
+
+-- the password of user i, and the gate that gives what the user and its groups own
+abbrev pub user_calls : Session → ℕ → User → List RawCall
+user_calls session i user = password_call i user.password ∷ gate_call i (owners_of session i user.name) ∷ []
+
+-- the user table, which nobody may write
+abbrev pub table_call : Session → RawCall
+table_call session = MakeSegment root_number (written_by boot_category) (user_table session)
+
+-- `/`, which the first user alone may write
+abbrev pub slash_call : RawCall
+slash_call = MakeContainer root_number (written_by (write_category 1))
+
+-- the directory segment of `/`, which stands in this container
+abbrev pub listing_call : ℕ → RawCall
+listing_call slash = MakeSegment slash (written_by (write_category 1)) []
+
+-- the user table, and `/`, which is the object 4 + 2n, with its directory segment
 abbrev pub directory_calls : ℕ → Session → List RawCall
-directory_calls n session =
-    MakeSegment root_number (written_by boot_category) (user_table session)
-    ∷ MakeContainer root_number (written_by (write_category 1))
-    ∷ MakeSegment (4 + 2 * n) (written_by (write_category 1)) []
-    ∷ []
+directory_calls n session = table_call session ∷ slash_call ∷ listing_call (4 + 2 * n) ∷ []
+
+-- the container of process 0, which the owner of w writes
+abbrev pub outer_call : ℕ → RawCall
+outer_call w = MakeContainer root_number (written_by w)
+
+-- its internal container in that one, which the owner of r reads
+abbrev pub inner_call : ℕ → ℕ → ℕ → RawCall
+inner_call outer r w = MakeContainer outer (secret_of r w)
+
+-- its thread in the internal container, which owns r and w
+abbrev pub thread_call : ℕ → ℕ → ℕ → RawCall
+thread_call inner r w = MakeThread inner (owner_of r w) (cleared_of r w)
+
+-- its process segment, which tells the internal container and the thread
+abbrev pub status_call : ℕ → ℕ → ℕ → ℕ → RawCall
+status_call outer w inner thread = MakeSegment outer (written_by w) (process_bytes inner thread)
 
 -- the two categories of process 0, behind those of all users and groups; its container, which is the object 6 + 2n, and its internal
 -- container, which is 7 + 2n; its thread 8 + 2n, which owns the two categories alone; and its process segment
@@ -43,15 +73,19 @@ abbrev pub process_calls : ℕ → ℕ → List RawCall
 process_calls n owners =
     MakeCategory
     ∷ MakeCategory
-    ∷ MakeContainer root_number (written_by (own_write_category owners))
-    ∷ MakeContainer (6 + 2 * n) (secret_of (own_read_category owners) (own_write_category owners))
-    ∷ MakeThread (7 + 2 * n) (owner_of (own_read_category owners) (own_write_category owners)) (cleared_of (own_read_category owners) (own_write_category owners))
-    ∷ MakeSegment (6 + 2 * n) (written_by (own_write_category owners)) (process_bytes (7 + 2 * n) (8 + 2 * n))
+    ∷ outer_call (own_write_category owners)
+    ∷ inner_call (6 + 2 * n) (own_read_category owners) (own_write_category owners)
+    ∷ thread_call (7 + 2 * n) (own_read_category owners) (own_write_category owners)
+    ∷ status_call (6 + 2 * n) (own_write_category owners) (7 + 2 * n) (8 + 2 * n)
     ∷ []
 
 -- at last the boot thread takes itself away
+abbrev pub last_call : RawCall
+last_call = Unlink root_number boot_thread_number
+
+-- the end of boot is one raw call
 abbrev pub last_calls : List RawCall
-last_calls = Unlink root_number boot_thread_number ∷ []
+last_calls = last_call ∷ []
 
 -- the raw calls of boot, in their order: two categories for nobody, for each user and for each group; the objects of each user; the
 -- user table and `/`; process 0
@@ -70,3 +104,7 @@ pub record IsBooted (session : Session) (kernel : KernelModel) : Type 0 where
   pub no_trace : first.trace ≡ []
   pub line : first.line ≡ 0
   pub made : Granted first kernel boot_thread_number (boot_calls session)
+
+-- a beginning of boot that is not all of it was made, and each of its raw calls was granted
+abbrev pub HasBegunBoot : Session → KernelModel → KernelModel → Type 0
+HasBegunBoot session old new = (made : ℕ) × (made < length (boot_calls session)) × Granted old new boot_thread_number (take made (boot_calls session))

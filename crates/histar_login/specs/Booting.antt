@@ -1,21 +1,24 @@
 -- How far boot has come.
-use Rattle.std.specs.Prelude.{◌≡◌, ℕ, ◌+◌, ◌*◌, true, List, [], ◌∷◌, ◌++◌, length, Some}
+use Rattle.std.specs.Prelude.{◌≡◌, ℕ, ◌+◌, ◌*◌, ◌<◌, ◌≤◌, Bool, ◌&&◌, nat_lt, if◌then◌else◌, List, [], ◌∷◌, ◌++◌, length, take, None, Some, Result, Ok, Err, ⊤}
 use Rattle.std.specs.List.{range_with_len}
 use Rattle.histar_flat.specs.declared.calls.User.{User}
 use Rattle.histar_flat.specs.Sessions.{Session}
 use Rattle.histar_object.specs.declared.objects.Object.{Object}
-use Rattle.histar_object.specs.Objects.{kind_is_thread}
+use Rattle.histar_object.specs.declared.objects.Kind.TheVariants.{Thread}
 use Rattle.histar_object.specs.State.{Found}
-use Rattle.histar_label.specs.Levels.{Levels}
+use Rattle.histar_label.specs.declared.levels.Level.TheVariants.{Star, L1, L2, L3}
+use Rattle.histar_label.specs.Levels.{Levels, level_of}
 use Rattle.histar_rules.specs.declared.raw.RawCall.{RawCall}
 use Rattle.histar_rules.specs.declared.raw.RawCall.TheVariants.{MakeCategory}
-use Rattle.histar_syscall.specs.KernelModel.{KernelModel, state}
+use Rattle.histar_rules.specs.declared.raw.Refusal.{Refusal}
+use Rattle.histar_rules.specs.declared.raw.Refusal.TheVariants as refusals
+use Rattle.histar_rules.specs.Rules.{check, greatest, IsNextNumber}
+use Rattle.histar_syscall.specs.KernelModel.{KernelModel, state, Called, IsUnchanged}
 use Rattle.histar_syscall.specs.Runs.{Granted}
-use Rattle.histar_calls.specs.Categories.{owners_of}
 use Rattle.histar_calls.specs.Labelling.{written_by}
 use Rattle.histar_calls.specs.declared.places.Home.{Home}
 use Rattle.histar_calls.specs.declared.places.Place.{Place}
-use Rattle.histar_login.specs.Start.{numbered, boot_category, own_read_category, container, state_with, places_of, of_user, of_users, of_directory, of_process}
+use Rattle.histar_login.specs.Start.{numbered, boot_category, declared, own_read_category, container, state_with, places_of, of_user, of_users, of_directory, of_process}
 use Rattle.histar_login.specs.Boot.{boot_thread_number, category_calls, user_calls, directory_calls, process_calls}
 
 -- A part of boot: its raw calls, the numbers that the root container links by them, the objects that they make, and how many
@@ -46,11 +49,22 @@ next_made p = 2 + p.categories
 abbrev pub table_of : Object Levels → Part → List Found
 table_of boot p = container (written_by boot_category) (boot_thread_number ∷ p.linked) ∷ Some boot ∷ p.objects
 
+-- whether a category was made, where this is the next one
+abbrev pub was_made : ℕ → ℕ → Bool
+was_made next c = nat_lt 0 c && nat_lt c next
+
+-- a thread that owns each category that was made, and is cleared for level 3 there
+pub record OwnsMade (next : ℕ) (o : Object Levels) : Type 0 where
+  pub clearance : Levels
+  pub is_thread : o.kind ≡ Thread clearance
+  pub owns : (c : ℕ) → level_of o.label c ≡ (if was_made next c then Star else L1)
+  pub cleared : (c : ℕ) → level_of clearance c ≡ (if was_made next c then L3 else L2)
+
 -- the first part of boot is done: the boot thread made its calls, each was granted, and this stands by them
 pub record Boots (first now : KernelModel) (p : Part) : Type 0 where
   pub granted : Granted first now boot_thread_number p.calls
   pub boot : Object Levels
-  pub is_thread : kind_is_thread boot.kind ≡ true
+  pub owner : OwnsMade (next_made p) boot
   pub stands : state now ≡ state_with (table_of boot p) (next_made p)
 
 -- where boot had come so far that this holds, it has gone on by this part
@@ -60,6 +74,53 @@ BootsOn old new IsSo more = (first : KernelModel) (p : Part) → IsSo p → Boot
 -- where boot had come so far that this holds, this holds too
 abbrev pub Tells : KernelModel → (Part → Type 0) → Type 0 → Type 0
 Tells old IsSo Told = (first : KernelModel) (p : Part) → IsSo p → Boots first old p → Told
+
+-- of these raw calls, behind those before, a beginning that is not all of them was made, and each was granted
+pub record HasBegun (first now : KernelModel) (before calls : List RawCall) : Type 0 where
+  pub made : ℕ
+  pub few : made < length calls
+  pub granted : Granted first now boot_thread_number (before ++ take made calls)
+
+-- where boot had come so far that this holds, it has begun this part and not ended it
+abbrev pub BeginsOn : KernelModel → KernelModel → (Part → Type 0) → Part → Type 0
+BeginsOn old new IsSo more = (first : KernelModel) (p : Part) → IsSo p → Boots first old p → HasBegun first new p.calls more.calls
+
+-- boot is under way, and has come so far that this holds
+abbrev pub IsUnderWay : (Part → Type 0) → KernelModel → Type 0
+IsUnderWay IsSo now = (first : KernelModel) × (p : Part) × IsSo p × Boots first now p
+
+-- so many categories and so many objects more have numbers
+pub record HasRoom (categories_more objects_more : ℕ) (p : Part) : Type 0 where
+  pub room_for_categories : next_made p + categories_more ≤ greatest
+  pub room_for_objects : next_number p + objects_more ≤ greatest
+
+-- the rules let the boot thread make this raw call
+abbrev pub Allows : KernelModel → RawCall → Type 0
+Allows now call = check (state now) boot_thread_number call ≡ None
+
+-- the answer is no denial
+abbrev pub IsUndenied : {A : Type 0} → Result A Refusal → Type 0
+IsUndenied (Ok a) = ⊤
+IsUndenied (Err (refusals.Denied denied)) = ⊥
+IsUndenied (Err refusals.OutOfMemory) = ⊤
+
+-- what was answered is passed on, and memory that ran out as an error
+abbrev pub Passes : {A E : Type 0} → Result A Refusal → Result A E → Type 0
+Passes answer (Ok a) = answer ≡ Ok a
+Passes answer (Err stopped) = answer ≡ Err refusals.OutOfMemory
+
+-- the boot thread made this raw call, which was granted and has a right answer, or memory ran out and nothing has changed
+abbrev pub Grants : {A E : Type 0} → KernelModel → KernelModel → RawCall → Result A E → (A → Type 0) → Type 0
+Grants old new call (Ok a) IsRight = Called old new boot_thread_number call None × IsRight a
+Grants old new call (Err stopped) IsRight = IsUnchanged old new
+
+-- the boot thread made an object by this raw call and is told its number, or memory ran out and nothing has changed
+abbrev pub MakesObject : {E : Type 0} → KernelModel → KernelModel → RawCall → Result ℕ E → Type 0
+MakesObject old new call result = Grants old new call result (IsNextNumber old.kept)
+
+-- a category is the next one before the call
+abbrev pub IsNextCategory : KernelModel → ℕ → Type 0
+IsNextCategory old category = category ≡ old.kept.next_category
 
 -- the next object gets this number
 abbrev pub IsBefore : ℕ → Part → Type 0
@@ -85,9 +146,17 @@ categories_part count = record { calls = category_calls count; linked = []; obje
 abbrev pub user_part : Session → ℕ → User → Part
 user_part session i user = record { calls = user_calls session i user; linked = (1 + 2 * i) ∷ (2 + 2 * i) ∷ []; objects = of_user session i user; categories = 0 }
 
--- the password and the gate of user i were made, where these go by the numbers of the user and of its groups
-abbrev pub MakesUser : KernelModel → KernelModel → ℕ → User → List ℕ → Type 0
-MakesUser old new i user owners = (session : Session) → owners ≡ owners_of session i user.name → BootsOn old new (IsBefore (1 + 2 * i)) (user_part session i user)
+-- boot has come to the user of this number
+abbrev pub IsBeforeUser : Session → ℕ → Part → Type 0
+IsBeforeUser session i = IsBeforeBoth (1 + 2 * i) (own_read_category (declared session))
+
+-- the password and the gate of user i were made
+abbrev pub MakesUser : KernelModel → KernelModel → Session → ℕ → User → Type 0
+MakesUser old new session i user = BootsOn old new (IsBefore (1 + 2 * i)) (user_part session i user)
+
+-- the password and the gate of user i were begun
+abbrev pub BeginsUser : KernelModel → KernelModel → Session → ℕ → User → Type 0
+BeginsUser old new session i user = BeginsOn old new (IsBefore (1 + 2 * i)) (user_part session i user)
 
 -- the passwords and the gates of these users
 abbrev pub users_part : Session → List User → Part
@@ -101,6 +170,23 @@ users_part session users = record {
 -- the user table and `/`
 abbrev pub directory_part : ℕ → Session → Part
 directory_part n session = record { calls = directory_calls n session; linked = (3 + 2 * n) ∷ (4 + 2 * n) ∷ []; objects = of_directory n session; categories = 0 }
+
+-- the passwords and the gates of all users were made
+abbrev pub MakesUsers : KernelModel → KernelModel → Session → Type 0
+MakesUsers old new session = BootsOn old new (IsBefore 3) (users_part session session.users)
+
+-- the passwords and the gates of all users were begun
+abbrev pub BeginsUsers : KernelModel → KernelModel → Session → Type 0
+BeginsUsers old new session = BeginsOn old new (IsBefore 3) (users_part session session.users)
+
+-- boot has come to the user table and `/`, and there is room for them
+pub record IsBeforeDirectory (session : Session) (p : Part) : Type 0 where
+  pub comes : IsBeforeBoth (3 + 2 * length session.users) (own_read_category (declared session)) p
+  pub room : HasRoom 0 3 p
+
+-- the user table and `/` were begun there
+abbrev pub BeginsDirectory : KernelModel → KernelModel → Session → Type 0
+BeginsDirectory old new session = BeginsOn old new (IsBefore (3 + 2 * length session.users)) (directory_part (length session.users) session)
 
 -- the user table and `/` were made behind the passwords and the gates of all users
 abbrev pub MakesDirectory : KernelModel → KernelModel → Session → Type 0
@@ -117,6 +203,10 @@ process_part n owners = record { calls = process_calls n owners; linked = (6 + 2
 -- process 0 was made behind `/`, where there are n users, and so many users and groups together
 abbrev pub MakesProcess : KernelModel → KernelModel → Type 0
 MakesProcess old new = (n owners : ℕ) → BootsOn old new (IsBeforeBoth (6 + 2 * n) (own_read_category owners)) (process_part n owners)
+
+-- process 0 was begun there
+abbrev pub BeginsProcess : KernelModel → KernelModel → Type 0
+BeginsProcess old new = (n owners : ℕ) → BeginsOn old new (IsBeforeBoth (6 + 2 * n) (own_read_category owners)) (process_part n owners)
 
 -- the container and the segment that are made behind `/` are those of process 0
 abbrev pub IsFirstHome : KernelModel → Home → Type 0

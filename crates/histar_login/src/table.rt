@@ -35,7 +35,8 @@ fn push_user(
     password: u64,
 ) -> Result<(), AllocError>
     requires { length name.now ≤ 32 }
-    ensures { OnOk result (table.new.items ≡ table.old.items ++ user_entry name.now number gate password) }
+    ensures { OnOk result (table.new.items
+        ≡ table.old.items ++ user_entry name.now number gate password) }
 {
     table.push(name.len() as u8)?;
     table.extend_from_slice(name)?;
@@ -49,7 +50,8 @@ fn push_user(
 /// Adds the numbers of the members of a group, which rise.
 fn push_members(table: &mut Vec<u8>, users: &[User], group: &Group) -> Result<(), AllocError>
     requires { length users.now ≤ most_users }
-    ensures { OnOk result (table.new.items ≡ table.old.items ++ numbers_among 1 users.now group.now.members) }
+    ensures { OnOk result (table.new.items
+        ≡ table.old.items ++ numbers_among 1 users.now group.now.members) }
 {
     for (i, user) in users.iter().enumerate() {
         if group.has(user.name) {
@@ -68,7 +70,9 @@ fn push_group(
     group: &Group,
 ) -> Result<(), AllocError>
     requires { number ≤ most_groups }
-    ensures { OnOk result (table.new.items ≡ table.old.items ++ group_entry session.now.users number group.now) }
+    ensures adds { OnOk result (table.new.items
+        ≡ table.old.items ++ group_entry session.now.users number group.now) }
+    ensures few { OnOk result (length table.new.items ≤ length table.old.items + 66) }
 {
     let name = group.name();
     let owner = group_owner(session, number);
@@ -82,7 +86,9 @@ fn push_group(
 
 /// Adds the groups to the user table, which has a zero before them where a group is.
 fn push_groups(table: &mut Vec<u8>, session: &Session) -> Result<(), AllocError>
-    ensures { OnOk result (table.new.items ≡ table.old.items ++ group_part session.now.users session.now.groups) }
+    ensures adds { OnOk result (table.new.items
+        ≡ table.old.items ++ group_part session.now.users session.now.groups) }
+    ensures few { OnOk result (length table.new.items ≤ length table.old.items + 529) }
 {
     let groups = session.groups();
     if groups.is_empty() {
@@ -97,7 +103,10 @@ fn push_groups(table: &mut Vec<u8>, session: &Session) -> Result<(), AllocError>
 
 /// The bytes of the user table: nobody first, then the users in their order, and then the groups.
 pub(crate) fn user_table(alloc: Global, session: &Session) -> Result<Bytes, AllocError>
-    ensures { IfOk result (λ b. b ≡ user_table session.now) }
+    ensures value { IfOk result (λ b. b ≡ user_table session.now) }
+
+    // They fit into a segment.
+    ensures few { IfOk result (λ b. length b ≤ 4096) }
 {
     let mut table = Vec::new(alloc);
     push_user(&mut table, b"nobody", 0, 0, 0)?;

@@ -1,40 +1,133 @@
-use Rattle.std.proofs.Common.{◌≡◌, ℕ, ◌+◌, ◌*◌, ◌∙◌}
-use Rattle.histar_rules.specs.declared.raw.RawCall.TheVariants.{MakeSegment, MakeContainer, MakeThread}
-use Rattle.std.proofs.Common.{refl}
-use Rattle.histar_syscall.specs.KernelModel.{KernelModel}
-use Rattle.histar_login.specs.Start.{own_read_category}
-use Rattle.histar_login.specs.Booting.{Part, Boots, IsBeforeBoth, and_then, process_part}
-use Rattle.histar_login.proofs.Parts.{granted_as, answer_as}
-use Rattle.histar_login.proofs.ProcessStage.{process_stage}
-use Rattle.histar_login.proofs.booting.make_process.Given as given
+use Rattle.histar_container.proofs.Keeping.{on_err}
+use Rattle.histar_login.specs.Booting.{BeginsProcess}
+use Rattle.histar_login.proofs.ProcessStage.{read_allowed, write_allowed, outer_allowed, inner_allowed, birth_allowed, status_allowed, process_begun_none, process_begun_one, process_begun_two, process_begun_three, process_begun_four, process_begun_five, process_stage}
 use Rattle.histar_login.proofs.booting.make_process.Goals as goal
 
-stage : (g : given.Over) (c : goal.In_ok-segment g) (n owners : ℕ) (first : KernelModel) (p : Part) → IsBeforeBoth (6 + 2 * n) (own_read_category owners) p → Boots first c.args.kernel.now p
-    → Boots first c.make_segment-segment.new.self (and_then p (process_part n owners)) × (c.in_ok-outer.outer ≡ 6 + 2 * n) × (c.in_ok-segment.segment ≡ 9 + 2 * n)
-stage g c n owners first p at b =
-    process_stage first c.args.kernel.now c.make_category.new.self c.make_category-2.new.self c.make_container-container.new.self c.make_container-container-2.new.self
-    c.make_thread.new.self c.make_segment-segment.new.self p n owners c.in_ok-read.read c.in_ok-write.write c.in_ok-outer.outer c.in_ok-internal.internal c.in_ok-thread.thread c.in_ok-segment.segment at.0 at.1 b
-    (granted_as _ _ _ _ _ c.make_category.result _ _ c.make_category.ensures c.in_ok-read.ensures c.boot_thread.ensures refl)
-    (answer_as _ _ _ _ c.make_category.result _ _ c.make_category.ensures c.in_ok-read.ensures)
-    (granted_as _ _ _ _ _ c.make_category-2.result _ _ c.make_category-2.ensures c.in_ok-write.ensures c.boot_thread-2.ensures refl)
-    (answer_as _ _ _ _ c.make_category-2.result _ _ c.make_category-2.ensures c.in_ok-write.ensures)
-    (granted_as _ _ _ _ _ c.make_container-container.result _ _ c.make_container-container.ensures c.in_ok-outer.ensures c.boot_thread-3.ensures
-    (λ j. MakeContainer (c.root_container.ensures j) ((c.in_ok-same.ensures ∙ c.in_ok-guarded.ensures) j)))
-    (answer_as _ _ _ _ c.make_container-container.result _ _ c.make_container-container.ensures c.in_ok-outer.ensures).0
-    (granted_as _ _ _ _ _ c.make_container-container-2.result _ _ c.make_container-container-2.ensures c.in_ok-internal.ensures c.boot_thread-4.ensures
-    (λ j. MakeContainer c.in_ok-outer.outer (c.in_ok-secret.ensures j)))
-    (answer_as _ _ _ _ c.make_container-container-2.result _ _ c.make_container-container-2.ensures c.in_ok-internal.ensures).0
-    (granted_as _ _ _ _ _ c.make_thread.result _ _ c.make_thread.ensures c.in_ok-thread.ensures c.boot_thread-5.ensures
-    (λ j. MakeThread c.in_ok-internal.internal (c.in_ok-own.ensures j) (c.in_ok-most.ensures j)))
-    (answer_as _ _ _ _ c.make_thread.result _ _ c.make_thread.ensures c.in_ok-thread.ensures).0
-    (granted_as _ _ _ _ _ c.make_segment-segment.result _ _ c.make_segment-segment.ensures c.in_ok-segment.ensures c.boot_thread-6.ensures
-    (λ j. MakeSegment c.in_ok-outer.outer (c.in_ok-guarded.ensures j) (c.in_ok-bytes.ensures j)))
-    (answer_as _ _ _ _ c.make_segment-segment.result _ _ c.make_segment-segment.ensures c.in_ok-segment.ensures).0
+pub make_category-requires : goal.make_category-requires
+make_category-requires g c =
+    let way = c.requires in
+    read_allowed way.0 c.args.kernel.now way.1 way.3 way.2
+
+pub returns-in_err-read-clause-err : goal.returns-in_err-read-clause-err
+returns-in_err-read-clause-err g c =
+    let begun : BeginsProcess c.args.kernel.now c.make_category.new.kernel = λ n owners first p at b.
+    process_begun_none first c.args.kernel.now p b n owners c.make_category.new.kernel c.in_err-read.ensures in
+    on_err _ _ begun
+
+pub make_category-requires-2 : goal.make_category-requires-2
+make_category-requires-2 g c =
+    let way = c.requires in
+    write_allowed way.0 c.args.kernel.now way.1 way.3
+    c.in_ok-read.read c.make_category.new.kernel c.in_ok-read.ensures.0 c.in_ok-read.ensures.1
+    way.2
+
+pub returns-in_err-write-clause-err : goal.returns-in_err-write-clause-err
+returns-in_err-write-clause-err g c =
+    let begun : BeginsProcess c.args.kernel.now c.make_category-2.new.kernel = λ n owners first p at b.
+    process_begun_one first c.args.kernel.now p b
+    c.in_ok-read.read c.make_category.new.kernel c.in_ok-read.ensures.0 c.in_ok-read.ensures.1
+    n owners c.make_category-2.new.kernel c.in_err-write.ensures in
+    on_err _ _ begun
+
+pub make_outer-requires : goal.make_outer-requires
+make_outer-requires g c =
+    let way = c.requires in
+    outer_allowed way.0 c.args.kernel.now way.1 way.3
+    c.in_ok-read.read c.make_category.new.kernel c.in_ok-read.ensures.0 c.in_ok-read.ensures.1
+    c.in_ok-write.write c.make_category-2.new.kernel c.in_ok-write.ensures.0 c.in_ok-write.ensures.1
+    way.2
+
+pub returns-in_err-outer-clause-err : goal.returns-in_err-outer-clause-err
+returns-in_err-outer-clause-err g c =
+    let begun : BeginsProcess c.args.kernel.now c.make_outer.new.kernel = λ n owners first p at b.
+    process_begun_two first c.args.kernel.now p b
+    c.in_ok-read.read c.make_category.new.kernel c.in_ok-read.ensures.0 c.in_ok-read.ensures.1
+    c.in_ok-write.write c.make_category-2.new.kernel c.in_ok-write.ensures.0 c.in_ok-write.ensures.1
+    n owners c.make_outer.new.kernel c.in_err-outer.ensures in
+    on_err _ _ begun
+
+pub make_internal-requires : goal.make_internal-requires
+make_internal-requires g c =
+    let way = c.requires in
+    inner_allowed way.0 c.args.kernel.now way.1 way.3
+    c.in_ok-read.read c.make_category.new.kernel c.in_ok-read.ensures.0 c.in_ok-read.ensures.1
+    c.in_ok-write.write c.make_category-2.new.kernel c.in_ok-write.ensures.0 c.in_ok-write.ensures.1
+    c.in_ok-outer.outer c.make_outer.new.kernel c.in_ok-outer.ensures.0 c.in_ok-outer.ensures.1.0
+    way.2
+
+pub returns-in_err-internal-clause-err : goal.returns-in_err-internal-clause-err
+returns-in_err-internal-clause-err g c =
+    let begun : BeginsProcess c.args.kernel.now c.make_internal.new.kernel = λ n owners first p at b.
+    process_begun_three first c.args.kernel.now p b
+    c.in_ok-read.read c.make_category.new.kernel c.in_ok-read.ensures.0 c.in_ok-read.ensures.1
+    c.in_ok-write.write c.make_category-2.new.kernel c.in_ok-write.ensures.0 c.in_ok-write.ensures.1
+    c.in_ok-outer.outer c.make_outer.new.kernel c.in_ok-outer.ensures.0 c.in_ok-outer.ensures.1.0
+    n owners at c.make_internal.new.kernel c.in_err-internal.ensures in
+    on_err _ _ begun
+
+pub make_first_thread-requires : goal.make_first_thread-requires
+make_first_thread-requires g c =
+    let way = c.requires in
+    birth_allowed way.0 c.args.kernel.now way.1 way.3
+    c.in_ok-read.read c.make_category.new.kernel c.in_ok-read.ensures.0 c.in_ok-read.ensures.1
+    c.in_ok-write.write c.make_category-2.new.kernel c.in_ok-write.ensures.0 c.in_ok-write.ensures.1
+    c.in_ok-outer.outer c.make_outer.new.kernel c.in_ok-outer.ensures.0 c.in_ok-outer.ensures.1.0
+    c.in_ok-internal.internal c.make_internal.new.kernel c.in_ok-internal.ensures.0 c.in_ok-internal.ensures.1.0
+    way.2
+
+pub returns-in_err-thread-clause-err : goal.returns-in_err-thread-clause-err
+returns-in_err-thread-clause-err g c =
+    let begun : BeginsProcess c.args.kernel.now c.make_first_thread.new.kernel = λ n owners first p at b.
+    process_begun_four first c.args.kernel.now p b
+    c.in_ok-read.read c.make_category.new.kernel c.in_ok-read.ensures.0 c.in_ok-read.ensures.1
+    c.in_ok-write.write c.make_category-2.new.kernel c.in_ok-write.ensures.0 c.in_ok-write.ensures.1
+    c.in_ok-outer.outer c.make_outer.new.kernel c.in_ok-outer.ensures.0 c.in_ok-outer.ensures.1.0
+    c.in_ok-internal.internal c.make_internal.new.kernel c.in_ok-internal.ensures.0 c.in_ok-internal.ensures.1.0
+    n owners at c.make_first_thread.new.kernel c.in_err-thread.ensures in
+    on_err _ _ begun
+
+pub make_status-requires : goal.make_status-requires
+make_status-requires g c =
+    let way = c.requires in
+    status_allowed way.0 c.args.kernel.now way.1 way.3
+    c.in_ok-read.read c.make_category.new.kernel c.in_ok-read.ensures.0 c.in_ok-read.ensures.1
+    c.in_ok-write.write c.make_category-2.new.kernel c.in_ok-write.ensures.0 c.in_ok-write.ensures.1
+    c.in_ok-outer.outer c.make_outer.new.kernel c.in_ok-outer.ensures.0 c.in_ok-outer.ensures.1.0
+    c.in_ok-internal.internal c.make_internal.new.kernel c.in_ok-internal.ensures.0 c.in_ok-internal.ensures.1.0
+    c.in_ok-thread.thread c.make_first_thread.new.kernel c.in_ok-thread.ensures.0 c.in_ok-thread.ensures.1.0
+    way.2
+
+pub returns-in_err-segment-clause-err : goal.returns-in_err-segment-clause-err
+returns-in_err-segment-clause-err g c =
+    let begun : BeginsProcess c.args.kernel.now c.make_status.new.kernel = λ n owners first p at b.
+    process_begun_five first c.args.kernel.now p b
+    c.in_ok-read.read c.make_category.new.kernel c.in_ok-read.ensures.0 c.in_ok-read.ensures.1
+    c.in_ok-write.write c.make_category-2.new.kernel c.in_ok-write.ensures.0 c.in_ok-write.ensures.1
+    c.in_ok-outer.outer c.make_outer.new.kernel c.in_ok-outer.ensures.0 c.in_ok-outer.ensures.1.0
+    c.in_ok-internal.internal c.make_internal.new.kernel c.in_ok-internal.ensures.0 c.in_ok-internal.ensures.1.0
+    c.in_ok-thread.thread c.make_first_thread.new.kernel c.in_ok-thread.ensures.0 c.in_ok-thread.ensures.1.0
+    n owners at c.make_status.new.kernel c.in_err-segment.ensures in
+    on_err _ _ begun
 
 pub returns-clause-boots : goal.returns-clause-boots
-returns-clause-boots g c = λ n owners first p at b. (stage g c n owners first p at b).0
+returns-clause-boots g c = λ n owners first p at b.
+    (process_stage first c.args.kernel.now p b
+    c.in_ok-read.read c.make_category.new.kernel c.in_ok-read.ensures.0 c.in_ok-read.ensures.1
+    c.in_ok-write.write c.make_category-2.new.kernel c.in_ok-write.ensures.0 c.in_ok-write.ensures.1
+    c.in_ok-outer.outer c.make_outer.new.kernel c.in_ok-outer.ensures.0 c.in_ok-outer.ensures.1.0
+    c.in_ok-internal.internal c.make_internal.new.kernel c.in_ok-internal.ensures.0 c.in_ok-internal.ensures.1.0
+    c.in_ok-thread.thread c.make_first_thread.new.kernel c.in_ok-thread.ensures.0 c.in_ok-thread.ensures.1.0
+    c.in_ok-segment.segment c.make_status.new.kernel c.in_ok-segment.ensures.0 c.in_ok-segment.ensures.1.0
+    n owners at).0
 
 pub returns-clause-home : goal.returns-clause-home
 returns-clause-home g c = λ n owners first p at b.
-    let s = stage g c n owners first p at b in
+    let s = process_stage first c.args.kernel.now p b
+    c.in_ok-read.read c.make_category.new.kernel c.in_ok-read.ensures.0 c.in_ok-read.ensures.1
+    c.in_ok-write.write c.make_category-2.new.kernel c.in_ok-write.ensures.0 c.in_ok-write.ensures.1
+    c.in_ok-outer.outer c.make_outer.new.kernel c.in_ok-outer.ensures.0 c.in_ok-outer.ensures.1.0
+    c.in_ok-internal.internal c.make_internal.new.kernel c.in_ok-internal.ensures.0 c.in_ok-internal.ensures.1.0
+    c.in_ok-thread.thread c.make_first_thread.new.kernel c.in_ok-thread.ensures.0 c.in_ok-thread.ensures.1.0
+    c.in_ok-segment.segment c.make_status.new.kernel c.in_ok-segment.ensures.0 c.in_ok-segment.ensures.1.0
+    n owners at in
     λ j. record { container = s.1 j; segment = s.2 j }

@@ -1,25 +1,51 @@
-use Rattle.std.proofs.Common.{◌≡◌, ap, ◌∙◌}
-use Rattle.histar_rules.specs.declared.raw.RawCall.TheVariants.{MakeSegment, MakeGate}
-use Rattle.histar_object.specs.declared.objects.Entry.TheVariants.{Login}
-use Rattle.histar_calls.specs.Categories.{read_category, write_category}
-use Rattle.histar_calls.specs.Labelling.{secret_of}
-use Rattle.histar_login.specs.Start.{owners_label, owners_clearance, gate_label, gate_clearance}
-use Rattle.histar_login.proofs.Parts.{granted_as}
-use Rattle.histar_login.proofs.Stages.{user_boots}
+use Rattle.std.proofs.Common.{◌∙◌, arith}
+use Rattle.histar_container.proofs.Keeping.{on_err}
+use Rattle.histar_flat.proofs.WordLemmas.{short_password}
+use Rattle.histar_syscall.proofs.Runs.{same_kernel}
+use Rattle.histar_calls.specs.Categories.{owners_of}
+use Rattle.histar_login.specs.Booting.{BeginsUser}
+use Rattle.histar_login.proofs.Stages.{password_allowed, login_allowed, user_begun_none, user_begun_one, user_boots, password_made, gate_made, gate_allowed_for}
 use Rattle.histar_login.proofs.booting.make_user.Goals as goal
 
-pub returns : goal.returns
-returns g c = λ session owned first p at b.
-    let i = c.args.number in
-    let name = c.args.user.now.name in
-    let r : c.read_category-read.result ≡ read_category i = c.read_category-read.ensures in
-    let w : c.write_category-write.result ≡ write_category i = c.write_category-write.ensures in
-    let secret : c.in_ok-secret.secret ≡ secret_of (read_category i) (write_category i) = c.in_ok-secret.ensures ∙ (λ j. secret_of (r j) (w j)) in
-    let given : c.in_ok-given.given ≡ gate_label session i name = c.in_ok-given.ensures.0 ∙ ap owners_label owned in
-    let most : c.in_ok-given.most ≡ gate_clearance session i name = c.in_ok-given.ensures.1 ∙ ap owners_clearance owned in
-    let password : c.in_ok-password.password ≡ c.args.user.now.password = c.in_ok-password.ensures ∙ c.as_bytes.ensures.value in
-    user_boots session first c.args.kernel.now c.make_segment-segment.new.self c.make_gate-gate.new.self p i c.args.user.now at b
-    (granted_as _ _ _ _ _ c.make_segment-segment.result _ _ c.make_segment-segment.ensures c.in_ok-granted.ensures c.boot_thread.ensures
-    (λ j. MakeSegment (c.root_container.ensures j) (secret j) (password j)))
-    (granted_as _ _ _ _ _ c.make_gate-gate.result _ _ c.make_gate-gate.ensures c.in_ok-granted-2.ensures c.boot_thread-2.ensures
-    (λ j. MakeGate (c.root_container-2.ensures j) (given j) (most j) (Login i)))
+pub returns-in_err-owners-clause-err : goal.returns-in_err-owners-clause-err
+returns-in_err-owners-clause-err g c =
+    let begun : BeginsUser c.args.kernel.now c.args.kernel.now c.args.session.now c.args.number c.args.user.now = λ first p at b.
+    user_begun_none c.args.session.now c.args.number c.args.user.now first c.args.kernel.now p b c.args.kernel.now (same_kernel c.args.kernel.now) in
+    on_err _ _ begun
+
+pub make_password-requires : goal.make_password-requires
+make_password-requires g c =
+    let way = c.requires.begins in
+    rw c.as_bytes.ensures.value
+    (password_allowed c.args.session.now c.args.number c.args.user.now way.0 c.args.kernel.now way.1 way.3 way.2 c.ranges.number.fits c.requires.number
+    (omega (arith, short_password c.args.user.now.password c.as_bytes.ensures.right)))
+
+pub returns-in_err-make_password-clause-err : goal.returns-in_err-make_password-clause-err
+returns-in_err-make_password-clause-err g c =
+    let begun : BeginsUser c.args.kernel.now c.make_password.new.kernel c.args.session.now c.args.number c.args.user.now = λ first p at b.
+    user_begun_none c.args.session.now c.args.number c.args.user.now first c.args.kernel.now p b c.make_password.new.kernel c.in_err-make_password.ensures in
+    on_err _ _ begun
+
+pub make_login_gate-requires : goal.make_login_gate-requires
+make_login_gate-requires g c =
+    let way = c.requires.begins in
+    gate_allowed_for c.make_password.new.kernel c.args.number c.as_slice.result.now c.in_ok-owners.owners.items (owners_of c.args.session.now c.args.number c.args.user.now.name)
+    c.as_slice.ensures.value c.in_ok-owners.ensures
+    (login_allowed c.args.session.now c.args.number c.args.user.now way.0 c.args.kernel.now way.1 way.3 c.make_password.new.kernel
+    (password_made c.args.kernel.now c.make_password.new.kernel c.args.number _ _ c.as_bytes.ensures.value c.in_ok-make_password.ensures.0)
+    way.2 c.ranges.number.fits c.requires.number)
+
+pub returns-in_err-make_login_gate-clause-err : goal.returns-in_err-make_login_gate-clause-err
+returns-in_err-make_login_gate-clause-err g c =
+    let begun : BeginsUser c.args.kernel.now c.make_login_gate.new.kernel c.args.session.now c.args.number c.args.user.now = λ first p at b.
+    user_begun_one c.args.session.now c.args.number c.args.user.now first c.args.kernel.now p b c.make_password.new.kernel
+    (password_made c.args.kernel.now c.make_password.new.kernel c.args.number _ _ c.as_bytes.ensures.value c.in_ok-make_password.ensures.0)
+    c.make_login_gate.new.kernel c.in_err-make_login_gate.ensures in
+    on_err _ _ begun
+
+pub returns-clause-ok : goal.returns-clause-ok
+returns-clause-ok g c = λ first p at b.
+    user_boots c.args.session.now c.args.number c.args.user.now first c.args.kernel.now p b c.make_password.new.kernel
+    (password_made c.args.kernel.now c.make_password.new.kernel c.args.number _ _ c.as_bytes.ensures.value c.in_ok-make_password.ensures.0)
+    c.make_login_gate.new.kernel at
+    (gate_made c.make_password.new.kernel c.make_login_gate.new.kernel c.args.number c.as_slice.result.now (owners_of c.args.session.now c.args.number c.args.user.now.name) (c.as_slice.ensures.value ∙ c.in_ok-owners.ensures) c.in_ok-make_login_gate.ensures.0)

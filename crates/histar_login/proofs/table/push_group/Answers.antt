@@ -1,13 +1,15 @@
-use Rattle.std.proofs.Common.{◌≡◌, ◌++◌, [], ◌∷◌, length, ap, ◌∙◌}
+use Rattle.std.proofs.Common.{◌≡◌, ◌≤◌, ◌++◌, [], ◌∷◌, length, ap, sym, ◌∙◌}
 use Rattle.std.specs.Int.{w64, to_be_bytes}
 use Rattle.std.proofs.lemmas.Result.{on_ok_weaker}
 use Rattle.histar_login.specs.Start.{numbers_among}
 use Rattle.histar_calls.specs.Categories.{read_category, write_category, group_owner}
 use Rattle.histar_login.proofs.GroupLemmas.{group_grows}
+use Rattle.histar_flat.proofs.WordLemmas.{short_name}
+use Rattle.histar_login.proofs.TableLengths.{group_few}
 use Rattle.histar_login.proofs.table.push_group.Goals as goal
 
-pub returns : goal.returns
-returns c =
+pub returns-clause-adds : goal.returns-clause-adds
+returns-clause-adds c =
     let t0 = c.args.table.now.items in
     let t1 = c.push.new.self.items in
     let t2 = c.extend_from_slice.new.self.items in
@@ -27,3 +29,10 @@ returns c =
     (c.in_ok-extend_from_slice-3.ensures.items ∙ ap (λ n. t3 ++ n) (c.to_be_bytes-2.ensures ∙ ap (to_be_bytes w64) write))
     (c.in_ok-push-2.ensures.items ∙ ap (λ n. t4 ++ length n ∷ []) c.members.ensures.members))
     (on_ok_weaker c.push_members.result (λ e. e ∙ ap (λ users. t5 ++ numbers_among 1 users c.args.group.now.members) c.users.ensures.users) c.push_members.ensures)
+
+pub returns-clause-few : goal.returns-clause-few
+returns-clause-few c =
+    let short : length c.args.group.now.name ≤ 32 = rw (sym (c.as_bytes.ensures.value ∙ c.name-name.ensures)) (short_name _ (rw c.as_bytes.ensures.value c.as_bytes.ensures.right)) in
+    on_ok_weaker c.push_members.result
+    (λ adds. group_few c.args.table.now.items c.push_members.new.table.items c.args.session.now.users c.args.number c.args.group.now adds short c.users.ensures.few.users)
+    (returns-clause-adds c)

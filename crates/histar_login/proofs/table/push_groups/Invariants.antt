@@ -1,6 +1,9 @@
-use Rattle.std.proofs.Common.{◌≡◌, ◌++◌, take}
+use Rattle.std.proofs.Common.{◌≡◌, ◌≤◌, ◌+◌, ◌*◌, ◌++◌, length, take}
 use Rattle.histar_login.specs.Start.{numbered, group_entry}
 use Rattle.histar_login.proofs.table.push_groups.Given as goal
 
 abbrev pub invariant-loop-k : goal.invariant-loop-k
-invariant-loop-k l = l.table.items ≡ l.initial.table.items ++ numbered (group_entry l.session.users) 1 (take l.k l.session.groups)
+invariant-loop-k l = record {
+  adds : l.table.items ≡ l.initial.table.items ++ numbered (group_entry l.session.users) 1 (take l.k l.session.groups);
+  few : length l.table.items ≤ length l.initial.table.items + 66 * l.k;
+}

@@ -1,6 +1,9 @@
-use Rattle.std.proofs.Common.{◌≡◌, take}
+use Rattle.std.proofs.Common.{◌≡◌, ◌≤◌, ◌+◌, ◌*◌, length, take}
 use Rattle.histar_login.specs.Start.{user_entries}
 use Rattle.histar_login.proofs.table.user_table.Given as goal
 
 abbrev pub invariant-loop-i : goal.invariant-loop-i
-invariant-loop-i l = l.table.items ≡ user_entries (take l.i l.session.users)
+invariant-loop-i l = record {
+  adds : l.table.items ≡ user_entries (take l.i l.session.users);
+  few : length l.table.items ≤ 65 + 65 * l.i;
+}
