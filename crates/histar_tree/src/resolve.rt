@@ -54,12 +54,12 @@ mod tests {
     fn finds_what_boot_made(rt: HostRuntime) -> Result<(), Fail> {
         let alloc = rt.alloc();
         let mut session = Session::new(alloc);
-        session.add_user(User {
-            name: read_user_name(b"root").ok_or("a name")?,
-            password: read_password(b"rr").ok_or("a password")?,
-        })?;
+        let name = read_user_name(b"root").ok_or("a name")?;
+        let password = read_password(b"rr").ok_or("a password")?;
+        session.add_user(User { name, password })?;
         let (kernel, places) = boot(alloc, PlainStore::new(alloc), &session)?;
-        let slash = Target::Directory(places.slash.container, places.slash.listing);
+        let place = places.slash;
+        let slash = Target::Directory(place.container, place.listing);
         assert_eq!(rt; resolve(&kernel, &places, &Path::root()), Some(slash));
         let nothing = read_path(b"/nothing").ok_or("a path")?;
         assert!(rt; resolve(&kernel, &places, &nothing).is_none());
