@@ -5,3 +5,4 @@ pub mod TreeLaid
 pub mod OneTarget
 pub mod Resolving
 pub mod PathsLaid
+pub mod AddingProcesses

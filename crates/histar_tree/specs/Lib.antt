@@ -2,4 +2,5 @@ pub mod Tree
 pub mod TreeLines
 pub mod FlatTree
 pub mod Resolve
+pub mod Processes
 pub mod Laws

@@ -41,28 +41,3 @@ fn resolve_names<S: LabelStore + Drop>(
     };
     found
 }
-
-#[cfg(test)]
-mod tests {
-    use super::*;
-    use histar_flat::{Session, User, read_password, read_path, read_user_name};
-    use histar_label::PlainStore;
-    use histar_login::boot;
-    use std::test::Fail;
-
-    #[test]
-    fn finds_what_boot_made(rt: HostRuntime) -> Result<(), Fail> {
-        let alloc = rt.alloc();
-        let mut session = Session::new(alloc);
-        let name = read_user_name(b"root").ok_or("a name")?;
-        let password = read_password(b"rr").ok_or("a password")?;
-        session.add_user(User { name, password })?;
-        let (kernel, places) = boot(alloc, PlainStore::new(alloc), &session)?;
-        let place = places.slash;
-        let slash = Target::Directory(place.container, place.listing);
-        assert_eq!(rt; resolve(&kernel, &places, &Path::root()), Some(slash));
-        let nothing = read_path(b"/nothing").ok_or("a path")?;
-        assert!(rt; resolve(&kernel, &places, &nothing).is_none());
-        Ok(())
-    }
-}
