@@ -1,5 +1,5 @@
-//! Where paths lead, the tree of files and directories, and the processes, read out of a kernel's own
-//! objects.
+//! Where paths lead, the tree of files and directories, and the processes, read out of a kernel's
+//! own objects.
 #![tactic(auto)]
 
 mod processes;

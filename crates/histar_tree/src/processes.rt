@@ -1,11 +1,9 @@
 //! Reading the processes.
-ghost use Rattle.std.specs.Prelude.{◌≡◌, ◌≤◌, IfOk, length, option_map};
+ghost use Rattle.std.specs.Prelude.{◌≡◌, ◌≤◌, IfOk, length};
 ghost use Rattle.histar_flat.specs.Words.{most_numbers};
-ghost use Rattle.histar_layout.specs.Status.{head_of};
-ghost use Rattle.histar_process.specs.Caller.{status_at};
 ghost use Rattle.histar_syscall.specs.KernelModel.{state};
-ghost use Rattle.histar_tree.specs.Processes.{AddsChildren, AddsProcesses, FindsProcesses, child_of};
 ghost use Rattle.histar_process.specs.Parts.{home_of};
+ghost use Rattle.histar_tree.specs.Processes.{AddsChildren, AddsProcesses, FindsProcesses, child_of};
 
 use histar_calls::{Home, Places};
 use histar_flat::ProcName;
@@ -46,9 +44,9 @@ impl<T: Drop> From<AllocFailed<T>> for ProcessError {
     }
 }
 
-/// The processes of a kernel: those that the process segments list from that of process 0 on, each before
-/// its children, which stand by rising numbers. They are read out of the kernel's table, with no raw call.
-/// None where the segments don't list processes whose names can be told.
+/// The processes of a kernel: those that the process segments list from that of process 0 on, each
+/// before its children, which stand by rising numbers. They are read out of the kernel's table, with
+/// no raw call. None where a segment on the way tells of no process, or a name is too long.
 pub fn procs_of<S: LabelStore + Drop>(
     alloc: Global,
     kernel: &Kernel<S>,
@@ -73,7 +71,8 @@ fn push_process<S: LabelStore + Drop>(
     processes: &mut Vec<ProcessNode>,
 ) -> Result<(), ProcessError>
     requires { length name.now ≤ most_numbers }
-    ensures { AddsProcesses (state kernel.now) name.now home.now processes.old.items processes.new.items result }
+    ensures { AddsProcesses (state kernel.now) name.now home.now
+        processes.old.items processes.new.items result }
 {
     let segment = home.segment;
     let Some(head) = read_status(kernel.bytes(segment)) else {
@@ -88,7 +87,8 @@ fn push_process<S: LabelStore + Drop>(
     push_children(kernel, name, segment, born, processes)
 }
 
-/// Adds the children of a process, of which this is the process segment, and to which so many were born.
+/// Adds the children of a process, of which this is the process segment, and to which so many were
+/// born.
 #[cycle(processes)]
 fn push_children<S: LabelStore + Drop>(
     kernel: &Kernel<S>,
@@ -98,7 +98,8 @@ fn push_children<S: LabelStore + Drop>(
     processes: &mut Vec<ProcessNode>,
 ) -> Result<(), ProcessError>
     requires { length name.now ≤ most_numbers }
-    ensures { AddsChildren (state kernel.now) name.now segment born processes.old.items processes.new.items result }
+    ensures { AddsChildren (state kernel.now) name.now segment born
+        processes.old.items processes.new.items result }
 {
     'births: for births in 0..born {
         let Some(child) = child_of(kernel, segment, births + 1) else {

@@ -8,10 +8,10 @@ use histar_label::LabelStore;
 use histar_layout::{Target, look_up};
 use histar_syscall::Kernel;
 
-/// Where a path leads in a kernel's own objects: the container and directory segment of a directory, or
-/// the segment of a file. Each directory above is read in place from that of `/` on, with no raw call and
-/// no memory of its own. None where nothing stands there, and where a segment on the way holds no
-/// directory.
+/// Where a path leads in a kernel's own objects: the container and directory segment of a directory,
+/// or the segment of a file. Each directory above is read in place from that of `/` on, with no raw
+/// call and no memory of its own. None where nothing stands there, and where a segment on the way
+/// holds no directory.
 pub fn resolve<S: LabelStore + Drop>(
     kernel: &Kernel<S>,
     places: &Places,

@@ -17,8 +17,8 @@ pub fn paths_lead_to_one_target()
     ensures { PathsLeadToOneTarget }
 {}
 
-/// In a state that lays out a flat state a path leads to a file or a directory exactly where the flat
-/// state has one, which is then of the same kind and has the same bytes.
+/// In a state that lays out a flat state a path leads to a file or a directory exactly where the
+/// flat state has one, which is then of the same kind and has the same bytes.
 pub fn flat_states_are_resolved()
     ensures { FlatStatesAreResolved }
 {}
