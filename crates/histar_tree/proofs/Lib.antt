@@ -6,3 +6,4 @@ pub mod OneTarget
 pub mod Resolving
 pub mod PathsLaid
 pub mod AddingProcesses
+pub mod ProcessesLaid

@@ -1,6 +1,6 @@
--- The tree of a state that lays out a flat state, and where its paths lead.
-use Rattle.std.specs.Prelude.{◌≡◌, ◌≤◌, true, List, length, Some, MatchOption}
-use Rattle.histar_flat.specs.Words.{Path, most_names}
+-- The tree of a state that lays out a flat state, where its paths lead, and its processes.
+use Rattle.std.specs.Prelude.{◌≡◌, ◌≤◌, true, List, [], length, map, Some, is_some, MatchOption}
+use Rattle.histar_flat.specs.Words.{Path, ProcName, most_names, most_numbers}
 use Rattle.histar_flat.specs.Sessions.{Session}
 use Rattle.histar_flat.specs.Files.{get}
 use Rattle.histar_flat.specs.FlatState.{Flat, Node, is_there, is_dir, bytes_of}
@@ -14,6 +14,9 @@ use Rattle.histar_tree.specs.declared.tree.TreeNode.{TreeNode}
 use Rattle.histar_tree.specs.Tree.{IsTreeOf}
 use Rattle.histar_tree.specs.TreeLines.{flat_lines, bytes_at, lines_at}
 use Rattle.histar_tree.specs.Resolve.{LeadsTo, LeadsNowhere}
+use Rattle.histar_tree.specs.declared.processes.ProcessNode.{ProcessNode}
+use Rattle.histar_tree.specs.Processes.{AreProcessesOf, levels_at}
+use Rattle.histar_tree.specs.ProcessLines.{process_line, flat_processes}
 
 -- no path has more names than can be named
 abbrev pub AreShallow : Flat → Type 0
@@ -49,3 +52,17 @@ abbrev pub FlatStatesAreResolved : Type 0
 FlatStatesAreResolved =
     (session : Session) (s : State) (f : Flat) → LaysOut session s f → (q : Path)
     → MatchOption (get f.files q) (LeadsNowhere s (places_of (length session.users)) q) (LeadsToNode s (places_of (length session.users)) q)
+
+-- no process has more numbers in its name than can be told
+abbrev pub AreNamed : Flat → Type 0
+AreNamed f = (me : ProcName) → is_some (f.processes me) ≡ true → length me ≤ most_numbers
+
+-- a state has processes, of which is told what is told of those of this flat state
+pub record HasProcessesOf (session : Session) (s : State) (f : Flat) : Type 0 where
+  pub processes : List ProcessNode
+  pub are_processes : AreProcessesOf s (places_of (length session.users)) processes
+  pub lines : map process_line processes ≡ flat_processes (levels_at []) f []
+
+-- a state that lays out a flat state has the processes of that, and what is told of them is what the flat state has
+abbrev pub FlatStatesHaveTheirProcesses : Type 0
+FlatStatesHaveTheirProcesses = (session : Session) (s : State) (f : Flat) → LaysOut session s f → AreNamed f → HasProcessesOf session s f

@@ -3,4 +3,5 @@ pub mod TreeLines
 pub mod FlatTree
 pub mod Resolve
 pub mod Processes
+pub mod ProcessLines
 pub mod Laws

@@ -1,5 +1,6 @@
-//! Laws on the tree of a state, and on where its paths lead.
-ghost use Rattle.histar_tree.specs.Laws.{FlatStatesAreResolved, FlatStatesHaveTheirTrees, PathsLeadToOneTarget, StatesHaveOneTree};
+//! Laws on the tree of a state, on where its paths lead, and on its processes.
+ghost use Rattle.histar_tree.specs.Laws.{FlatStatesAreResolved, FlatStatesHaveTheirProcesses};
+ghost use Rattle.histar_tree.specs.Laws.{FlatStatesHaveTheirTrees, PathsLeadToOneTarget, StatesHaveOneTree};
 
 /// A state that lays out a flat state has a tree, of which is told what the flat state has: path by path
 /// its kind, its owner, its mode and its bytes.
@@ -21,4 +22,10 @@ pub fn paths_lead_to_one_target()
 /// flat state has one, which is then of the same kind and has the same bytes.
 pub fn flat_states_are_resolved()
     ensures { FlatStatesAreResolved }
+{}
+
+/// A state that lays out a flat state has processes, of which is told what the flat state has: name by
+/// name whether it runs, or what it has exited with, and how many children were born to it.
+pub fn flat_states_have_their_processes()
+    ensures { FlatStatesHaveTheirProcesses }
 {}
