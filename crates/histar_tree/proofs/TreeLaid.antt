@@ -44,13 +44,13 @@ use Rattle.histar_tree.specs.Laws.{AreShallow, FlatStatesHaveTheirTrees}
 use Rattle.histar_tree.proofs.FlatTree.{walks_meet_all}
 
 -- what leads to a directory has its two numbers
-led_to_directory : (x y : Option ℕ) (target : Target) → both_numbers x y ≡ Some target → (c : ℕ) × (g : ℕ) × (targets.Directory c g ≡ target) × (x ≡ Some c) × (y ≡ Some g)
+pub led_to_directory : (x y : Option ℕ) (target : Target) → both_numbers x y ≡ Some target → (c : ℕ) × (g : ℕ) × (targets.Directory c g ≡ target) × (x ≡ Some c) × (y ≡ Some g)
 led_to_directory None y target e = absurd (none-some target e)
 led_to_directory (Some c) None target e = absurd (none-some target e)
 led_to_directory (Some c) (Some g) target e = (c, g, same_Some (targets.Directory c g) target e, refl, refl)
 
 -- what leads to a file has its number
-led_to_file : (x : Option ℕ) (target : Target) → option_map targets.File x ≡ Some target → (o : ℕ) × (targets.File o ≡ target) × (x ≡ Some o)
+pub led_to_file : (x : Option ℕ) (target : Target) → option_map targets.File x ≡ Some target → (o : ℕ) × (targets.File o ≡ target) × (x ≡ Some o)
 led_to_file None target e = absurd (none-some target e)
 led_to_file (Some o) target e = (o, same_Some (targets.File o) target e, refl)
 
@@ -60,6 +60,16 @@ there_is None e = absurd (true≢false (sym e))
 there_is (Some there) e = (there, refl)
 
 module _ (session : Session) (s : State) (f : Flat) (l : Laid session s f) where
+  -- `/` leads where boot left it
+  pub slash_leads : (class : Class) → target_for l.naming.number ([], record { class = class; content = Dir }) ≡ Some (targets.Directory (slash_number (length session.users)) (slash_listing_number (length session.users)))
+  slash_leads class i = both_numbers (l.as_booted (Slash ∷ []) (slash_number (length session.users)) refl i) (l.as_booted (Listing ∷ Slash ∷ []) (slash_listing_number (length session.users)) refl i)
+
+  -- the segment of a file holds its bytes
+  pub bytes_held : (q : Path) (class : Class) (bytes : List ℕ) → get f.files q ≡ Some (record { class = class; content = File bytes }) → (o : ℕ) → l.naming.number (address_of q) ≡ Some o → bytes_in (s.objects o) ≡ bytes
+  bytes_held q class bytes at o numbered =
+      let g = guard_at session s f l q (record { class = class; content = File bytes }) at in
+      ap bytes_in (file_found session s f l q class bytes at g.0 g.1 o numbered)
+
   -- a tree at a path, of which is told what the flat state has there and below it, down to so many levels
   record HasTreeAt (levels : ℕ) (q : Path) (node : Node) (target : Target) : Type 0 where
     tree : List TreeNode
@@ -149,8 +159,7 @@ module _ (session : Session) (s : State) (f : Flat) (l : Laid session s f) where
       tree_of_file bytes at o numbered =
           let there : Node = record { class = class; content = File bytes } in
           let t = told_at q there at (targets.File o) numbered in
-          let g = guard_at session s f l q there at in
-          let held : bytes_in (s.objects o) ≡ bytes = ap bytes_in (file_found session s f l q class bytes at g.0 g.1 o numbered) in
+          let held = bytes_held q class bytes at o numbered in
           record {
             tree = node_of q (targets.File o) t.told ∷ [];
             is_tree = (node_of q (targets.File o) t.told, [], t.is, refl, refl);
@@ -219,9 +228,7 @@ flat_states_have_their_trees session s f lays shallow =
     let root = root_is_dir session s f l in
     let slash : Node = record { class = root.0; content = Dir } in
     let to = leads_to_tree session s f l shallow (suc most_names) [] slash root.1 (omega arith) in
-    let numbers : target_for l.naming.number ([], slash) ≡ Some (targets.Directory (slash_number (length session.users)) (slash_listing_number (length session.users))) =
-    λ i. both_numbers (l.as_booted (Slash ∷ []) (slash_number (length session.users)) refl i) (l.as_booted (Listing ∷ Slash ∷ []) (slash_listing_number (length session.users)) refl i) in
-    let same = same_Some to.target (targets.Directory (slash_number (length session.users)) (slash_listing_number (length session.users))) (sym to.leads ∙ numbers) in
+    let same = same_Some to.target (targets.Directory (slash_number (length session.users)) (slash_listing_number (length session.users))) (sym to.leads ∙ slash_leads session s f l root.0) in
     record {
       tree = to.there.tree;
       is_tree = subst (λ (target : Target). IsTreeAt (suc most_names) session s [] target to.there.tree) same to.there.is_tree;

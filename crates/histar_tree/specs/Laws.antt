@@ -1,15 +1,22 @@
--- The tree of a state that lays out a flat state.
-use Rattle.std.specs.Prelude.{◌≡◌, ◌≤◌, true, List, length}
-use Rattle.histar_flat.specs.Words.{Path, most_names}
+-- The tree of a state that lays out a flat state, where its paths lead, and its processes.
+use Rattle.std.specs.Prelude.{◌≡◌, ◌≤◌, true, List, [], length, map, Some, is_some, MatchOption}
+use Rattle.histar_flat.specs.Words.{Path, ProcName, most_names, most_numbers}
 use Rattle.histar_flat.specs.Sessions.{Session}
-use Rattle.histar_flat.specs.FlatState.{Flat, is_there}
+use Rattle.histar_flat.specs.Files.{get}
+use Rattle.histar_flat.specs.FlatState.{Flat, Node, is_there, is_dir, bytes_of}
 use Rattle.histar_object.specs.State.{State}
+use Rattle.histar_layout.specs.Listing.{is_directory}
+use Rattle.histar_layout.specs.declared.entry.Target.{Target}
 use Rattle.histar_calls.specs.declared.places.Places.{Places}
 use Rattle.histar_login.specs.Start.{places_of}
 use Rattle.histar_refinement.specs.LaysOut.{LaysOut}
 use Rattle.histar_tree.specs.declared.tree.TreeNode.{TreeNode}
 use Rattle.histar_tree.specs.Tree.{IsTreeOf}
-use Rattle.histar_tree.specs.TreeLines.{flat_lines, lines_at}
+use Rattle.histar_tree.specs.TreeLines.{flat_lines, bytes_at, lines_at}
+use Rattle.histar_tree.specs.Resolve.{LeadsTo, LeadsNowhere}
+use Rattle.histar_tree.specs.declared.processes.ProcessNode.{ProcessNode}
+use Rattle.histar_tree.specs.Processes.{AreProcessesOf, levels_at}
+use Rattle.histar_tree.specs.ProcessLines.{process_line, flat_processes}
 
 -- no path has more names than can be named
 abbrev pub AreShallow : Flat → Type 0
@@ -28,3 +35,34 @@ FlatStatesHaveTheirTrees = (session : Session) (s : State) (f : Flat) → LaysOu
 -- a state has one tree at most
 abbrev pub StatesHaveOneTree : Type 0
 StatesHaveOneTree = (session : Session) (s : State) (places : Places) (a b : List TreeNode) → IsTreeOf session s places a → IsTreeOf session s places b → a ≡ b
+
+-- a path leads to one target at most
+abbrev pub PathsLeadToOneTarget : Type 0
+PathsLeadToOneTarget = (s : State) (places : Places) (q : Path) (a b : Target) → LeadsTo s places q a → LeadsTo s places q b → a ≡ b
+
+-- a path leads to a file or a directory like this one: it is of the same kind, and has the same bytes
+pub record LeadsToNode (s : State) (places : Places) (q : Path) (node : Node) : Type 0 where
+  pub target : Target
+  pub leads : LeadsTo s places q target
+  pub kind : is_directory target ≡ is_dir node
+  pub bytes : bytes_at s target ≡ bytes_of (Some node)
+
+-- in a state that lays out a flat state a path leads to what that has there, and else nowhere
+abbrev pub FlatStatesAreResolved : Type 0
+FlatStatesAreResolved =
+    (session : Session) (s : State) (f : Flat) → LaysOut session s f → (q : Path)
+    → MatchOption (get f.files q) (LeadsNowhere s (places_of (length session.users)) q) (LeadsToNode s (places_of (length session.users)) q)
+
+-- no process has more numbers in its name than can be told
+abbrev pub AreNamed : Flat → Type 0
+AreNamed f = (me : ProcName) → is_some (f.processes me) ≡ true → length me ≤ most_numbers
+
+-- a state has processes, of which is told what is told of those of this flat state
+pub record HasProcessesOf (session : Session) (s : State) (f : Flat) : Type 0 where
+  pub processes : List ProcessNode
+  pub are_processes : AreProcessesOf s (places_of (length session.users)) processes
+  pub lines : map process_line processes ≡ flat_processes (levels_at []) f []
+
+-- a state that lays out a flat state has the processes of that, and what is told of them is what the flat state has
+abbrev pub FlatStatesHaveTheirProcesses : Type 0
+FlatStatesHaveTheirProcesses = (session : Session) (s : State) (f : Flat) → LaysOut session s f → AreNamed f → HasProcessesOf session s f

@@ -1,4 +1,7 @@
 pub mod Tree
 pub mod TreeLines
 pub mod FlatTree
+pub mod Resolve
+pub mod Processes
+pub mod ProcessLines
 pub mod Laws

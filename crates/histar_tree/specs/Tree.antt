@@ -1,5 +1,6 @@
 -- The tree that the directory segments of a state list, from that of `/` on.
-use Rattle.std.specs.Prelude.{◌≡◌, ℕ, zero, suc, ◌-◌, List, [], ◌∷◌, ◌++◌, length, Option, Some, option_map, option_and_then, Result, Ok, Err}
+use Rattle.std.specs.Prelude.{◌≡◌, ℕ, zero, suc, ◌-◌, List, [], ◌∷◌, ◌++◌, length, Option, Some, option_map, option_and_then, MatchOption, Result, Ok, Err}
+use Rattle.std.specs.Global.{Vec}
 use Rattle.std.specs.FinMap as map
 use Rattle.histar_flat.specs.Words.{Name, Path, most_names}
 use Rattle.histar_flat.specs.Sessions.{Session}
@@ -57,6 +58,10 @@ IsTreeOf session s places tree = IsTreeAt (levels_at []) session s [] (Directory
 -- a state has no tree
 abbrev pub HasNoTree : Session → State → Places → Type 0
 HasNoTree session s places = (tree : List TreeNode) → IsTreeOf session s places tree → ⊥
+
+-- what was found is the tree of a state, and nothing was found exactly where it has none
+abbrev pub FindsTree : Session → State → Places → Option (Vec TreeNode) → Type 0
+FindsTree session s places found = MatchOption found (HasNoTree session s places) (λ tree. IsTreeOf session s places tree.items)
 
 -- these trees were added, or there are none such
 abbrev pub Adds : (List TreeNode → Type 0) → List TreeNode → List TreeNode → Result (Unit {0}) TreeError → Type 0

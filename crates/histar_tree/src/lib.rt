@@ -1,7 +1,14 @@
-//! The tree of files and directories, read out of a kernel's own objects.
+//! Where paths lead, the tree of files and directories, and the processes, read out of a kernel's
+//! own objects.
 #![tactic(auto)]
 
+mod processes;
+pub mod resolve;
 mod tree;
 pub mod tree_laws;
 
+pub use processes::{ProcessNode, procs_of};
 pub use tree::{TreeNode, bytes_of, tree_of};
+
+#[cfg(test)]
+mod tests;

@@ -1,10 +1,10 @@
 //! Reading the tree.
-ghost use Rattle.std.specs.Prelude.{◌≡◌, ◌≤◌, length, IfOk, MatchOption, ok_or};
+ghost use Rattle.std.specs.Prelude.{◌≡◌, ◌≤◌, length, IfOk, ok_or};
 ghost use Rattle.histar_flat.specs.Words.{most_names};
 ghost use Rattle.histar_syscall.specs.KernelModel.{state};
 ghost use Rattle.histar_tree.specs.declared.tree.TreeError.TheVariants.{NotATree};
 ghost use Rattle.histar_tree.specs.TreeLines.{bytes_at};
-ghost use Rattle.histar_tree.specs.Tree.{AddsBelow, AddsTree, HasNoTree, IsTreeOf, node_at};
+ghost use Rattle.histar_tree.specs.Tree.{AddsBelow, AddsTree, FindsTree, node_at};
 
 use histar_calls::{Places, class_of};
 use histar_flat::{Path, Session, Stat};
@@ -65,7 +65,7 @@ pub fn tree_of<S: LabelStore + Drop>(
     places: &Places,
     session: &Session,
 ) -> Result<Option<Vec<TreeNode>>, AllocError>
-    ensures { IfOk result (λ found. MatchOption found (HasNoTree session.now (state kernel.now) places.now) (λ tree. IsTreeOf session.now (state kernel.now) places.now tree.items)) }
+    ensures { IfOk result (FindsTree session.now (state kernel.now) places.now) }
 {
     let mut tree = Vec::new(alloc);
     let slash = Target::Directory(places.slash.container, places.slash.listing);

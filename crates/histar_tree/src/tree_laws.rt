@@ -1,5 +1,6 @@
-//! Laws on the tree of a state.
-ghost use Rattle.histar_tree.specs.Laws.{FlatStatesHaveTheirTrees, StatesHaveOneTree};
+//! Laws on the tree of a state, on where its paths lead, and on its processes.
+ghost use Rattle.histar_tree.specs.Laws.{FlatStatesAreResolved, FlatStatesHaveTheirProcesses};
+ghost use Rattle.histar_tree.specs.Laws.{FlatStatesHaveTheirTrees, PathsLeadToOneTarget, StatesHaveOneTree};
 
 /// A state that lays out a flat state has a tree, of which is told what the flat state has: path by path
 /// its kind, its owner, its mode and its bytes.
@@ -10,4 +11,21 @@ pub fn flat_states_have_their_trees()
 /// A state has one tree at most.
 pub fn states_have_one_tree()
     ensures { StatesHaveOneTree }
+{}
+
+/// A path leads to one target at most.
+pub fn paths_lead_to_one_target()
+    ensures { PathsLeadToOneTarget }
+{}
+
+/// In a state that lays out a flat state a path leads to a file or a directory exactly where the
+/// flat state has one, which is then of the same kind and has the same bytes.
+pub fn flat_states_are_resolved()
+    ensures { FlatStatesAreResolved }
+{}
+
+/// A state that lays out a flat state has processes, of which is told what the flat state has: name by
+/// name whether it runs, or what it has exited with, and how many children were born to it.
+pub fn flat_states_have_their_processes()
+    ensures { FlatStatesHaveTheirProcesses }
 {}

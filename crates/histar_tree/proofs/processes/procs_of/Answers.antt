@@ -1,0 +1,11 @@
+use Rattle.histar_syscall.specs.KernelModel.{state}
+use Rattle.histar_tree.proofs.AddingProcesses.{processes_added, no_processes_added}
+use Rattle.histar_tree.proofs.processes.procs_of.Goals as goal
+
+pub returns-in-Ok : goal.returns-in-Ok
+returns-in-Ok g c =
+    processes_added (state c.args.kernel.now) c.args.places.now c.zero.result c.zero.ensures c.new-processes.result.items c.push_process.new.processes.items c.push_process.result c.push_process.ensures c.in-Ok.field-0 c.in-Ok.is c.new-processes.ensures.items
+
+pub returns-in-Err-NoProcesses : goal.returns-in-Err-NoProcesses
+returns-in-Err-NoProcesses g c =
+    no_processes_added (state c.args.kernel.now) c.args.places.now c.zero.result c.zero.ensures c.new-processes.result.items c.push_process.new.processes.items c.push_process.result c.push_process.ensures c.in-Err-NoProcesses.field-0 c.in-Err-NoProcesses.is c.in-Err-NoProcesses.field-0-is
