@@ -31,4 +31,6 @@ mod runs;
 #[cfg(test)]
 mod session;
 #[cfg(test)]
+mod stops;
+#[cfg(test)]
 mod texts;
