@@ -140,12 +140,13 @@ impl Read for FailingReader<'_> {
     }
 }
 
-/// Takes at most `piece` bytes a call and `room` in all, and then fails.
+/// Takes at most `piece` bytes a call and `room` in all, and then fails, or silently takes none.
 #[derive(Drop)]
 struct FailingWriter {
     taken: Vec<u8>,
     piece: usize,
     room: usize,
+    is_silent: bool,
 }
 
 impl FailingWriter {
@@ -154,6 +155,17 @@ impl FailingWriter {
             taken: Vec::new(alloc),
             piece,
             room,
+            is_silent: false,
+        })
+    }
+
+    /// One that takes none of the bytes, and is silent about it, once it is full.
+    fn silent(alloc: Global, piece: usize, room: usize) -> Counted<FailingWriter> {
+        Counted::new(FailingWriter {
+            taken: Vec::new(alloc),
+            piece,
+            room,
+            is_silent: true,
         })
     }
 }
@@ -161,7 +173,7 @@ impl FailingWriter {
 impl Write for FailingWriter {
     fn write(&mut self, bytes: &[u8]) -> io::Result<usize> {
         let n = self.piece.min(bytes.len()).min(self.room);
-        if n == 0 {
+        if n == 0 && !self.is_silent {
             return Err(io::Error::from(ErrorKind::StorageFull));
         }
         self.taken.extend_from_slice(&bytes[..n])?;
@@ -228,28 +240,37 @@ fn refuses_a_session_at_its_first_bad_line(rt: HostRuntime) -> Result<(), Fail> 
 }
 
 #[test]
-fn stops_at_a_failed_read(rt: HostRuntime) -> Result<(), Fail> {
-    let mut reader = FailingReader::new(TWO_GATES.session, 100, 3);
-    let mut writer = FailingWriter::new(rt.alloc(), 4096, 4096);
-    let result = run_raw_script(rt.alloc(), &mut reader, &mut writer);
-    assert_eq!(rt; result, Err(Fault::ReadFailed));
-    assert_eq!(rt; reader.failures(), 1);
-    assert!(rt; writer.into_inner().taken.is_empty());
-    Ok(())
+fn stops_at_a_failed_read_of_any_kind(rt: HostRuntime) {
+    let session = SECRET_AND_GATE.session;
+    for fails_at in 1..session.len() + 2 {
+        let mut reader = FailingReader::new(session, 1, fails_at);
+        let mut writer = FailingWriter::new(rt.alloc(), 4096, 4096);
+        let result = run_raw_script(rt.alloc(), &mut reader, &mut writer);
+        assert!(rt; result == Err(Fault::ReadFailed), "at call {fails_at}");
+        assert_eq!(rt; reader.failures(), 1);
+        assert_eq!(rt;
+            reader.into_inner().calls,
+            fails_at,
+            "no call after the failed one"
+        );
+        assert!(rt; writer.into_inner().taken.is_empty());
+    }
 }
 
 #[test]
-fn stops_where_the_writer_is_full(rt: HostRuntime) -> Result<(), Fail> {
-    for room in 0..TWO_GATES.text.len() {
-        let mut reader = FailingReader::new(TWO_GATES.session, 4096, 0);
-        let mut writer = FailingWriter::new(rt.alloc(), 4096, room);
-        let result = run_raw_script(rt.alloc(), &mut reader, &mut writer);
-        assert_eq!(rt; result, Err(Fault::WriteFailed));
-        assert_eq!(rt; writer.failures(), 1);
-        assert_eq!(rt;
-            writer.into_inner().taken.as_slice(),
-            &TWO_GATES.text[..room]
-        );
+fn writes_as_much_as_the_writer_takes(rt: HostRuntime) {
+    let Example { session, text } = TWO_GATES;
+    for room in 0..text.len() {
+        let writers = [
+            FailingWriter::new(rt.alloc(), 4096, room),
+            FailingWriter::silent(rt.alloc(), 4, room),
+        ];
+        for mut writer in writers {
+            let mut reader = FailingReader::new(session, 4096, 0);
+            let result = run_raw_script(rt.alloc(), &mut reader, &mut writer);
+            assert!(rt; result == Err(Fault::WriteFailed), "after {room} bytes");
+            assert_eq!(rt; writer.failures(), 1);
+            assert_eq!(rt; writer.into_inner().taken.as_slice(), &text[..room]);
+        }
     }
-    Ok(())
 }

@@ -21,4 +21,6 @@ mod raw_sessions;
 #[cfg(test)]
 mod runs;
 #[cfg(test)]
+mod stops;
+#[cfg(test)]
 mod texts;
