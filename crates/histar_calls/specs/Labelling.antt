@@ -39,8 +39,8 @@ abbrev pub guarded_by : List ℕ → List ℕ → Levels
 guarded_by secret written = labelled (each_at L3 secret ++ each_at L0 written) L1
 
 -- `{o:* .., t:3 .., 1}`: the first categories are owned, level 3 at the others, and else 1
-abbrev pub owning : List ℕ → List ℕ → Levels
-owning owned tainted = labelled (each_at Star owned ++ each_at L3 tainted) L1
+abbrev pub owner_label : List ℕ → List ℕ → Levels
+owner_label owned tainted = labelled (each_at Star owned ++ each_at L3 tainted) L1
 
 -- `{c:3 .., 2}`: the clearance with level 3 at these categories
 abbrev pub cleared_at : List ℕ → Levels

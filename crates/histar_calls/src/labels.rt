@@ -1,7 +1,7 @@
 //! Labels by their exceptions, and the labels of files.
 ghost use Rattle.std.specs.Prelude.{◌≡◌, ℕ, IfOk, length};
 ghost use Rattle.histar_calls.specs.Categories.{IsUserOf, file_label, label_made, read_category, scratch_label, write_category};
-ghost use Rattle.histar_calls.specs.Labelling.{cleared_at, each_at, guarded_by, labelled, owning, secret_of, with_levels};
+ghost use Rattle.histar_calls.specs.Labelling.{cleared_at, each_at, guarded_by, labelled, owner_label, secret_of, with_levels};
 
 use crate::jobs::{is_in_job, jobs_in};
 use crate::owners::owner_of_group;
@@ -38,8 +38,8 @@ pub fn guarded_by(
 }
 
 /// The label of a thread that owns the first categories, and has the secrets of the others.
-pub fn owning(alloc: Global, owned: &[Category], tainted: &[Category]) -> Result<Label, AllocError>
-    ensures { IfOk result (λ label. label ≡ owning owned.now tainted.now) }
+pub fn owner_label(alloc: Global, owned: &[Category], tainted: &[Category]) -> Result<Label, AllocError>
+    ensures { IfOk result (λ label. label ≡ owner_label owned.now tainted.now) }
 {
     let label = with_each(Label::new(alloc, Level::L1), Level::Star, owned)?;
     with_each(label, Level::L3, tainted)

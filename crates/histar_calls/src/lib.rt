@@ -27,6 +27,6 @@ pub use directory::{Directory, walk, write_entries};
 pub use ending::{Ending, Stopped, settle, written};
 pub use find::{Room, find_room};
 pub use jobs::{is_in_job, is_three, jobs_in};
-pub use labels::{cleared_at, guarded_by, label_of, owning, scratch_label, user_of};
+pub use labels::{cleared_at, guarded_by, label_of, owner_label, scratch_label, user_of};
 pub use owners::{group_owner, owners_of};
 pub use places::{Home, Place, Places, read_category, write_category};

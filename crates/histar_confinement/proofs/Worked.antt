@@ -18,8 +18,8 @@ use Rattle.histar_object.specs.declared.objects.Kind.{Kind}
 use Rattle.histar_object.specs.declared.objects.Kind.TheVariants.{Segment, Container, Thread, Gate}
 use Rattle.histar_object.specs.declared.objects.Object.{Object}
 use Rattle.histar_object.specs.Objects.{Objects, Numbers, no_objects, put, changed_at, with_new, kind_linking, linking, thread_of, links_in, kind_is_gate, is_gate}
-use Rattle.histar_object.specs.Rights.{kind_cleared, owning, with_category}
-use Rattle.histar_object.specs.State.{State, Found, added, root_object, boot_thread, empty_state}
+use Rattle.histar_object.specs.Rights.{kind_with_three_at, with_star_at, with_category}
+use Rattle.histar_object.specs.State.{State, Found, with_object, root_object, boot_thread, empty_state}
 use Rattle.histar_container.specs.Tree.{Address}
 use Rattle.histar_container.proofs.Addresses.{inner}
 use Rattle.histar_rules.specs.declared.raw.RawCall.{RawCall}
@@ -218,10 +218,10 @@ pub first_state : State
 first_state = with_category empty_state 2
 
 pub second_state : State
-second_state = added first_state 1 (record { label = secret; kind = Container set.empty })
+second_state = with_object first_state 1 (record { label = secret; kind = Container set.empty })
 
 pub confined_state : State
-confined_state = added second_state 3 (thread_of secret secret_clearance)
+confined_state = with_object second_state 3 (thread_of secret secret_clearance)
 
 -- each of these calls is granted
 category_granted : check empty_state 2 MakeCategory ≡ None
@@ -277,7 +277,7 @@ linking_no_gate n (Container links) e = refl
 linking_no_gate n (Thread clearance) e = refl
 linking_no_gate n (Gate clearance entry) e = e
 
-owning_no_gate : (c : ℕ) (k : Kind Levels) → kind_is_gate k ≡ false → kind_is_gate (kind_cleared c k) ≡ false
+owning_no_gate : (c : ℕ) (k : Kind Levels) → kind_is_gate k ≡ false → kind_is_gate (kind_with_three_at c k) ≡ false
 owning_no_gate c (Segment bytes) e = refl
 owning_no_gate c (Container links) e = refl
 owning_no_gate c (Thread clearance) e = refl
@@ -291,7 +291,7 @@ unfolding first_state second_state confined_state
 confined_no_gates =
     new_no_gates second_state.objects 3 4 (thread_of secret secret_clearance) refl
     (new_no_gates first_state.objects 1 3 (record { label = secret; kind = Container set.empty }) refl
-    (changed_no_gates empty_state.objects 2 (owning 2) (λ p. owning_no_gate 2 p.kind)
+    (changed_no_gates empty_state.objects 2 (with_star_at 2) (λ p. owning_no_gate 2 p.kind)
     (put_no_gates (put no_objects 1 root_object) 2 boot_thread refl (put_no_gates no_objects 1 root_object refl (λ q. refl)))))
 
 -- the new thread's calls are confined by the category
@@ -336,7 +336,7 @@ root_untainted links = ap (λ (l : Level). if nat_lt (rank l) 4 then Some (recor
 newly_linked : (links : Numbers) (n : ℕ) → set.contains (set.insert links n) n ≡ true
 newly_linked links n = set.contains-insert nat_cmp_total links n n ∙ ap (λ (b : Bool). b || set.contains links n) (unsigned_tied n n ∙ eq-eqb n n refl)
 
-pub owner_seen : visible (added confined_state 1 plain_segment) 2 (5 ∷ []) ≡ Some plain_segment
+pub owner_seen : visible (with_object confined_state 1 plain_segment) 2 (5 ∷ []) ≡ Some plain_segment
 unfolding first_state second_state confined_state plain_segment
 owner_seen =
     ap (λ (f : Found). if set.contains (links_in f) 5 then untainted 2 (Some plain_segment) else None) (root_untainted _)

@@ -10,7 +10,7 @@ use Rattle.histar_label.specs.Levels.{Levels}
 use Rattle.histar_object.specs.declared.objects.Kind.TheVariants.{Container}
 use Rattle.histar_object.specs.declared.objects.Object.{Object}
 use Rattle.histar_object.specs.Objects.{Objects, put, no_objects, with_new, links_in, kind_links, is_there, is_container}
-use Rattle.histar_object.specs.State.{State, added, root_object, boot_thread, empty_state}
+use Rattle.histar_object.specs.State.{State, with_object, root_object, boot_thread, empty_state}
 use Rattle.histar_container.specs.Tree.{Address, Naming, wanted, same, is_child, IsTree}
 use Rattle.histar_container.proofs.Addresses.{inner, same_tells}
 use Rattle.histar_container.proofs.TableMoves.{put_here, put_other}
@@ -112,6 +112,6 @@ tree_empty_state =
 
 -- a state with one object more in a container has a tree too
 pub tree_added : {A E : Type 0} (r : Result A E) (old new : State) (root d : ℕ) (o : Object Levels) → IsTree old.objects root old.next_object → is_container (old.objects d) ≡ true → ((c : ℕ) → set.contains (kind_links o.kind) c ≡ false)
-    → OnOk r (new ≡ added old d o) → OnOk r (IsTree new.objects root (old.next_object + 1))
+    → OnOk r (new ≡ with_object old d o) → OnOk r (IsTree new.objects root (old.next_object + 1))
 tree_added (Ok x) old new root d o tree container leaf is = tree_linked old.objects new.objects root old.next_object d old.next_object o tree refl container leaf (ap (λ (s : State). s.objects) is)
 tree_added (Err x) old new root d o tree container leaf is = tt

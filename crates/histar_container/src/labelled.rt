@@ -5,7 +5,7 @@ ghost use Rattle.std.specs.FinSet as set;
 ghost use Rattle.histar_label.specs.Levels.{Levels};
 ghost use Rattle.histar_label.specs.Store.{label_at, Keeps};
 ghost use Rattle.histar_object.specs.Objects.{objects_of, put, changed_at, with_new, holding, no_objects, thread_of, is_there, is_segment, is_container, is_thread, is_gate, links_in, bytes_there, label_there, clearance_there, entry_there};
-ghost use Rattle.histar_object.specs.State.{observes, modifies, in_range, added, with_next, counting, with_own, with_bytes};
+ghost use Rattle.histar_object.specs.State.{observes, modifies, in_range, with_object, with_next, with_next_category, with_own, with_bytes};
 ghost use Rattle.histar_container.specs.Shown.{objects_shown, kind_by, AllStand, KindStands, IsKept};
 ghost use Rattle.histar_container.specs.ObjectsModel.{state_of, CutsOff};
 ghost use Rattle.histar_container.specs.Tree.{AreTree};
@@ -92,7 +92,7 @@ impl<S: LabelStore + Drop> LabelledObjects<S> {
     /// Counts the next category as made.
     pub fn count_category(&mut self)
         requires { self.old.next_category < 18446744073709551615 }
-        ensures { state_of self.new ≡ counting (state_of self.old) }
+        ensures { state_of self.new ≡ with_next_category (state_of self.old) }
     {
         self.next_category += 1;
     }
@@ -230,7 +230,7 @@ impl<S: LabelStore + Drop> LabelledObjects<S> {
     ) -> Result<(), AllocError>
         requires is_there { IsTrue (is_container (objects_of self.old.objects container)) }
         requires room { self.old.next_object < 18446744073709551615 }
-        ensures ok { OnOk result (state_of self.new ≡ added (state_of self.old) container (record { label = label; kind = kind })) }
+        ensures ok { OnOk result (state_of self.new ≡ with_object (state_of self.old) container (record { label = label; kind = kind })) }
         ensures err { OnErr result (state_of self.new ≡ state_of self.old) }
     {
         add_in(

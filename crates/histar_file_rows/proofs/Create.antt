@@ -17,7 +17,7 @@ use Rattle.histar_flat.specs.FlatCalls.{most_entries}
 use Rattle.histar_label.specs.Levels.{Levels}
 use Rattle.histar_object.specs.declared.objects.Kind.TheVariants.{Segment}
 use Rattle.histar_object.specs.declared.objects.Object.{Object}
-use Rattle.histar_object.specs.State.{State, added}
+use Rattle.histar_object.specs.State.{State, with_object}
 use Rattle.histar_rules.specs.declared.raw.RawCall.{RawCall}
 use Rattle.histar_rules.specs.declared.raw.RawCall.TheVariants as raw
 use Rattle.histar_rules.specs.Rules.{greatest}
@@ -71,9 +71,9 @@ module _ (session : Session) (ok : IsSession session) (old new : KernelModel) (f
       at_container (listing_numbered session ok (state old) f me t ready d open_so_far) m absent made.class made.fits made.guard made.guarded named (ltb-true (length (entries_in f d)) most_entries room) next_below in
       let making : RawCall = make above (guard_label ready.lays_out.laid.category made.guard) in
       entry_written session ok old new f me t ready m d mode (File []) call result makes named open_so_far absent room made is_may
-      (targets.File (state old).next_object) (omega (arith, low), omega (arith, next_below)) (added (state old) above file) (listing_still session ok (state old) f me t ready d open_so_far file)
+      (targets.File (state old).next_object) (omega (arith, low), omega (arith, next_below)) (with_object (state old) above file) (listing_still session ok (state old) f me t ready d open_so_far file)
       (asked session ok (state old) f me t ready d ++ making ∷ []) (among_asked session ok (state old) f me t ready d old.line (making ∷ []))
-      linked (called.state ∙ ap (λ (s : State). added s above file) stays) chain later.0
+      linked (called.state ∙ ap (λ (s : State). with_object s above file) stays) chain later.0
       (subst (λ (q : ℕ). Runs (within (the_room session ok (state old) f me t ready d m) (guard_label ready.lays_out.laid.category made.guard) q) linked new t result) (number_is ∙ ap (λ (s : State). s.next_object) stays) rest)
 
 -- a create does what its flat rule says

@@ -15,7 +15,7 @@ use Rattle.histar_label.specs.Levels.{Levels, is_below, is_below_raised}
 use Rattle.histar_object.specs.declared.objects.Kind.TheVariants.{Container, Thread}
 use Rattle.histar_object.specs.declared.objects.Object.{Object}
 use Rattle.histar_object.specs.Objects.{links_in, bytes_in}
-use Rattle.histar_object.specs.State.{State, Found, added}
+use Rattle.histar_object.specs.State.{State, Found, with_object}
 use Rattle.histar_container.specs.Tree.{Address}
 use Rattle.histar_rules.specs.declared.raw.Denied.{Denied}
 use Rattle.histar_rules.specs.declared.raw.Denied.TheVariants.{Observe, Modify, Range, TooBig}
@@ -136,14 +136,14 @@ module _ (session : Session) (ok : IsSession session) (s : State) (f : Flat) (me
           }
 
       -- once an object is added to the directory, and once one more is made in that
-      pub listing_still : (o : Object Levels) → HasListing (added s container o)
+      pub listing_still : (o : Object Levels) → HasListing (with_object s container o)
       listing_still o = still_there s t container listing label clearance (guard_label l.category directory_guard.0) (spelling entries) has_listing thread_below (below (address_of d) container container_numbered) (below (Listing ∷ address_of d) listing listing_numbered) o
 
-      pub listing_then : (o inner : Object Levels) → HasListing (added (added s container o) s.next_object inner)
+      pub listing_then : (o inner : Object Levels) → HasListing (with_object (with_object s container o) s.next_object inner)
       listing_then o inner = there_then s t container listing label clearance (guard_label l.category directory_guard.0) (spelling entries) has_listing thread_below (below (address_of d) container container_numbered) (below (Listing ∷ address_of d) listing listing_numbered) o inner
 
       -- in a container that was added to it something may be made, as its label says
-      pub inside_passes : (inner : Levels) → is_below_raised inner label ≡ true → (is_below label inner && is_below_raised inner label) ≡ true → no_making (added s container (record { label = inner; kind = Container set.empty })) t s.next_object ≡ None
+      pub inside_passes : (inner : Levels) → is_below_raised inner label ≡ true → (is_below label inner && is_below_raised inner label) ≡ true → no_making (with_object s container (record { label = inner; kind = Container set.empty })) t s.next_object ≡ None
       inside_passes inner = making_inside s t container listing label clearance (guard_label l.category directory_guard.0) (spelling entries) has_listing thread_below (below (address_of d) container container_numbered) (below (Listing ∷ address_of d) listing listing_numbered) inner
 
       -- A raw call that makes an object in the directory with the label that it is handed: its denials are told, and the kernel refuses a label

@@ -20,7 +20,7 @@ use Rattle.histar_flat.specs.FlatCalls.{most_entries}
 use Rattle.histar_label.specs.Levels.{Levels}
 use Rattle.histar_object.specs.declared.objects.Kind.TheVariants.{Segment, Container}
 use Rattle.histar_object.specs.declared.objects.Object.{Object}
-use Rattle.histar_object.specs.State.{State, Found, added, in_range}
+use Rattle.histar_object.specs.State.{State, Found, with_object, in_range}
 use Rattle.histar_rules.specs.declared.raw.Denied.TheVariants.{Range, TooBig}
 use Rattle.histar_rules.specs.declared.raw.RawCall.{RawCall}
 use Rattle.histar_rules.specs.declared.raw.RawCall.TheVariants as raw
@@ -100,7 +100,7 @@ module _ (session : Session) (ok : IsSession session) (old new : KernelModel) (f
     held = record { label = due; kind = Container set.empty }
 
     abbrev with_container : State
-    with_container = added (state old) above held
+    with_container = with_object (state old) above held
 
     -- the directory segment is made in the container, if there is a number for it
     abbrev next : RawCall
@@ -137,9 +137,9 @@ module _ (session : Session) (ok : IsSession session) (old new : KernelModel) (f
           let later = laid_directory_created session (state old) f l d class stands above listing_there at_container at_listing m absent made.class made.fits made.guard made.guarded named (ltb-true (length (entries_in f d)) most_entries room) number_left in
           entry_written session ok old new f me t ready m d mode Dir call result makes named open_so_far absent room made is_may
           (targets.Directory new_container (new_container + 1)) ((omega (arith, low), omega (arith, number_left)), (omega (arith, low), omega (arith, number_left)))
-          (added with_container new_container segment) (listing_then session ok (state old) f me t ready d open_so_far held segment)
+          (with_object with_container new_container segment) (listing_then session ok (state old) f me t ready d open_so_far held segment)
           (before ++ next ∷ []) (among_then old.line t (walk_reads session ok (state old) f me t ready d) before (next ∷ []) (among_asked session ok (state old) f me t ready d old.line (make above due ∷ [])))
-          inside (called.state ∙ ap (λ (s : State). added s new_container segment) linked_state) chain later.0
+          inside (called.state ∙ ap (λ (s : State). with_object s new_container segment) linked_state) chain later.0
           (subst (λ (q : ℕ). Runs (ending room_here new_container q) inside new t result) (number_is ∙ ap (λ (s : State). s.next_object) linked_state) rest)
 
       by_more : (more : Bool) → has_number with_container ≡ more → Runs (ask next (ending room_here new_container)) linked new t result → Row
@@ -154,7 +154,7 @@ module _ (session : Session) (ok : IsSession session) (old new : KernelModel) (f
   goes_on open_so_far absent room made is_may has mid stays linked inner called inner_is chain rest =
       let label : Levels = guard_label ready.lays_out.laid.category made.guard in
       let held : Object Levels = record { label = label; kind = Container set.empty } in
-      by_more open_so_far absent room made is_may linked (called.state ∙ ap (λ (s : State). added s above held) stays) chain (has_number (added (state old) above held)) refl
+      by_more open_so_far absent room made is_may linked (called.state ∙ ap (λ (s : State). with_object s above held) stays) chain (has_number (with_object (state old) above held)) refl
       (subst (λ (q : ℕ). Runs (within room_here label q) linked new t result) (inner_is ∙ ap (λ (s : State). s.next_object) stays) rest)
 
 -- a mkdir does what its flat rule says

@@ -14,7 +14,7 @@ use Rattle.histar_label.specs.Levels.{Levels, is_below, is_below_raised}
 use Rattle.histar_object.specs.declared.objects.Kind.TheVariants.{Segment, Container, Thread}
 use Rattle.histar_object.specs.declared.objects.Object.{Object}
 use Rattle.histar_object.specs.Objects.{Numbers as Links, is_container, put, linking}
-use Rattle.histar_object.specs.State.{State, added}
+use Rattle.histar_object.specs.State.{State, with_object}
 use Rattle.histar_container.proofs.TableMoves.{put_here, put_other, changed_here, changed_other}
 use Rattle.histar_rules.specs.declared.raw.Denied.TheVariants.{Modify, TooBig}
 use Rattle.histar_rules.specs.declared.raw.RawCall.TheVariants.{Write}
@@ -56,11 +56,11 @@ module _ (s : State) (t d n : ℕ) (label clearance above : Levels) (old : List 
 
     module _ (o : Object Levels) where
       -- what was there before stays
-      stays : (q : ℕ) → q < s.next_object → q ≢ d → (added s d o).objects q ≡ s.objects q
+      stays : (q : ℕ) → q < s.next_object → q ≢ d → (with_object s d o).objects q ≡ s.objects q
       stays q low other = changed_other (put s.objects s.next_object o) d (linking s.next_object) q other ∙ put_other s.objects s.next_object o q (λ e. absurd (omega (arith, low, e)))
 
       -- all of it stands there once an object is added to the container
-      pub still_there : HasSegment (added s d o) t d n label clearance above old
+      pub still_there : HasSegment (with_object s d o) t d n label clearance above old
       still_there = record {
         links = set.insert there.links s.next_object;
         thread = stays t below_thread other_thread ∙ there.thread;
@@ -71,12 +71,12 @@ module _ (s : State) (t d n : ℕ) (label clearance above : Levels) (old : List 
 
       module _ (inner : Object Levels) where
         -- what was there before both stays once something is made in what was added
-        stays_then : (q : ℕ) → q < s.next_object → (added (added s d o) s.next_object inner).objects q ≡ (added s d o).objects q
+        stays_then : (q : ℕ) → q < s.next_object → (with_object (with_object s d o) s.next_object inner).objects q ≡ (with_object s d o).objects q
         stays_then q low =
-            changed_other (put (added s d o).objects (s.next_object + 1) inner) s.next_object (linking (s.next_object + 1)) q (λ e. absurd (omega (arith, low, e))) ∙ put_other (added s d o).objects (s.next_object + 1) inner q (λ e. absurd (omega (arith, low, e)))
+            changed_other (put (with_object s d o).objects (s.next_object + 1) inner) s.next_object (linking (s.next_object + 1)) q (λ e. absurd (omega (arith, low, e))) ∙ put_other (with_object s d o).objects (s.next_object + 1) inner q (λ e. absurd (omega (arith, low, e)))
 
         -- and all of it stands there then
-        pub there_then : HasSegment (added (added s d o) s.next_object inner) t d n label clearance above old
+        pub there_then : HasSegment (with_object (with_object s d o) s.next_object inner) t d n label clearance above old
         there_then = record {
           links = still_there.links;
           thread = stays_then t below_thread ∙ still_there.thread;
@@ -89,10 +89,10 @@ module _ (s : State) (t d n : ℕ) (label clearance above : Levels) (old : List 
       abbrev bare : Object Levels
       bare = record { label = label_inside; kind = Container set.empty }
 
-      inside : (added s d bare).objects s.next_object ≡ object label_inside (Container set.empty)
+      inside : (with_object s d bare).objects s.next_object ≡ object label_inside (Container set.empty)
       inside = changed_other (put s.objects s.next_object bare) d (linking s.next_object) s.next_object (λ e. absurd (omega (arith, below_holder, e))) ∙ put_here s.objects s.next_object bare
 
       -- in a container that was added something may be made, as its label says
-      pub making_inside : is_below_raised label_inside label ≡ true → (is_below label label_inside && is_below_raised label_inside label) ≡ true → no_making (added s d bare) t s.next_object ≡ None
+      pub making_inside : is_below_raised label_inside label ≡ true → (is_below label label_inside && is_below_raised label_inside label) ≡ true → no_making (with_object s d bare) t s.next_object ≡ None
       making_inside seen may =
-          making_check (added s d bare) t label clearance (still_there bare).thread s.next_object label_inside set.empty inside seen ∙ ap (λ (b : Bool). unless b Modify) may
+          making_check (with_object s d bare) t label clearance (still_there bare).thread s.next_object label_inside set.empty inside seen ∙ ap (λ (b : Bool). unless b Modify) may

@@ -12,7 +12,7 @@ use Rattle.histar_label.proofs.Made.{is_made-constant, is_made-with_level}
 use Rattle.histar_label.proofs.Orders.{is_below-law, is_below_raised-law}
 use Rattle.histar_label.proofs.Stars.{has_star-none}
 use Rattle.histar_object.specs.declared.objects.Object.{Object}
-use Rattle.histar_object.specs.Rights.{owning, kind_cleared}
+use Rattle.histar_object.specs.Rights.{with_star_at, kind_with_three_at}
 use Rattle.histar_object.specs.State.{boot_thread}
 use Rattle.histar_calls.specs.Categories.{read_category, write_category}
 use Rattle.histar_calls.specs.Labelling.{with_levels, written_by, secret_of, owner_of, cleared_of}
@@ -168,10 +168,10 @@ module _ (next : ℕ) (o : Object Levels) (owner : OwnsMade next o) where
       same_test other = ap (λ b. nat_lt 0 q && b) (grind (arith, nat_tests, other))
 
   -- a thread that gets the next category owns it too
-  pub owns_next : 0 < next → OwnsMade (next + 1) (owning next o)
+  pub owns_next : 0 < next → OwnsMade (next + 1) (with_star_at next o)
   owns_next some = record {
     clearance = with_level owner.clearance next L3;
-    is_thread = ap (kind_cleared next) owner.is_thread;
+    is_thread = ap (kind_with_three_at next) owner.is_thread;
     owns = λ q. level_of-with_level o.label next Star q ∙ ap (λ l. if q == next then Star else l) (owner.owns q) ∙ owning_level q Star L1 some;
     cleared = λ q. level_of-with_level owner.clearance next L3 q ∙ ap (λ l. if q == next then L3 else l) (owner.cleared q) ∙ owning_level q L3 L2 some;
   }

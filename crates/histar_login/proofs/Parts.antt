@@ -7,8 +7,8 @@ use Rattle.histar_label.specs.Levels.{Levels}
 use Rattle.histar_object.specs.declared.objects.Kind.TheVariants.{Container}
 use Rattle.histar_object.specs.declared.objects.Object.{Object}
 use Rattle.histar_object.specs.Objects.{Numbers, linking, kind_is_thread}
-use Rattle.histar_object.specs.Rights.{with_category, owning}
-use Rattle.histar_object.specs.State.{State, Found, added, empty_state, boot_thread}
+use Rattle.histar_object.specs.Rights.{with_category, with_star_at}
+use Rattle.histar_object.specs.State.{State, Found, with_object, empty_state, boot_thread}
 use Rattle.histar_rules.specs.declared.raw.RawCall.{RawCall}
 use Rattle.histar_rules.specs.declared.raw.RawCall.TheVariants.{MakeCategory, Unlink}
 use Rattle.histar_rules.specs.declared.raw.Refusal.{Refusal}
@@ -76,14 +76,14 @@ module _ (first old new : KernelModel) (p : Part) (boots : Boots first old p) wh
   pub boots_category : Called old new boot_thread_number MakeCategory None → Boots first new (one_category p)
   boots_category called = record {
     granted = granted_more boot_thread_number first old new p.calls MakeCategory boots.granted called;
-    boot = owning (next_made p) boots.boot;
-    owner = subst (λ (n : ℕ). OwnsMade n (owning (next_made p) boots.boot)) (omega arith) (owns_next (next_made p) boots.boot boots.owner (omega arith));
+    boot = with_star_at (next_made p) boots.boot;
+    owner = subst (λ (n : ℕ). OwnsMade n (with_star_at (next_made p) boots.boot)) (omega arith) (owns_next (next_made p) boots.boot boots.owner (omega arith));
     stands = called.state ∙ ap (λ (s : State). with_category s boot_thread_number) boots.stands ∙ with_category_is (table_of boots.boot p) (next_made p) 1
-        ∙ ap (state_with (table_of (owning (next_made p) boots.boot) p)) (omega arith);
+        ∙ ap (state_with (table_of (with_star_at (next_made p) boots.boot) p)) (omega arith);
   }
 
   -- one object more in the root container
-  pub boots_shared : (call : RawCall) (o : Object Levels) → Called old new boot_thread_number call None → state new ≡ added (state old) root_number o → Boots first new (one_object p call o)
+  pub boots_shared : (call : RawCall) (o : Object Levels) → Called old new boot_thread_number call None → state new ≡ with_object (state old) root_number o → Boots first new (one_object p call o)
   boots_shared call o called makes =
       let linked : changed (linking (1 + length (table_of boots.boot p))) 0 (table_of boots.boot p ++ Some o ∷ [])
       ≡ table_of boots.boot (record { calls = p.calls; linked = p.linked ++ next_number p ∷ []; objects = p.objects ++ Some o ∷ []; categories = p.categories }) =
@@ -94,12 +94,12 @@ module _ (first old new : KernelModel) (p : Part) (boots : Boots first old p) wh
         granted = granted_more boot_thread_number first old new p.calls call boots.granted called;
         boot = boots.boot;
         owner = boots.owner;
-        stands = makes ∙ ap (λ (s : State). added s root_number o) boots.stands ∙ added_is (table_of boots.boot p) (next_made p) 0 o ∙ ap (λ (table : List Found). state_with table (next_made p)) linked;
+        stands = makes ∙ ap (λ (s : State). with_object s root_number o) boots.stands ∙ added_is (table_of boots.boot p) (next_made p) 0 o ∙ ap (λ (table : List Found). state_with table (next_made p)) linked;
       }
 
   -- one object more in a container that boot made
   pub boots_within : (call : RawCall) (o : Object Levels) (d : ℕ) (front back : List Found) (label : Levels) (numbers : List ℕ) → p.objects ≡ front ++ container label numbers ∷ back → d ≡ 3 + length front
-      → Called old new boot_thread_number call None → state new ≡ added (state old) d o
+      → Called old new boot_thread_number call None → state new ≡ with_object (state old) d o
       → Boots first new (record { calls = p.calls ++ call ∷ []; linked = p.linked; objects = front ++ container label (numbers ++ next_number p ∷ []) ∷ (back ++ Some o ∷ []); categories = p.categories })
   boots_within call o d front back label numbers parts at called makes =
       let n = 1 + length (table_of boots.boot p) in
@@ -114,7 +114,7 @@ module _ (first old new : KernelModel) (p : Part) (boots : Boots first old p) wh
         granted = granted_more boot_thread_number first old new p.calls call boots.granted called;
         boot = boots.boot;
         owner = boots.owner;
-        stands = makes ∙ ap (λ (s : State). added s d o) boots.stands ∙ ap (λ (k : ℕ). added (state_with (table_of boots.boot p) (next_made p)) k o) place
+        stands = makes ∙ ap (λ (s : State). with_object s d o) boots.stands ∙ ap (λ (k : ℕ). with_object (state_with (table_of boots.boot p) (next_made p)) k o) place
             ∙ added_is (table_of boots.boot p) (next_made p) (suc (suc (length front))) o ∙ ap (λ (l : List Found). state_with (root ∷ Some boots.boot ∷ l) (next_made p)) linked;
       }
 

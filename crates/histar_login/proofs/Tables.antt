@@ -6,8 +6,8 @@ use Rattle.std.proofs.lemmas.List.{length-append}
 use Rattle.histar_label.specs.Levels.{Levels}
 use Rattle.histar_object.specs.declared.objects.Object.{Object}
 use Rattle.histar_object.specs.Objects.{put, changed_at, linking}
-use Rattle.histar_object.specs.Rights.{with_category, owning}
-use Rattle.histar_object.specs.State.{Found, added}
+use Rattle.histar_object.specs.Rights.{with_category, with_star_at}
+use Rattle.histar_object.specs.State.{Found, with_object}
 use Rattle.histar_login.specs.Start.{object_at, state_with}
 
 -- a table with one of its entries changed, if something stands there
@@ -79,11 +79,11 @@ changed_behind f [] x back = refl
 changed_behind f (y ∷ front) x back = ap (λ (l : List Found). y ∷ l) (changed_behind f front x back)
 
 -- a thread makes a category
-pub with_category_is : (table : List Found) (c k : ℕ) → with_category (state_with table c) (suc k) ≡ state_with (changed (owning c) k table) (c + 1)
-with_category_is table c k = λ i. record { objects = λ q. changed_is (owning c) table k q i; next_object = 1 + sym (length-changed (owning c) table k) i; next_category = c + 1 }
+pub with_category_is : (table : List Found) (c k : ℕ) → with_category (state_with table c) (suc k) ≡ state_with (changed (with_star_at c) k table) (c + 1)
+with_category_is table c k = λ i. record { objects = λ q. changed_is (with_star_at c) table k q i; next_object = 1 + sym (length-changed (with_star_at c) table k) i; next_category = c + 1 }
 
 -- a container gets an object more
-pub added_is : (table : List Found) (c k : ℕ) (o : Object Levels) → added (state_with table c) (suc k) o ≡ state_with (changed (linking (1 + length table)) k (table ++ Some o ∷ [])) c
+pub added_is : (table : List Found) (c k : ℕ) (o : Object Levels) → with_object (state_with table c) (suc k) o ≡ state_with (changed (linking (1 + length table)) k (table ++ Some o ∷ [])) c
 added_is table c k o =
     let n = 1 + length table in
     let f = linking {L = Levels} n in

@@ -13,7 +13,7 @@ use Rattle.histar_rules.specs.declared.raw.RawCall.{RawCall}
 use Rattle.histar_rules.specs.declared.raw.RawCall.TheVariants.{OwnLabel, SetLabel, SetClearance, Enter, Read}
 use Rattle.histar_rules.specs.Sound.{root_number}
 use Rattle.histar_calls.specs.Categories.{owners_of}
-use Rattle.histar_calls.specs.Labelling.{owning, cleared_at}
+use Rattle.histar_calls.specs.Labelling.{owner_label, cleared_at}
 use Rattle.histar_calls.specs.Laws.{TellsRefusals}
 use Rattle.histar_calls.specs.Programs.{Program}
 use Rattle.histar_calls.specs.Programs.Program.{Answers}
@@ -39,7 +39,7 @@ owned_as_user caller owners = caller.read ∷ caller.write ∷ categories_of own
 
 -- the label of its thread then: it owns these, and holds no job
 abbrev pub user_label : Caller → List ℕ → Levels
-user_label caller owners = owning (owned_as_user caller owners) []
+user_label caller owners = owner_label (owned_as_user caller owners) []
 
 -- its clearance then
 abbrev pub user_clearance : Caller → List ℕ → Levels

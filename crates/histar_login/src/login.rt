@@ -10,7 +10,7 @@ ghost use Rattle.histar_login.specs.Login.{user_label, user_clearance, gate_of, 
 use crate::gates::gate_labels;
 use crate::table::{number_of, place_of};
 use histar_base::Bytes;
-use histar_calls::{Ending, Stopped, cleared_at, owners_of, owning, settle};
+use histar_calls::{Ending, Stopped, cleared_at, owners_of, owner_label, settle};
 use histar_flat::{Errno, Name, Password, Reply, Session};
 use histar_label::{Label, LabelStore};
 use histar_object::{Entry, ObjId};
@@ -25,7 +25,7 @@ fn user_labels(alloc: Global, caller: &Caller, owners: &[u8]) -> Result<(Label, 
 {
     let categories = categories_of(alloc, owners, true)?;
     let owned = joined(alloc, &[caller.read, caller.write], categories.as_slice())?;
-    let label = owning(alloc, owned.as_slice(), &[])?;
+    let label = owner_label(alloc, owned.as_slice(), &[])?;
     let clearance = cleared_at(alloc, owned.as_slice())?;
     Ok((label, clearance))
 }

@@ -20,7 +20,7 @@ use Rattle.histar_flat.specs.FlatCalls.{refused}
 use Rattle.histar_label.specs.Levels.{Levels}
 use Rattle.histar_label.specs.Floors.{join_of, floor_of}
 use Rattle.histar_object.specs.Objects.{thread_of, is_thread, label_there, clearance_there, bytes_in}
-use Rattle.histar_object.specs.Rights.{relabelled, clearing, with_changed}
+use Rattle.histar_object.specs.Rights.{with_label, with_clearance, with_changed}
 use Rattle.histar_object.specs.State.{State, with_own}
 use Rattle.histar_rules.specs.declared.raw.Denied.TheVariants.{NoThread, Gate}
 use Rattle.histar_rules.specs.declared.raw.RawCall.{RawCall}
@@ -195,20 +195,20 @@ module _ (session : Session) (name : Name) (password : Password) (me : ProcName)
         (fewer : (c : CategoryName) → among r.tainted c ≡ true → among (thread_rights session me p).tainted c ≡ true) (as_many : (c : CategoryName) → among (thread_rights session me p).tainted c ≡ true → among r.tainted c ≡ true)
         (label_is : label_if right caller owners own ≡ rights_label l.category r) (clearance_is : clearance_if right caller owners most ≡ rights_clearance l.category r)
         (mid : KernelModel) (so_far : Chain old t (all_granted (OwnLabel ∷ enters ∷ reads ∷ [])) mid) (at : state mid ≡ behind) where
-      abbrev with_label : State
-      with_label = relabelled_state session (state old) f l me p t runs_as name (place + 1) numbered r owned fewer as_many
+      abbrev after_label : State
+      after_label = relabelled_state session (state old) f l me p t runs_as name (place + 1) numbered r owned fewer as_many
 
       -- what comes after the labels were taken
       abbrev GoesOn : Type 0
       GoesOn = (later : KernelModel) → Chain old t (all_granted (all_calls right)) later → state later ≡ with_own (state old) t (rights_label l.category r) (rights_clearance l.category r) → Runs (Answers (reply_if right)) later new t result → Goal
 
       -- the clearance behind the label
-      cleared : (labelled : KernelModel) → Chain old t (all_granted (OwnLabel ∷ enters ∷ reads ∷ takes_label right ∷ [])) labelled → state labelled ≡ with_label → Runs (ask (takes_clearance right) (λ _. Answers (reply_if right))) labelled new t result → GoesOn → Goal
+      cleared : (labelled : KernelModel) → Chain old t (all_granted (OwnLabel ∷ enters ∷ reads ∷ takes_label right ∷ [])) labelled → state labelled ≡ after_label → Runs (ask (takes_clearance right) (λ _. Answers (reply_if right))) labelled new t result → GoesOn → Goal
       cleared labelled chain is runs go_on =
           granted_step session f me ready.caller call old new t ready.thread result (OwnLabel ∷ enters ∷ reads ∷ takes_label right ∷ []) labelled chain (takes_clearance right) (λ _. Answers (reply_if right))
           ((λ k. check (is k) t (SetClearance (clearance_is k))) ∙ set_clearance_said session (state old) f l me p t runs_as name (place + 1) numbered r owned fewer as_many) runs
           (λ later done called told longer answers. go_on later longer
-          (called.state ∙ (λ k. with_changed (is k) t (clearing (clearance_is k)))
+          (called.state ∙ (λ k. with_changed (is k) t (with_clearance (clearance_is k)))
           ∙ labels_taken (state old) t (wanted session (state old) f l me p t runs_as name (place + 1) numbered) (limit session (state old) f l me p t runs_as name (place + 1) numbered) (rights_label l.category r) (rights_clearance l.category r))
           answers)
 
@@ -216,7 +216,7 @@ module _ (session : Session) (name : Name) (password : Password) (me : ProcName)
       taken runs go_on =
           granted_step session f me ready.caller call old new t ready.thread result (OwnLabel ∷ enters ∷ reads ∷ []) mid so_far (takes_label right) (λ _. ask (takes_clearance right) (λ _. Answers (reply_if right)))
           ((λ k. check (at k) t (SetLabel (label_is k))) ∙ set_label_said session (state old) f l me p t runs_as name (place + 1) numbered r owned fewer as_many) runs
-          (λ labelled done called told chain clears. cleared labelled chain (called.state ∙ λ k. with_changed (at k) t (relabelled (label_is k))) clears go_on)
+          (λ labelled done called told chain clears. cleared labelled chain (called.state ∙ λ k. with_changed (at k) t (with_label (label_is k))) clears go_on)
 
     -- the program behind the gate
     abbrev reading : Program

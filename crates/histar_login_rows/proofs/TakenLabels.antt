@@ -5,7 +5,7 @@ use Rattle.std.proofs.lemmas.Bool.Decides.{eqb_tells}
 use Rattle.histar_label.specs.Levels.{Levels}
 use Rattle.histar_object.specs.declared.objects.Object.{Object}
 use Rattle.histar_object.specs.Objects.{Objects, thread_of, bytes_in}
-use Rattle.histar_object.specs.Rights.{relabelled, clearing, with_changed}
+use Rattle.histar_object.specs.Rights.{with_label, with_clearance, with_changed}
 use Rattle.histar_object.specs.State.{State, Found, with_own}
 use Rattle.histar_object.proofs.Changes.{put_back}
 use Rattle.histar_container.proofs.TableMoves.{put_here, put_other}
@@ -15,11 +15,11 @@ abbrev changed_if : Bool → (Object Levels → Object Levels) → Found → Fou
 changed_if b change o = if b then option_map change o else o
 
 taken_at : (b : Bool) (label clearance taken most : Levels) (o : Found)
-    → changed_if b (clearing most) (changed_if b (relabelled taken) (if b then Some (thread_of label clearance) else o)) ≡ (if b then Some (thread_of taken most) else o)
+    → changed_if b (with_clearance most) (changed_if b (with_label taken) (if b then Some (thread_of label clearance) else o)) ≡ (if b then Some (thread_of taken most) else o)
 taken_at true label clearance taken most o = refl
 taken_at false label clearance taken most o = refl
 
-pub labels_taken : (s : State) (t : ℕ) (label clearance taken most : Levels) → with_changed (with_changed (with_own s t label clearance) t (relabelled taken)) t (clearing most) ≡ with_own s t taken most
+pub labels_taken : (s : State) (t : ℕ) (label clearance taken most : Levels) → with_changed (with_changed (with_own s t label clearance) t (with_label taken)) t (with_clearance most) ≡ with_own s t taken most
 labels_taken s t label clearance taken most i = record { objects = λ q. taken_at (q == t) label clearance taken most (s.objects q) i; next_object = s.next_object; next_category = s.next_category }
 
 module _ (s : State) (t : ℕ) (own most : Levels) (thread : s.objects t ≡ Some (thread_of own most)) where

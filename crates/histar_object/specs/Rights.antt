@@ -46,29 +46,29 @@ abbrev pub in_gate : Found → Found → Levels → Levels → Bool
 in_gate t gate label clearance = holds_of t (λ own most. holds_of gate (λ given limit. lies_between own given label clearance most limit))
 
 -- a clearance with level 3 at a category
-abbrev pub kind_cleared : ℕ → Kind Levels → Kind Levels
-kind_cleared c (Segment bytes) = Segment bytes
-kind_cleared c (Container links) = Container links
-kind_cleared c (Thread clearance) = Thread (with_level clearance c L3)
-kind_cleared c (Gate clearance entry) = Gate (with_level clearance c L3) entry
+abbrev pub kind_with_three_at : ℕ → Kind Levels → Kind Levels
+kind_with_three_at c (Segment bytes) = Segment bytes
+kind_with_three_at c (Container links) = Container links
+kind_with_three_at c (Thread clearance) = Thread (with_level clearance c L3)
+kind_with_three_at c (Gate clearance entry) = Gate (with_level clearance c L3) entry
 
 -- a thread that owns one category more, and may give anyone level 3 there
-abbrev pub owning : ℕ → Object Levels → Object Levels
-owning c o = record { label = with_level o.label c Star; kind = kind_cleared c o.kind }
+abbrev pub with_star_at : ℕ → Object Levels → Object Levels
+with_star_at c o = record { label = with_level o.label c Star; kind = kind_with_three_at c o.kind }
 
 -- an object with another label
-abbrev pub relabelled : Levels → Object Levels → Object Levels
-relabelled label o = record { label = label; kind = o.kind }
+abbrev pub with_label : Levels → Object Levels → Object Levels
+with_label label o = record { label = label; kind = o.kind }
 
 -- a thread with another clearance
-abbrev pub kind_clearing : Levels → Kind Levels → Kind Levels
-kind_clearing clearance (Segment bytes) = Segment bytes
-kind_clearing clearance (Container links) = Container links
-kind_clearing clearance (Thread old) = Thread clearance
-kind_clearing clearance (Gate old entry) = Gate clearance entry
+abbrev pub kind_with_clearance : Levels → Kind Levels → Kind Levels
+kind_with_clearance clearance (Segment bytes) = Segment bytes
+kind_with_clearance clearance (Container links) = Container links
+kind_with_clearance clearance (Thread old) = Thread clearance
+kind_with_clearance clearance (Gate old entry) = Gate clearance entry
 
-abbrev pub clearing : Levels → Object Levels → Object Levels
-clearing clearance o = record { label = o.label; kind = kind_clearing clearance o.kind }
+abbrev pub with_clearance : Levels → Object Levels → Object Levels
+with_clearance clearance o = record { label = o.label; kind = kind_with_clearance clearance o.kind }
 
 -- the state with one object changed, if it is there
 abbrev pub with_changed : State → ℕ → (Object Levels → Object Levels) → State
@@ -76,4 +76,4 @@ with_changed s t f = record { objects = changed_at s.objects t f; next_object = 
 
 -- the state in which the next category was made, which t owns
 abbrev pub with_category : State → ℕ → State
-with_category s t = record { objects = changed_at s.objects t (owning s.next_category); next_object = s.next_object; next_category = s.next_category + 1 }
+with_category s t = record { objects = changed_at s.objects t (with_star_at s.next_category); next_object = s.next_object; next_category = s.next_category + 1 }

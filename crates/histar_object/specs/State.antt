@@ -40,8 +40,8 @@ abbrev pub in_range : Found → Levels → Bool
 in_range t label = between (label_there t) (clearance_there t) label
 
 -- the state with a new object under the next number, which the container d links
-abbrev pub added : State → ℕ → Object Levels → State
-added s d o = record {
+abbrev pub with_object : State → ℕ → Object Levels → State
+with_object s d o = record {
   objects = with_new s.objects d s.next_object o;
   next_object = s.next_object + 1;
   next_category = s.next_category;
@@ -60,8 +60,8 @@ with_own s t label clearance = record {
 }
 
 -- the state in which one category more was made
-abbrev pub counting : State → State
-counting s = record { objects = s.objects; next_object = s.next_object; next_category = s.next_category + 1 }
+abbrev pub with_next_category : State → State
+with_next_category s = record { objects = s.objects; next_object = s.next_object; next_category = s.next_category + 1 }
 
 -- the state with these bytes in a segment
 abbrev pub with_bytes : State → ℕ → List ℕ → State

@@ -5,7 +5,7 @@ use Rattle.histar_rules.specs.declared.raw.RawCall.TheVariants.{MakeCategory, Ma
 use Rattle.histar_label.specs.Levels.{Levels}
 use Rattle.histar_layout.specs.Status.{ProcessStatus, started, status_bytes, with_child}
 use Rattle.histar_calls.specs.declared.places.Home.{Home}
-use Rattle.histar_calls.specs.Labelling.{guarded_by, owning, cleared_at}
+use Rattle.histar_calls.specs.Labelling.{guarded_by, owner_label, cleared_at}
 use Rattle.histar_calls.specs.Programs.{Part}
 use Rattle.histar_calls.specs.Parts.{◌>>=◌, ◌>>◌, ask}
 use Rattle.histar_process.specs.Kin.{Kin}
@@ -21,7 +21,7 @@ inner_label kin read write = guarded_by (read ∷ kin.jobs) (write ∷ [])
 
 -- that of its thread, which owns the child's two categories and what it has of its parent's user, and has those of its jobs at 3
 abbrev pub thread_label : Kin → ℕ → ℕ → Levels
-thread_label kin read write = owning (read ∷ write ∷ kin.owned) kin.jobs
+thread_label kin read write = owner_label (read ∷ write ∷ kin.owned) kin.jobs
 
 -- and the clearance of its thread
 abbrev pub thread_clearance : Kin → ℕ → ℕ → Levels

@@ -5,7 +5,7 @@ use Rattle.histar_syscall.specs.KernelModel.{KernelModel}
 use Rattle.histar_layout.specs.Status.{ProcessStatus, started, status_bytes, status_in}
 use Rattle.histar_calls.specs.declared.ending.Ending.{Ending}
 use Rattle.histar_calls.specs.declared.places.Home.{Home}
-use Rattle.histar_calls.specs.Labelling.{guarded_by, owning, cleared_at}
+use Rattle.histar_calls.specs.Labelling.{guarded_by, owner_label, cleared_at}
 use Rattle.histar_calls.specs.Programs.{Part, RunsPart}
 use Rattle.histar_calls.specs.Parts.{◌>>=◌, ask}
 use Rattle.histar_process.specs.Birth.{birth}
@@ -26,7 +26,7 @@ make_containers parent jobs read write rest = do
 
 -- its thread
 abbrev pub make_thread : ℕ → List ℕ → List ℕ → ℕ → ℕ → Part ℕ
-make_thread internal owned jobs read write = ask (MakeThread internal (owning (read ∷ write ∷ owned) jobs) (cleared_at ((read ∷ write ∷ owned) ++ jobs)))
+make_thread internal owned jobs read write = ask (MakeThread internal (owner_label (read ∷ write ∷ owned) jobs) (cleared_at ((read ∷ write ∷ owned) ++ jobs)))
 
 -- and its process segment
 abbrev pub make_segment : ℕ → List ℕ → ℕ → ℕ → ℕ → Part ℕ

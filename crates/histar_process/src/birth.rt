@@ -3,14 +3,14 @@ ghost use Rattle.std.specs.Prelude.{◌≡◌, [], ◌∷◌, ◌++◌, ◌<◌,
 ghost use Rattle.histar_rules.specs.declared.raw.RawCall.TheVariants as calls;
 ghost use Rattle.histar_layout.specs.Status.{started, status_bytes};
 ghost use Rattle.histar_layout.specs.StatusParts.{HasRoomForChild};
-ghost use Rattle.histar_calls.specs.Labelling.{guarded_by, owning, cleared_at};
+ghost use Rattle.histar_calls.specs.Labelling.{guarded_by, owner_label, cleared_at};
 ghost use Rattle.histar_calls.specs.Parts.{ask};
 ghost use Rattle.histar_calls.specs.Programs.{RunsPart};
 ghost use Rattle.histar_process.specs.Births.{RunsBirth, make_categories, make_containers, make_thread, make_segment};
 
 use crate::find::write_segment;
 use crate::kin::joined;
-use histar_calls::{Ending, Home, cleared_at, guarded_by, owning};
+use histar_calls::{Ending, Home, cleared_at, guarded_by, owner_label};
 use histar_label::{Category, LabelStore};
 use histar_layout::{add_child, first_status};
 use histar_object::ObjId;
@@ -110,7 +110,7 @@ fn make_thread<S: LabelStore + Drop>(
     ensures { RunsPart (make_thread internal owned.now jobs.now read write) kernel.old kernel.new thread result }
 {
     let all = joined(alloc, &[read, write], owned)?;
-    let label = owning(alloc, all.as_slice(), jobs)?;
+    let label = owner_label(alloc, all.as_slice(), jobs)?;
     let known = joined(alloc, all.as_slice(), jobs)?;
     let clearance = cleared_at(alloc, known.as_slice())?;
     let made = kernel.make_thread(thread, internal, label, clearance)?;

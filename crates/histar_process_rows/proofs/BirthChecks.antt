@@ -7,8 +7,8 @@ use Rattle.histar_label.specs.Levels.{Levels, is_below, is_below_raised, is_belo
 use Rattle.histar_object.specs.declared.objects.Kind.TheVariants.{Segment, Container, Thread}
 use Rattle.histar_object.specs.declared.objects.Object.{Object}
 use Rattle.histar_object.specs.Objects.{thread_of, is_thread}
-use Rattle.histar_object.specs.Rights.{in_span, may_clear, relabelled, with_changed}
-use Rattle.histar_object.specs.State.{State, Found, in_range, added, with_bytes}
+use Rattle.histar_object.specs.Rights.{in_span, may_clear, with_label, with_changed}
+use Rattle.histar_object.specs.State.{State, Found, in_range, with_object, with_bytes}
 use Rattle.histar_rules.specs.declared.raw.Denied.TheVariants.{Modify, NoThread, Range, TooBig}
 use Rattle.histar_rules.specs.declared.raw.RawCall.TheVariants.{MakeCategory, SetLabel, SetClearance, MakeSegment, MakeContainer, MakeThread, Write}
 use Rattle.histar_rules.specs.Rules.{no_making, fits_segment, has_number, greatest, check}
@@ -102,22 +102,22 @@ module _ (T C S : ℕ) (grown grown_most home : Levels) (held : List ℕ) (u : S
   segment = record { label = outer; kind = Segment child_bytes }
 
   abbrev pub with_container : State
-  with_container = added u C container
+  with_container = with_object u C container
 
   abbrev pub with_internal : State
-  with_internal = added with_container u.next_object internal
+  with_internal = with_object with_container u.next_object internal
 
   abbrev pub with_thread : State
-  with_thread = added with_internal (u.next_object + 1) (thread_of label clearance)
+  with_thread = with_object with_internal (u.next_object + 1) (thread_of label clearance)
 
   abbrev pub with_segment : State
-  with_segment = added with_thread u.next_object segment
+  with_segment = with_object with_thread u.next_object segment
 
   abbrev pub with_child : State
   with_child = with_bytes with_segment S own_bytes
 
-  abbrev pub with_label : State
-  with_label = with_changed with_child T (relabelled own)
+  abbrev pub with_own_label : State
+  with_own_label = with_changed with_child T (with_label own)
 
   module _ (under : is_below grown home ≡ true) (seen : is_below_raised home grown ≡ true) (outer_is : IsModified grown grown_most outer u.next_category) (inner_is : IsModified grown grown_most inner u.next_category)
       (lesser : IsLesser grown grown_most label clearance u.next_category) (taken : IsTaken grown grown_most own most u.next_category) where
@@ -159,6 +159,6 @@ module _ (T C S : ℕ) (grown grown_most home : Levels) (held : List ℕ) (u : S
     pub set_label_said : check with_child T (SetLabel own) ≡ None
     set_label_said = label_said with_child T grown grown_most (thread_written T C S grown grown_most home held with_segment around_fourth own_bytes) own most taken
 
-    pub set_clearance_said : check with_label T (SetClearance most) ≡ None
-    set_clearance_said = clearance_said with_label T grown grown_most own most
+    pub set_clearance_said : check with_own_label T (SetClearance most) ≡ None
+    set_clearance_said = clearance_said with_own_label T grown grown_most own most
         (thread_relabelled with_child T grown grown_most own (thread_written T C S grown grown_most home held with_segment around_fourth own_bytes)) taken

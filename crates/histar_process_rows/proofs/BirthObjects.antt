@@ -10,8 +10,8 @@ use Rattle.histar_label.specs.Levels.{Levels, with_level}
 use Rattle.histar_object.specs.declared.objects.Kind.TheVariants.{Segment, Container, Thread}
 use Rattle.histar_object.specs.declared.objects.Object.{Object}
 use Rattle.histar_object.specs.Objects.{Numbers as Links, put, linking, holding, is_thread}
-use Rattle.histar_object.specs.Rights.{owning, relabelled, with_changed, with_category}
-use Rattle.histar_object.specs.State.{State, Found, added, with_bytes}
+use Rattle.histar_object.specs.Rights.{with_star_at, with_label, with_changed, with_category}
+use Rattle.histar_object.specs.State.{State, Found, with_object, with_bytes}
 use Rattle.histar_container.proofs.TableMoves.{put_here, put_other, changed_here, changed_other}
 use Rattle.histar_refinement.proofs.Members.{or_second}
 use Rattle.histar_refinement.proofs.RawChecks.{object}
@@ -50,20 +50,20 @@ module _ (s : State) (d : ℕ) (o : Object Levels) where
   old_object : (q : ℕ) → q < s.next_object → s.objects q ≡ put s.objects s.next_object o q
   old_object q below = sym (put_other s.objects s.next_object o q (λ e. absurd (omega (arith, below, e))))
 
-  pub thread_stays : (q : ℕ) (label clearance : Levels) → q < s.next_object → s.objects q ≡ object label (Thread clearance) → (added s d o).objects q ≡ object label (Thread clearance)
+  pub thread_stays : (q : ℕ) (label clearance : Levels) → q < s.next_object → s.objects q ≡ object label (Thread clearance) → (with_object s d o).objects q ≡ object label (Thread clearance)
   thread_stays q label clearance below is = linked_thread (q == d) s.next_object (put s.objects s.next_object o q) label clearance (sym (old_object q below) ∙ is)
 
-  pub segment_stays : (q : ℕ) (label : Levels) (bytes : List ℕ) → q < s.next_object → s.objects q ≡ object label (Segment bytes) → (added s d o).objects q ≡ object label (Segment bytes)
+  pub segment_stays : (q : ℕ) (label : Levels) (bytes : List ℕ) → q < s.next_object → s.objects q ≡ object label (Segment bytes) → (with_object s d o).objects q ≡ object label (Segment bytes)
   segment_stays q label bytes below is = linked_segment (q == d) s.next_object (put s.objects s.next_object o q) label bytes (sym (old_object q below) ∙ is)
 
-  pub holder_stays : (q : ℕ) (label : Levels) → q < s.next_object → IsHolder label (s.objects q) → IsHolder label ((added s d o).objects q)
+  pub holder_stays : (q : ℕ) (label : Levels) → q < s.next_object → IsHolder label (s.objects q) → IsHolder label ((with_object s d o).objects q)
   holder_stays q label below is = linked_holder (q == d) s.next_object (put s.objects s.next_object o q) label (subst (IsHolder label) (old_object q below) is)
 
-  pub links_stay : (q : ℕ) (label : Levels) (k : ℕ) → q < s.next_object → LinksTo label k (s.objects q) → LinksTo label k ((added s d o).objects q)
+  pub links_stay : (q : ℕ) (label : Levels) (k : ℕ) → q < s.next_object → LinksTo label k (s.objects q) → LinksTo label k ((with_object s d o).objects q)
   links_stay q label k below is = linked_links (q == d) s.next_object (put s.objects s.next_object o q) label k (subst (LinksTo label k) (old_object q below) is)
 
 -- a new container stands under the next number
-pub holder_made : (s : State) (d : ℕ) (label : Levels) → IsHolder label ((added s d (record { label = label; kind = Container set.empty })).objects s.next_object)
+pub holder_made : (s : State) (d : ℕ) (label : Levels) → IsHolder label ((with_object s d (record { label = label; kind = Container set.empty })).objects s.next_object)
 holder_made s d label =
     let o : Object Levels = record { label = label; kind = Container set.empty } in
     linked_holder (s.next_object == d) s.next_object (put s.objects s.next_object o s.next_object) label (set.empty, put_here s.objects s.next_object o)
@@ -79,7 +79,7 @@ pub record Around (T C S : ℕ) (own most label : Levels) (held : List ℕ) (s :
 
 module _ (T C S : ℕ) (own most label : Levels) (held : List ℕ) (s : State) (a : Around T C S own most label held s) where
   -- they stay where an object is made
-  pub around_added : (d : ℕ) (o : Object Levels) → Around T C S own most label held (added s d o)
+  pub around_added : (d : ℕ) (o : Object Levels) → Around T C S own most label held (with_object s d o)
   around_added d o = record {
     thread = thread_stays s d o T own most a.thread_below a.thread;
     home = links_stay s d o C label S a.home_below a.home;
@@ -99,9 +99,9 @@ module _ (T C S : ℕ) (own most label : Levels) (held : List ℕ) (s : State) (
   -- where the thread makes a category it owns that too
   pub around_category : Around T C S (with_level own s.next_category Star) (with_level most s.next_category L3) label held (with_category s T)
   around_category = record {
-    thread = changed_here s.objects T (owning s.next_category) ∙ ap (option_map (owning s.next_category)) a.thread;
-    home = subst (LinksTo label S) (sym (changed_other s.objects T (owning s.next_category) C home_apart)) a.home;
-    segment = changed_other s.objects T (owning s.next_category) S segment_apart ∙ a.segment;
+    thread = changed_here s.objects T (with_star_at s.next_category) ∙ ap (option_map (with_star_at s.next_category)) a.thread;
+    home = subst (LinksTo label S) (sym (changed_other s.objects T (with_star_at s.next_category) C home_apart)) a.home;
+    segment = changed_other s.objects T (with_star_at s.next_category) S segment_apart ∙ a.segment;
     thread_below = a.thread_below;
     home_below = a.home_below;
     segment_below = a.segment_below;
@@ -112,5 +112,5 @@ module _ (T C S : ℕ) (own most label : Levels) (held : List ℕ) (s : State) (
   thread_written bytes = held_thread (T == S) bytes (s.objects T) own most a.thread
 
 -- a thread that takes a label has it
-pub thread_relabelled : (s : State) (T : ℕ) (own most label : Levels) → s.objects T ≡ object own (Thread most) → (with_changed s T (relabelled label)).objects T ≡ object label (Thread most)
-thread_relabelled s T own most label is = changed_here s.objects T (relabelled label) ∙ ap (option_map (relabelled label)) is
+pub thread_relabelled : (s : State) (T : ℕ) (own most label : Levels) → s.objects T ≡ object own (Thread most) → (with_changed s T (with_label label)).objects T ≡ object label (Thread most)
+thread_relabelled s T own most label is = changed_here s.objects T (with_label label) ∙ ap (option_map (with_label label)) is

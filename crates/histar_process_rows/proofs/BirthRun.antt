@@ -15,8 +15,8 @@ use Rattle.histar_label.specs.Levels.{Levels, with_level, is_below, is_below_rai
 use Rattle.histar_object.specs.declared.objects.Kind.TheVariants.{Segment, Container, Thread}
 use Rattle.histar_object.specs.Objects.{thread_of}
 use Rattle.histar_container.proofs.TableMoves.{changed_here}
-use Rattle.histar_object.specs.Rights.{owning, relabelled, clearing, with_changed, with_category}
-use Rattle.histar_object.specs.State.{State, added, with_bytes}
+use Rattle.histar_object.specs.Rights.{with_star_at, with_label, with_clearance, with_changed, with_category}
+use Rattle.histar_object.specs.State.{State, with_object, with_bytes}
 use Rattle.histar_rules.specs.declared.raw.Denied.TheVariants.{TooBig}
 use Rattle.histar_rules.specs.declared.raw.RawCall.{RawCall}
 use Rattle.histar_rules.specs.declared.raw.RawCall.TheVariants.{MakeCategory, SetLabel, SetClearance, MakeSegment, MakeContainer, MakeThread, Write}
@@ -110,22 +110,22 @@ module _ (session : Session) (f : Flat) (me : ProcName) (caller : IsRunning f me
 
   -- the states on the way
   abbrev third : State
-  third = added u home.container (record { label = outer; kind = Container set.empty })
+  third = with_object u home.container (record { label = outer; kind = Container set.empty })
 
   abbrev fourth : State
-  fourth = added third m (record { label = inner; kind = Container set.empty })
+  fourth = with_object third m (record { label = inner; kind = Container set.empty })
 
   abbrev fifth : State
-  fifth = added fourth (m + 1) (thread_of label clearance)
+  fifth = with_object fourth (m + 1) (thread_of label clearance)
 
   abbrev sixth : State
-  sixth = added fifth m (record { label = outer; kind = Segment child_bytes })
+  sixth = with_object fifth m (record { label = outer; kind = Segment child_bytes })
 
   abbrev seventh : State
   seventh = with_bytes sixth home.segment own_bytes
 
   abbrev eighth : State
-  eighth = with_changed seventh t (relabelled own)
+  eighth = with_changed seventh t (with_label own)
 
   -- what is left of the program after each raw call, from the last on, by the numbers that the kernel gave
   abbrev after_label : Program
@@ -168,13 +168,13 @@ module _ (session : Session) (f : Flat) (me : ProcName) (caller : IsRunning f me
     clearance_set few calls mid kept chain at runs =
         granted_step session f me caller call old new t named result calls mid chain (SetClearance most) (λ _. Answers reply)
         (ap (λ (x : State). check x t (SetClearance most)) at ∙ checks.set_clearance_said t home.container home.segment fit.owner fit.owner_most fit.label fit.held u fit.around outer inner label clearance own most child_bytes own_bytes fit.under fit.seen fit.outer fit.inner fit.lesser fit.taken) runs
-        (λ later done called right longer goes. ends (calls ++ SetClearance most ∷ []) later (kept_then calls (SetClearance most) kept) longer (called.state ∙ ap (λ (x : State). with_changed x t (clearing most)) at) few goes)
+        (λ later done called right longer goes. ends (calls ++ SetClearance most ∷ []) later (kept_then calls (SetClearance most) kept) longer (called.state ∙ ap (λ (x : State). with_changed x t (with_clearance most)) at) few goes)
 
     label_set : s.next_object + 3 < greatest → (calls : List RawCall) (mid : KernelModel) → AreKept calls → Chain old t (all_granted calls) mid → state mid ≡ seventh → Runs after_write mid new t result → Row
     label_set few calls mid kept chain at runs =
         granted_step session f me caller call old new t named result calls mid chain (SetLabel own) (λ _. after_label)
         (ap (λ (x : State). check x t (SetLabel own)) at ∙ checks.set_label_said t home.container home.segment fit.owner fit.owner_most fit.label fit.held u fit.around outer inner label clearance own most child_bytes own_bytes fit.under fit.seen fit.outer fit.inner fit.lesser fit.taken) runs
-        (λ later done called right longer goes. clearance_set few (calls ++ SetLabel own ∷ []) later (kept_then calls (SetLabel own) kept) longer (called.state ∙ ap (λ (x : State). with_changed x t (relabelled own)) at) goes)
+        (λ later done called right longer goes. clearance_set few (calls ++ SetLabel own ∷ []) later (kept_then calls (SetLabel own) kept) longer (called.state ∙ ap (λ (x : State). with_changed x t (with_label own)) at) goes)
 
     segment_written : s.next_object + 3 < greatest → (calls : List RawCall) (mid : KernelModel) → AreKept calls → Chain old t (all_granted calls) mid → state mid ≡ sixth → Runs (after_segment m (m + 1 + 1 + 1)) mid new t result → Row
     segment_written few calls mid kept chain at runs =
@@ -190,7 +190,7 @@ module _ (session : Session) (f : Flat) (me : ProcName) (caller : IsRunning f me
         (subst (λ (x : State). check x t next ≡ unless (has_number x) TooBig) (sym at) (checks.make_segment_said t home.container home.segment fit.owner fit.owner_most fit.label fit.held u fit.around outer inner label clearance own most child_bytes own_bytes fit.under fit.seen fit.outer fit.inner fit.lesser fit.taken fit.child_few)) runs
         (λ more later number called right longer goes.
         let few = ltb-true (m + 1 + 1 + 1) greatest (sym (ap has_number at) ∙ more) in
-        segment_written (omega (arith, few)) (calls ++ next ∷ []) later (kept_then calls next kept) longer (called.state ∙ ap (λ (x : State). added x m (record { label = outer; kind = Segment child_bytes })) at)
+        segment_written (omega (arith, few)) (calls ++ next ∷ []) later (kept_then calls next kept) longer (called.state ∙ ap (λ (x : State). with_object x m (record { label = outer; kind = Segment child_bytes })) at)
         (subst (λ (q : ℕ). Runs (after_segment m q) later new t result) (right ∙ ap (λ (x : State). x.next_object) at) goes))
 
     thread_made : (calls : List RawCall) (mid : KernelModel) → AreKept calls → Chain old t (all_granted calls) mid → state mid ≡ fourth → Runs (after_internal read write m (m + 1)) mid new t result → Row
@@ -199,7 +199,7 @@ module _ (session : Session) (f : Flat) (me : ProcName) (caller : IsRunning f me
         numbered_step session f me caller call old new t named result calls mid chain next (after_thread write m (m + 1)) refl
         (subst (λ (x : State). check x t next ≡ unless (has_number x) TooBig) (sym at) (checks.make_thread_said t home.container home.segment fit.owner fit.owner_most fit.label fit.held u fit.around outer inner label clearance own most child_bytes own_bytes fit.under fit.seen fit.outer fit.inner fit.lesser fit.taken)) runs
         (λ more later number called right longer goes.
-        segment_made (calls ++ next ∷ []) later (kept_then calls next kept) longer (called.state ∙ ap (λ (x : State). added x (m + 1) (thread_of label clearance)) at)
+        segment_made (calls ++ next ∷ []) later (kept_then calls next kept) longer (called.state ∙ ap (λ (x : State). with_object x (m + 1) (thread_of label clearance)) at)
         (subst (λ (q : ℕ). Runs (after_thread write m (m + 1) q) later new t result) (right ∙ ap (λ (x : State). x.next_object) at) goes))
 
     internal_made : (calls : List RawCall) (mid : KernelModel) → AreKept calls → Chain old t (all_granted calls) mid → state mid ≡ third → Runs (after_container read write m) mid new t result → Row
@@ -208,7 +208,7 @@ module _ (session : Session) (f : Flat) (me : ProcName) (caller : IsRunning f me
         numbered_step session f me caller call old new t named result calls mid chain next (after_internal read write m) refl
         (subst (λ (x : State). check x t next ≡ unless (has_number x) TooBig) (sym at) (checks.make_internal_said t home.container home.segment fit.owner fit.owner_most fit.label fit.held u fit.around outer inner label clearance own most child_bytes own_bytes fit.under fit.seen fit.outer fit.inner fit.lesser fit.taken)) runs
         (λ more later number called right longer goes.
-        thread_made (calls ++ next ∷ []) later (kept_then calls next kept) longer (called.state ∙ ap (λ (x : State). added x m (record { label = inner; kind = Container set.empty })) at)
+        thread_made (calls ++ next ∷ []) later (kept_then calls next kept) longer (called.state ∙ ap (λ (x : State). with_object x m (record { label = inner; kind = Container set.empty })) at)
         (subst (λ (q : ℕ). Runs (after_internal read write m q) later new t result) (right ∙ ap (λ (x : State). x.next_object) at) goes))
 
     container_made : (calls : List RawCall) (mid : KernelModel) → AreKept calls → Chain old t (all_granted calls) mid → state mid ≡ u → Runs (after_categories read write) mid new t result → Row
@@ -217,12 +217,12 @@ module _ (session : Session) (f : Flat) (me : ProcName) (caller : IsRunning f me
         numbered_step session f me caller call old new t named result calls mid chain next (after_container read write) refl
         (subst (λ (x : State). check x t next ≡ unless (has_number x) TooBig) (sym at) (checks.make_container_said t home.container home.segment fit.owner fit.owner_most fit.label fit.held u fit.around outer inner label clearance own most child_bytes own_bytes fit.under fit.seen fit.outer fit.inner fit.lesser fit.taken)) runs
         (λ more later number called right longer goes.
-        internal_made (calls ++ next ∷ []) later (kept_then calls next kept) longer (called.state ∙ ap (λ (x : State). added x home.container (record { label = outer; kind = Container set.empty })) at)
+        internal_made (calls ++ next ∷ []) later (kept_then calls next kept) longer (called.state ∙ ap (λ (x : State). with_object x home.container (record { label = outer; kind = Container set.empty })) at)
         (subst (λ (q : ℕ). Runs (after_container read write q) later new t result) (right ∙ ap (λ (x : State). x.next_object) at) goes))
 
     -- the thread with the first category
     thread_then : (with_category s t).objects t ≡ object (with_level own s.next_category Star) (Thread (with_level most s.next_category L3))
-    thread_then = changed_here s.objects t (owning s.next_category) ∙ ap (option_map (owning s.next_category)) fit.thread
+    thread_then = changed_here s.objects t (with_star_at s.next_category) ∙ ap (option_map (with_star_at s.next_category)) fit.thread
 
     write_made : (calls : List RawCall) (mid : KernelModel) → AreKept calls → Chain old t (all_granted calls) mid → state mid ≡ with_category s t → Runs (after_category read) mid new t result → Row
     write_made calls mid kept chain at runs =

@@ -6,7 +6,7 @@ use Rattle.histar_flat.specs.Words.{Name, ProcName}
 use Rattle.histar_flat.specs.Sessions.{Session, user_number}
 use Rattle.histar_flat.specs.Classes.{Process, is_free}
 use Rattle.histar_calls.specs.Categories.{owners_of}
-use Rattle.histar_calls.specs.Labelling.{guarded_by, owning, cleared_at}
+use Rattle.histar_calls.specs.Labelling.{guarded_by, owner_label, cleared_at}
 use Rattle.histar_process.specs.Kin.{Kin, user_name, categories_of, owned_by}
 use Rattle.histar_process.specs.Birth.{outer_label, inner_label, thread_label, thread_clearance}
 use Rattle.histar_refinement.specs.Categories.{CategoryName, Categories, boot_category}
@@ -48,7 +48,7 @@ module _ (session : Session) (category : Categories) (p : Process) (as_made : (c
       pub label_is : thread_label kin r w ≡ rights_label category (thread_rights session child (record { user = p.user; chain = p.chain; held = []; exited = None; born = 0 }))
       label_is =
           same_owning (r ∷ w ∷ kin.owned) (kin.jobs) (r ∷ w ∷ kin.owned) (map category (map OfJob p.chain)) (λ q. refl) alike
-          ∙ (λ i. owning (sym reads i ∷ sym writes i ∷ kin_owned i) (map category (map OfJob p.chain)))
+          ∙ (λ i. owner_label (sym reads i ∷ sym writes i ∷ kin_owned i) (map category (map OfJob p.chain)))
 
       -- what is owned before the jobs
       before_jobs : (owned : List ℕ) (q : ℕ) → is_in (owned ++ kin.jobs) q ≡ is_in (owned ++ map category (map OfJob p.chain)) q

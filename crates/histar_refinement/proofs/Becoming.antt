@@ -10,7 +10,7 @@ use Rattle.histar_object.specs.declared.objects.Kind.{Kind}
 use Rattle.histar_object.specs.declared.objects.Kind.TheVariants.{Segment, Container, Thread, Gate}
 use Rattle.histar_object.specs.declared.objects.Object.{Object}
 use Rattle.histar_object.specs.Objects.{changed_at, kind_links, thread_of}
-use Rattle.histar_object.specs.Rights.{relabelled, clearing, kind_clearing}
+use Rattle.histar_object.specs.Rights.{with_label, with_clearance, kind_with_clearance}
 use Rattle.histar_object.specs.State.{State, Found, with_own}
 use Rattle.histar_container.specs.Tree.{Address, set_at}
 use Rattle.histar_container.proofs.Addresses.{same_tells}
@@ -38,12 +38,12 @@ use Rattle.histar_refinement.proofs.Moving.{at_number, bare_is, stands_changed, 
 
 -- a thread is given another label and another clearance
 abbrev becoming : Levels → Levels → Object Levels → Object Levels
-becoming label clearance o = clearing clearance (relabelled label o)
+becoming label clearance o = with_clearance clearance (with_label label o)
 
 same_links : (label clearance : Levels) (o : Object Levels) → kind_links (becoming label clearance o).kind ≡ kind_links o.kind
 same_links label clearance o = by o.kind
   where
-    by : (k : Kind Levels) → kind_links (kind_clearing clearance k) ≡ kind_links k
+    by : (k : Kind Levels) → kind_links (kind_with_clearance clearance k) ≡ kind_links k
     by (Segment bytes) = refl
     by (Container links) = refl
     by (Thread old) = refl
@@ -53,7 +53,7 @@ bared : (label clearance : Levels) (o : Found) → bare (option_map (becoming la
 bared label clearance None = refl
 bared label clearance (Some o) = ap (λ (k : Kind Levels). Some (record { label = label; kind = k })) (by o.kind)
   where
-    by : (k : Kind Levels) → kind_bare (kind_clearing clearance k) ≡ kind_clearing clearance (kind_bare k)
+    by : (k : Kind Levels) → kind_bare (kind_with_clearance clearance k) ≡ kind_with_clearance clearance (kind_bare k)
     by (Segment bytes) = refl
     by (Container links) = refl
     by (Thread old) = refl

@@ -8,7 +8,7 @@ use Rattle.histar_label.specs.Levels.{Levels}
 use Rattle.histar_object.specs.declared.objects.Kind.TheVariants.{Segment, Container}
 use Rattle.histar_object.specs.declared.objects.Object.{Object}
 use Rattle.histar_object.specs.Objects.{Objects, put, changed_at, linking, thread_of, holding, is_there, is_container}
-use Rattle.histar_object.specs.State.{State, Found, added, with_bytes}
+use Rattle.histar_object.specs.State.{State, Found, with_object, with_bytes}
 use Rattle.histar_container.specs.Tree.{Address, Naming, with_number, set_at}
 use Rattle.histar_container.proofs.Addresses.{same_tells, same_itself, same_other, longer}
 use Rattle.histar_container.proofs.TableMoves.{put_other}
@@ -47,16 +47,16 @@ module _ (s : State) (naming : Naming Step) (asked : Address Step → Found) (st
 
   -- the states on the way, and the namings
   abbrev first : State
-  first = added s C container
+  first = with_object s C container
 
   abbrev second : State
-  second = added first s.next_object internal
+  second = with_object first s.next_object internal
 
   abbrev third : State
-  third = added second (s.next_object + 1) (thread_of label clearance)
+  third = with_object second (s.next_object + 1) (thread_of label clearance)
 
   abbrev fourth : State
-  fourth = added third s.next_object segment
+  fourth = with_object third s.next_object segment
 
   abbrev pub born_state : State
   born_state = with_bytes fourth S own_bytes
@@ -149,7 +149,7 @@ module _ (s : State) (naming : Naming Step) (asked : Address Step → Found) (st
     | false ↦ e
   ]
 
-  none_added : (t : State) (d : ℕ) (o : Object Levels) (q : ℕ) → t.objects q ≡ None → q ≢ t.next_object → (added t d o).objects q ≡ None
+  none_added : (t : State) (d : ℕ) (o : Object Levels) (q : ℕ) → t.objects q ≡ None → q ≢ t.next_object → (with_object t d o).objects q ≡ None
   none_added t d o q e other = none_changed (put t.objects t.next_object o) d (linking t.next_object) q (put_other t.objects t.next_object o q other ∙ e)
 
   pub gone_born : (q : ℕ) → s.objects q ≡ None → q < s.next_object → born_state.objects q ≡ None

@@ -15,7 +15,7 @@ use Rattle.histar_label.specs.Level.{is_star}
 use Rattle.histar_label.specs.Levels.{level_of}
 use Rattle.histar_object.specs.State.{State}
 use Rattle.histar_calls.specs.Categories.{read_category, write_category, group_owner, owner_of_group, owners_of, owns, IsUserOf}
-use Rattle.histar_calls.specs.Labelling.{written_by, secret_of, guarded_by, owning, cleared_at}
+use Rattle.histar_calls.specs.Labelling.{written_by, secret_of, guarded_by, owner_label, cleared_at}
 use Rattle.histar_process.specs.declared.caller.Caller.{Caller}
 use Rattle.histar_login.specs.Login.{place_of, owned_as_user, user_label, user_clearance}
 use Rattle.histar_refinement.specs.Categories.CategoryName.{ReadsUser, WritesUser, ReadsProcess, WritesProcess, OfJob}
@@ -123,7 +123,7 @@ module _ (session : Session) (s : State) (f : Flat) (l : Laid session s f) (me :
 
   -- The label and the clearance that a login gives a process are those of the user.
   pub user_label_is : rights_label l.category (thread_rights session me as_user) ≡ user_label caller (owners_of session i name)
-  user_label_is = ap (λ (o : List ℕ). owning o []) owned_so
+  user_label_is = ap (λ (o : List ℕ). owner_label o []) owned_so
 
   pub user_clearance_is : rights_clearance l.category (thread_rights session me as_user) ≡ user_clearance caller (owners_of session i name)
   user_clearance_is = ap (λ (names : List CategoryName). cleared_at (map l.category names)) (append-nil (thread_rights session me as_user).owned) ∙ ap cleared_at owned_so

@@ -11,7 +11,7 @@ use Rattle.histar_layout.specs.declared.entry.Target.TheVariants as targets
 use Rattle.histar_object.specs.declared.objects.Kind.TheVariants.{Segment, Container}
 use Rattle.histar_object.specs.declared.objects.Object.{Object}
 use Rattle.histar_object.specs.Objects.{put, linking, is_there, is_container}
-use Rattle.histar_object.specs.State.{State, Found, added, with_bytes}
+use Rattle.histar_object.specs.State.{State, Found, with_object, with_bytes}
 use Rattle.histar_container.specs.Tree.{Address, Naming, with_number, set_at}
 use Rattle.histar_container.proofs.Addresses.{same_itself, same_other, longer}
 use Rattle.histar_container.proofs.Links.{none_linked}
@@ -39,10 +39,10 @@ use Rattle.histar_refinement.proofs.FileRows.{SameNumbers, ClassFits, AreKnown}
 use Rattle.histar_refinement.proofs.Making.{boot_thread_below, Standing, same_numbers, jobs_made, laid_made}
 
 -- what was nothing and is not the next number stays nothing
-gone_added : (s : State) (d b : ℕ) (o : Object Levels) → s.objects b ≡ None → b ≢ s.next_object → (added s d o).objects b ≡ None
+gone_added : (s : State) (d b : ℕ) (o : Object Levels) → s.objects b ≡ None → b ≢ s.next_object → (with_object s d o).objects b ≡ None
 gone_added s d b o nothing other = by (put_other s.objects s.next_object o b other ∙ nothing)
   where
-    by : put s.objects s.next_object o b ≡ None → (added s d o).objects b ≡ None
+    by : put s.objects s.next_object o b ≡ None → (with_object s d o).objects b ≡ None
     by e = elim (nat_eq b d) as (λ t. (if t then option_map (linking s.next_object) (put s.objects s.next_object o b) else put s.objects s.next_object o b) ≡ None) [
       | true ↦ ap (option_map (linking s.next_object)) e
       | false ↦ e
@@ -96,7 +96,7 @@ module _ (session : Session) (s : State) (f : Flat) (l : Laid session s f) (d : 
 
   -- the state once the file is linked
   abbrev pub with_file : State
-  with_file = added s D (record { label = guard_label l.category g; kind = Segment [] })
+  with_file = with_object s D (record { label = guard_label l.category g; kind = Segment [] })
 
   abbrev pub file_naming : Naming Step
   file_naming = with_number same_step l.naming s.next_object (Named m ∷ address_of d)
@@ -135,10 +135,10 @@ module _ (session : Session) (s : State) (f : Flat) (l : Laid session s f) (d : 
 
   -- the state once the container is linked, and once its segment is
   abbrev pub with_container : State
-  with_container = added s D (record { label = guard_label l.category g; kind = Container set.empty })
+  with_container = with_object s D (record { label = guard_label l.category g; kind = Container set.empty })
 
   abbrev pub with_directory : State
-  with_directory = added with_container s.next_object (record { label = guard_label l.category g; kind = Segment [] })
+  with_directory = with_object with_container s.next_object (record { label = guard_label l.category g; kind = Segment [] })
 
   abbrev container_asked : Address Step → Found
   container_asked = set_at same_step old_asked here (container label)

@@ -8,7 +8,7 @@ use Rattle.histar_flat.specs.Words.{Name}
 use Rattle.histar_label.specs.declared.levels.Level.{Level}
 use Rattle.histar_label.specs.declared.levels.Level.TheVariants.{Star, L1, L2, L3}
 use Rattle.histar_calls.specs.Categories.{read_category, write_category, group_owner, owners_of}
-use Rattle.histar_calls.specs.Labelling.{labelled, each_at, owning, cleared_at}
+use Rattle.histar_calls.specs.Labelling.{labelled, each_at, owner_label, cleared_at}
 use Rattle.histar_process.specs.Kin.{categories_of}
 use Rattle.histar_login.specs.Start.{at_both, gate_label, gate_clearance}
 use Rattle.histar_refinement.specs.Categories.{CategoryName, Categories, boot_category}
@@ -111,7 +111,7 @@ module _ (session : Session) (category : Categories) (as_made : (c : CategoryNam
     gate_label_is =
         ap (λ (l : List (ℕ × Level)). labelled l L1) (at_both_is Star owners ∙ sym (append-nil (each_at Star (both_of owners))))
         ∙ same_owning (both_of owners) [] (map read_category owners ++ map write_category owners) [] (both_are owners) (λ q. refl)
-        ∙ ap (λ (l : List ℕ). owning l []) (sym (owned_is true))
+        ∙ ap (λ (l : List ℕ). owner_label l []) (sym (owned_is true))
 
     pub gate_clearance_is : gate_clearance session i name ≡ rights_clearance category (gate_rights session name i)
     gate_clearance_is =

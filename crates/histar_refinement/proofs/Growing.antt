@@ -5,7 +5,7 @@ use Rattle.std.proofs.lemmas.Bool.Decides.{eqb_tells, nat_tests}
 use mathlib.Core.Bool.{true≢false}
 use Rattle.histar_label.specs.declared.levels.Level.TheVariants.{Star, L3}
 use Rattle.histar_label.specs.Levels.{with_level, level_of-with_level, same_levels}
-use Rattle.histar_calls.specs.Labelling.{written_by, secret_of, owner_of, cleared_of, guarded_by, owning, cleared_at}
+use Rattle.histar_calls.specs.Labelling.{written_by, secret_of, owner_of, cleared_of, guarded_by, owner_label, cleared_at}
 use Rattle.histar_refinement.specs.Categories.{CategoryName, Categories, AreDifferent, IsMade, same_category, among, swapped, naming_next}
 use Rattle.histar_refinement.specs.Guards.{Guard, Rights, guard_label, rights_label, rights_clearance}
 use Rattle.histar_refinement.proofs.AmongNames.{each_append}
@@ -20,7 +20,7 @@ written_is w = refl
 pub secret_is : (r w : ℕ) → secret_of r w ≡ guarded_by (r ∷ []) (w ∷ [])
 secret_is r w = refl
 
-pub owner_is : (r w : ℕ) → owner_of r w ≡ owning (r ∷ w ∷ []) []
+pub owner_is : (r w : ℕ) → owner_of r w ≡ owner_label (r ∷ w ∷ []) []
 owner_is r w = refl
 
 pub cleared_is : (r w : ℕ) → cleared_of r w ≡ cleared_at (r ∷ w ∷ [])
@@ -47,7 +47,7 @@ pub same_guard_label : (category other : Categories) (g : Guard) → GuardHas (K
 same_guard_label category other g keeps = λ i. guarded_by (same_numbers category other g.secret keeps.0 i) (same_numbers category other g.written keeps.1 i)
 
 pub same_rights_label : (category other : Categories) (r : Rights) → RightsHave (KeepsNumber category other) r → rights_label other r ≡ rights_label category r
-same_rights_label category other r keeps = λ i. owning (same_numbers category other r.owned keeps.0 i) (same_numbers category other r.tainted keeps.1 i)
+same_rights_label category other r keeps = λ i. owner_label (same_numbers category other r.owned keeps.0 i) (same_numbers category other r.tainted keeps.1 i)
 
 pub same_rights_clearance : (category other : Categories) (r : Rights) → RightsHave (KeepsNumber category other) r → rights_clearance other r ≡ rights_clearance category r
 same_rights_clearance category other r keeps = ap cleared_at (same_numbers category other (r.owned ++ r.tainted) (each_append (KeepsNumber category other) r.owned r.tainted keeps.0 keeps.1))
@@ -112,7 +112,7 @@ module _ (category : Categories) (different : AreDifferent category) (next : ℕ
 
   pub made_label : (r : Rights) → RightsHave IsOld r → with_level (rights_label category r) next Star ≡ rights_label grown (with_owned r)
   made_label r old =
-      same_levels (with_level (rights_label category r) next Star) (owning (next ∷ map category r.owned) (map category r.tainted)) (λ q.
+      same_levels (with_level (rights_label category r) next Star) (owner_label (next ∷ map category r.owned) (map category r.tainted)) (λ q.
       level_of-with_level (rights_label category r) next Star q
       ∙ ap (λ l. if q == next then Star else l) (at_owning (map category r.owned) (map category r.tainted) q)
       ∙ star_here (q == next) (is_in (map category r.owned) q) (is_in (map category r.tainted) q) (λ e. elim (eqb_tells q next) [
@@ -120,7 +120,7 @@ module _ (category : Categories) (different : AreDifferent category) (next : ℕ
         | inr k ↦ absurd (true≢false (sym e ∙ k.0))
       ])
       ∙ sym (at_owning (next ∷ map category r.owned) (map category r.tainted) q))
-      ∙ (λ i. owning (sym new_number i ∷ sym (same_numbers category grown r.owned (λ d e. old_keeps d (old.0 d e))) i) (sym (same_numbers category grown r.tainted (λ d e. old_keeps d (old.1 d e))) i))
+      ∙ (λ i. owner_label (sym new_number i ∷ sym (same_numbers category grown r.owned (λ d e. old_keeps d (old.0 d e))) i) (sym (same_numbers category grown r.tainted (λ d e. old_keeps d (old.1 d e))) i))
 
   pub made_clearance : (r : Rights) → RightsHave IsOld r → with_level (rights_clearance category r) next L3 ≡ rights_clearance grown (with_owned r)
   made_clearance r old =

@@ -9,7 +9,7 @@ use Rattle.histar_label.specs.Levels.{Levels}
 use Rattle.histar_object.specs.declared.objects.Kind.TheVariants.{Segment, Container}
 use Rattle.histar_object.specs.Objects.{thread_of}
 use Rattle.histar_object.specs.Rights.{with_category}
-use Rattle.histar_object.specs.State.{State, with_own, counting}
+use Rattle.histar_object.specs.State.{State, with_own, with_next_category}
 use Rattle.histar_flat.specs.Sessions.{Session, has, user_number}
 use Rattle.histar_flat.specs.Classes.{Process}
 use Rattle.histar_flat.specs.FlatState.{Flat, with_child, with_process, is_given}
@@ -72,7 +72,7 @@ module _ (session : Session) (s : State) (f : Flat) (l : Laid session s f) (me :
       (own_written session s f l me p here runs room jobs jobs_used jobs_ordered jobs_free C S at_home at_status)
 
   abbrev state_born_two : State
-  state_born_two = counting (counting (births_of s))
+  state_born_two = with_next_category (with_next_category (births_of s))
 
   laid_born : (later : Laid session state_born_two born) × (later.naming ≡ naming session s f l me p here runs room jobs jobs_used jobs_ordered jobs_free C S at_home at_status) × (later.category ≡ category session s f l me p here runs room jobs jobs_used jobs_ordered jobs_free C S at_home at_status)
   laid_born = laid_with_child session s f l me p here runs room jobs jobs_used jobs_ordered jobs_free C S at_home at_status state_born_two (λ q. refl) refl (omega arith) few

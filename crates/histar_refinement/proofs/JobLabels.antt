@@ -13,7 +13,7 @@ use Rattle.histar_label.specs.declared.levels.Level.TheVariants.{Star, L1, L3}
 use Rattle.histar_label.specs.Levels.{Levels, constant, default_of, default_of-constant, exceptions_of}
 use Rattle.histar_label.proofs.Listed.{ListsExceptions-exceptions_of}
 use Rattle.histar_calls.specs.Jobs.{is_three, jobs_in, is_empty}
-use Rattle.histar_calls.specs.Labelling.{each_at, owning}
+use Rattle.histar_calls.specs.Labelling.{each_at, owner_label}
 use Rattle.histar_refinement.specs.Categories.{Categories}
 use Rattle.histar_refinement.specs.Categories.CategoryName.{OfJob}
 use Rattle.histar_refinement.specs.Guards.{rights_label}
@@ -67,13 +67,13 @@ is_tainted true false e = absurd (true≢false (sym e))
 is_tainted false false e = absurd (true≢false (sym e))
 
 -- it is not the default of what owns categories
-three_apart : (owned tainted : List ℕ) → L3 ≢ default_of (owning owned tainted)
+three_apart : (owned tainted : List ℕ) → L3 ≢ default_of (owner_label owned tainted)
 three_apart owned tainted e =
     let level : L3 ≡ L1 = e ∙ default_kept (constant L1) (each_at Star owned ++ each_at L3 tainted) ∙ default_of-constant L1 in
     true≢false (ap is_three level)
 
 -- The jobs that a label of rights tells are the categories that it has at 3.
-pub in_jobs : (owned tainted : List ℕ) (c : ℕ) → is_in (jobs_in (owning owned tainted)) c ≡ is_in tainted c
+pub in_jobs : (owned tainted : List ℕ) (c : ℕ) → is_in (jobs_in (owner_label owned tainted)) c ≡ is_in tainted c
 in_jobs owned tainted c = same_truth (is_in (jobs_in own) c) (is_in tainted c)
     (λ e. let there = picked_there (exceptions_of own) c e in
     is_tainted (is_in owned c) (is_in tainted c) (ap is_three (sym (at_owning owned tainted c) ∙ ((ListsExceptions-exceptions_of own c there.0).0 there.1).0) ∙ there.2))
@@ -81,7 +81,7 @@ in_jobs owned tainted c = same_truth (is_in (jobs_in own) c) (is_in tainted c)
     picked_if_there (exceptions_of own) c L3 refl there.0 there.1 (get_or_default (exceptions_of own) there.0 (0, Star) (c, L3) there.1 ∙ there.2))
   where
     own : Levels
-    own = owning owned tainted
+    own = owner_label owned tainted
 
 -- a list with the same numbers as an empty one is empty, and so the other way round
 empty_alike : (cs ds : List ℕ) → ((c : ℕ) → is_in cs c ≡ is_in ds c) → is_empty cs ≡ is_empty ds

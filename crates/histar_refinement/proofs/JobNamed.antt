@@ -2,7 +2,7 @@
 use Rattle.std.proofs.Common.{◌≡◌, ◌+◌, inl, inr, Bool, true, false, [], ◌∷◌, ◌++◌, Some, arith, refl, ap, ◌∙◌}
 use Rattle.histar_flat.specs.Words.{Path, ProcName}
 use Rattle.histar_flat.specs.Files.{get}
-use Rattle.histar_object.specs.State.{State, counting}
+use Rattle.histar_object.specs.State.{State, with_next_category}
 use Rattle.histar_flat.specs.Sessions.{Session, has}
 use Rattle.histar_flat.specs.Classes.{Process}
 use Rattle.histar_flat.specs.FlatState.{Node, Flat}
@@ -43,10 +43,10 @@ module _ (session : Session) (s : State) (f : Flat) (l : LaysOut session s f) (m
       never false u = refl
 
   -- once the job's category is made
-  pub named : (later : Laid session (counting s) f) × (later.naming ≡ l.laid.naming) × (later.category ≡ naming_next l.laid.category s.next_category (OfJob ((p.born + 1) ∷ me)))
-  named = laid_named session s f l.laid (OfJob child) unused (counting s) (λ q. refl) refl (omega arith)
+  pub named : (later : Laid session (with_next_category s) f) × (later.naming ≡ l.laid.naming) × (later.category ≡ naming_next l.laid.category s.next_category (OfJob ((p.born + 1) ∷ me)))
+  named = laid_named session s f l.laid (OfJob child) unused (with_next_category s) (λ q. refl) refl (omega arith)
 
-  abbrev pub m : Laid session (counting s) f
+  abbrev pub m : Laid session (with_next_category s) f
   m = named.0
 
   pub job_number : m.category (OfJob ((p.born + 1) ∷ me)) ≡ s.next_category

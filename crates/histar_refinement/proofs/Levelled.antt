@@ -10,7 +10,7 @@ use Rattle.histar_label.specs.Levels.{Levels, level_of, constant, with_level, le
 use Rattle.histar_label.proofs.Orders.{is_below-law, is_below_raised-law}
 use Rattle.histar_label.proofs.Made.{is_made-constant, is_made-with_level}
 use Rattle.histar_label.proofs.Stars.{has_star-none}
-use Rattle.histar_calls.specs.Labelling.{with_levels, each_at, guarded_by, owning, cleared_at}
+use Rattle.histar_calls.specs.Labelling.{with_levels, each_at, guarded_by, owner_label, cleared_at}
 use Rattle.histar_refinement.specs.Categories.{IsMade}
 use Rattle.histar_refinement.proofs.Members.{is_in, same_truth, and_both, first_of, second_of, or_first, all_from, each_of, AreApart, or_second}
 
@@ -51,7 +51,7 @@ cleared_level c = if c then L3 else L2
 pub at_guarded : (S W : List ℕ) (q : ℕ) → level_of (guarded_by S W) q ≡ guarded_level (is_in S q) (is_in W q)
 at_guarded S W q = two_levels (constant L1) S W L3 L0 q ∙ ap (λ k. if is_in W q then L0 else (if is_in S q then L3 else k)) (level_of-constant L1 q)
 
-pub at_owning : (O T : List ℕ) (q : ℕ) → level_of (owning O T) q ≡ owning_level (is_in O q) (is_in T q)
+pub at_owning : (O T : List ℕ) (q : ℕ) → level_of (owner_label O T) q ≡ owning_level (is_in O q) (is_in T q)
 at_owning O T q = two_levels (constant L1) O T Star L3 q ∙ ap (λ k. if is_in T q then L3 else (if is_in O q then Star else k)) (level_of-constant L1 q)
 
 pub at_cleared : (C : List ℕ) (q : ℕ) → level_of (cleared_at C) q ≡ cleared_level (is_in C q)
@@ -141,27 +141,27 @@ lower_at false true h = omega arith
 lower_at false false h = omega arith
 
 -- A thread observes what is guarded where it owns each secret category or has it at 3 itself.
-pub observes_guarded : (S W O T : List ℕ) → AreApart S W → is_below_raised (guarded_by S W) (owning O T) ≡ list_all (λ q. is_in O q || is_in T q) S
-observes_guarded S W O T apart = same_truth (is_below_raised (guarded_by S W) (owning O T)) (list_all (λ q. is_in O q || is_in T q) S)
+pub observes_guarded : (S W O T : List ℕ) → AreApart S W → is_below_raised (guarded_by S W) (owner_label O T) ≡ list_all (λ q. is_in O q || is_in T q) S
+observes_guarded S W O T apart = same_truth (is_below_raised (guarded_by S W) (owner_label O T)) (list_all (λ q. is_in O q || is_in T q) S)
     (λ below. all_from (λ q. is_in O q || is_in T q) S (λ q e. seen_only (is_in S q) (is_in W q) (is_in O q) (is_in T q) e (apart q e)
-    (rw (sym (at_guarded S W q), sym (at_owning O T q)) ((is_below_raised-law (guarded_by S W) (owning O T)).0 below q))))
-    (λ all. (is_below_raised-law (guarded_by S W) (owning O T)).1 (λ q.
+    (rw (sym (at_guarded S W q), sym (at_owning O T q)) ((is_below_raised-law (guarded_by S W) (owner_label O T)).0 below q))))
+    (λ all. (is_below_raised-law (guarded_by S W) (owner_label O T)).1 (λ q.
     rw (at_guarded S W q, at_owning O T q) (seen_at (is_in S q) (is_in W q) (is_in O q) (is_in T q) (λ e. each_of (λ c. is_in O c || is_in T c) S all q e))))
 
 -- A thread's label is below that of what is guarded where each category that it has at 3 is secret there, and it owns each
 -- written one.
-pub below_guarded : (S W O T : List ℕ) → AreApart T W → is_below (owning O T) (guarded_by S W) ≡ (list_all (is_in S) T && list_all (is_in O) W)
-below_guarded S W O T apart = same_truth (is_below (owning O T) (guarded_by S W)) (list_all (is_in S) T && list_all (is_in O) W)
+pub below_guarded : (S W O T : List ℕ) → AreApart T W → is_below (owner_label O T) (guarded_by S W) ≡ (list_all (is_in S) T && list_all (is_in O) W)
+below_guarded S W O T apart = same_truth (is_below (owner_label O T) (guarded_by S W)) (list_all (is_in S) T && list_all (is_in O) W)
     (λ below. and_both
     (all_from (is_in S) T (λ q e. under_secret (is_in S q) (is_in W q) (is_in O q) (is_in T q) e (at_each below q)))
     (all_from (is_in O) W (λ q e. under_written (is_in S q) (is_in W q) (is_in O q) (is_in T q) e (at_each below q))))
-    (λ both. (is_below-law (owning O T) (guarded_by S W)).1 (λ q.
+    (λ both. (is_below-law (owner_label O T) (guarded_by S W)).1 (λ q.
     rw (at_guarded S W q, at_owning O T q) (under_at (is_in S q) (is_in W q) (is_in O q) (is_in T q)
     (each_of (is_in S) T (first_of (list_all (is_in S) T) (list_all (is_in O) W) both) q) (apart q)
     (each_of (is_in O) W (second_of (list_all (is_in S) T) (list_all (is_in O) W) both) q))))
   where
-    at_each : is_below (owning O T) (guarded_by S W) ≡ true → (q : ℕ) → rank (owning_level (is_in O q) (is_in T q)) ≤ rank (guarded_level (is_in S q) (is_in W q))
-    at_each below q = rw (sym (at_guarded S W q), sym (at_owning O T q)) ((is_below-law (owning O T) (guarded_by S W)).0 below q)
+    at_each : is_below (owner_label O T) (guarded_by S W) ≡ true → (q : ℕ) → rank (owning_level (is_in O q) (is_in T q)) ≤ rank (guarded_level (is_in S q) (is_in W q))
+    at_each below q = rw (sym (at_guarded S W q), sym (at_owning O T q)) ((is_below-law (owner_label O T) (guarded_by S W)).0 below q)
 
 -- what is guarded is below a clearance that has each of its secret categories
 pub guarded_cleared : (S W C : List ℕ) → list_all (is_in C) S ≡ true → is_below (guarded_by S W) (cleared_at C) ≡ true
@@ -181,16 +181,16 @@ cleared_exactly S W C apart = same_truth (is_below (guarded_by S W) (cleared_at 
     (guarded_cleared S W C)
 
 -- a label with rights is below one that has no less at 3 and owns no more
-pub below_owning : (O T P U : List ℕ) → list_all (is_in U) T ≡ true → list_all (is_in O) P ≡ true → is_below (owning O T) (owning P U) ≡ true
-below_owning O T P U tainted owned = (is_below-law (owning O T) (owning P U)).1 (λ q.
+pub below_owning : (O T P U : List ℕ) → list_all (is_in U) T ≡ true → list_all (is_in O) P ≡ true → is_below (owner_label O T) (owner_label P U) ≡ true
+below_owning O T P U tainted owned = (is_below-law (owner_label O T) (owner_label P U)).1 (λ q.
     rw (at_owning O T q, at_owning P U q) (passed_at (is_in O q) (is_in T q) (is_in P q) (is_in U q) (each_of (is_in U) T tainted q) (each_of (is_in O) P owned q)))
 
 -- it is below a clearance exactly where the clearance has all that it has at 3
-pub owning_cleared : (O T C : List ℕ) → is_below (owning O T) (cleared_at C) ≡ list_all (is_in C) T
-owning_cleared O T C = same_truth (is_below (owning O T) (cleared_at C)) (list_all (is_in C) T)
+pub owning_cleared : (O T C : List ℕ) → is_below (owner_label O T) (cleared_at C) ≡ list_all (is_in C) T
+owning_cleared O T C = same_truth (is_below (owner_label O T) (cleared_at C)) (list_all (is_in C) T)
     (λ below. all_from (is_in C) T (λ q e. capped_only (is_in O q) (is_in T q) (is_in C q) e
-    (rw (sym (at_owning O T q), sym (at_cleared C q)) ((is_below-law (owning O T) (cleared_at C)).0 below q))))
-    (λ all. (is_below-law (owning O T) (cleared_at C)).1 (λ q. rw (at_owning O T q, at_cleared C q) (capped_at (is_in O q) (is_in T q) (is_in C q) (each_of (is_in C) T all q))))
+    (rw (sym (at_owning O T q), sym (at_cleared C q)) ((is_below-law (owner_label O T) (cleared_at C)).0 below q))))
+    (λ all. (is_below-law (owner_label O T) (cleared_at C)).1 (λ q. rw (at_owning O T q, at_cleared C q) (capped_at (is_in O q) (is_in T q) (is_in C q) (each_of (is_in C) T all q))))
 
 -- and a clearance is below one that has no less
 pub cleared_below : (C D : List ℕ) → list_all (is_in D) C ≡ true → is_below (cleared_at C) (cleared_at D) ≡ true
@@ -216,7 +216,7 @@ pub guarded_made : (next : ℕ) (S W : List ℕ) → ((q : ℕ) → is_in S q �
 guarded_made next S W secret written =
     ap (is_made next) (with_levels-append (constant L1) (each_at L3 S) (each_at L0 W)) ∙ made_at next _ W L0 (made_at next (constant L1) S L3 (is_made-constant next L1) secret) written
 
-pub owning_made : (next : ℕ) (O T : List ℕ) → ((q : ℕ) → is_in O q ≡ true → IsMade next q) → ((q : ℕ) → is_in T q ≡ true → IsMade next q) → is_made next (owning O T) ≡ true
+pub owning_made : (next : ℕ) (O T : List ℕ) → ((q : ℕ) → is_in O q ≡ true → IsMade next q) → ((q : ℕ) → is_in T q ≡ true → IsMade next q) → is_made next (owner_label O T) ≡ true
 owning_made next O T owned tainted =
     ap (is_made next) (with_levels-append (constant L1) (each_at Star O) (each_at L3 T)) ∙ made_at next _ T L3 (made_at next (constant L1) O Star (is_made-constant next L1) owned) tainted
 
@@ -227,8 +227,8 @@ cleared_made next C each = made_at next (constant L2) C L3 (is_made-constant nex
 pub same_guarded : (S W S' W' : List ℕ) → ((q : ℕ) → is_in S q ≡ is_in S' q) → ((q : ℕ) → is_in W q ≡ is_in W' q) → guarded_by S W ≡ guarded_by S' W'
 same_guarded S W S' W' secret written = same_levels (guarded_by S W) (guarded_by S' W') (λ q. at_guarded S W q ∙ (λ i. guarded_level (secret q i) (written q i)) ∙ sym (at_guarded S' W' q))
 
-pub same_owning : (O T O' T' : List ℕ) → ((q : ℕ) → is_in O q ≡ is_in O' q) → ((q : ℕ) → is_in T q ≡ is_in T' q) → owning O T ≡ owning O' T'
-same_owning O T O' T' owned tainted = same_levels (owning O T) (owning O' T') (λ q. at_owning O T q ∙ (λ i. owning_level (owned q i) (tainted q i)) ∙ sym (at_owning O' T' q))
+pub same_owning : (O T O' T' : List ℕ) → ((q : ℕ) → is_in O q ≡ is_in O' q) → ((q : ℕ) → is_in T q ≡ is_in T' q) → owner_label O T ≡ owner_label O' T'
+same_owning O T O' T' owned tainted = same_levels (owner_label O T) (owner_label O' T') (λ q. at_owning O T q ∙ (λ i. owning_level (owned q i) (tainted q i)) ∙ sym (at_owning O' T' q))
 
 pub same_cleared : (C D : List ℕ) → ((q : ℕ) → is_in C q ≡ is_in D q) → cleared_at C ≡ cleared_at D
 same_cleared C D each = same_levels (cleared_at C) (cleared_at D) (λ q. at_cleared C q ∙ ap cleared_level (each q) ∙ sym (at_cleared D q))

@@ -17,7 +17,7 @@ use Rattle.histar_label.proofs.Orders.{is_below-law, is_below_join-law, is_below
 use Rattle.histar_object.specs.declared.objects.Entry.TheVariants.{Login}
 use Rattle.histar_object.specs.declared.objects.Kind.TheVariants.{Segment, Container, Thread, Gate}
 use Rattle.histar_object.specs.Objects.{links_in, is_thread, is_gate, thread_of}
-use Rattle.histar_object.specs.Rights.{relabelled, with_changed, is_let_in, is_under, in_gate, may_clear}
+use Rattle.histar_object.specs.Rights.{with_label, with_changed, is_let_in, is_under, in_gate, may_clear}
 use Rattle.histar_object.specs.State.{State, Found, in_range, with_own}
 use Rattle.histar_container.proofs.TableMoves.{put_here, put_other, changed_here}
 use Rattle.histar_rules.specs.declared.raw.Denied.TheVariants as denials
@@ -255,10 +255,10 @@ module _ (session : Session) (s : State) (f : Flat) (l : Laid session s f) (me :
         orelse unless (label_known j) denials.Range
 
     abbrev pub relabelled_state : State
-    relabelled_state = with_changed entered t (relabelled (rights_label l.category r))
+    relabelled_state = with_changed entered t (with_label (rights_label l.category r))
 
     relabelled_thread : relabelled_state.objects t ≡ object label (Thread limit)
-    relabelled_thread = changed_here entered.objects t (relabelled label) ∙ ap (option_map (relabelled label)) entered_thread
+    relabelled_thread = changed_here entered.objects t (with_label label) ∙ ap (option_map (with_label label)) entered_thread
 
     in_all : (c : CategoryName) → among (r.owned ++ r.tainted) c ≡ true → among all_names c ≡ true
     in_all = each_append (λ c. among all_names c ≡ true) r.owned r.tainted

@@ -11,7 +11,7 @@ use Rattle.histar_object.specs.declared.objects.Kind.{Kind}
 use Rattle.histar_object.specs.declared.objects.Kind.TheVariants.{Segment, Container, Thread, Gate}
 use Rattle.histar_object.specs.declared.objects.Object.{Object}
 use Rattle.histar_object.specs.Objects.{Objects, changed_at, linking, kind_linking, unlinking, kind_unlinking, holding, kind_holding, kind_links, is_there, is_container, kind_is_container}
-use Rattle.histar_object.specs.State.{State, Found, added}
+use Rattle.histar_object.specs.State.{State, Found, with_object}
 use Rattle.histar_container.specs.ObjectsModel.{CutsOff}
 use Rattle.histar_container.specs.Tree.{Address, Naming, with_number, without_below, under, is_under, set_at, cut, same, IsLaid, objects_at}
 use Rattle.histar_container.proofs.Addresses.{Tells, same_tells, same_itself, same_other}
@@ -125,16 +125,16 @@ module _ {X : Type 0} (same_step : X → X → Bool) (tells : Tells same_step) (
     apart : d ≢ s.next_object
     apart e = let below = number_below a d at_d in absurd (omega (arith, below, e))
 
-    added_objects : (b : Address X) → bare (objects_at (added s d o).objects grown_naming b) ≡ set_at same_step asked (x ∷ a) (bare (Some o)) b
+    added_objects : (b : Address X) → bare (objects_at (with_object s d o).objects grown_naming b) ≡ set_at same_step asked (x ∷ a) (bare (Some o)) b
     added_objects b = elim (same_tells same_step tells (x ∷ a) b) [
       | inl e ↦
-          ap (λ (t : Bool). bare (option_and_then (added s d o).objects (if t then Some s.next_object else naming.number b))) e.0
+          ap (λ (t : Bool). bare (option_and_then (with_object s d o).objects (if t then Some s.next_object else naming.number b))) e.0
           ∙ ap bare (new_there s.objects s.next_object d o apart)
           ∙ sym (ap (λ (t : Bool). if t then bare (Some o) else asked b) e.0)
       | inr e ↦
-          ap (λ (t : Bool). bare (option_and_then (added s d o).objects (if t then Some s.next_object else naming.number b))) e.0
-          ∙ same_found (added s d o).objects b (λ k is. elim (eqb_tells k d) [
-            | inl same_k ↦ ap (λ (q : ℕ). bare ((added s d o).objects q)) same_k.1 ∙ ap bare (new_holder s.objects s.next_object d o apart) ∙ bare_linked s.next_object (s.objects d) ∙ ap (λ (q : ℕ). bare (s.objects q)) (sym same_k.1)
+          ap (λ (t : Bool). bare (option_and_then (with_object s d o).objects (if t then Some s.next_object else naming.number b))) e.0
+          ∙ same_found (with_object s d o).objects b (λ k is. elim (eqb_tells k d) [
+            | inl same_k ↦ ap (λ (q : ℕ). bare ((with_object s d o).objects q)) same_k.1 ∙ ap bare (new_holder s.objects s.next_object d o apart) ∙ bare_linked s.next_object (s.objects d) ∙ ap (λ (q : ℕ). bare (s.objects q)) (sym same_k.1)
             | inr other ↦ ap bare (new_other s.objects s.next_object d o k (λ new. let below = number_below b k is in absurd (omega (arith, below, new))) other.1)
           ])
           ∙ sym (ap (λ (t : Bool). if t then bare (Some o) else asked b) e.0)
@@ -147,9 +147,9 @@ module _ {X : Type 0} (same_step : X → X → Bool) (tells : Tells same_step) (
         by true = refl
         by false = stands.named b
 
-    pub stands_added : Stands same_step (added s d o) grown_naming (set_at same_step asked (x ∷ a) (bare (Some o)))
+    pub stands_added : Stands same_step (with_object s d o) grown_naming (set_at same_step asked (x ∷ a) (bare (Some o)))
     stands_added = record {
-      tree = laid_itself same_step (added s d o).objects (s.next_object + 1) _ grown_naming
+      tree = laid_itself same_step (with_object s d o).objects (s.next_object + 1) _ grown_naming
           (laid_new same_step tells s.objects s.next_object (objects_at s.objects naming) naming stands.tree d a x o (stands.tree.addressed a d at_d) (no_number (x ∷ a) free) is_holder leaf);
       objects = added_objects;
       named = added_named;

@@ -12,7 +12,7 @@ use Rattle.histar_label.proofs.Floors.{level_of-combined_of}
 use Rattle.histar_label.proofs.Orders.{is_below-law, is_below_join_raised-law}
 use Rattle.histar_flat.specs.Sessions.{Session, user_number, groups_of}
 use Rattle.histar_flat.specs.Classes.{Process, is_free}
-use Rattle.histar_calls.specs.Labelling.{owning, cleared_at}
+use Rattle.histar_calls.specs.Labelling.{owner_label, cleared_at}
 use Rattle.histar_refinement.specs.Categories.{CategoryName, Categories, AreDifferent, among}
 use Rattle.histar_refinement.specs.Categories.CategoryName.{ReadsGroup, WritesGroup, ReadsProcess, WritesProcess, OfJob}
 use Rattle.histar_refinement.specs.Guards.{Rights, guard_label, rights_label, rights_clearance}
@@ -145,9 +145,9 @@ join_at true false = refl
 join_at false true = refl
 join_at false false = refl
 
-pub floor_owning : (O T P : List ℕ) → ((q : ℕ) → is_in T q ≡ true → is_in P q ≡ false) → floor_of (owning O T) (owning P []) ≡ owning (O ++ P) T
-floor_owning O T P apart = same_levels (floor_of (owning O T) (owning P [])) (owning (O ++ P) T) (λ q.
-    level_of-combined_of _ (owning O T) (owning P []) q
+pub floor_owning : (O T P : List ℕ) → ((q : ℕ) → is_in T q ≡ true → is_in P q ≡ false) → floor_of (owner_label O T) (owner_label P []) ≡ owner_label (O ++ P) T
+floor_owning O T P apart = same_levels (floor_of (owner_label O T) (owner_label P [])) (owner_label (O ++ P) T) (λ q.
+    level_of-combined_of _ (owner_label O T) (owner_label P []) q
     ∙ (λ i. floor_level (at_owning O T q i) (at_owning P [] q i))
     ∙ floor_at (is_in O q) (is_in T q) (is_in P q) (apart q)
     ∙ ap (λ b. owning_level b (is_in T q)) (sym (is_in-append O P q))
@@ -191,7 +191,7 @@ module _ (session : Session) (category : Categories) (different : AreDifferent c
       floor_owning (map category mine.owned) (map category mine.tainted) (map category gate.owned) (λ q e.
       let there = named_in category mine.tainted q e in
       ap (is_in (map category gate.owned)) there.1 ∙ is_in_names category different gate.owned there.0 ∙ jobs_apart session me p p.chain gate.owned no_job_given there.0 there.2)
-      ∙ ap (λ (cs : List ℕ). owning cs (map category mine.tainted)) (sym (map_append category mine.owned gate.owned))
+      ∙ ap (λ (cs : List ℕ). owner_label cs (map category mine.tainted)) (sym (map_append category mine.owned gate.owned))
 
   pub join_behind : join_of (rights_clearance category mine) (rights_clearance category gate) ≡ cleared_at (map category ((mine.owned ++ mine.tainted) ++ (gate.owned ++ [])))
   join_behind = join_cleared (map category (mine.owned ++ mine.tainted)) (map category (gate.owned ++ []))

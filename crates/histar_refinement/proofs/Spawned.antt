@@ -9,7 +9,7 @@ use Rattle.histar_object.specs.declared.objects.Kind.TheVariants.{Segment, Conta
 use Rattle.histar_object.specs.declared.objects.Object.{Object}
 use Rattle.histar_object.specs.Objects.{thread_of}
 use Rattle.histar_object.specs.Rights.{with_category}
-use Rattle.histar_object.specs.State.{State, Found, added, with_bytes}
+use Rattle.histar_object.specs.State.{State, Found, with_object, with_bytes}
 use Rattle.histar_flat.specs.Sessions.{Session, has, user_number}
 use Rattle.histar_flat.specs.Classes.{Process}
 use Rattle.histar_flat.specs.FlatState.{Flat, with_child}
@@ -52,19 +52,19 @@ module _ (session : Session) (s : State) (f : Flat) (l : Laid session s f) (me :
 -- the five calls of a birth that make and write objects
 abbrev pub births : State → ℕ → ℕ → Object Levels → Object Levels → Object Levels → Object Levels → List ℕ → State
 births t C S one two three four bytes =
-    with_bytes (added (added (added (added t C one) t.next_object two) (t.next_object + 1) three) t.next_object four) S bytes
+    with_bytes (with_object (with_object (with_object (with_object t C one) t.next_object two) (t.next_object + 1) three) t.next_object four) S bytes
 
 pub beside_births : (T : ℕ) (own most : Levels) (t u : State) (C S : ℕ) (one two three four : Object Levels) (bytes : List ℕ) → Beside T own most t u → Beside T own most (births t C S one two three four bytes) (births u C S one two three four bytes)
 beside_births T own most t u C S one two three four bytes b =
     let first = beside_added T own most t u C one b in
-    let second = beside_added T own most (added t C one) (added u C one) u.next_object two first in
-    let third = beside_added T own most (added (added t C one) u.next_object two) (added (added u C one) u.next_object two) (u.next_object + 1) three second in
-    let fourth = beside_added T own most (added (added (added t C one) u.next_object two) (u.next_object + 1) three) (added (added (added u C one) u.next_object two) (u.next_object + 1) three) u.next_object four third in
-    subst_next (beside_written T own most (added (added (added (added t C one) u.next_object two) (u.next_object + 1) three) u.next_object four) (added (added (added (added u C one) u.next_object two) (u.next_object + 1) three) u.next_object four) S bytes fourth)
+    let second = beside_added T own most (with_object t C one) (with_object u C one) u.next_object two first in
+    let third = beside_added T own most (with_object (with_object t C one) u.next_object two) (with_object (with_object u C one) u.next_object two) (u.next_object + 1) three second in
+    let fourth = beside_added T own most (with_object (with_object (with_object t C one) u.next_object two) (u.next_object + 1) three) (with_object (with_object (with_object u C one) u.next_object two) (u.next_object + 1) three) u.next_object four third in
+    subst_next (beside_written T own most (with_object (with_object (with_object (with_object t C one) u.next_object two) (u.next_object + 1) three) u.next_object four) (with_object (with_object (with_object (with_object u C one) u.next_object two) (u.next_object + 1) three) u.next_object four) S bytes fourth)
   where
-    subst_next : Beside T own most (with_bytes (added (added (added (added t C one) u.next_object two) (u.next_object + 1) three) u.next_object four) S bytes) (births u C S one two three four bytes)
+    subst_next : Beside T own most (with_bytes (with_object (with_object (with_object (with_object t C one) u.next_object two) (u.next_object + 1) three) u.next_object four) S bytes) (births u C S one two three four bytes)
         → Beside T own most (births t C S one two three four bytes) (births u C S one two three four bytes)
-    subst_next = subst (λ (m : ℕ). Beside T own most (with_bytes (added (added (added (added t C one) m two) (m + 1) three) m four) S bytes) (births u C S one two three four bytes)) (sym b.next)
+    subst_next = subst (λ (m : ℕ). Beside T own most (with_bytes (with_object (with_object (with_object (with_object t C one) m two) (m + 1) three) m four) S bytes) (births u C S one two three four bytes)) (sym b.next)
 
 module _ (session : Session) (s : State) (f : Flat) (l : LaysOut session s f) (me : ProcName) (p : Process) (here : f.processes me ≡ Some p) (runs : p.exited ≡ None) (room : p.born < 64)
     (C S T : ℕ) (at_home : l.laid.naming.number (home_of me) ≡ Some C) (at_status : l.laid.naming.number (Status ∷ home_of me) ≡ Some S) (at_thread : l.laid.naming.number (Runner ∷ Inside ∷ home_of me) ≡ Some T) (few : s.next_object + 3 < greatest) where

@@ -24,7 +24,7 @@ use Rattle.histar_object.specs.State.{Found}
 use Rattle.histar_container.specs.Tree.{Address, objects_at}
 use Rattle.histar_container.proofs.Addresses.{same_tells}
 use Rattle.histar_calls.specs.Categories.{write_category}
-use Rattle.histar_calls.specs.Labelling.{written_by, guarded_by, owning, cleared_at}
+use Rattle.histar_calls.specs.Labelling.{written_by, guarded_by, owner_label, cleared_at}
 use Rattle.histar_login.specs.Start.{numbered, declared, of_user, of_users, of_directory, of_process, user_table, start_objects, start_state, object_at, process_bytes, own_read_category, own_write_category}
 use Rattle.histar_flat.specs.Sessions.{Session, user_number}
 use Rattle.histar_flat.specs.Classes.{Process, nobody, knows}
@@ -260,7 +260,7 @@ module _ (session : Session) (some_user : 0 < length session.users) where
   runner_expected : user_number session nobody ≡ None → thread_at session (start_category session) f number (Some []) ≡ bare (objects (8 + 2 * n))
   runner_expected no_one =
       ap (λ (o : Option ℕ). Some (thread_of (rights_label (start_category session) (rights o)) (rights_clearance (start_category session) (rights o)))) no_one
-      ∙ (λ i. Some (thread_of (owning (own_number i ∷ own_write_number i ∷ []) []) (cleared_at (own_number i ∷ own_write_number i ∷ []))))
+      ∙ (λ i. Some (thread_of (owner_label (own_number i ∷ own_write_number i ∷ []) []) (cleared_at (own_number i ∷ own_write_number i ∷ []))))
       ∙ sym (ap bare (runner_stands session))
     where
       rights : Option ℕ → Rights

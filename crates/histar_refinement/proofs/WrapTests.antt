@@ -12,7 +12,7 @@ use Rattle.histar_label.specs.Levels.{is_below, is_below_raised, is_below_join_r
 use Rattle.histar_label.proofs.Orders.{is_below-law, is_below_raised-law, is_below_join_raised-law}
 use Rattle.histar_flat.specs.Sessions.{Session, has, user_number}
 use Rattle.histar_flat.specs.Classes.{Class, Process, is_free, may_read, may_write}
-use Rattle.histar_calls.specs.Labelling.{guarded_by, owning}
+use Rattle.histar_calls.specs.Labelling.{guarded_by, owner_label}
 use Rattle.histar_refinement.specs.Categories.{CategoryName, Categories, AreDifferent, among}
 use Rattle.histar_refinement.specs.Categories.CategoryName.{ReadsUser, ReadsProcess, WritesProcess, OfJob}
 use Rattle.histar_refinement.specs.Guards.{Guard, Rights, guard_label, rights_label, rights_clearance}
@@ -44,26 +44,26 @@ free_seen o false true w a b c = absurd (true≢false b)
 free_seen o false false true a b c = absurd (true≢false c)
 
 module _ (O T S W : List ℕ) (c : ℕ) (not_tainted : is_in T c ≡ false) (not_secret : is_in S c ≡ false) (not_written : is_in W c ≡ false) where
-  more_below : is_below (owning (c ∷ O) T) (guarded_by S W) ≡ is_below (owning O T) (guarded_by S W)
-  more_below = same_truth (is_below (owning (c ∷ O) T) (guarded_by S W)) (is_below (owning O T) (guarded_by S W))
-      (λ below. (is_below-law (owning O T) (guarded_by S W)).1 (λ q. rw (at_guarded S W q, at_owning O T q) (elim (eqb_tells q c) [
+  more_below : is_below (owner_label (c ∷ O) T) (guarded_by S W) ≡ is_below (owner_label O T) (guarded_by S W)
+  more_below = same_truth (is_below (owner_label (c ∷ O) T) (guarded_by S W)) (is_below (owner_label O T) (guarded_by S W))
+      (λ below. (is_below-law (owner_label O T) (guarded_by S W)).1 (λ q. rw (at_guarded S W q, at_owning O T q) (elim (eqb_tells q c) [
         | inl e ↦ free_below (is_in O q) (is_in T q) (is_in S q) (is_in W q) (ap (is_in T) e.1 ∙ not_tainted) (ap (is_in S) e.1 ∙ not_secret) (ap (is_in W) e.1 ∙ not_written)
-        | inr e ↦ subst (λ b. rank (owning_level (b || is_in O q) (is_in T q)) ≤ rank (guarded_level (is_in S q) (is_in W q))) e.0 (rw (sym (at_guarded S W q), sym (at_owning (c ∷ O) T q)) ((is_below-law (owning (c ∷ O) T) (guarded_by S W)).0 below q))
+        | inr e ↦ subst (λ b. rank (owning_level (b || is_in O q) (is_in T q)) ≤ rank (guarded_level (is_in S q) (is_in W q))) e.0 (rw (sym (at_guarded S W q), sym (at_owning (c ∷ O) T q)) ((is_below-law (owner_label (c ∷ O) T) (guarded_by S W)).0 below q))
       ])))
-      (λ below. (is_below-law (owning (c ∷ O) T) (guarded_by S W)).1 (λ q. rw (at_guarded S W q, at_owning (c ∷ O) T q) (elim (eqb_tells q c) [
+      (λ below. (is_below-law (owner_label (c ∷ O) T) (guarded_by S W)).1 (λ q. rw (at_guarded S W q, at_owning (c ∷ O) T q) (elim (eqb_tells q c) [
         | inl e ↦ free_below (is_in (c ∷ O) q) (is_in T q) (is_in S q) (is_in W q) (ap (is_in T) e.1 ∙ not_tainted) (ap (is_in S) e.1 ∙ not_secret) (ap (is_in W) e.1 ∙ not_written)
-        | inr e ↦ subst (λ b. rank (owning_level (b || is_in O q) (is_in T q)) ≤ rank (guarded_level (is_in S q) (is_in W q))) (sym e.0) (rw (sym (at_guarded S W q), sym (at_owning O T q)) ((is_below-law (owning O T) (guarded_by S W)).0 below q))
+        | inr e ↦ subst (λ b. rank (owning_level (b || is_in O q) (is_in T q)) ≤ rank (guarded_level (is_in S q) (is_in W q))) (sym e.0) (rw (sym (at_guarded S W q), sym (at_owning O T q)) ((is_below-law (owner_label O T) (guarded_by S W)).0 below q))
       ])))
 
-  more_seen : is_below_raised (guarded_by S W) (owning (c ∷ O) T) ≡ is_below_raised (guarded_by S W) (owning O T)
-  more_seen = same_truth (is_below_raised (guarded_by S W) (owning (c ∷ O) T)) (is_below_raised (guarded_by S W) (owning O T))
-      (λ below. (is_below_raised-law (guarded_by S W) (owning O T)).1 (λ q. rw (at_guarded S W q, at_owning O T q) (elim (eqb_tells q c) [
+  more_seen : is_below_raised (guarded_by S W) (owner_label (c ∷ O) T) ≡ is_below_raised (guarded_by S W) (owner_label O T)
+  more_seen = same_truth (is_below_raised (guarded_by S W) (owner_label (c ∷ O) T)) (is_below_raised (guarded_by S W) (owner_label O T))
+      (λ below. (is_below_raised-law (guarded_by S W) (owner_label O T)).1 (λ q. rw (at_guarded S W q, at_owning O T q) (elim (eqb_tells q c) [
         | inl e ↦ free_seen (is_in O q) (is_in T q) (is_in S q) (is_in W q) (ap (is_in T) e.1 ∙ not_tainted) (ap (is_in S) e.1 ∙ not_secret) (ap (is_in W) e.1 ∙ not_written)
-        | inr e ↦ subst (λ b. rank (guarded_level (is_in S q) (is_in W q)) ≤ raised (owning_level (b || is_in O q) (is_in T q))) e.0 (rw (sym (at_guarded S W q), sym (at_owning (c ∷ O) T q)) ((is_below_raised-law (guarded_by S W) (owning (c ∷ O) T)).0 below q))
+        | inr e ↦ subst (λ b. rank (guarded_level (is_in S q) (is_in W q)) ≤ raised (owning_level (b || is_in O q) (is_in T q))) e.0 (rw (sym (at_guarded S W q), sym (at_owning (c ∷ O) T q)) ((is_below_raised-law (guarded_by S W) (owner_label (c ∷ O) T)).0 below q))
       ])))
-      (λ below. (is_below_raised-law (guarded_by S W) (owning (c ∷ O) T)).1 (λ q. rw (at_guarded S W q, at_owning (c ∷ O) T q) (elim (eqb_tells q c) [
+      (λ below. (is_below_raised-law (guarded_by S W) (owner_label (c ∷ O) T)).1 (λ q. rw (at_guarded S W q, at_owning (c ∷ O) T q) (elim (eqb_tells q c) [
         | inl e ↦ free_seen (is_in (c ∷ O) q) (is_in T q) (is_in S q) (is_in W q) (ap (is_in T) e.1 ∙ not_tainted) (ap (is_in S) e.1 ∙ not_secret) (ap (is_in W) e.1 ∙ not_written)
-        | inr e ↦ subst (λ b. rank (guarded_level (is_in S q) (is_in W q)) ≤ raised (owning_level (b || is_in O q) (is_in T q))) (sym e.0) (rw (sym (at_guarded S W q), sym (at_owning O T q)) ((is_below_raised-law (guarded_by S W) (owning O T)).0 below q))
+        | inr e ↦ subst (λ b. rank (guarded_level (is_in S q) (is_in W q)) ≤ raised (owning_level (b || is_in O q) (is_in T q))) (sym e.0) (rw (sym (at_guarded S W q), sym (at_owning O T q)) ((is_below_raised-law (guarded_by S W) (owner_label O T)).0 below q))
       ])))
 
 -- a test that each name passes

@@ -16,7 +16,7 @@ use Rattle.histar_object.specs.declared.objects.Kind.TheVariants.{Segment, Conta
 use Rattle.histar_object.specs.declared.objects.Object.{Object}
 use Rattle.histar_rules.specs.Rules.{greatest}
 use Rattle.histar_object.specs.Rights.{with_category}
-use Rattle.histar_object.specs.State.{State, added, with_bytes, counting}
+use Rattle.histar_object.specs.State.{State, with_object, with_bytes, with_next_category}
 use Rattle.histar_container.specs.Tree.{Naming}
 use Rattle.histar_flat.specs.Sessions.{Session, has, user_number}
 use Rattle.histar_flat.specs.Classes.{Class, Process}
@@ -157,10 +157,10 @@ module _ (session : Session) (s : State) (f : Flat) (l : LaysOut session s f) (m
   not_named = jobs.not_named session s f l me p here
 
   -- once the job's category is made
-  abbrev pub named : (later : Laid session (counting s) f) × (later.naming ≡ l.laid.naming) × (later.category ≡ naming_next l.laid.category s.next_category (OfJob child))
+  abbrev pub named : (later : Laid session (with_next_category s) f) × (later.naming ≡ l.laid.naming) × (later.category ≡ naming_next l.laid.category s.next_category (OfJob child))
   named = jobs.named session s f l me p here
 
-  abbrev pub m : Laid session (counting s) f
+  abbrev pub m : Laid session (with_next_category s) f
   m = named.0
 
   -- which has the next number
@@ -207,7 +207,7 @@ module _ (session : Session) (s : State) (f : Flat) (l : LaysOut session s f) (m
   abbrev pub with_directory : Flat
   with_directory = with_node f (n ∷ d) class Dir
 
-  pub fits : ClassFits session (counting s) f m class
+  pub fits : ClassFits session (with_next_category s) f m class
   fits = record { guard = λ none. none_is_some (scratch_guard chain i) (sym none ∙ guard_is); order = chain_ordered; made = class_made }
     where
       none_is_some : (g : Guard) → ◌≡◌ {A = Option Guard} None (Some g) → ⊥
@@ -224,15 +224,15 @@ module _ (session : Session) (s : State) (f : Flat) (l : LaysOut session s f) (m
   written = spelling (map.insert (directory_of f.files m.naming.number d) n (targets.Directory s.next_object (s.next_object + 1)))
 
   abbrev pub made_state : State
-  made_state = with_bytes (added (added (counting s) D new_container) s.next_object new_segment) N written
+  made_state = with_bytes (with_object (with_object (with_next_category s) D new_container) s.next_object new_segment) N written
 
   -- Once the parent's directory has room for it.
   module _ (is_named : IsTrue (is_name n)) (room_above : length (entries_in f d) < most_entries) where
-    pub made : (later : Laid session made_state with_directory) × (later.naming ≡ directory_naming session (counting s) f m d above at_parent D N at_D_named at_N_named n absent class fits (scratch_guard chain i) guard_is) × (later.category ≡ m.category)
-    made = laid_directory_created session (counting s) f m d above at_parent D N at_D_named at_N_named n absent class fits (scratch_guard chain i) guard_is is_named room_above (omega (arith, few))
+    pub made : (later : Laid session made_state with_directory) × (later.naming ≡ directory_naming session (with_next_category s) f m d above at_parent D N at_D_named at_N_named n absent class fits (scratch_guard chain i) guard_is) × (later.category ≡ m.category)
+    made = laid_directory_created session (with_next_category s) f m d above at_parent D N at_D_named at_N_named n absent class fits (scratch_guard chain i) guard_is is_named room_above (omega (arith, few))
 
-    numbers : SameNumbers m.naming.number (directory_naming session (counting s) f m d above at_parent D N at_D_named at_N_named n absent class fits (scratch_guard chain i) guard_is).number
-    numbers = directory_numbers session (counting s) f m d above at_parent D N at_D_named at_N_named n absent class fits (scratch_guard chain i) guard_is (omega (arith, few))
+    numbers : SameNumbers m.naming.number (directory_naming session (with_next_category s) f m d above at_parent D N at_D_named at_N_named n absent class fits (scratch_guard chain i) guard_is).number
+    numbers = directory_numbers session (with_next_category s) f m d above at_parent D N at_D_named at_N_named n absent class fits (scratch_guard chain i) guard_is (omega (arith, few))
 
     abbrev pub k : Laid session made_state with_directory
     k = made.0
@@ -270,13 +270,13 @@ module _ (session : Session) (s : State) (f : Flat) (l : LaysOut session s f) (m
     most = own_clearance session s f l.laid me p here runs T at_thread
 
     abbrev pub state_directory : State
-    state_directory = with_bytes (added (added (with_category s T) D new_container) s.next_object new_segment) N written
+    state_directory = with_bytes (with_object (with_object (with_category s T) D new_container) s.next_object new_segment) N written
 
     pub beside : Beside T own most state_directory made_state
     beside =
-        beside_written T own most (added (added (with_category s T) D new_container) s.next_object new_segment) (added (added (counting s) D new_container) s.next_object new_segment) N written
-        (beside_added T own most (added (with_category s T) D new_container) (added (counting s) D new_container) s.next_object new_segment
-        (beside_added T own most (with_category s T) (counting s) D new_container
+        beside_written T own most (with_object (with_object (with_category s T) D new_container) s.next_object new_segment) (with_object (with_object (with_next_category s) D new_container) s.next_object new_segment) N written
+        (beside_added T own most (with_object (with_category s T) D new_container) (with_object (with_next_category s) D new_container) s.next_object new_segment
+        (beside_added T own most (with_category s T) (with_next_category s) D new_container
         (beside_category T own most s s (beside_start session s f l.laid me p here runs T at_thread))))
 
     pub counted : made_state.next_category ≤ state_directory.next_category

@@ -1,7 +1,7 @@
 -- The two kinds of labels that Unix calls make: of what is guarded, and of who has rights.
 use Rattle.std.specs.Prelude.{List, ◌++◌, map}
 use Rattle.histar_label.specs.Levels.{Levels}
-use Rattle.histar_calls.specs.Labelling.{guarded_by, owning, cleared_at}
+use Rattle.histar_calls.specs.Labelling.{guarded_by, owner_label, cleared_at}
 use Rattle.histar_refinement.specs.Categories.{CategoryName, Categories}
 
 -- how a segment or a container is guarded: only who owns each secret category or has it at 3 reads it, and only who owns each
@@ -21,7 +21,7 @@ guard_label category g = guarded_by (map category g.secret) (map category g.writ
 
 -- the stored label of a thread or a gate with these rights
 abbrev pub rights_label : Categories → Rights → Levels
-rights_label category r = owning (map category r.owned) (map category r.tainted)
+rights_label category r = owner_label (map category r.owned) (map category r.tainted)
 
 -- and its clearance, which has at 3 all that it owns or has at 3
 abbrev pub rights_clearance : Categories → Rights → Levels

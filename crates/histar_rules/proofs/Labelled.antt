@@ -10,7 +10,7 @@ use Rattle.histar_object.specs.declared.objects.Kind.{Kind}
 use Rattle.histar_object.specs.declared.objects.Kind.TheVariants.{Segment, Container, Thread, Gate}
 use Rattle.histar_object.specs.declared.objects.Object.{Object}
 use Rattle.histar_object.specs.Objects.{Objects, put, changed_at, with_new, kind_linking, linking, kind_unlinking, unlinking, kind_holding, holding, thread_of, kind_is_segment, kind_is_container, kind_is_thread, kind_clearance}
-use Rattle.histar_object.specs.Rights.{kind_cleared, owning, relabelled, kind_clearing, clearing}
+use Rattle.histar_object.specs.Rights.{kind_with_three_at, with_star_at, with_label, kind_with_clearance, with_clearance}
 use Rattle.histar_container.specs.Tree.{Reached, IsCut}
 use Rattle.histar_container.proofs.Addresses.{inner}
 use Rattle.histar_container.proofs.TableMoves.{put_here, put_other, changed_here, changed_other}
@@ -53,14 +53,14 @@ thread_alone (Thread clearance) thread other = false≢true other
 thread_alone (Gate clearance entry) thread other = false≢true thread
 
 -- and stays a thread with another clearance
-clearing_alone : (new : Levels) (k : Kind Levels) → kind_is_thread k ≡ true → kind_is_thread (kind_clearing new k) ≡ true
+clearing_alone : (new : Levels) (k : Kind Levels) → kind_is_thread k ≡ true → kind_is_thread (kind_with_clearance new k) ≡ true
 clearing_alone new (Segment bytes) thread = thread
 clearing_alone new (Container links) thread = thread
 clearing_alone new (Thread clearance) thread = thread
 clearing_alone new (Gate clearance entry) thread = thread
 
 -- also with level 3 at a category
-cleared_alone : (c : ℕ) (k : Kind Levels) → kind_is_thread k ≡ true → kind_is_thread (kind_cleared c k) ≡ true
+cleared_alone : (c : ℕ) (k : Kind Levels) → kind_is_thread k ≡ true → kind_is_thread (kind_with_three_at c k) ≡ true
 cleared_alone c (Segment bytes) thread = thread
 cleared_alone c (Container links) thread = thread
 cleared_alone c (Thread clearance) thread = thread
@@ -80,14 +80,14 @@ module _ (next : ℕ) where
   some_made made old is e = sym (ap (is_made next) (inner made old e)) ∙ is
 
   -- another clearance was made
-  clearing_made : (new : Levels) → is_made next new ≡ true → (k : Kind Levels) → ClearanceMade (kind_clearing new k)
+  clearing_made : (new : Levels) → is_made next new ≡ true → (k : Kind Levels) → ClearanceMade (kind_with_clearance new k)
   clearing_made new made (Segment bytes) = none_made
   clearing_made new made (Container links) = none_made
   clearing_made new made (Thread clearance) = λ c e. some_made new c made e
   clearing_made new made (Gate clearance entry) = λ c e. some_made new c made e
 
   -- so was a clearance with level 3 at a category that was made
-  cleared_made : (c : ℕ) → 0 < c → c < next → (k : Kind Levels) → ClearanceMade k → ClearanceMade (kind_cleared c k)
+  cleared_made : (c : ℕ) → 0 < c → c < next → (k : Kind Levels) → ClearanceMade k → ClearanceMade (kind_with_three_at c k)
   cleared_made c low high (Segment bytes) old = none_made
   cleared_made c low high (Container links) old = none_made
   cleared_made c low high (Thread clearance) old = λ l e. some_made (with_level clearance c L3) l (is_made-with_level next clearance c L3 low high (old clearance refl)) e
@@ -133,7 +133,7 @@ module _ (next : ℕ) where
   well_thread label clearance l c = well_cleared (thread_of label clearance) clearance l refl c refl
 
   -- a thread with another label
-  pub well_relabelled : (label : Levels) (o : Object Levels) → kind_is_thread o.kind ≡ true → is_made next label ≡ true → IsWellLabelled next o → IsWellLabelled next (relabelled label o)
+  pub well_relabelled : (label : Levels) (o : Object Levels) → kind_is_thread o.kind ≡ true → is_made next label ≡ true → IsWellLabelled next o → IsWellLabelled next (with_label label o)
   well_relabelled label o thread made well = record {
     label_made = made;
     clearance_made = well.clearance_made;
@@ -141,19 +141,19 @@ module _ (next : ℕ) where
   }
 
   -- a thread with another clearance
-  pub well_clearing : (clearance : Levels) (o : Object Levels) → kind_is_thread o.kind ≡ true → is_made next clearance ≡ true → IsWellLabelled next o → IsWellLabelled next (clearing clearance o)
+  pub well_clearing : (clearance : Levels) (o : Object Levels) → kind_is_thread o.kind ≡ true → is_made next clearance ≡ true → IsWellLabelled next o → IsWellLabelled next (with_clearance clearance o)
   well_clearing clearance o thread made well = record {
     label_made = well.label_made;
     clearance_made = clearing_made clearance made o.kind;
-    owns_nothing = λ h. absurd (thread_alone (kind_clearing clearance o.kind) (clearing_alone clearance o.kind thread) h);
+    owns_nothing = λ h. absurd (thread_alone (kind_with_clearance clearance o.kind) (clearing_alone clearance o.kind thread) h);
   }
 
   -- a thread that owns one category more
-  pub well_owning : (c : ℕ) (o : Object Levels) → 0 < c → c < next → kind_is_thread o.kind ≡ true → IsWellLabelled next o → IsWellLabelled next (owning c o)
+  pub well_owning : (c : ℕ) (o : Object Levels) → 0 < c → c < next → kind_is_thread o.kind ≡ true → IsWellLabelled next o → IsWellLabelled next (with_star_at c o)
   well_owning c o low high thread well = record {
     label_made = is_made-with_level next o.label c Star low high well.label_made;
     clearance_made = cleared_made c low high o.kind well.clearance_made;
-    owns_nothing = λ h. absurd (thread_alone (kind_cleared c o.kind) (cleared_alone c o.kind thread) h);
+    owns_nothing = λ h. absurd (thread_alone (kind_with_three_at c o.kind) (cleared_alone c o.kind thread) h);
   }
 
   -- labels stay well as more categories are made

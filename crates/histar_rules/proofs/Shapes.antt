@@ -6,7 +6,7 @@ use Rattle.histar_object.specs.declared.objects.Kind.{Kind}
 use Rattle.histar_object.specs.declared.objects.Kind.TheVariants.{Segment, Container, Thread, Gate}
 use Rattle.histar_object.specs.declared.objects.Object.{Object}
 use Rattle.histar_object.specs.Objects.{kind_is_thread, is_there, is_thread, kind_links, links_in}
-use Rattle.histar_object.specs.Rights.{kind_cleared, kind_clearing}
+use Rattle.histar_object.specs.Rights.{kind_with_three_at, kind_with_clearance}
 
 -- a thread is there
 pub thread_there : (o : Option (Object Levels)) → is_thread o ≡ true → is_there o ≡ true
@@ -26,14 +26,14 @@ thread_links None thread = refl
 thread_links (Some o) thread = kind_thread_links o.kind thread
 
 -- another clearance is no other links
-pub clearing_links : (new : Levels) (k : Kind Levels) → kind_links (kind_clearing new k) ≡ kind_links k
+pub clearing_links : (new : Levels) (k : Kind Levels) → kind_links (kind_with_clearance new k) ≡ kind_links k
 clearing_links new (Segment bytes) = refl
 clearing_links new (Container links) = refl
 clearing_links new (Thread clearance) = refl
 clearing_links new (Gate clearance entry) = refl
 
 -- nor is level 3 at a category
-pub cleared_links : (c : ℕ) (k : Kind Levels) → kind_links (kind_cleared c k) ≡ kind_links k
+pub cleared_links : (c : ℕ) (k : Kind Levels) → kind_links (kind_with_three_at c k) ≡ kind_links k
 cleared_links c (Segment bytes) = refl
 cleared_links c (Container links) = refl
 cleared_links c (Thread clearance) = refl

@@ -12,8 +12,8 @@ use Rattle.histar_object.specs.declared.objects.Kind.TheVariants.{Segment, Conta
 use Rattle.histar_object.specs.declared.objects.Kind.TheVariants as gates
 use Rattle.histar_object.specs.declared.objects.Object.{Object}
 use Rattle.histar_object.specs.Objects.{holding, thread_of, links_in, bytes_in, kind_links, is_container, is_thread, kind_is_segment, kind_is_container, kind_is_thread, kind_clearance, no_objects, put}
-use Rattle.histar_object.specs.Rights.{owning, relabelled, clearing, with_changed, with_category, in_span, may_clear, is_let_in, is_under, in_gate}
-use Rattle.histar_object.specs.State.{State, in_range, added, with_own, with_bytes, root_object, boot_thread, empty_state}
+use Rattle.histar_object.specs.Rights.{with_star_at, with_label, with_clearance, with_changed, with_category, in_span, may_clear, is_let_in, is_under, in_gate}
+use Rattle.histar_object.specs.State.{State, in_range, with_object, with_own, with_bytes, root_object, boot_thread, empty_state}
 use Rattle.histar_container.specs.ObjectsModel.{ObjectsModel, CutsOff, state_of}
 use Rattle.histar_container.specs.Tree.{IsTree}
 use Rattle.histar_container.proofs.Trees.{tree_put, tree_changed, tree_held, tree_new, tree_cut, reached_decided}
@@ -44,18 +44,18 @@ module _ (s : State) (sound : IsSound s) where
   }
 
   -- a thread is given another label
-  sound_relabelled : (t : ℕ) (label : Levels) → is_thread (s.objects t) ≡ true → known s label ≡ true → IsSound (with_changed s t (relabelled label))
+  sound_relabelled : (t : ℕ) (label : Levels) → is_thread (s.objects t) ≡ true → known s label ≡ true → IsSound (with_changed s t (with_label label))
   sound_relabelled t label thread made = record {
-    tree = tree_changed s.objects root_number s.next_object sound.tree t (relabelled label) (λ o. refl);
-    labelled = labelled_changed s.next_category s.objects sound.labelled t (relabelled label) (λ o i. well_relabelled s.next_category label o (thread_at t thread o i) made (sound.labelled t o i));
+    tree = tree_changed s.objects root_number s.next_object sound.tree t (with_label label) (λ o. refl);
+    labelled = labelled_changed s.next_category s.objects sound.labelled t (with_label label) (λ o i. well_relabelled s.next_category label o (thread_at t thread o i) made (sound.labelled t o i));
     some_made = sound.some_made;
   }
 
   -- a thread is given another clearance
-  sound_clearing : (t : ℕ) (clearance : Levels) → is_thread (s.objects t) ≡ true → known s clearance ≡ true → IsSound (with_changed s t (clearing clearance))
+  sound_clearing : (t : ℕ) (clearance : Levels) → is_thread (s.objects t) ≡ true → known s clearance ≡ true → IsSound (with_changed s t (with_clearance clearance))
   sound_clearing t clearance thread made = record {
-    tree = tree_changed s.objects root_number s.next_object sound.tree t (clearing clearance) (λ o. clearing_links clearance o.kind);
-    labelled = labelled_changed s.next_category s.objects sound.labelled t (clearing clearance) (λ o i. well_clearing s.next_category clearance o (thread_at t thread o i) made (sound.labelled t o i));
+    tree = tree_changed s.objects root_number s.next_object sound.tree t (with_clearance clearance) (λ o. clearing_links clearance o.kind);
+    labelled = labelled_changed s.next_category s.objects sound.labelled t (with_clearance clearance) (λ o i. well_clearing s.next_category clearance o (thread_at t thread o i) made (sound.labelled t o i));
     some_made = sound.some_made;
   }
 
@@ -64,13 +64,13 @@ module _ (s : State) (sound : IsSound s) where
   sound_category t thread =
       let later : (q : ℕ) (o : Object Levels) → s.objects q ≡ Some o → IsWellLabelled (s.next_category + 1) o = λ q o i. well_later s.next_category (s.next_category + 1) o (omega arith) (sound.labelled q o i) in
       record {
-        tree = tree_changed s.objects root_number s.next_object sound.tree t (owning s.next_category) (λ o. cleared_links s.next_category o.kind);
-        labelled = labelled_changed (s.next_category + 1) s.objects later t (owning s.next_category) (λ o i. well_owning (s.next_category + 1) s.next_category o sound.some_made (omega arith) (thread_at t thread o i) (later t o i));
+        tree = tree_changed s.objects root_number s.next_object sound.tree t (with_star_at s.next_category) (λ o. cleared_links s.next_category o.kind);
+        labelled = labelled_changed (s.next_category + 1) s.objects later t (with_star_at s.next_category) (λ o i. well_owning (s.next_category + 1) s.next_category o sound.some_made (omega arith) (thread_at t thread o i) (later t o i));
         some_made = omega arith;
       }
 
   -- a new object that links nothing is linked by a container
-  sound_added : (d : ℕ) (o : Object Levels) → is_container (s.objects d) ≡ true → ((c : ℕ) → set.contains (kind_links o.kind) c ≡ false) → IsWellLabelled s.next_category o → IsSound (added s d o)
+  sound_added : (d : ℕ) (o : Object Levels) → is_container (s.objects d) ≡ true → ((c : ℕ) → set.contains (kind_links o.kind) c ≡ false) → IsWellLabelled s.next_category o → IsSound (with_object s d o)
   sound_added d o container leaf well = record {
     tree = tree_new s.objects root_number s.next_object sound.tree d o container leaf;
     labelled = labelled_new s.next_category s.objects sound.labelled d s.next_object o well;
@@ -116,20 +116,20 @@ module _ (s : State) (t : ℕ) (sound : IsSound s) where
   made_category e = sound_category s sound t (caller_is s t (first (no_thread s t) _ e))
 
   -- the caller sets its label
-  set_label : (label : Levels) → check s t (SetLabel label) ≡ None → IsSound (with_changed s t (relabelled label))
+  set_label : (label : Levels) → check s t (SetLabel label) ≡ None → IsSound (with_changed s t (with_label label))
   set_label label e =
       let after = passes (in_range (s.objects t) label) Range _ (rest (no_thread s t) _ e) in
       sound_relabelled s sound t label (caller_is s t (first (no_thread s t) _ e)) (unless_none (known s label) Range after.1)
 
   -- the caller sets its clearance
-  set_clearance : (clearance : Levels) → check s t (SetClearance clearance) ≡ None → IsSound (with_changed s t (clearing clearance))
+  set_clearance : (clearance : Levels) → check s t (SetClearance clearance) ≡ None → IsSound (with_changed s t (with_clearance clearance))
   set_clearance clearance e =
       let after = passes (may_clear (s.objects t) clearance) Range _ (rest (no_thread s t) _ e) in
       sound_clearing s sound t clearance (caller_is s t (first (no_thread s t) _ e)) (unless_none (known s clearance) Range after.1)
 
   -- an object without a clearance is made, of a label that owns nothing
   made_plain : (d : ℕ) (o : Object Levels) (later : Option Denied) → kind_clearance o.kind ≡ None → ((c : ℕ) → set.contains (kind_links o.kind) c ≡ false)
-      → (no_making s t d orelse unless (in_range (s.objects t) o.label) Range orelse unless (known s o.label) Range orelse unless (not (has_star o.label)) Range orelse later) ≡ None → IsSound (added s d o)
+      → (no_making s t d orelse unless (in_range (s.objects t) o.label) Range orelse unless (known s o.label) Range orelse unless (not (has_star o.label)) Range orelse later) ≡ None → IsSound (with_object s d o)
   made_plain d o later none leaf e =
       let ranged = passes (in_range (s.objects t) o.label) Range _ (rest (no_making s t d) _ e) in
       let made = passes (known s o.label) Range _ ranged.1 in
@@ -138,7 +138,7 @@ module _ (s : State) (t : ℕ) (sound : IsSound s) where
 
   -- an object with a clearance is made
   made_cleared : (d : ℕ) (o : Object Levels) (clearance : Levels) (later : Option Denied) → kind_clearance o.kind ≡ Some clearance → (kind_is_segment o.kind || kind_is_container o.kind) ≡ false → ((c : ℕ) → set.contains (kind_links o.kind) c ≡ false)
-      → (no_making s t d orelse unless (in_span (s.objects t) o.label clearance) Range orelse unless (known s o.label) Range orelse unless (known s clearance) Range orelse later) ≡ None → IsSound (added s d o)
+      → (no_making s t d orelse unless (in_span (s.objects t) o.label clearance) Range orelse unless (known s o.label) Range orelse unless (known s clearance) Range orelse later) ≡ None → IsSound (with_object s d o)
   made_cleared d o clearance later has alone leaf e =
       let ranged = passes (in_span (s.objects t) o.label clearance) Range _ (rest (no_making s t d) _ e) in
       let made = passes (known s o.label) Range _ ranged.1 in

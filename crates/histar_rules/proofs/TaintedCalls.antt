@@ -15,8 +15,8 @@ use Rattle.histar_object.specs.declared.objects.Kind.TheVariants.{Segment, Conta
 use Rattle.histar_object.specs.declared.objects.Kind.TheVariants as gates
 use Rattle.histar_object.specs.declared.objects.Object.{Object}
 use Rattle.histar_object.specs.Objects.{Objects, put, changed_at, with_new, linking, unlinking, holding, thread_of, links_in, bytes_in, kind_clearance, kind_is_thread, kind_is_gate, is_thread, is_gate}
-use Rattle.histar_object.specs.Rights.{both, owning, relabelled, clearing, with_changed, with_category, in_span, is_let_in, is_under, in_gate}
-use Rattle.histar_object.specs.State.{State, Found, between, in_range, modifies, added, with_own, with_bytes}
+use Rattle.histar_object.specs.Rights.{both, with_star_at, with_label, with_clearance, with_changed, with_category, in_span, is_let_in, is_under, in_gate}
+use Rattle.histar_object.specs.State.{State, Found, between, in_range, modifies, with_object, with_own, with_bytes}
 use Rattle.histar_container.specs.ObjectsModel.{CutsOff}
 use Rattle.histar_container.specs.Tree.{Reached, here, there, IsCut}
 use Rattle.histar_container.proofs.TableMoves.{put_here, put_other, changed_here, changed_other}
@@ -195,7 +195,7 @@ module _ (v : ℕ) where
 
     -- an object is made whose label was tested
     making_moves : (d : ℕ) (o : Object Levels) (test : Bool) (later : Option Denied) → (IsTainted v (s.objects t) → test ≡ true → level_of o.label v ≡ L3)
-        → (no_making s t d orelse unless test Range orelse later) ≡ None → (q : ℕ) → Moved v s.objects (added s d o).objects q
+        → (no_making s t d orelse unless test Range orelse later) ≡ None → (q : ℕ) → Moved v s.objects (with_object s d o).objects q
     making_moves d o test later taints e =
         let may = first (no_making s t d) _ e in
         let ranged = passes test Range later (rest (no_making s t d) _ e) in
@@ -205,18 +205,18 @@ module _ (v : ℕ) where
     category_moves : check s t MakeCategory ≡ None → (q : ℕ) → Moved v s.objects (with_category s t).objects q
     category_moves e =
         let h = caller (first (no_thread s t) _ e) in
-        changed_moves s.objects t (owning s.next_category) h (λ o i. other_level o.label s.next_category Star (λ same. omega (arith, made, same)) ∙ subst (IsTainted v) i h)
+        changed_moves s.objects t (with_star_at s.next_category) h (λ o i. other_level o.label s.next_category Star (λ same. omega (arith, made, same)) ∙ subst (IsTainted v) i h)
 
-    label_moves : (label : Levels) → check s t (SetLabel label) ≡ None → (q : ℕ) → Moved v s.objects (with_changed s t (relabelled label)).objects q
+    label_moves : (label : Levels) → check s t (SetLabel label) ≡ None → (q : ℕ) → Moved v s.objects (with_changed s t (with_label label)).objects q
     label_moves label e =
         let h = caller (first (no_thread s t) _ e) in
         let ranged = passes (in_range (s.objects t) label) Range _ (rest (no_thread s t) _ e) in
-        changed_moves s.objects t (relabelled label) h (λ o i. range_tainted (s.objects t) label h ranged.0)
+        changed_moves s.objects t (with_label label) h (λ o i. range_tainted (s.objects t) label h ranged.0)
 
-    clearance_moves : (clearance : Levels) → check s t (SetClearance clearance) ≡ None → (q : ℕ) → Moved v s.objects (with_changed s t (clearing clearance)).objects q
+    clearance_moves : (clearance : Levels) → check s t (SetClearance clearance) ≡ None → (q : ℕ) → Moved v s.objects (with_changed s t (with_clearance clearance)).objects q
     clearance_moves clearance e =
         let h = caller (first (no_thread s t) _ e) in
-        changed_moves s.objects t (clearing clearance) h (λ o i. subst (IsTainted v) i h)
+        changed_moves s.objects t (with_clearance clearance) h (λ o i. subst (IsTainted v) i h)
 
     -- a gate that is there doesn't own v
     gate_closed : (o : ℕ) → is_gate (s.objects o) ≡ true → (p : Object Levels) → s.objects o ≡ Some p → level_of p.label v ≢ Star
@@ -255,16 +255,16 @@ module _ (v : ℕ) where
     pub granted_moves : (call : RawCall) (new : State) → check s t call ≡ None → Changes s t call new → (q : ℕ) → Moved v s.objects new.objects q
     granted_moves MakeCategory new e is = to new (with_category s t) is (category_moves e)
     granted_moves OwnLabel new e is = to new s is (λ q. stays refl)
-    granted_moves (SetLabel label) new e is = to new (with_changed s t (relabelled label)) is (label_moves label e)
-    granted_moves (SetClearance clearance) new e is = to new (with_changed s t (clearing clearance)) is (clearance_moves clearance e)
+    granted_moves (SetLabel label) new e is = to new (with_changed s t (with_label label)) is (label_moves label e)
+    granted_moves (SetClearance clearance) new e is = to new (with_changed s t (with_clearance clearance)) is (clearance_moves clearance e)
     granted_moves (MakeSegment d label bytes) new e is =
-        to new (added s d (record { label = label; kind = Segment bytes })) is (making_moves d (record { label = label; kind = Segment bytes }) (in_range (s.objects t) label) _ (range_tainted (s.objects t) label) e)
+        to new (with_object s d (record { label = label; kind = Segment bytes })) is (making_moves d (record { label = label; kind = Segment bytes }) (in_range (s.objects t) label) _ (range_tainted (s.objects t) label) e)
     granted_moves (MakeContainer d label) new e is =
-        to new (added s d (record { label = label; kind = Container set.empty })) is (making_moves d (record { label = label; kind = Container set.empty }) (in_range (s.objects t) label) _ (range_tainted (s.objects t) label) e)
+        to new (with_object s d (record { label = label; kind = Container set.empty })) is (making_moves d (record { label = label; kind = Container set.empty }) (in_range (s.objects t) label) _ (range_tainted (s.objects t) label) e)
     granted_moves (MakeThread d label clearance) new e is =
-        to new (added s d (thread_of label clearance)) is (making_moves d (thread_of label clearance) (in_span (s.objects t) label clearance) _ (span_tainted (s.objects t) label clearance) e)
+        to new (with_object s d (thread_of label clearance)) is (making_moves d (thread_of label clearance) (in_span (s.objects t) label clearance) _ (span_tainted (s.objects t) label clearance) e)
     granted_moves (MakeGate d label clearance entry) new e is =
-        to new (added s d (record { label = label; kind = gates.Gate clearance entry })) is (making_moves d (record { label = label; kind = gates.Gate clearance entry }) (in_span (s.objects t) label clearance) _ (span_tainted (s.objects t) label clearance) e)
+        to new (with_object s d (record { label = label; kind = gates.Gate clearance entry })) is (making_moves d (record { label = label; kind = gates.Gate clearance entry }) (in_span (s.objects t) label clearance) _ (span_tainted (s.objects t) label clearance) e)
     granted_moves (Enter d o wanted clearance shown) new e is = to new (with_own s t wanted clearance) is (enter_moves d o wanted clearance shown e)
     granted_moves (Read d o) new e is = to new s is (λ q. stays refl)
     granted_moves (Write d o keep bytes) new e is = to new (with_bytes s o (take keep (bytes_in (s.objects o)) ++ bytes)) is (write_moves d o keep bytes (take keep (bytes_in (s.objects o)) ++ bytes) e)

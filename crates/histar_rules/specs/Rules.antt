@@ -7,8 +7,8 @@ use Rattle.histar_object.specs.Objects.{is_there, is_segment, is_container, is_t
 use Rattle.histar_object.specs.declared.objects.Entry.{Entry}
 use Rattle.histar_object.specs.declared.objects.Kind.TheVariants.{Segment, Container}
 use Rattle.histar_object.specs.declared.objects.Kind.TheVariants as gates
-use Rattle.histar_object.specs.Rights.{in_span, may_clear, is_under, is_let_in, in_gate, relabelled, clearing, with_changed, with_category}
-use Rattle.histar_object.specs.State.{State, observes, modifies, in_range, added, with_own, with_bytes}
+use Rattle.histar_object.specs.Rights.{in_span, may_clear, is_under, is_let_in, in_gate, with_label, with_clearance, with_changed, with_category}
+use Rattle.histar_object.specs.State.{State, observes, modifies, in_range, with_object, with_own, with_bytes}
 use Rattle.histar_container.specs.ObjectsModel.{ObjectsModel, CutsOff, state_of}
 use Rattle.histar_rules.specs.declared.raw.Denied.{Denied}
 use Rattle.histar_rules.specs.declared.raw.Denied.TheVariants.{Observe, Modify, Range, Gate, NoEntry, NoThread, BadKind, TooBig}
@@ -141,12 +141,12 @@ TellsUnlessExhausted failing (Err refusals.OutOfMemory) = ⊤
 abbrev pub Changes : State → ℕ → RawCall → State → Type 0
 Changes s t MakeCategory new = new ≡ with_category s t
 Changes s t OwnLabel new = new ≡ s
-Changes s t (SetLabel label) new = new ≡ with_changed s t (relabelled label)
-Changes s t (SetClearance clearance) new = new ≡ with_changed s t (clearing clearance)
-Changes s t (MakeSegment d label bytes) new = new ≡ added s d (record { label = label; kind = Segment bytes })
-Changes s t (MakeContainer d label) new = new ≡ added s d (record { label = label; kind = Container set.empty })
-Changes s t (MakeThread d label clearance) new = new ≡ added s d (thread_of label clearance)
-Changes s t (MakeGate d label clearance entry) new = new ≡ added s d (record { label = label; kind = gates.Gate clearance entry })
+Changes s t (SetLabel label) new = new ≡ with_changed s t (with_label label)
+Changes s t (SetClearance clearance) new = new ≡ with_changed s t (with_clearance clearance)
+Changes s t (MakeSegment d label bytes) new = new ≡ with_object s d (record { label = label; kind = Segment bytes })
+Changes s t (MakeContainer d label) new = new ≡ with_object s d (record { label = label; kind = Container set.empty })
+Changes s t (MakeThread d label clearance) new = new ≡ with_object s d (thread_of label clearance)
+Changes s t (MakeGate d label clearance entry) new = new ≡ with_object s d (record { label = label; kind = gates.Gate clearance entry })
 Changes s t (Enter d o wanted clearance shown) new = new ≡ with_own s t wanted clearance
 Changes s t (Read d o) new = new ≡ s
 Changes s t (Write d o keep bytes) new = new ≡ with_bytes s o (take keep (bytes_in (s.objects o)) ++ bytes)

@@ -7,7 +7,7 @@ use Rattle.histar_label.specs.Levels.{Levels, constant, with_level}
 use Rattle.histar_object.specs.declared.objects.Kind.TheVariants.{Container, Thread}
 use Rattle.histar_object.specs.declared.objects.Object.{Object}
 use Rattle.histar_object.specs.Objects.{no_objects, linking, is_container}
-use Rattle.histar_object.specs.State.{State, with_next, added, empty_state, root_object, boot_thread}
+use Rattle.histar_object.specs.State.{State, with_next, with_object, empty_state, root_object, boot_thread}
 
 -- no objects, where the next one is 1 and the next category 2
 abbrev pub nothing_yet : State
@@ -30,11 +30,11 @@ linked_at false true = refl
 linked_at false false = refl
 
 -- the boot thread is linked in the root container
-boot_linked : added (with_next nothing_yet (root_alone (with_level (constant L1) 1 L0))) 1 boot_thread ≡ empty_state
+boot_linked : with_object (with_next nothing_yet (root_alone (with_level (constant L1) 1 L0))) 1 boot_thread ≡ empty_state
 boot_linked i = record { objects = λ q. linked_at (q == 1) (q == 2) i; next_object = 3; next_category = 2 }
 
 -- the objects of the empty kernel, step by step
-pub empty_made : (first second third : State) (guarded owning cleared : Levels) → first ≡ nothing_yet → second ≡ with_next first (root_alone guarded) → third ≡ added second 1 (record { label = owning; kind = Thread cleared })
+pub empty_made : (first second third : State) (guarded owning cleared : Levels) → first ≡ nothing_yet → second ≡ with_next first (root_alone guarded) → third ≡ with_object second 1 (record { label = owning; kind = Thread cleared })
     → guarded ≡ with_level (constant L1) 1 L0 → owning ≡ with_level (constant L1) 1 Star → cleared ≡ with_level (constant L2) 1 L3 → third ≡ empty_state
 empty_made first second third guarded owning cleared at_first at_second at_third g o c =
-    at_third ∙ (λ i. added ((at_second ∙ (λ j. with_next (at_first j) (root_alone (g j)))) i) 1 (record { label = o i; kind = Thread (c i) })) ∙ boot_linked
+    at_third ∙ (λ i. with_object ((at_second ∙ (λ j. with_next (at_first j) (root_alone (g j)))) i) 1 (record { label = o i; kind = Thread (c i) })) ∙ boot_linked

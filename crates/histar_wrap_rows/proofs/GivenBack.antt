@@ -13,7 +13,7 @@ use Rattle.histar_flat.specs.Sessions.{Session}
 use Rattle.histar_flat.specs.FlatState.{Flat}
 use Rattle.histar_flat.specs.FlatCalls.{refused, reply_to}
 use Rattle.histar_label.specs.Levels.{Levels}
-use Rattle.histar_object.specs.Rights.{with_changed, relabelled, clearing}
+use Rattle.histar_object.specs.Rights.{with_changed, with_label, with_clearance}
 use Rattle.histar_object.specs.State.{State}
 use Rattle.histar_rules.specs.declared.raw.Denied.{Denied}
 use Rattle.histar_rules.specs.declared.raw.RawCall.{RawCall}
@@ -98,7 +98,7 @@ module _ (session : Session) (f : Flat) (me : ProcName) (caller : IsRunning f me
       taken_again = SetLabel own.0 ∷ SetClearance own.1 ∷ []
 
       give_back_step : (mid : KernelModel) → Chain old t (steps []) mid
-          → check (state mid) t (SetLabel own.0) ≡ None → check (with_changed (state mid) t (relabelled own.0)) t (SetClearance own.1) ≡ None → LaysOut session (own_set t (state mid) own.0 own.1) f
+          → check (state mid) t (SetLabel own.0) ≡ None → check (with_changed (state mid) t (with_label own.0)) t (SetClearance own.1) ≡ None → LaysOut session (own_set t (state mid) own.0 own.1) f
           → ReadsAmong session f me caller call old new t named (steps taken_again) (Refused errno) → Runs (give_back own errno) mid new t result → Row
       give_back_step mid so_far label_passes clearance_passes lays_out reads runs =
           restored_step [] tt mid so_far (SetLabel own.0) (or_stops (λ _. Asks (SetClearance own.1) (or_stops (λ _. Answers (Refused errno))))) label_passes runs
@@ -107,12 +107,12 @@ module _ (session : Session) (f : Flat) (me : ProcName) (caller : IsRunning f me
           (ap (λ (s : State). check s t (SetClearance own.1)) called.state ∙ clearance_passes) on
           (λ cleared set_to called_then whole answers.
           told_at_last taken_again (refl, (refl, tt)) cleared whole
-          (subst (λ (s : State). LaysOut session s f) (sym (called_then.state ∙ ap (λ (s : State). with_changed s t (clearing own.1)) called.state)) lays_out) reads answers))
+          (subst (λ (s : State). LaysOut session s f) (sym (called_then.state ∙ ap (λ (s : State). with_changed s t (with_clearance own.1)) called.state)) lays_out) reads answers))
 
   -- A raw call that the rules refuse, as the flat rules refuse the call, once the thread has taken what it gives back.
   pub given_back_step : (calls : List RawCall) (mid : KernelModel) → Chain old t (all_granted calls) mid → (errno : Errno) → refused session f me caller.process call ≡ Some errno
       → (own : Levels × Levels) (next : RawCall) (rest : AnswerOf next → Program) (denied : Denied) → check (state mid) t next ≡ Some denied → errno_for next denied ≡ Some errno
-      → check (state mid) t (SetLabel own.0) ≡ None → check (with_changed (state mid) t (relabelled own.0)) t (SetClearance own.1) ≡ None → LaysOut session (own_set t (state mid) own.0 own.1) f
+      → check (state mid) t (SetLabel own.0) ≡ None → check (with_changed (state mid) t (with_label own.0)) t (SetClearance own.1) ≡ None → LaysOut session (own_set t (state mid) own.0 own.1) f
       → ReadsAmong session f me caller call old new t named (all_granted calls ++ (next, Some denied) ∷ all_granted (SetLabel own.0 ∷ SetClearance own.1 ∷ [])) (Refused errno)
       → Runs (ask_or_give_back own next rest) mid new t result → Row
   given_back_step calls mid so_far errno is own next rest denied fails told label_passes clearance_passes lays_out reads runs =
@@ -120,6 +120,6 @@ module _ (session : Session) (f : Flat) (me : ProcName) (caller : IsRunning f me
       (λ later called chain on.
       let same = called.state in
       give_back_step calls next denied errno (told_shown next denied errno told) is own later chain
-      (ap (λ (s : State). check s t (SetLabel own.0)) same ∙ label_passes) (ap (λ (s : State). check (with_changed s t (relabelled own.0)) t (SetClearance own.1)) same ∙ clearance_passes)
+      (ap (λ (s : State). check s t (SetLabel own.0)) same ∙ label_passes) (ap (λ (s : State). check (with_changed s t (with_label own.0)) t (SetClearance own.1)) same ∙ clearance_passes)
       (subst (λ (s : State). LaysOut session (own_set t s own.0 own.1) f) (sym same) lays_out) reads
       (subst (λ (o : Option Errno). Runs (gives_back_with own o) later new t result) told on))

@@ -23,7 +23,7 @@ use Rattle.histar_label.specs.Levels.{Levels, with_level}
 use Rattle.histar_object.specs.declared.objects.Kind.TheVariants.{Segment, Container, Thread}
 use Rattle.histar_object.specs.declared.objects.Object.{Object}
 use Rattle.histar_object.specs.Rights.{with_category}
-use Rattle.histar_object.specs.State.{State, added, with_bytes, counting}
+use Rattle.histar_object.specs.State.{State, with_object, with_bytes, with_next_category}
 use Rattle.histar_rules.specs.declared.raw.Denied.TheVariants.{TooBig}
 use Rattle.histar_rules.specs.declared.raw.RawCall.{RawCall}
 use Rattle.histar_rules.specs.declared.raw.RawCall.TheVariants.{MakeSegment, SetLabel, SetClearance, Write}
@@ -125,7 +125,7 @@ module _ (session : Session) (ok : IsSession session) (me : ProcName) (caller : 
       → may_write session p (directory_class session ok (state old) f me t ready d open_so_far) ≡ true
       → (i : ℕ) → user_number session p.user ≡ Some i → has_number (state old) ≡ true
       → (calls : List RawCall) → AreAmong (walk_reads session ok (state old) f me t ready d) (entries_of old.line t (all_granted calls))
-      → (linked : KernelModel) → state linked ≡ added (with_category (state old) t) place.container container → Chain old t (all_granted calls) linked
+      → (linked : KernelModel) → state linked ≡ with_object (with_category (state old) t) place.container container → Chain old t (all_granted calls) linked
       → Runs (within (state old).next_object) linked new t result → Row
 
   -- ---- the call as a whole
@@ -244,7 +244,7 @@ module _ (session : Session) (ok : IsSession session) (me : ProcName) (caller : 
       before = wrapping.state_directory session (state old) f ready.lays_out me p wrapper named few_entries
 
       -- the category of the job has its name in it, and what is made for the job the label that is due
-      abbrev job_named : Laid session (counting (state old)) f
+      abbrev job_named : Laid session (with_next_category (state old)) f
       job_named = wrapping.m session (state old) f ready.lays_out me p wrapper
 
       naming_is : job_named.naming ≡ ready.lays_out.laid.naming
@@ -261,7 +261,7 @@ module _ (session : Session) (ok : IsSession session) (me : ProcName) (caller : 
           ∙ ap (λ (o : Option ℕ). guard_label job_named.category (scratch_guard (p.chain ++ child ∷ []) (or_zero o))) declared
 
       state_is : with_bytes (with_segment session ok (state old) f me t ready d open_so_far unused i declared) place.listing written ≡ before
-      state_is = λ j. with_bytes (added (added (with_category (state old) t) place.container (record { label = due_is j; kind = Container set.empty })) number (record { label = due_is j; kind = Segment [] }))
+      state_is = λ j. with_bytes (with_object (with_object (with_category (state old) t) place.container (record { label = due_is j; kind = Container set.empty })) number (record { label = due_is j; kind = Segment [] }))
           place.listing (spelling (map.insert (directory_of f.files (sym naming_is j).number d) m target))
 
       -- what its process and its job are there
@@ -395,5 +395,5 @@ module _ (session : Session) (ok : IsSession session) (me : ProcName) (caller : 
       (λ more mid listing called right longer goes.
       let few = ltb-true (number + 1) greatest (sym (ap has_number at) ∙ more) in
       directory_written long room open_so_far absent room_above may i declared few (calls ++ next ∷ []) mid (among_then old.line t reads calls (next ∷ []) kept) longer
-      (called.state ∙ ap (λ (s : State). added s number (record { label = due; kind = Segment [] })) at)
+      (called.state ∙ ap (λ (s : State). with_object s number (record { label = due; kind = Segment [] })) at)
       (subst (λ (q : ℕ). Runs (after_segment q) mid new t result) (right ∙ ap (λ (s : State). s.next_object) at) goes))

@@ -15,8 +15,8 @@ use Rattle.histar_layout.specs.Directory.{spelling}
 use Rattle.histar_object.specs.declared.objects.Kind.TheVariants.{Segment, Container, Thread}
 use Rattle.histar_object.specs.declared.objects.Object.{Object}
 use Rattle.histar_object.specs.Objects.{is_thread}
-use Rattle.histar_object.specs.Rights.{owning, with_category}
-use Rattle.histar_object.specs.State.{State, added, with_bytes}
+use Rattle.histar_object.specs.Rights.{with_star_at, with_category}
+use Rattle.histar_object.specs.State.{State, with_object, with_bytes}
 use Rattle.histar_container.proofs.TableMoves.{changed_here, changed_other}
 use Rattle.histar_rules.specs.declared.raw.Denied.TheVariants.{TooBig}
 use Rattle.histar_rules.specs.declared.raw.RawCall.TheVariants.{MakeSegment, Write}
@@ -48,9 +48,9 @@ module _ (s : State) (t d n : ℕ) (own most above : Levels) (old : List ℕ) (t
   there_owning : HasSegment (with_category s t) t d n (with_level own s.next_category Star) (with_level most s.next_category L3) above old
   there_owning = record {
     links = there.links;
-    thread = changed_here s.objects t (owning s.next_category) ∙ ap (option_map (owning s.next_category)) there.thread;
-    holder = changed_other s.objects t (owning s.next_category) d holder_apart ∙ there.holder;
-    segment = changed_other s.objects t (owning s.next_category) n segment_apart ∙ there.segment;
+    thread = changed_here s.objects t (with_star_at s.next_category) ∙ ap (option_map (with_star_at s.next_category)) there.thread;
+    holder = changed_other s.objects t (with_star_at s.next_category) d holder_apart ∙ there.holder;
+    segment = changed_other s.objects t (with_star_at s.next_category) n segment_apart ∙ there.segment;
     linked = there.linked;
   }
 
@@ -77,10 +77,10 @@ module _ (session : Session) (ok : IsSession session) (s : State) (f : Flat) (me
 
   -- the state with the container, and with the directory segment in it
   abbrev pub with_container : State
-  with_container = added (with_category s t) (container session ok s f me t ready d) (record { label = due; kind = Container set.empty })
+  with_container = with_object (with_category s t) (container session ok s f me t ready d) (record { label = due; kind = Container set.empty })
 
   abbrev pub with_segment : State
-  with_segment = added with_container s.next_object (record { label = due; kind = Segment [] })
+  with_segment = with_object with_container s.next_object (record { label = due; kind = Segment [] })
 
   there : HasSegment (with_category s t) t (container session ok s f me t ready d) (listing session ok s f me t ready d) own_then most_then above (spelling (entries session ok s f me t ready d))
   there = there_owning s t (container session ok s f me t ready d) (listing session ok s f me t ready d) (label session ok s f me t ready) (clearance session ok s f me t ready) above (spelling (entries session ok s f me t ready d))

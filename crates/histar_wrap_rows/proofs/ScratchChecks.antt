@@ -13,8 +13,8 @@ use Rattle.histar_label.specs.declared.levels.Level.TheVariants.{Star, L3}
 use Rattle.histar_label.specs.Levels.{Levels, with_level}
 use Rattle.histar_object.specs.declared.objects.Kind.TheVariants.{Container, Thread}
 use Rattle.histar_object.specs.Objects.{Numbers as Links, is_container}
-use Rattle.histar_object.specs.Rights.{owning, relabelled, with_changed, with_category}
-use Rattle.histar_object.specs.State.{State, Found, in_range, counting}
+use Rattle.histar_object.specs.Rights.{with_star_at, with_label, with_changed, with_category}
+use Rattle.histar_object.specs.State.{State, Found, in_range, with_next_category}
 use Rattle.histar_container.specs.Tree.{Naming}
 use Rattle.histar_container.proofs.TableMoves.{changed_here, changed_other}
 use Rattle.histar_rules.specs.declared.raw.Denied.TheVariants.{Modify, Range, TooBig}
@@ -57,7 +57,7 @@ module _ (session : Session) (ok : IsSession session) (s : State) (f : Flat) (me
   abbrev job : ℕ
   job = s.next_category
 
-  abbrev m : Laid session (counting s) f
+  abbrev m : Laid session (with_next_category s) f
   m = jobs.m session s f ready.lays_out me p ready.caller.stands
 
   -- the job's name was not used, and it is named as the labels are
@@ -98,7 +98,7 @@ module _ (session : Session) (ok : IsSession session) (s : State) (f : Flat) (me
   clearance_then = clearance_by session s f l me p ready.caller.stands unused m.category naming_is
 
   thread_then : with_it.objects t ≡ object owner (Thread owner_most)
-  thread_then = changed_here s.objects t (owning job) ∙ ap (option_map (owning job)) (thread session ok s f me t ready) ∙ (λ i. object (label_then i) (Thread (clearance_then i)))
+  thread_then = changed_here s.objects t (with_star_at job) ∙ ap (option_map (with_star_at job)) (thread session ok s f me t ready) ∙ (λ i. object (label_then i) (Thread (clearance_then i)))
 
   -- ---- it takes its own label and clearance again
 
@@ -124,8 +124,8 @@ module _ (session : Session) (ok : IsSession session) (s : State) (f : Flat) (me
   pub set_label_said : check (with_category s t) t (SetLabel (label session ok s f me t ready)) ≡ None
   set_label_said = label_said with_it t owner owner_most thread_then own most taken
 
-  pub set_clearance_said : check (with_changed (with_category s t) t (relabelled (label session ok s f me t ready))) t (SetClearance (clearance session ok s f me t ready)) ≡ None
-  set_clearance_said = clearance_said (with_changed with_it t (relabelled own)) t owner owner_most own most (thread_relabelled with_it t owner owner_most own thread_then) taken
+  pub set_clearance_said : check (with_changed (with_category s t) t (with_label (label session ok s f me t ready))) t (SetClearance (clearance session ok s f me t ready)) ≡ None
+  set_clearance_said = clearance_said (with_changed with_it t (with_label own)) t owner owner_most own most (thread_relabelled with_it t owner owner_most own thread_then) taken
 
   -- ---- the label of the scratch directory
 
@@ -165,14 +165,14 @@ module _ (session : Session) (ok : IsSession session) (s : State) (f : Flat) (me
     at_container = ap (λ (n : Naming Step). n.number (address_of d)) (jobs.named session s f ready.lays_out me p ready.caller.stands).1 ∙ container_numbered session ok s f me t ready d open_so_far
 
     holder : (links : Links) × (s.objects D ≡ object (guard_label m.category above.0) (Container links))
-    holder = container_found session (counting s) f m d class (directory_stands session ok s f me t ready d open_so_far) above.0 above.1 D at_container
+    holder = container_found session (with_next_category s) f m d class (directory_stands session ok s f me t ready d open_so_far) above.0 above.1 D at_container
 
     -- the thread is no container
     other : D ≢ t
     other e = true≢false (sym (ap is_container holder.1) ∙ ap is_container (ap s.objects e ∙ thread session ok s f me t ready))
 
     holder_then : with_it.objects D ≡ object (guard_label m.category above.0) (Container holder.0)
-    holder_then = changed_other s.objects t (owning job) D other ∙ holder.1
+    holder_then = changed_other s.objects t (with_star_at job) D other ∙ holder.1
 
     making_then : no_making with_it t D ≡ unless (may_write session p class) Modify
     making_then =

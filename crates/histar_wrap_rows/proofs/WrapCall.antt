@@ -16,8 +16,8 @@ use Rattle.histar_flat.specs.Files.{get}
 use Rattle.histar_flat.specs.FlatState.{Flat, entries_in, into}
 use Rattle.histar_flat.specs.FlatCalls.{most_entries, no_room, refused}
 use Rattle.histar_label.specs.Levels.{Levels}
-use Rattle.histar_object.specs.Rights.{with_category, relabelled, with_changed}
-use Rattle.histar_object.specs.State.{State, added}
+use Rattle.histar_object.specs.Rights.{with_category, with_label, with_changed}
+use Rattle.histar_object.specs.State.{State, with_object}
 use Rattle.histar_rules.specs.declared.raw.Denied.{Denied}
 use Rattle.histar_rules.specs.declared.raw.Denied.TheVariants.{Modify, Range, TooBig}
 use Rattle.histar_rules.specs.declared.raw.RawCall.{RawCall}
@@ -160,7 +160,7 @@ module _ (session : Session) (ok : IsSession session) (me : ProcName) (caller : 
         given_back denied errno fails told is on =
             given_back_step session f me ready.caller (Wrap (m ∷ d)) old new t ready.thread result before mid chain errno is (own, most) next within denied fails told
             (ap (λ (s : State). check s t (SetLabel own)) counted ∙ set_label_said session ok (state old) f me t ready)
-            (ap (λ (s : State). check (with_changed s t (relabelled own)) t (SetClearance most)) counted ∙ set_clearance_said session ok (state old) f me t ready)
+            (ap (λ (s : State). check (with_changed s t (with_label own)) t (SetClearance most)) counted ∙ set_clearance_said session ok (state old) f me t ready)
             (subst (λ (s : State). LaysOut session (own_set t s own most) f) (sym counted) (lays_out_refused session (state old) f ready.lays_out me p ready.caller.stands ready.caller.runs t (at_thread session me caller old new f result ready found)))
             (has_reads session ok old new f me t ready m d (Wrap (m ∷ d)) result not_nobody (needs_room (m ∷ d)) (all_granted before ++ (next, Some denied) ∷ all_granted (SetLabel own ∷ SetClearance most ∷ [])) (Refused errno)
             (among_also old.line t walk before ((next, Some denied) ∷ all_granted (SetLabel own ∷ SetClearance most ∷ [])) among_before)) on
@@ -177,7 +177,7 @@ module _ (session : Session) (ok : IsSession session) (me : ProcName) (caller : 
             (λ linked number called number_is longer rest.
             let user = some_of (user_number session p.user) is_declared in
             job_begun session ok me caller old new f result ready found m named d long few open_so_far absent roomy is_may user.0 user.1 is_has (before ++ next ∷ []) (among_then old.line t walk before (next ∷ []) among_before) linked
-            (called.state ∙ ap (λ (s : State). added s room.place.container (granted.container session ok me caller old new f result ready found m named d)) counted) longer
+            (called.state ∙ ap (λ (s : State). with_object s room.place.container (granted.container session ok me caller old new f result ready found m named d)) counted) longer
             (subst (λ (q : ℕ). Runs (within q) linked new t result) (number_is ∙ ap (λ (s : State). s.next_object) counted) rest))
 
         made_step : Runs (in_job status (own, most) room job) mid new t result → Row

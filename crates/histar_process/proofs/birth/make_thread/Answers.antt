@@ -1,6 +1,6 @@
 use Rattle.std.proofs.Common.{ℕ, List, ◌∷◌, ◌++◌, ap, ◌∙◌}
 use Rattle.histar_rules.specs.declared.raw.RawCall.TheVariants.{MakeThread}
-use Rattle.histar_calls.specs.Labelling.{owning, cleared_at}
+use Rattle.histar_calls.specs.Labelling.{owner_label, cleared_at}
 use Rattle.histar_calls.specs.Parts.{ask}
 use Rattle.histar_calls.specs.declared.ending.Ending.TheVariants.{Stopped}
 use Rattle.histar_calls.proofs.Running.{grants, refuses, before_ask, fails_so}
@@ -15,7 +15,7 @@ returns-in_err-all g c =
     let owned = c.args.owned.now in
     let read = c.args.read in
     let write = c.args.write in
-    let call = MakeThread c.args.internal (owning (read ∷ write ∷ owned) jobs) (cleared_at ((read ∷ write ∷ owned) ++ jobs)) in
+    let call = MakeThread c.args.internal (owner_label (read ∷ write ∷ owned) jobs) (cleared_at ((read ∷ write ∷ owned) ++ jobs)) in
     fails_so t (ask call) old old Stopped _ c.from_residual.ensures.1 (before_ask t call old)
 
 pub returns-in_err-label : goal.returns-in_err-label
@@ -26,7 +26,7 @@ returns-in_err-label g c =
     let owned = c.args.owned.now in
     let read = c.args.read in
     let write = c.args.write in
-    let call = MakeThread c.args.internal (owning (read ∷ write ∷ owned) jobs) (cleared_at ((read ∷ write ∷ owned) ++ jobs)) in
+    let call = MakeThread c.args.internal (owner_label (read ∷ write ∷ owned) jobs) (cleared_at ((read ∷ write ∷ owned) ++ jobs)) in
     fails_so t (ask call) old old Stopped _ c.from_residual-in_err-label.ensures.1 (before_ask t call old)
 
 pub returns-in_err-known : goal.returns-in_err-known
@@ -37,7 +37,7 @@ returns-in_err-known g c =
     let owned = c.args.owned.now in
     let read = c.args.read in
     let write = c.args.write in
-    let call = MakeThread c.args.internal (owning (read ∷ write ∷ owned) jobs) (cleared_at ((read ∷ write ∷ owned) ++ jobs)) in
+    let call = MakeThread c.args.internal (owner_label (read ∷ write ∷ owned) jobs) (cleared_at ((read ∷ write ∷ owned) ++ jobs)) in
     fails_so t (ask call) old old Stopped _ c.from_residual-in_err-known.ensures.1 (before_ask t call old)
 
 pub returns-in_err-clearance : goal.returns-in_err-clearance
@@ -48,7 +48,7 @@ returns-in_err-clearance g c =
     let owned = c.args.owned.now in
     let read = c.args.read in
     let write = c.args.write in
-    let call = MakeThread c.args.internal (owning (read ∷ write ∷ owned) jobs) (cleared_at ((read ∷ write ∷ owned) ++ jobs)) in
+    let call = MakeThread c.args.internal (owner_label (read ∷ write ∷ owned) jobs) (cleared_at ((read ∷ write ∷ owned) ++ jobs)) in
     fails_so t (ask call) old old Stopped _ c.from_residual-in_err-clearance.ensures.1 (before_ask t call old)
 
 pub returns-in_err-made : goal.returns-in_err-made
@@ -59,10 +59,10 @@ returns-in_err-made g c =
     let owned = c.args.owned.now in
     let read = c.args.read in
     let write = c.args.write in
-    let call = MakeThread c.args.internal (owning (read ∷ write ∷ owned) jobs) (cleared_at ((read ∷ write ∷ owned) ++ jobs)) in
+    let call = MakeThread c.args.internal (owner_label (read ∷ write ∷ owned) jobs) (cleared_at ((read ∷ write ∷ owned) ++ jobs)) in
     let end = c.make_thread.new.self in
     let all = c.as_slice.ensures.value ∙ c.in_ok-all.ensures in
-    let label_is = c.in_ok-label.ensures ∙ ap (λ (cs : List ℕ). owning cs jobs) all in
+    let label_is = c.in_ok-label.ensures ∙ ap (λ (cs : List ℕ). owner_label cs jobs) all in
     let clearance_is = c.in_ok-clearance.ensures ∙ ap cleared_at (c.as_slice-3.ensures.value ∙ c.in_ok-known.ensures ∙ ap (λ (cs : List ℕ). cs ++ jobs) (c.as_slice-2.ensures.value ∙ c.in_ok-all.ensures)) in
     let made = MakeThread c.args.internal c.in_ok-label.label c.in_ok-clearance.clearance in
     fails_so t (ask call) old end _ _ c.from_residual-in_err-made.ensures.1
@@ -78,7 +78,7 @@ returns g c =
     let write = c.args.write in
     let end = c.make_thread.new.self in
     let all = c.as_slice.ensures.value ∙ c.in_ok-all.ensures in
-    let label_is = c.in_ok-label.ensures ∙ ap (λ (cs : List ℕ). owning cs jobs) all in
+    let label_is = c.in_ok-label.ensures ∙ ap (λ (cs : List ℕ). owner_label cs jobs) all in
     let clearance_is = c.in_ok-clearance.ensures ∙ ap cleared_at (c.as_slice-3.ensures.value ∙ c.in_ok-known.ensures ∙ ap (λ (cs : List ℕ). cs ++ jobs) (c.as_slice-2.ensures.value ∙ c.in_ok-all.ensures)) in
     let made = MakeThread c.args.internal c.in_ok-label.label c.in_ok-clearance.clearance in
     thread_so t old end c.args.internal _ _ _ _ label_is clearance_is _ (grants t made old end c.in_ok-made.made c.in_ok-made.ensures.0 c.in_ok-made.ensures.1.0)
