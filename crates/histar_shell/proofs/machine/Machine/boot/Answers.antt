@@ -20,3 +20,6 @@ returns-clause-starts g c = record {
 
 pub returns-clause-shows : goal.returns-clause-shows
 returns-clause-shows g c = start_shows c.args.session c.requires _ (returns-clause-starts g c)
+
+pub boot-requires : goal.boot-requires
+boot-requires g c = c.requires.users.some
