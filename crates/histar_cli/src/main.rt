@@ -22,10 +22,24 @@ use std::{env, fs, io};
 /// The status of a refused command line.
 const REFUSED: u8 = 2;
 
-/// Runs the script in a file, and prints the replies and what else is asked for.
+/// Flushes the output, which a run doesn't do, and tells the fault of the run, or else a failed flush.
 ///
-/// A run doesn't flush, so that is done here, also after a fault; a fault of the run is told before
-/// a failed flush.
+/// It is flushed after a fault too, but not after a failed write: what that left in the buffer is let
+/// go, as is what a failed flush leaves, so that no write is tried again.
+fn finish<W: Write + Drop>(
+    ran: Result<(), Fault>,
+    mut output: BufWriter<W, Global>,
+) -> Result<(), Fault> {
+    let mut flushed = Ok(());
+    if ran != Err(Fault::WriteFailed) {
+        flushed = output.flush();
+    }
+    let (_writer, _unwritten) = output.into_parts();
+    ran?;
+    flushed.map_err(|_| Fault::WriteFailed)
+}
+
+/// Runs the script in a file, and prints the replies and what else is asked for.
 fn run_file<R: Files + Print>(
     rt: &R,
     alloc: Global,
@@ -37,9 +51,7 @@ fn run_file<R: Files + Print>(
     let mut reader = Counted::new(file);
     let mut writer = Counted::new(output);
     let ran = run(alloc, &mut reader, &mut writer, options);
-    let flushed = writer.into_inner().flush();
-    let _trace = ran?;
-    flushed.map_err(|_| Fault::WriteFailed)
+    finish(ran.map(|_trace| ()), writer.into_inner())
 }
 
 /// Runs the raw session in a file, and prints what its calls are answered.
@@ -49,9 +61,7 @@ fn run_raw_file<R: Files + Print>(rt: &R, alloc: Global, path: &str) -> Result<(
     let mut reader = Counted::new(file);
     let mut writer = Counted::new(output);
     let ran = run_raw_script(alloc, &mut reader, &mut writer);
-    let flushed = writer.into_inner().flush();
-    ran?;
-    flushed.map_err(|_| Fault::WriteFailed)
+    finish(ran, writer.into_inner())
 }
 
 /// Compares the script in a file with the script without a job, and prints what is found.
