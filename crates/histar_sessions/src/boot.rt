@@ -126,6 +126,7 @@ fn boots_with_groups(rt: HostRuntime) -> Result<(), Fail> {
     session.add_group(Group::new(name(b"crew")?, crew))?;
     let all = Vec::from_slice(alloc, &[bob, ann])?;
     session.add_group(Group::new(name(b"all")?, all))?;
+    assert!(rt; !session.users().is_empty());
     let (kernel, places) = boot(alloc, PlainStore::new(alloc), &session)?;
     compare(&rt, alloc, kernel.trace(), CALLS_WITH_GROUPS.as_slice())?;
     let home = places.home;
@@ -170,6 +171,7 @@ fn names_of(alloc: Global, users: &[User]) -> Result<Vec<Name>, Fail>
 fn boots_at_its_limits(rt: HostRuntime) -> Result<(), Fail> {
     let alloc = rt.alloc();
     let session = with_most_groups(alloc)?;
+    assert!(rt; !session.users().is_empty());
     let (kernel, places) = boot(alloc, PlainStore::new(alloc), &session)?;
     assert_eq!(rt; kernel.trace().len(), 2 * (1 + 16 + 8) + 2 * 16 + 3 + 6 + 1);
     let home = places.home;
