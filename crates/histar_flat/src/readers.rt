@@ -187,8 +187,9 @@ fn read_group_mode(text: &[u8]) -> Option<Mode>
     Some(Mode::Group(read_user_name(name?)?))
 }
 
+/// Whether the bytes are a name: `read_name` takes a copy of them.
 #[tactic(auto, unfolding(crate::specs::Words::is_name))]
-fn is_name(text: &[u8]) -> bool
+pub fn is_name(text: &[u8]) -> bool
     ensures { result ≡ name text.now }
 {
     !text.is_empty() && text.len() <= MOST_WORD_BYTES && has_name_bytes(text) && !is_dots(text)

@@ -1,9 +1,10 @@
 -- Looking a name up in a beginning of the entries.
-use Rattle.std.proofs.Common.{◌≡◌, ℕ, ◌+◌, ◌<◌, Bool, true, cond, List, [], ◌∷◌, length, Option, Some, None, sym, ap, subst, ◌∙◌, length-append, append-nil, arith}
+use Rattle.std.proofs.Common.{◌≡◌, ℕ, ◌+◌, ◌<◌, Bool, true, IsTrue, refl, cond, List, [], ◌∷◌, length, Option, Some, None, sym, ap, subst, ◌∙◌, length-append, append-nil, arith}
 use Rattle.std.specs.Prelude.{if◌then◌else◌}
-use Rattle.std.specs.Cmp.Lexicographic.{nat_list_cmp_total, texts_ties}
+use Rattle.std.specs.Cmp.Lexicographic.{nat_list_cmp_total, texts_ties, slice_cmp}
+use Rattle.std.specs.Ordering.{nat_cmp, is_lt}
 use Rattle.std.specs.FinMap as map
-use Rattle.histar_flat.specs.Words.{Name}
+use Rattle.histar_flat.specs.Words.{Name, is_name}
 use Rattle.histar_flat.specs.PathOrder.{same}
 use Rattle.histar_layout.specs.declared.entry.Target.{Target}
 use Rattle.histar_layout.specs.Directory.{Entries, spelling, IsDirectory}
@@ -18,6 +19,24 @@ pub record IsFoundUpTo (bytes rest : List ℕ) (last : Option Name) (name : Name
   pub read : IsReadUpTo bytes rest last dir
   pub found_is : found ≡ map.get dir name
   pub count_is : count ≡ map.len dir
+
+-- the last name that was read, of which these are the bytes; none was read yet where there are none
+abbrev pub last_name : List ℕ → Option Name
+last_name [] = None
+last_name (b ∷ bs) = Some (b ∷ bs)
+
+-- a name has bytes
+pub name_is_last : (text : List ℕ) → IsTrue (is_name text) → last_name text ≡ Some text
+unfolding is_name
+name_is_last [] h = absurd cc
+name_is_last (b ∷ bs) h = refl
+
+-- a name comes after the last one where its bytes do
+pub comes_after_bytes : (last text : List ℕ) → IsTrue (is_name text) → is_lt (slice_cmp nat_cmp last text) ≡ comes_after (last_name last) text
+unfolding is_name
+comes_after_bytes [] [] h = absurd cc
+comes_after_bytes [] (b ∷ bs) h = refl
+comes_after_bytes (a ∷ last) text h = refl
 
 -- at the start nothing is found
 pub nothing_found : (bytes : List ℕ) (name : Name) → IsBytes bytes → IsFoundUpTo bytes bytes None name None 0

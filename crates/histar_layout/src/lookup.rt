@@ -1,10 +1,14 @@
 //! Looking a name up in the bytes of a directory.
+ghost use Rattle.std.specs.Prelude.{◌≡◌};
+ghost use Rattle.std.specs.Cmp.Lexicographic.{slice_cmp};
+ghost use Rattle.std.specs.Ordering.{is_lt, nat_cmp};
 ghost use Rattle.histar_layout.specs.Found.{IsLookedUp};
 
 use crate::directory::MOST_ENTRIES;
 use crate::entry::Target;
-use crate::reading::{follows, read_entry};
+use crate::reading::read_named;
 use histar_flat::Name;
+use std::cmp::Ordering;
 
 /// Bytes are no directory.
 #[derive(Clone, Copy, Debug, PartialEq, Eq)]
@@ -17,22 +21,28 @@ pub fn look_up(bytes: &[u8], name: &Name) -> Result<Option<Target>, NotADirector
 {
     let mut found = None;
     let mut count = 0;
-    let mut last = None;
+    let mut last: &[u8] = &[];
     let mut rest = bytes;
     'entries: while !rest.is_empty() {
-        let Some(entry) = read_entry(rest) else {
+        let Some((text, target, after)) = read_named(rest) else {
             return Err(NotADirectory);
         };
-        let (next, target, after) = entry;
-        if count == MOST_ENTRIES || !follows(last, next) {
+        if count == MOST_ENTRIES || !precedes(last, text) {
             return Err(NotADirectory);
         }
-        if *name == next {
+        if name.as_bytes() == text {
             found = Some(target);
         }
         count += 1;
-        last = Some(next);
+        last = text;
         rest = after;
     }
     Ok(found)
+}
+
+/// Whether the bytes of one name come before those of another.
+fn precedes(first: &[u8], second: &[u8]) -> bool
+    ensures { result ≡ is_lt (slice_cmp nat_cmp first.now second.now) }
+{
+    matches!(first.cmp(second), Ordering::Less)
 }

@@ -1,25 +1,40 @@
 //! Reading the entries of directories.
-ghost use Rattle.std.specs.Prelude.{◌≡◌};
+ghost use Rattle.std.specs.Prelude.{◌≡◌, IfSome, IsTrue};
+ghost use Rattle.histar_flat.specs.Words.{is_name};
 ghost use Rattle.histar_layout.specs.Reading.{Gives, front_at, number_at, target_of, target_at, entry_at, comes_after};
 
 use crate::entry::Target;
-use histar_flat::{Name, read_name};
+use histar_flat::{Name, is_name, read_name};
 use histar_object::ObjId;
 
 /// The entry at the front, and the bytes after it.
-#[tactic(auto, unfolding(crate::specs::Reading::entry_at))]
 pub fn read_entry(bytes: &[u8]) -> Option<(Name, Target, &[u8])>
     ensures { Gives (λ found. ((found.0, found.1), found.2.now)) result (entry_at bytes.now) }
+{
+    let Some((text, target, rest)) = read_named(bytes) else {
+        return None;
+    };
+    let name = read_name(text)?;
+    Some((name, target, rest))
+}
+
+/// The entry at the front, with the bytes of its name in place, and the bytes after it.
+#[tactic(auto, unfolding(crate::specs::Reading::entry_at))]
+pub fn read_named(bytes: &[u8]) -> Option<(&[u8], Target, &[u8])>
+    ensures entry { Gives (λ found. ((found.0.now, found.1), found.2.now)) result (entry_at bytes.now) }
+    ensures named { IfSome result (λ found. IsTrue (is_name found.0.now)) }
 {
     let [len, rest @ ..] = bytes else {
         return None;
     };
     let (text, rest) = read_front(rest, *len as usize)?;
-    let name = read_name(text)?;
+    if !is_name(text) {
+        return None;
+    }
     let Some((target, rest)) = read_target(rest) else {
         return None;
     };
-    Some((name, target, rest))
+    Some((text, target, rest))
 }
 
 /// Whether a name may follow the last one that was read.
