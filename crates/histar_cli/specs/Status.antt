@@ -3,7 +3,7 @@ use Rattle.std.specs.Prelude.{ℕ}
 use Rattle.histar_script.specs.declared.fault.Fault.{Fault}
 use Rattle.histar_script.specs.declared.fault.Fault.TheVariants.{BadScript, TooLong, OutOfMemory, ReadFailed, WriteFailed}
 
--- 1 where the script is at fault, 3 for want of memory, 4 where a device failed
+-- 1 where the script is at fault, 3 where memory runs out, 4 where a device failed
 abbrev pub status_of : Fault → ℕ
 status_of (BadScript n) = 1
 status_of TooLong = 1

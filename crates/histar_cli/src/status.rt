@@ -4,7 +4,7 @@ ghost use Rattle.histar_cli.specs.Status.{status_of};
 
 use histar_script::Fault;
 
-/// The exit status of a fault: 1 for the script, 3 for want of memory, 4 for a device. A refused
+/// The exit status of a fault: 1 for the script, 3 for memory that ran out, 4 for a device. A refused
 /// command line has 2, and a run that was done 0.
 pub fn status(fault: &Fault) -> u8
     ensures { result ≡ status_of fault.now }

@@ -46,7 +46,7 @@ pub record IsFirstBadLine (text : List ℕ) (n : ℕ) : Type 0 where
 abbrev pub IsSession : List ℕ → List RawLine → Type 0
 IsSession text calls = (is_too_long text ≡ false) × SayCalls 0 (lines_of text) calls
 
--- the fault is a bad line of this kind, or want of memory
+-- the fault is a bad line of this kind, or out of memory
 abbrev pub IsBadLineOf : (ℕ → Type 0) → Fault → Type 0
 IsBadLineOf IsBad (BadScript n) = IsBad n
 IsBadLineOf IsBad TooLong = ⊥

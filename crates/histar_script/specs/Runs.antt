@@ -54,7 +54,7 @@ pub record RunsTaken {A : Type 0} (Runs : Running A) (left rest old new : Option
   pub takes : TakesAll left rest taken
   pub runs : Runs taken old new result
 
--- A run takes its input and runs the text that it is, but stops reading at a failed read, and at want of memory may have done so.
+-- A run takes its input and runs the text that it is, but stops reading at a failed read, and where memory runs out may have done so.
 abbrev pub RunsInput : {A : Type 0} → Running A → Option (List ℕ) → Option (List ℕ) → Option (List ℕ) → Option (List ℕ) → Result A Fault → Type 0
 RunsInput Runs left rest old new (Err OutOfMemory) = StopsReading left rest old new ⊎ RunsTaken Runs left rest old new (Err OutOfMemory)
 RunsInput Runs left rest old new (Err ReadFailed) = StopsReading left rest old new

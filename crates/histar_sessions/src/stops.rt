@@ -1,4 +1,4 @@
-//! Machines that stop for want of memory, and what they have done by then. With ample memory none stops:
+//! Machines that stop where memory runs out, and what they have done by then. With ample memory none stops:
 //! `.ci/failing-calls` has each allocation of these tests fail in turn.
 use crate::texts::call_text;
 use histar_flat::CallLine;

@@ -39,7 +39,7 @@ module _ (options : Options) where
   pub runs_text : (rows : LinesAreRows) (text : List ℕ) (old new : Option (List ℕ)) (result : Answer) → AgreesWith (script_of text) result → WritesAnswers options old new (script_of text) result → RunsText options text old new result
   runs_text rows text old new result agrees answers = record { faults = agrees; answers = answers; means = meant_run rows options old new text result answers }
 
-  -- what reading the script answers is the fault in it, or want of memory
+  -- what reading the script answers is the fault in it, or out of memory
   script_fault_agrees : (f : Fault) (read : Result Reading Fault) → Gives (Err f) read → IsFaultAt read f
   script_fault_agrees (BadScript n) read given = given
   script_fault_agrees TooLong read given = given

@@ -118,7 +118,7 @@ pub record BeginsMeaning (options : Options) (old new : Option (List ℕ)) (read
   pub is_read : read ≡ Ok script
   pub written : AppendsFront old new (meaning_text options script) ⊎ BeginsTrace options old new script
 
--- at want of memory and at a failed write a beginning of the text was written, and at the other faults nothing
+-- where memory runs out and at a failed write a beginning of the text was written, and at the other faults nothing
 abbrev pub WritesMeaningAtFault : Options → Option (List ℕ) → Option (List ℕ) → Result Reading Fault → Fault → Type 0
 WritesMeaningAtFault options old new read (BadScript n) = Keeps old new
 WritesMeaningAtFault options old new read TooLong = Keeps old new

@@ -59,7 +59,7 @@ pub record BeginsScript (options : Options) (old new : Option (List ℕ)) (read 
   pub starts : IsStart script.session start
   pub begun : BeginsAnswers start old new script.calls ⊎ BeginsEnding options start old new script.calls
 
--- At a failed write a beginning of the text was written, at want of memory that or nothing, at the other faults nothing.
+-- At a failed write a beginning of the text was written, where memory runs out that or nothing, at the other faults nothing.
 abbrev pub WritesAtFault : Options → Option (List ℕ) → Option (List ℕ) → Result Reading Fault → Fault → Type 0
 WritesAtFault options old new read (BadScript n) = Keeps old new
 WritesAtFault options old new read TooLong = Keeps old new

@@ -19,6 +19,6 @@ pub record RunsText (options : Options) (text : List ℕ) (old new : Option (Lis
 abbrev pub RunsTaken : Options → Option (List ℕ) → Option (List ℕ) → Option (List ℕ) → Option (List ℕ) → Result (List TraceEntry) Fault → Type 0
 RunsTaken options left rest old new result = TakesAndRuns (RunsText options) left rest old new result
 
--- A run takes its input and runs the text that it is, but stops reading at a failed read, and at want of memory may have done so.
+-- A run takes its input and runs the text that it is, but stops reading at a failed read, and where memory runs out may have done so.
 abbrev pub RunsInput : Options → Option (List ℕ) → Option (List ℕ) → Option (List ℕ) → Option (List ℕ) → Result (List TraceEntry) Fault → Type 0
 RunsInput options left rest old new result = ReadsAndRuns (RunsText options) left rest old new result

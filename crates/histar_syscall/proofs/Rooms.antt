@@ -22,7 +22,7 @@ use Rattle.histar_rules.proofs.Sound.{sound_decided}
 use Rattle.histar_syscall.specs.declared.trace.TraceEntry.{TraceEntry}
 use Rattle.histar_syscall.specs.KernelModel.{KernelModel, IsUnchanged, Answered, logged}
 
--- at want of memory nothing has changed
+-- where memory runs out nothing has changed
 pub exits : {A : Type 0} (old new : KernelModel) (t : ℕ) (call : RawCall) (r : Result A Refusal) (P : A → Type 0) → IsErrAnd r (λ e. e ≡ refusals.OutOfMemory) → IsUnchanged old new → Answered old new t call r P
 exits old new t call (Ok a) P h u = absurd h
 exits {A} old new t call (Err e) P h u = subst (λ (x : Refusal). Answered {A = A} old new t call (Err x) P) (sym h) u
