@@ -1,6 +1,5 @@
 use Rattle.std.proofs.lemmas.Result.{err_from_is_err_and}
-use Rattle.histar_script.specs.declared.fault.Fault.TheVariants.{OutOfMemory}
-use Rattle.histar_shell.proofs.RunLemmas.{gives_up_first, input_known, sink_left}
+use Rattle.histar_shell.proofs.RunLemmas.{gives_up_first, input_known}
 use Rattle.histar_shell.proofs.session.run.Goals as goal
 
 pub returns-in_err-store-clause-runs : goal.returns-in_err-store-clause-runs
