@@ -29,6 +29,7 @@ fn root() -> Result<(Name, Password), Fail> {
 fn boot_makes_slash_alone(rt: HostRuntime) -> Result<(), Fail> {
     let alloc = rt.alloc();
     let session = session(alloc)?;
+    assert!(rt; !session.users().is_empty());
     let (kernel, places) = boot(alloc, PlainStore::new(alloc), &session)?;
     let place = places.slash;
     let slash = Target::Directory(place.container, place.listing);
@@ -45,6 +46,7 @@ fn boot_makes_slash_alone(rt: HostRuntime) -> Result<(), Fail> {
 fn a_path_leads_to_a_new_file(rt: HostRuntime) -> Result<(), Fail> {
     let alloc = rt.alloc();
     let session = session(alloc)?;
+    assert!(rt; !session.users().is_empty());
     let (mut kernel, places) = boot(alloc, PlainStore::new(alloc), &session)?;
     let zero = ProcName::zero();
     let caller = find_caller(&kernel, places.home, &zero).ok_or("process 0")?;
@@ -70,6 +72,7 @@ fn a_path_leads_to_a_new_file(rt: HostRuntime) -> Result<(), Fail> {
 fn a_new_process_stands_behind_the_first(rt: HostRuntime) -> Result<(), Fail> {
     let alloc = rt.alloc();
     let session = session(alloc)?;
+    assert!(rt; !session.users().is_empty());
     let (mut kernel, places) = boot(alloc, PlainStore::new(alloc), &session)?;
     let zero = ProcName::zero();
     let first = procs_of(alloc, &kernel, &places)?.ok_or("processes")?;
