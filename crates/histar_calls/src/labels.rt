@@ -38,7 +38,11 @@ pub fn guarded_by(
 }
 
 /// The label of a thread that owns the first categories, and has the secrets of the others.
-pub fn owner_label(alloc: Global, owned: &[Category], tainted: &[Category]) -> Result<Label, AllocError>
+pub fn owner_label(
+    alloc: Global,
+    owned: &[Category],
+    tainted: &[Category],
+) -> Result<Label, AllocError>
     ensures { IfOk result (λ label. label ≡ owner_label owned.now tainted.now) }
 {
     let label = with_each(Label::new(alloc, Level::L1), Level::Star, owned)?;

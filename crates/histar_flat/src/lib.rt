@@ -21,8 +21,8 @@ pub use names::{Name, Password};
 pub use paths::Path;
 pub use processes::ProcName;
 pub use readers::{
-    is_name, read_mode, read_name, read_password, read_path, read_process, read_status, read_user_name,
-    split_at_first,
+    is_name, read_mode, read_name, read_password, read_path, read_process, read_status,
+    read_user_name, split_at_first,
 };
 pub use replies::{Errno, FileMode, Listing, Reply, Stat};
 pub use sessions::Session;

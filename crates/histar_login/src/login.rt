@@ -10,7 +10,7 @@ ghost use Rattle.histar_login.specs.Login.{user_label, user_clearance, gate_of, 
 use crate::gates::gate_labels;
 use crate::table::{number_of, place_of};
 use histar_base::Bytes;
-use histar_calls::{Ending, Stopped, cleared_at, owners_of, owner_label, settle};
+use histar_calls::{Ending, Stopped, cleared_at, owner_label, owners_of, settle};
 use histar_flat::{Errno, Name, Password, Reply, Session};
 use histar_label::{Label, LabelStore};
 use histar_object::{Entry, ObjId};
