@@ -66,7 +66,7 @@ module _ {K X : Type 0} {R : K → K → Ordering} (total : IsTotalOrder R) (exa
   find_later k v es q x below is = find_behind q k v es (λ same. none-some x (sym (ap (λ p. find R p es) same ∙ find_below k es below) ∙ is)) ∙ is
 
 -- lists that go on alike are ordered as their ends
-ends_decide : {A : Type 0} (R : A → A → Ordering) → IsTotalOrder R → (d xs ys : List A) → slice_cmp R (reverse_onto xs d) (reverse_onto ys d) ≡ slice_cmp R xs ys
+pub ends_decide : {A : Type 0} (R : A → A → Ordering) → IsTotalOrder R → (d xs ys : List A) → slice_cmp R (reverse_onto xs d) (reverse_onto ys d) ≡ slice_cmp R xs ys
 ends_decide R total [] xs ys = refl
 ends_decide R total (n ∷ d) xs ys = ends_decide R total d (n ∷ xs) (n ∷ ys) ∙ ap (λ o. ordering_then o (slice_cmp R xs ys)) (tied_itself total n)
 

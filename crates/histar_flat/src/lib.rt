@@ -19,7 +19,7 @@ pub use calls::{CallLine, Mode, UnixCall, User};
 pub use groups::Group;
 pub use names::{Name, Password};
 pub use paths::Path;
-pub use processes::ProcName;
+pub use processes::{MOST_NUMBERS, ProcName};
 pub use readers::{
     is_name, read_mode, read_name, read_password, read_path, read_process, read_status,
     read_user_name, split_at_first,

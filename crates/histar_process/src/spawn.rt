@@ -11,14 +11,11 @@ use crate::caller::Caller;
 use crate::find::{Segment, read_segment};
 use crate::kin::owned_by;
 use histar_calls::{Ending, Home, Stopped, is_in_job, jobs_in, settle, user_of};
-use histar_flat::{Errno, ProcName, Reply, Session};
+use histar_flat::{Errno, MOST_NUMBERS, ProcName, Reply, Session};
 use histar_label::LabelStore;
 use histar_object::ObjId;
 use histar_syscall::Kernel;
 use std::alloc::Global;
-
-/// The most numbers of a process's name behind the 0 of the first process.
-const MOST_NUMBERS: usize = 7;
 
 /// How many children may be born to a process.
 const MOST_CHILDREN: u8 = 64;

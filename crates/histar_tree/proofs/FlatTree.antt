@@ -17,7 +17,7 @@ use Rattle.histar_flat.specs.PathOrderLaws.{path_cmp_total, path_cmp_exact}
 use Rattle.histar_flat.specs.Files.{get}
 use Rattle.histar_flat.specs.FlatState.{Flat, Node, IsTree, is_some_and, is_dir, is_dir_at}
 use Rattle.histar_flat.proofs.FileLemmas.{same_name_found, same_path_found}
-use Rattle.histar_flat.proofs.Finding.{first, second, both, less, equal, find_first, find_behind, find_below, find_later, names_decide}
+use Rattle.histar_flat.proofs.Finding.{first, second, both, less, equal, find_first, find_behind, find_below, find_later, ends_decide, names_decide}
 use Rattle.histar_flat.proofs.Trees.{nothing_below}
 use Rattle.histar_flat.proofs.Under.{true_or_false, under_itself, under_child, under_inner, above_is_not_under}
 use Rattle.histar_tree.specs.FlatTree.{nodes_in, walked, AreShallow, WalksMeetAll}
@@ -134,11 +134,6 @@ place q (n ∷ d) = elim (same_path_found q (n ∷ d)) [
 turned : {A : Type 0} (ys s p : List A) → reverse_onto ys (s ++ p) ≡ reverse_onto (reverse_onto ys s) p
 turned ys [] p = refl
 turned ys (x ∷ s) p = turned (x ∷ ys) s p
-
--- lists that go on alike are ordered as their ends
-ends_decide : {A : Type 0} (R : A → A → Ordering) → IsTotalOrder R → (d xs ys : List A) → slice_cmp R (reverse_onto xs d) (reverse_onto ys d) ≡ slice_cmp R xs ys
-ends_decide R total [] xs ys = refl
-ends_decide R total (n ∷ d) xs ys = ends_decide R total d (n ∷ xs) (n ∷ ys) ∙ ap (λ o. ordering_then o (slice_cmp R xs ys)) (tied_itself total n)
 
 -- what lies under two entries of a directory is ordered first as the entries' names
 entries_decide : (q s t : Path) (n m : Name) → path_cmp (s ++ (n ∷ q)) (t ++ (m ∷ q)) ≡ ordering_then (by_bytes n m) (slice_cmp by_bytes (from_root s) (from_root t))

@@ -6,15 +6,12 @@ ghost use Rattle.histar_process.specs.Parts.{home_of};
 ghost use Rattle.histar_tree.specs.Processes.{AddsChildren, AddsProcesses, FindsProcesses, child_of};
 
 use histar_calls::{Home, Places};
-use histar_flat::ProcName;
+use histar_flat::{MOST_NUMBERS, ProcName};
 use histar_label::LabelStore;
 use histar_layout::{Child, StatusHead, find_child, read_status};
 use histar_object::ObjId;
 use histar_syscall::Kernel;
 use std::alloc::{AllocError, AllocFailed, Global};
-
-/// The most numbers of a process's name.
-const MOST_NUMBERS: usize = 7;
 
 /// A process that was not killed.
 #[derive(Clone, Copy)]
