@@ -54,27 +54,27 @@ fn push_words(line: &mut Vec<u8>, call: &RawCall) -> Result<(), AllocError>
 {
     match call {
         RawCall::MakeCategory | RawCall::OwnLabel => Ok(()),
-        RawCall::SetLabel(label) => push_label_word(line, label),
-        RawCall::SetClearance(clearance) => push_label_word(line, clearance),
+        RawCall::SetLabel(label) => push_label_word(line, label.label()),
+        RawCall::SetClearance(clearance) => push_label_word(line, clearance.label()),
         RawCall::MakeSegment(container, label, bytes) => {
-            push_making(line, *container, label)?;
+            push_making(line, *container, label.label())?;
             push_bytes_word(line, bytes)
         }
-        RawCall::MakeContainer(container, label) => push_making(line, *container, label),
+        RawCall::MakeContainer(container, label) => push_making(line, *container, label.label()),
         RawCall::MakeThread(container, label, clearance) => {
-            push_making(line, *container, label)?;
-            push_label_word(line, clearance)
+            push_making(line, *container, label.label())?;
+            push_label_word(line, clearance.label())
         }
         RawCall::MakeGate(container, label, clearance, entry) => {
-            push_making(line, *container, label)?;
-            push_label_word(line, clearance)?;
+            push_making(line, *container, label.label())?;
+            push_label_word(line, clearance.label())?;
             push_entry_word(line, *entry)
         }
         RawCall::Enter(container, gate, wanted, clearance, shown) => {
             push_pair(line, *container, *gate)?;
-            push_label_word(line, wanted)?;
-            push_label_word(line, clearance)?;
-            push_label_word(line, shown)
+            push_label_word(line, wanted.label())?;
+            push_label_word(line, clearance.label())?;
+            push_label_word(line, shown.label())
         }
         RawCall::Read(container, segment) => push_pair(line, *container, *segment),
         RawCall::Write(container, segment, keep, bytes) => {

@@ -6,12 +6,11 @@ ghost use Rattle.histar_rawtext.specs.Readable.{IsReadAs};
 ghost use Rattle.histar_rawtext.specs.Reading.{make_segment_in, make_container_in, make_thread_in, make_gate_in, enter_in, write_in, pair_in, own_label_in, pair_named, making_named, call_named, thread_call_in};
 
 use crate::raw_calls::write_call;
-use crate::read_labels::read_label;
+use crate::read_labels::read_handed;
 use crate::read_words::{next_word, read_bytes, read_entry, read_object, read_short_number};
 use crate::unread::Unread;
-use histar_label::Label;
 use histar_object::ObjId;
-use histar_rules::RawCall;
+use histar_rules::{HandedLabel, RawCall};
 use std::alloc::{AllocError, Global};
 
 /// A container, the label of a segment in it, and bytes.
@@ -24,7 +23,7 @@ fn read_make_segment(alloc: Global, words: Option<&[u8]>) -> Result<RawCall, Unr
     let (bytes, _) = next_word(words)?;
     Ok(RawCall::MakeSegment(
         read_object(container)?,
-        read_label(alloc, label)?,
+        read_handed(alloc, label)?,
         read_bytes(alloc, bytes)?,
     ))
 }
@@ -36,7 +35,7 @@ fn read_make_container(alloc: Global, words: Option<&[u8]>) -> Result<RawCall, U
 {
     let (container, words) = next_word(words)?;
     let (label, _) = next_word(words)?;
-    Ok(RawCall::MakeContainer(read_object(container)?, read_label(alloc, label)?))
+    Ok(RawCall::MakeContainer(read_object(container)?, read_handed(alloc, label)?))
 }
 
 /// A container, and the label and the clearance of a thread in it.
@@ -49,8 +48,8 @@ fn read_make_thread(alloc: Global, words: Option<&[u8]>) -> Result<RawCall, Unre
     let (clearance, _) = next_word(words)?;
     Ok(RawCall::MakeThread(
         read_object(container)?,
-        read_label(alloc, label)?,
-        read_label(alloc, clearance)?,
+        read_handed(alloc, label)?,
+        read_handed(alloc, clearance)?,
     ))
 }
 
@@ -65,8 +64,8 @@ fn read_make_gate(alloc: Global, words: Option<&[u8]>) -> Result<RawCall, Unread
     let (entry, _) = next_word(words)?;
     Ok(RawCall::MakeGate(
         read_object(container)?,
-        read_label(alloc, label)?,
-        read_label(alloc, clearance)?,
+        read_handed(alloc, label)?,
+        read_handed(alloc, clearance)?,
         read_entry(entry)?,
     ))
 }
@@ -84,9 +83,9 @@ fn read_enter(alloc: Global, words: Option<&[u8]>) -> Result<RawCall, Unread>
     Ok(RawCall::Enter(
         read_object(container)?,
         read_object(gate)?,
-        read_label(alloc, wanted)?,
-        read_label(alloc, clearance)?,
-        read_label(alloc, shown)?,
+        read_handed(alloc, wanted)?,
+        read_handed(alloc, clearance)?,
+        read_handed(alloc, shown)?,
     ))
 }
 
@@ -158,11 +157,11 @@ fn read_making_named(alloc: Global, name: &[u8], words: Option<&[u8]>) -> Result
 
 /// A label.
 #[tactic(auto, unfolding(crate::specs::Reading::own_label_in))]
-fn read_own_label(alloc: Global, words: Option<&[u8]>) -> Result<Label, Unread>
+fn read_own_label(alloc: Global, words: Option<&[u8]>) -> Result<HandedLabel, Unread>
     ensures { Gives result (own_label_in (option_copied words.entry)) }
 {
     let (label, _) = next_word(words)?;
-    read_label(alloc, label)
+    read_handed(alloc, label)
 }
 
 /// The call of this name.

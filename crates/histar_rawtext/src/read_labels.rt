@@ -8,6 +8,7 @@ use crate::read_words::read_number;
 use crate::unread::Unread;
 use histar_flat::split_at_first;
 use histar_label::{Category, Label, Level};
+use histar_rules::HandedLabel;
 use std::alloc::{AllocError, Global};
 
 /// The level that a text begins with.
@@ -55,7 +56,7 @@ fn split_at_commas(alloc: Global, text: &[u8]) -> Result<Vec<&[u8]>, AllocError>
 }
 
 /// A label: after a brace its exceptions and its default, with a comma between two.
-pub(crate) fn read_label(alloc: Global, word: &[u8]) -> Result<Label, Unread>
+fn read_label(alloc: Global, word: &[u8]) -> Result<Label, Unread>
     ensures { Gives result (label_in word.now) }
 {
     let [_, text @ ..] = word else {
@@ -71,4 +72,12 @@ pub(crate) fn read_label(alloc: Global, word: &[u8]) -> Result<Label, Unread>
         label = label.with(category, level)?;
     }
     Ok(label)
+}
+
+/// A label that a raw call hands over.
+pub(crate) fn read_handed(alloc: Global, word: &[u8]) -> Result<HandedLabel, Unread>
+    ensures { Gives result (label_in word.now) }
+{
+    let label = read_label(alloc, word)?;
+    Ok(HandedLabel::new(alloc, label)?)
 }

@@ -2,7 +2,7 @@ use super::*;
 use histar_base::Bytes;
 use histar_label::{Category, Label, Level};
 use histar_object::{Entry, ObjId};
-use histar_rules::{Denied, RawCall};
+use histar_rules::{Denied, HandedLabel, RawCall};
 use histar_syscall::{Answer, TraceEntry};
 use std::test::Fail;
 
@@ -11,6 +11,7 @@ fn writes_labels_by_rising_categories_and_bytes_in_lower_case(rt: HostRuntime) -
     let label = Label::new(rt.alloc(), Level::L1)
         .with(Category::new(9), Level::L3)?
         .with(Category::new(7), Level::Star)?;
+    let label = HandedLabel::new(rt.alloc(), label)?;
     let bytes = Bytes::copy_of(rt.alloc(), b"\x00\xab".as_slice())?;
     let call = RawCall::MakeSegment(ObjId::new(5), label, bytes);
     let text = write_call(rt.alloc(), ObjId::new(3), &call)?;
@@ -23,8 +24,8 @@ fn writes_labels_by_rising_categories_and_bytes_in_lower_case(rt: HostRuntime) -
 
 #[test]
 fn writes_a_gate_with_its_label_before_its_clearance(rt: HostRuntime) -> Result<(), Fail> {
-    let label = Label::new(rt.alloc(), Level::L0);
-    let clearance = Label::new(rt.alloc(), Level::L2);
+    let label = HandedLabel::new(rt.alloc(), Label::new(rt.alloc(), Level::L0))?;
+    let clearance = HandedLabel::new(rt.alloc(), Label::new(rt.alloc(), Level::L2))?;
     let call = RawCall::MakeGate(ObjId::new(5), label, clearance, Entry::Mark(12));
     let text = write_call(rt.alloc(), ObjId::new(3), &call)?;
     assert_eq!(rt;

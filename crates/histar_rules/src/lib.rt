@@ -3,7 +3,9 @@
 #![tactic(auto)]
 
 mod checks;
+mod handed;
 mod raw;
 
 pub use checks::{check_container, check_gate, check_link, check_making, check_segment, require};
+pub use handed::HandedLabel;
 pub use raw::{Denied, RawCall, Refusal};

@@ -1,8 +1,8 @@
 //! Raw calls, and what becomes of them.
 ghost use Rattle.std.specs.Prelude.{◌≡◌, IfOk};
 
+use crate::handed::HandedLabel;
 use histar_base::Bytes;
-use histar_label::Label;
 use histar_object::{Entry, ObjId};
 use std::alloc::{AllocError, AllocFailed, Global};
 
@@ -38,20 +38,20 @@ pub enum RawCall {
     /// Asks for the thread's own label and clearance.
     OwnLabel,
     /// Gives the thread another label.
-    SetLabel(Label),
+    SetLabel(HandedLabel),
     /// Gives the thread another clearance.
-    SetClearance(Label),
+    SetClearance(HandedLabel),
     /// Makes a segment in a container, with a label and bytes.
-    MakeSegment(ObjId, Label, Bytes),
+    MakeSegment(ObjId, HandedLabel, Bytes),
     /// Makes a container in a container, with a label.
-    MakeContainer(ObjId, Label),
+    MakeContainer(ObjId, HandedLabel),
     /// Makes a thread in a container, with a label and a clearance.
-    MakeThread(ObjId, Label, Label),
+    MakeThread(ObjId, HandedLabel, HandedLabel),
     /// Makes a gate in a container, with a label, a clearance and what it gives to those who enter.
-    MakeGate(ObjId, Label, Label, Entry),
+    MakeGate(ObjId, HandedLabel, HandedLabel, Entry),
     /// Enters a gate that a container links: the label and the clearance that the thread wants, and a
     /// label that it shows.
-    Enter(ObjId, ObjId, Label, Label, Label),
+    Enter(ObjId, ObjId, HandedLabel, HandedLabel, HandedLabel),
     /// Reads a segment that a container links.
     Read(ObjId, ObjId),
     /// Keeps at most so many bytes of a segment that a container links, and puts these behind them.
@@ -70,33 +70,33 @@ impl RawCall {
         match self {
             RawCall::MakeCategory => Ok(RawCall::MakeCategory),
             RawCall::OwnLabel => Ok(RawCall::OwnLabel),
-            RawCall::SetLabel(label) => Ok(RawCall::SetLabel(label.copy()?)),
-            RawCall::SetClearance(clearance) => Ok(RawCall::SetClearance(clearance.copy()?)),
+            RawCall::SetLabel(label) => Ok(RawCall::SetLabel(label.copy(alloc)?)),
+            RawCall::SetClearance(clearance) => Ok(RawCall::SetClearance(clearance.copy(alloc)?)),
             RawCall::MakeSegment(container, label, bytes) => Ok(RawCall::MakeSegment(
                 *container,
-                label.copy()?,
+                label.copy(alloc)?,
                 bytes.copy(alloc)?,
             )),
             RawCall::MakeContainer(container, label) => {
-                Ok(RawCall::MakeContainer(*container, label.copy()?))
+                Ok(RawCall::MakeContainer(*container, label.copy(alloc)?))
             }
             RawCall::MakeThread(container, label, clearance) => Ok(RawCall::MakeThread(
                 *container,
-                label.copy()?,
-                clearance.copy()?,
+                label.copy(alloc)?,
+                clearance.copy(alloc)?,
             )),
             RawCall::MakeGate(container, label, clearance, entry) => Ok(RawCall::MakeGate(
                 *container,
-                label.copy()?,
-                clearance.copy()?,
+                label.copy(alloc)?,
+                clearance.copy(alloc)?,
                 *entry,
             )),
             RawCall::Enter(container, gate, wanted, clearance, shown) => Ok(RawCall::Enter(
                 *container,
                 *gate,
-                wanted.copy()?,
-                clearance.copy()?,
-                shown.copy()?,
+                wanted.copy(alloc)?,
+                clearance.copy(alloc)?,
+                shown.copy(alloc)?,
             )),
             RawCall::Read(container, segment) => Ok(RawCall::Read(*container, *segment)),
             RawCall::Write(container, segment, keep, bytes) => Ok(RawCall::Write(

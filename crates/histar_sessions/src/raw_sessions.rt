@@ -4,7 +4,7 @@
 use histar_base::Bytes;
 use histar_label::{Category, Label, LabelStore, Level, OutOfMemory};
 use histar_object::{Entry, ObjId};
-use histar_syscall::{Answer, Denied, Kernel, RawCall, Refusal, TraceEntry, run_raw};
+use histar_syscall::{Answer, Denied, HandedLabel, Kernel, RawCall, Refusal, TraceEntry, run_raw};
 use std::alloc::Global;
 use std::process::Abort;
 
@@ -104,6 +104,12 @@ fn label(alloc: Global, told: Told) -> Result<Label, OutOfMemory> {
     Ok(label)
 }
 
+/// The label, as a raw call hands it over.
+fn handed(alloc: Global, told: Told) -> Result<HandedLabel, OutOfMemory> {
+    let label = label(alloc, told)?;
+    Ok(HandedLabel::new(alloc, label)?)
+}
+
 fn repeated(alloc: Global, text: &[u8], times: usize) -> Result<Bytes, OutOfMemory> {
     let mut bytes = Vec::new(alloc);
     for _ in 0..times {
@@ -118,7 +124,7 @@ fn segment_call(
     told: Told,
     bytes: Bytes,
 ) -> Result<RawCall, OutOfMemory> {
-    let label = label(alloc, told)?;
+    let label = handed(alloc, told)?;
     Ok(RawCall::MakeSegment(ObjId::new(container), label, bytes))
 }
 
@@ -128,8 +134,8 @@ fn thread_call(
     told: Told,
     clearance: Told,
 ) -> Result<RawCall, OutOfMemory> {
-    let own = label(alloc, told)?;
-    let clearance = label(alloc, clearance)?;
+    let own = handed(alloc, told)?;
+    let clearance = handed(alloc, clearance)?;
     Ok(RawCall::MakeThread(ObjId::new(container), own, clearance))
 }
 
@@ -141,8 +147,8 @@ fn gate_call(
     mark: u32,
 ) -> Result<RawCall, OutOfMemory> {
     let container = ObjId::new(container);
-    let given = label(alloc, told)?;
-    let clearance = label(alloc, clearance)?;
+    let given = handed(alloc, told)?;
+    let clearance = handed(alloc, clearance)?;
     let entry = Entry::Mark(mark);
     Ok(RawCall::MakeGate(container, given, clearance, entry))
 }
@@ -155,9 +161,9 @@ fn enter_call(
     shown: Told,
 ) -> Result<RawCall, OutOfMemory> {
     let (container, gate) = (ObjId::new(place.0), ObjId::new(place.1));
-    let wanted = label(alloc, wanted)?;
-    let clearance = label(alloc, clearance)?;
-    let shown = label(alloc, shown)?;
+    let wanted = handed(alloc, wanted)?;
+    let clearance = handed(alloc, clearance)?;
+    let shown = handed(alloc, shown)?;
     Ok(RawCall::Enter(container, gate, wanted, clearance, shown))
 }
 
@@ -166,13 +172,13 @@ fn raw_call(alloc: Global, asked: Asked) -> Result<RawCall, OutOfMemory> {
     match asked {
         Asked::MakeCategory => Ok(RawCall::MakeCategory),
         Asked::OwnLabel => Ok(RawCall::OwnLabel),
-        Asked::SetLabel(told) => Ok(RawCall::SetLabel(label(alloc, told)?)),
-        Asked::SetClearance(told) => Ok(RawCall::SetClearance(label(alloc, told)?)),
+        Asked::SetLabel(told) => Ok(RawCall::SetLabel(handed(alloc, told)?)),
+        Asked::SetClearance(told) => Ok(RawCall::SetClearance(handed(alloc, told)?)),
         Asked::MakeSegment(container, told, text, times) => {
             segment_call(alloc, container, told, repeated(alloc, text, times)?)
         }
         Asked::MakeContainer(container, told) => {
-            let label = label(alloc, told)?;
+            let label = handed(alloc, told)?;
             Ok(RawCall::MakeContainer(ObjId::new(container), label))
         }
         Asked::MakeThread(container, told, clearance) => {

@@ -51,22 +51,22 @@ pub fn call_text(alloc: Global, call: &RawCall) -> Result<String, AllocError> {
     match call {
         RawCall::MakeCategory => String::from_str(alloc, "make category"),
         RawCall::MakeSegment(container, label, bytes) => {
-            let label = label_text(alloc, label)?;
+            let label = label_text(alloc, label.label())?;
             let bytes = bytes_text(alloc, bytes)?;
             format!(in alloc; "make segment {} {label} {bytes}", container.number())
         }
         RawCall::MakeContainer(container, label) => {
-            let label = label_text(alloc, label)?;
+            let label = label_text(alloc, label.label())?;
             format!(in alloc; "make container {} {label}", container.number())
         }
         RawCall::MakeThread(container, label, clearance) => {
-            let label = label_text(alloc, label)?;
-            let clearance = label_text(alloc, clearance)?;
+            let label = label_text(alloc, label.label())?;
+            let clearance = label_text(alloc, clearance.label())?;
             format!(in alloc; "make thread {} {label} {clearance}", container.number())
         }
         RawCall::MakeGate(container, label, clearance, entry) => {
-            let label = label_text(alloc, label)?;
-            let clearance = label_text(alloc, clearance)?;
+            let label = label_text(alloc, label.label())?;
+            let clearance = label_text(alloc, clearance.label())?;
             let entry = entry_text(alloc, *entry)?;
             format!(in alloc;
                 "make gate {} {label} {clearance} {entry}",
@@ -74,9 +74,9 @@ pub fn call_text(alloc: Global, call: &RawCall) -> Result<String, AllocError> {
             )
         }
         RawCall::Enter(container, gate, wanted, clearance, shown) => {
-            let wanted = label_text(alloc, wanted)?;
-            let clearance = label_text(alloc, clearance)?;
-            let shown = label_text(alloc, shown)?;
+            let wanted = label_text(alloc, wanted.label())?;
+            let clearance = label_text(alloc, clearance.label())?;
+            let shown = label_text(alloc, shown.label())?;
             format!(in alloc;
                 "enter {} {} {wanted} {clearance} {shown}",
                 container.number(),
@@ -99,11 +99,11 @@ pub fn call_text(alloc: Global, call: &RawCall) -> Result<String, AllocError> {
         }
         RawCall::OwnLabel => String::from_str(alloc, "self"),
         RawCall::SetLabel(label) => {
-            let label = label_text(alloc, label)?;
+            let label = label_text(alloc, label.label())?;
             format!(in alloc; "set label {label}")
         }
         RawCall::SetClearance(clearance) => {
-            let clearance = label_text(alloc, clearance)?;
+            let clearance = label_text(alloc, clearance.label())?;
             format!(in alloc; "set clearance {clearance}")
         }
         _ => String::from_str(alloc, "another call"),

@@ -34,24 +34,54 @@ pub fn decide<S: LabelStore + Drop>(
             let (label, clearance) = own_label(objects, thread)?;
             Ok(Answer::OwnLabel(label, clearance))
         }
-        RawCall::SetLabel(label) => set_label(objects, thread, label).map(|()| Answer::Done),
+        RawCall::SetLabel(label) => {
+            set_label(objects, thread, label.label()).map(|()| Answer::Done)
+        }
         RawCall::SetClearance(clearance) => {
-            set_clearance(objects, thread, clearance).map(|()| Answer::Done)
+            set_clearance(objects, thread, clearance.label()).map(|()| Answer::Done)
         }
         RawCall::MakeSegment(container, label, bytes) => {
-            Ok(Answer::Object(make_segment(objects, alloc, thread, *container, label, bytes)?))
+            Ok(Answer::Object(make_segment(
+                objects,
+                alloc,
+                thread,
+                *container,
+                label.label(),
+                bytes,
+            )?))
         }
         RawCall::MakeContainer(container, label) => {
-            Ok(Answer::Object(make_container(objects, alloc, thread, *container, label)?))
+            Ok(Answer::Object(make_container(objects, alloc, thread, *container, label.label())?))
         }
         RawCall::MakeThread(container, label, clearance) => {
-            Ok(Answer::Object(make_thread(objects, thread, *container, label, clearance)?))
+            Ok(Answer::Object(make_thread(
+                objects,
+                thread,
+                *container,
+                label.label(),
+                clearance.label(),
+            )?))
         }
         RawCall::MakeGate(container, label, clearance, entry) => {
-            Ok(Answer::Object(make_gate(objects, thread, *container, label, clearance, *entry)?))
+            Ok(Answer::Object(make_gate(
+                objects,
+                thread,
+                *container,
+                label.label(),
+                clearance.label(),
+                *entry,
+            )?))
         }
         RawCall::Enter(container, gate, wanted, clearance, shown) => {
-            Ok(Answer::Entry(enter(objects, thread, *container, *gate, wanted, clearance, shown)?))
+            Ok(Answer::Entry(enter(
+                objects,
+                thread,
+                *container,
+                *gate,
+                wanted.label(),
+                clearance.label(),
+                shown.label(),
+            )?))
         }
         RawCall::Read(container, segment) => {
             read(objects, alloc, thread, *container, *segment, reading)

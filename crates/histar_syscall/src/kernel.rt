@@ -17,7 +17,7 @@ use histar_base::Bytes;
 use histar_container::LabelledObjects;
 use histar_label::{Category, Label, LabelStore, OutOfMemory};
 use histar_object::{Entry, ObjId};
-use histar_rules::{RawCall, Refusal};
+use histar_rules::{HandedLabel, RawCall, Refusal};
 use std::alloc::Global;
 use std::marker::Model;
 
@@ -141,6 +141,7 @@ impl<S: LabelStore + Drop> Kernel<S> {
     pub fn set_label(&mut self, thread: ObjId, label: Label) -> Result<(), Refusal>
         ensures { Answered self.old self.new thread (calls.SetLabel label) result (λ _. Unit {0}) }
     {
+        let label = HandedLabel::new(self.alloc, label)?;
         self.call(self.alloc, thread, RawCall::SetLabel(label))?;
         Ok(())
     }
@@ -150,6 +151,7 @@ impl<S: LabelStore + Drop> Kernel<S> {
     pub fn set_clearance(&mut self, thread: ObjId, clearance: Label) -> Result<(), Refusal>
         ensures { Answered self.old self.new thread (calls.SetClearance clearance) result (λ _. Unit {0}) }
     {
+        let clearance = HandedLabel::new(self.alloc, clearance)?;
         self.call(self.alloc, thread, RawCall::SetClearance(clearance))?;
         Ok(())
     }
@@ -165,6 +167,7 @@ impl<S: LabelStore + Drop> Kernel<S> {
     ) -> Result<ObjId, Refusal>
         ensures { Answered self.old self.new thread (calls.MakeSegment container label bytes) result (IsNextNumber self.old.kept) }
     {
+        let label = HandedLabel::new(alloc, label)?;
         let call = RawCall::MakeSegment(container, label, bytes);
         Ok(self.call(alloc, thread, call)?.into_object())
     }
@@ -179,6 +182,7 @@ impl<S: LabelStore + Drop> Kernel<S> {
     ) -> Result<ObjId, Refusal>
         ensures { Answered self.old self.new thread (calls.MakeContainer container label) result (IsNextNumber self.old.kept) }
     {
+        let label = HandedLabel::new(alloc, label)?;
         let call = RawCall::MakeContainer(container, label);
         Ok(self.call(alloc, thread, call)?.into_object())
     }
@@ -194,6 +198,8 @@ impl<S: LabelStore + Drop> Kernel<S> {
     ) -> Result<ObjId, Refusal>
         ensures { Answered self.old self.new thread (calls.MakeThread container label clearance) result (IsNextNumber self.old.kept) }
     {
+        let label = HandedLabel::new(self.alloc, label)?;
+        let clearance = HandedLabel::new(self.alloc, clearance)?;
         let call = RawCall::MakeThread(container, label, clearance);
         Ok(self.call(self.alloc, thread, call)?.into_object())
     }
@@ -210,6 +216,8 @@ impl<S: LabelStore + Drop> Kernel<S> {
     ) -> Result<ObjId, Refusal>
         ensures { Answered self.old self.new thread (calls.MakeGate container label clearance entry) result (IsNextNumber self.old.kept) }
     {
+        let label = HandedLabel::new(self.alloc, label)?;
+        let clearance = HandedLabel::new(self.alloc, clearance)?;
         let call = RawCall::MakeGate(container, label, clearance, entry);
         Ok(self.call(self.alloc, thread, call)?.into_object())
     }
@@ -227,6 +235,9 @@ impl<S: LabelStore + Drop> Kernel<S> {
     ) -> Result<Entry, Refusal>
         ensures { Answered self.old self.new thread (calls.Enter container gate wanted clearance shown) result (IsEntryOf self.old.kept gate) }
     {
+        let wanted = HandedLabel::new(self.alloc, wanted)?;
+        let clearance = HandedLabel::new(self.alloc, clearance)?;
+        let shown = HandedLabel::new(self.alloc, shown)?;
         let call = RawCall::Enter(container, gate, wanted, clearance, shown);
         Ok(self.call(self.alloc, thread, call)?.into_entry())
     }

@@ -13,6 +13,6 @@ mod trace;
 
 pub use answers::Answer;
 pub use calling::run_raw;
-pub use histar_rules::{Denied, RawCall, Refusal};
+pub use histar_rules::{Denied, HandedLabel, RawCall, Refusal};
 pub use kernel::Kernel;
 pub use trace::TraceEntry;
