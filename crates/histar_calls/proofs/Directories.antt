@@ -1,12 +1,12 @@
 -- How the code that reads and writes directories, and walks to them, runs its parts.
 use Rattle.std.proofs.Common.{◌≡◌, ℕ, ◌≤◌, List, [], ◌∷◌, length, get_or, take, drop, ◌-◌, Option, Result, Ok, Err, inl, refl, sym, ap, ◌∙◌, subst, arith}
-use Rattle.std.specs.FinMap as map
 use Rattle.histar_flat.specs.Words.{Name, Path}
 use Rattle.histar_flat.specs.declared.replies.Errno.{Errno}
 use Rattle.histar_rules.specs.declared.raw.RawCall.TheVariants.{Read, Write}
 use Rattle.histar_rules.specs.declared.raw.Refusal.{Refusal}
 use Rattle.histar_syscall.specs.KernelModel.{KernelModel, Answered}
 use Rattle.histar_layout.specs.Directory.{Entries, IsDirectory}
+use Rattle.histar_layout.specs.Found.{found_in}
 use Rattle.histar_layout.specs.declared.entry.Target.{Target}
 use Rattle.histar_calls.specs.declared.places.Place.{Place}
 use Rattle.histar_calls.specs.declared.places.Places.{Places}
@@ -14,10 +14,10 @@ use Rattle.histar_calls.specs.declared.directory.Directory.{Directory}
 use Rattle.histar_calls.specs.declared.ending.Ending.{Ending}
 use Rattle.histar_calls.specs.declared.ending.Ending.TheVariants.{Refused, Stopped}
 use Rattle.histar_calls.specs.Refusals.{write_errno_of, or_ending}
-use Rattle.histar_calls.specs.Programs.{Program, Part, RunsPart}
-use Rattle.histar_calls.specs.Parts.{ask, list, given, read_directory, directory_at, target_of, look_in, find_place, walk, write_entries}
+use Rattle.histar_calls.specs.Programs.{Program, Part, Begins, RunsPart}
+use Rattle.histar_calls.specs.Parts.{ask, list, given, read_directory, directory_at, look_in, find_place, walk, write_entries}
 use Rattle.histar_syscall.proofs.Runs.{same_kernel}
-use Rattle.histar_calls.proofs.Running.{asks, gives, gives_not, hands, lists, lists_none, part_as, then_part, part_fails}
+use Rattle.histar_calls.proofs.Running.{asks, gives, gives_not, hands, part_as, then_part, part_fails}
 
 -- what comes after the bytes of a directory segment
 abbrev after_bytes : Place → List ℕ → Part Directory
@@ -63,30 +63,17 @@ no_names (x ∷ xs) none = absurd (omega arith)
 -- ---- a name is looked up in a directory
 
 module _ (t : ℕ) (old new : KernelModel) (place : Place) (name : Name) where
-  -- the directory was not read
-  look_fails : (ending : Ending) → RunsPart (read_directory place) old new t (Err ending) → RunsPart (look_in place name) old new t (Err ending)
-  unfolding look_in
-  look_fails ending first = part_fails t (read_directory place) old new (λ directory (rest : Option Target → _). rest (target_of directory name)) ending first
-
-  -- it was read, and the name leads there
-  looks : (directory : Directory) → RunsPart (read_directory place) old new t (Ok directory) → RunsPart (look_in place name) old new t (Ok (target_of directory name))
-  unfolding look_in
-  looks directory first = then_part t (read_directory place) old new (λ directory (rest : Option Target → _). rest (target_of directory name)) new directory first (Ok _) (hands t new (target_of directory name))
-
   -- its segment was not read
   pub look_refused : (ending : Ending) → RunsPart (ask (Read place.container place.listing)) old new t (Err ending) → RunsPart (look_in place name) old new t (Err ending)
-  look_refused ending first = look_fails ending (read_fails t old new place ending first)
+  unfolding look_in
+  look_refused ending first = part_fails t (ask (Read place.container place.listing)) old new (λ bytes (rest : Option Target → _). rest (found_in bytes name)) ending first
 
-  module _ (bytes : List ℕ) (first : RunsPart (ask (Read place.container place.listing)) old new t (Ok bytes)) where
-    -- its bytes are no directory
-    pub looks_in_none : ((dir : Entries) → IsDirectory bytes dir → ⊥) → RunsPart (look_in place name) old new t (Err Stopped)
-    looks_in_none none = look_fails Stopped (list_fails t old new place bytes first Stopped (lists_none t bytes new none))
-
-    -- its bytes are a directory, in which the name leads there
-    pub looks_up : (dir : Entries) → IsDirectory bytes dir → (found : Option Target) → found ≡ map.get dir name → RunsPart (look_in place name) old new t (Ok found)
-    looks_up dir is found at =
-        subst (λ (o : Option Target). RunsPart (look_in place name) old new t (Ok o)) (sym at)
-        (looks (record { place = place; entries = dir }) (reads t old new place bytes first dir (lists t bytes new dir is)))
+  -- it was read, and the name leads there
+  pub looks : (bytes : List ℕ) → RunsPart (ask (Read place.container place.listing)) old new t (Ok bytes) → (found : Option Target) → found ≡ found_in bytes name → RunsPart (look_in place name) old new t (Ok found)
+  unfolding look_in
+  looks bytes first found is =
+      subst (λ (o : Option Target). RunsPart (look_in place name) old new t (Ok o)) (sym is)
+      (then_part t (ask (Read place.container place.listing)) old new (λ bytes (rest : Option Target → _). rest (found_in bytes name)) new bytes first (Ok _) (hands t new (found_in bytes name)))
 
 -- ---- the place of a directory is found
 
@@ -134,37 +121,16 @@ module _ (t : ℕ) (places : Places) (old new : KernelModel) (names : List Name)
 
 -- ---- a walk
 
--- a walk finds the place, and reads the directory
-walk_on_place : (places : Places) (names : Path) (rest : Directory → Program) → walk places names rest ≡ find_place places names (λ place. read_directory place rest)
-unfolding walk find_place look_in
-walk_on_place places [] rest = refl
-walk_on_place places (name ∷ parent) rest = walk_on_place places parent (λ above. given (directory_at (target_of above name)) (λ place. read_directory place rest))
-
-module _ {A : Type 0} (places : Places) (names : Path) (within : Directory → Part A) where
-  abbrev pub by_walk : Part A
-  by_walk rest = walk places names (λ directory. within directory rest)
-
-  abbrev pub by_place : Part A
-  by_place rest = find_place places names (λ place. read_directory place (λ directory. within directory rest))
-
-  -- so does what begins with a walk
-  pub walk_is : by_walk ≡ by_place
-  walk_is = λ i rest. walk_on_place places names (λ directory. within directory rest) i
-
 module _ (t : ℕ) (places : Places) (old new : KernelModel) (names : Path) where
-  abbrev placed : Part Directory
-  placed rest = find_place places names (λ place. read_directory place rest)
-
-  same : walk places names ≡ placed
-  same = λ i rest. walk_on_place places names rest i
-
   -- the place was not found
   pub walk_fails : (ending : Ending) → RunsPart (find_place places names) old new t (Err ending) → RunsPart (walk places names) old new t (Err ending)
-  walk_fails ending first = part_as t (walk places names) old new placed same (Err ending) (part_fails t (find_place places names) old new (λ (place : Place). read_directory place) ending first)
+  unfolding walk
+  walk_fails ending first = part_fails t (find_place places names) old new (λ (place : Place). read_directory place) ending first
 
   -- it was found, and the directory is read
   pub walk_ends : (mid : KernelModel) (place : Place) → RunsPart (find_place places names) old mid t (Ok place) → (result : Result Directory Ending) → RunsPart (read_directory place) mid new t result → RunsPart (walk places names) old new t result
-  walk_ends mid place first result second = part_as t (walk places names) old new placed same result (then_part t (find_place places names) old new (λ (place : Place). read_directory place) mid place first result second)
+  unfolding walk
+  walk_ends mid place first result second = then_part t (find_place places names) old new (λ (place : Place). read_directory place) mid place first result second
 
 -- bytes that spell a directory's entries are written
 pub writes : (t : ℕ) (old new : KernelModel) (place : Place) (entries : Entries) (bytes : List ℕ) → IsDirectory bytes entries → (answer : Result (Unit {0}) Refusal) → Answered old new t (Write place.container place.listing 0 bytes) answer (λ _. Unit {0})
@@ -173,8 +139,14 @@ writes t old new place entries bytes spells answer answered result is =
     part_as t (write_entries place entries) old new (ask (Write place.container place.listing 0 bytes)) (λ i. ask (Write place.container place.listing 0 (sym spells.spelled i))) result
     (asks t (Write place.container place.listing 0 bytes) old new answer answered result is)
 
--- memory ran out before a walk
+-- memory ran out before the place of a directory is found
+before_place : (t : ℕ) (places : Places) (path : Path) (k : KernelModel) (first : Place → Program) → ((place : Place) → Begins (first place) k k t) → Begins (find_place places path first) k k t
+unfolding find_place look_in
+before_place t places [] k first begins = begins places.slash
+before_place t places (name ∷ parent) k first begins =
+    before_place t places parent k (λ above. look_in above name (λ target. given (directory_at target) first)) (λ above. inl (same_kernel k))
+
+-- and so before a walk
 pub before_walk : (t : ℕ) (places : Places) (path : Path) (k : KernelModel) → RunsPart (walk places path) k k t (Err Stopped)
 unfolding RunsPart walk read_directory
-before_walk t places [] k = λ rest. inl (same_kernel k)
-before_walk t places (name ∷ parent) k = λ rest. before_walk t places parent k (λ above. given (directory_at (target_of above name)) (λ place. read_directory place rest))
+before_walk t places path k = λ rest. before_place t places path k (λ place. read_directory place rest) (λ place. inl (same_kernel k))

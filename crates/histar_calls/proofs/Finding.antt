@@ -1,4 +1,4 @@
--- How the code that looks for a file, or for room, runs its part: it walks, and decides in the directory.
+-- How the code that looks for a file, or for room, runs its part: it goes to the directory, and decides there.
 use Rattle.std.proofs.Common.{◌≡◌, ℕ, ◌∷◌, Option, Result, Ok, Err, sym, ◌∙◌, subst}
 use Rattle.histar_flat.specs.Words.{Name, Path}
 use Rattle.histar_flat.specs.declared.replies.Errno.{Errno}
@@ -9,10 +9,9 @@ use Rattle.histar_calls.specs.declared.places.Places.{Places}
 use Rattle.histar_calls.specs.declared.directory.Directory.{Directory}
 use Rattle.histar_calls.specs.declared.ending.Ending.{Ending}
 use Rattle.histar_calls.specs.declared.ending.Ending.TheVariants.{Refused}
-use Rattle.histar_calls.specs.Programs.{Program, Part, RunsPart}
-use Rattle.histar_calls.specs.Parts.{given, read_directory, target_of, look_in, find_place, walk}
+use Rattle.histar_calls.specs.Programs.{Part, RunsPart}
+use Rattle.histar_calls.specs.Parts.{given, look_in, find_place, walk}
 use Rattle.histar_calls.proofs.Running.{hands, refuses_at_once, part_as, then_part, part_fails}
-use Rattle.histar_calls.proofs.Directories.{walk_is}
 
 -- a part that walks to the parent of a path, and goes on there
 module _ {B : Type 0} (t : ℕ) (places : Places) (old new : KernelModel) (part : Path → Part B) (path : Path) (name : Name) (parent : Path) (split : path ≡ name ∷ parent) (within : Directory → Part B) (is : part (name ∷ parent) ≡ (λ rest. walk places parent (λ directory. within directory rest))) where
@@ -36,10 +35,10 @@ module _ {A B : Type 0} (t : ℕ) (k : KernelModel) (f : A → B) (decided : Res
   pub decides_not : (errno : Errno) → Err errno ≡ decided → RunsPart {A = B} (λ rest. given decided (λ y. rest (f y))) k k t (Err (Refused errno))
   decides_not errno is = subst (λ (d : Result A Errno). RunsPart {A = B} (λ rest. given d (λ y. rest (f y))) k k t (Err (Refused errno))) is (refuses_at_once t B k errno)
 
--- A part that walks to the parent of a path, decides by what the last name leads to, and hands on what it makes of that and of the
--- place of the directory.
+-- A part that finds the place of the parent of a path, looks the last name up there, decides by what it leads to, and hands on what
+-- it makes of that and of the place.
 module _ {A B : Type 0} (t : ℕ) (places : Places) (old new : KernelModel) (part : Path → Part B) (path : Path) (name : Name) (parent : Path) (split : path ≡ name ∷ parent)
-    (decide : Option Target → Result A Errno) (make : Place → A → B) (is : part (name ∷ parent) ≡ (λ rest. walk places parent (λ directory. given (decide (target_of directory name)) (λ x. rest (make directory.place x))))) where
+    (decide : Option Target → Result A Errno) (make : Place → A → B) (is : part (name ∷ parent) ≡ (λ rest. find_place places parent (λ place. look_in place name (λ target. given (decide target) (λ x. rest (make place x)))))) where
   -- what comes after the look-up
   abbrev after_look : Place → Option Target → Part B
   after_look place target rest = given (decide target) (λ x. rest (make place x))
@@ -51,13 +50,8 @@ module _ {A B : Type 0} (t : ℕ) (places : Places) (old new : KernelModel) (par
   abbrev placed : Part B
   placed rest = find_place places parent (λ place. in_place place rest)
 
-  -- it finds the place of the directory, and looks the name up there
-  by_place : part (name ∷ parent) ≡ placed
-  unfolding look_in read_directory
-  by_place = is ∙ walk_is places parent (λ (directory : Directory) (rest : B → Program). after_look directory.place (target_of directory name) rest)
-
   placed_here : (result : Result B Ending) → RunsPart placed old new t result → RunsPart (part path) old new t result
-  placed_here result runs = subst (λ (q : Path). RunsPart (part q) old new t result) (sym split) (part_as t (part (name ∷ parent)) old new placed by_place result runs)
+  placed_here result runs = subst (λ (q : Path). RunsPart (part q) old new t result) (sym split) (part_as t (part (name ∷ parent)) old new placed is result runs)
 
   -- the place was not found
   pub place_fails : (ending : Ending) → RunsPart (find_place places parent) old new t (Err ending) → RunsPart (part path) old new t (Err ending)

@@ -2,7 +2,7 @@
 use Rattle.std.proofs.Common.{ℕ, Bool, true, false, List, [], ◌∷◌, Option, None, Some, refl}
 use Rattle.std.specs.Prelude.{◌==◌}
 use Rattle.std.specs.FinMap as map
-use Rattle.histar_flat.specs.Words.{Path}
+use Rattle.histar_flat.specs.Words.{Name, Path}
 use Rattle.histar_flat.specs.declared.calls.Mode.{Mode}
 use Rattle.histar_rules.specs.declared.raw.Denied.{Denied}
 use Rattle.histar_rules.specs.declared.raw.Denied.TheVariants.{Observe, Modify, Range, Gate, NoEntry, NoThread, BadKind, TooBig}
@@ -10,6 +10,7 @@ use Rattle.histar_rules.specs.declared.raw.RawCall.{RawCall}
 use Rattle.histar_rules.specs.declared.raw.RawCall.TheVariants.{MakeCategory, OwnLabel, SetLabel, SetClearance, MakeSegment, MakeContainer, MakeThread, MakeGate, Enter, Read, Write, Unlink, LabelOf}
 use Rattle.histar_rules.specs.Sound.{root_number}
 use Rattle.histar_layout.specs.Directory.{Entries, most_entries}
+use Rattle.histar_layout.specs.Found.{found_in}
 use Rattle.histar_layout.specs.Listing.{is_directory, object_of}
 use Rattle.histar_layout.specs.declared.entry.Target.{Target}
 use Rattle.histar_layout.specs.declared.entry.Target.TheVariants as targets
@@ -23,7 +24,7 @@ use Rattle.histar_calls.specs.declared.stat.FoundObject.{FoundObject}
 use Rattle.histar_calls.specs.declared.class.Class.{Class}
 use Rattle.histar_calls.specs.Refusals.{errno_of, write_errno_of, errno_for}
 use Rattle.histar_calls.specs.Programs.{AnswerOf, Program}
-use Rattle.histar_calls.specs.Parts.{refused_with, ask, if_there, read_directory, directory_at, file_at, entry_at, room_at, target_of, given, walk, find_file, find_room}
+use Rattle.histar_calls.specs.Parts.{refused_with, ask, if_there, read_directory, directory_at, file_at, entry_at, room_at, target_of, given, look_in, find_place, walk, find_file, find_room}
 use Rattle.histar_calls.specs.Read.{read_program}
 use Rattle.histar_calls.specs.Write.{write_program}
 use Rattle.histar_calls.specs.Create.{create_program}
@@ -82,27 +83,37 @@ read_tells place rest tells = ((λ bytes listed. by listed), told_for (Read plac
     by None = tt
     by (Some entries) = tells (record { place = place; entries = entries })
 
-into_tells : (target : Option Target) (rest : Directory → Program) → ((directory : Directory) → TellsRefusals (rest directory)) → TellsRefusals (given (directory_at target) (λ place. read_directory place rest))
+-- a look-up tells its refusals
+pub look_tells : (place : Place) (name : Name) (rest : Option Target → Program) → ((target : Option Target) → TellsRefusals (rest target)) → TellsRefusals (look_in place name rest)
+unfolding look_in
+look_tells place name rest tells = ((λ bytes. tells (found_in bytes name)), told_for (Read place.container place.listing))
+
+into_tells : (target : Option Target) (rest : Place → Program) → ((place : Place) → TellsRefusals (rest place)) → TellsRefusals (given (directory_at target) rest)
 into_tells None rest tells = (refl, refl)
 into_tells (Some (targets.File file)) rest tells = (refl, refl)
-into_tells (Some (targets.Directory container listing)) rest tells = read_tells (record { container = container; listing = listing }) rest tells
+into_tells (Some (targets.Directory container listing)) rest tells = tells (record { container = container; listing = listing })
+
+-- and so does the search for the place of a directory
+pub place_tells : (places : Places) (path : Path) (rest : Place → Program) → ((place : Place) → TellsRefusals (rest place)) → TellsRefusals (find_place places path rest)
+unfolding find_place
+place_tells places [] rest tells = tells places.slash
+place_tells places (name ∷ parent) rest tells = place_tells places parent _ (λ above. look_tells above name _ (λ target. into_tells target rest tells))
 
 -- a walk tells its refusals
 pub walk_tells : (places : Places) (path : Path) (rest : Directory → Program) → ((directory : Directory) → TellsRefusals (rest directory)) → TellsRefusals (walk places path rest)
 unfolding walk
-walk_tells places [] rest tells = read_tells places.slash rest tells
-walk_tells places (name ∷ parent) rest tells = walk_tells places parent _ (λ above. into_tells (target_of above name) rest tells)
+walk_tells places path rest tells = place_tells places path _ (λ place. read_tells place rest tells)
 
 -- and so does the search for a file
 pub file_tells : (places : Places) (path : Path) (rest : FoundFile → Program) → ((file : FoundFile) → TellsRefusals (rest file)) → TellsRefusals (find_file places path rest)
 unfolding find_file
 file_tells places [] rest tells = (refl, refl)
-file_tells places (name ∷ parent) rest tells = walk_tells places parent _ (λ directory. by directory (target_of directory name))
+file_tells places (name ∷ parent) rest tells = place_tells places parent _ (λ place. look_tells place name _ (λ target. by place target))
   where
-    by : (directory : Directory) (target : Option Target) → TellsRefusals (given (file_at target) (λ segment. rest (record { container = directory.place.container; segment = segment })))
-    by directory None = (refl, refl)
-    by directory (Some (targets.File file)) = tells (record { container = directory.place.container; segment = file })
-    by directory (Some (targets.Directory container listing)) = (refl, refl)
+    by : (place : Place) (target : Option Target) → TellsRefusals (given (file_at target) (λ segment. rest (record { container = place.container; segment = segment })))
+    by place None = (refl, refl)
+    by place (Some (targets.File file)) = tells (record { container = place.container; segment = file })
+    by place (Some (targets.Directory container listing)) = (refl, refl)
 
 -- and for room
 pub room_tells : (places : Places) (path : Path) (rest : Room → Program) → ((room : Room) → TellsRefusals (rest room)) → TellsRefusals (find_room places path rest)
@@ -119,11 +130,11 @@ room_tells places (name ∷ parent) rest tells = walk_tells places parent _ (λ 
 object_tells : (places : Places) (path : Path) (rest : FoundObject → Program) → ((object : FoundObject) → TellsRefusals (rest object)) → TellsRefusals (find_object places path rest)
 unfolding find_object
 object_tells places [] rest tells = tells (record { container = root_number; object = places.slash.container; is_directory = true })
-object_tells places (name ∷ parent) rest tells = walk_tells places parent _ (λ directory. by directory (target_of directory name))
+object_tells places (name ∷ parent) rest tells = place_tells places parent _ (λ place. look_tells place name _ (λ target. by place target))
   where
-    by : (directory : Directory) (target : Option Target) → TellsRefusals (given (entry_at target) (λ found. rest (record { container = directory.place.container; object = object_of found; is_directory = is_directory found })))
-    by directory None = (refl, refl)
-    by directory (Some target) = tells (record { container = directory.place.container; object = object_of target; is_directory = is_directory target })
+    by : (place : Place) (target : Option Target) → TellsRefusals (given (entry_at target) (λ found. rest (record { container = place.container; object = object_of found; is_directory = is_directory found })))
+    by place None = (refl, refl)
+    by place (Some target) = tells (record { container = place.container; object = object_of target; is_directory = is_directory target })
 
 -- what is told of a class is no refusal
 class_tells : (is_directory : Bool) (class : Option Class) → TellsRefusals (tell_class is_directory class)

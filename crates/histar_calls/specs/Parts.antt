@@ -9,6 +9,7 @@ use Rattle.histar_rules.specs.declared.raw.Denied.{Denied}
 use Rattle.histar_rules.specs.declared.raw.RawCall.{RawCall}
 use Rattle.histar_rules.specs.declared.raw.RawCall.TheVariants.{Read, Write}
 use Rattle.histar_layout.specs.Directory.{Entries, most_entries, spelling}
+use Rattle.histar_layout.specs.Found.{found_in}
 use Rattle.histar_layout.specs.declared.entry.Target.{Target}
 use Rattle.histar_layout.specs.declared.entry.Target.TheVariants.{File, Directory as DirectoryAt}
 use Rattle.histar_calls.specs.declared.places.Places.{Places}
@@ -92,11 +93,11 @@ room_at None false = Ok tt
 abbrev pub target_of : Directory → Name → Option Target
 target_of directory name = map.get directory.entries name
 
--- looks a name up in a directory, whose segment is read
+-- looks a name up in a directory, in the bytes of its segment
 unfoldable pub look_in : Place → Name → Part (Option Target)
 look_in place name rest = do
-  directory ← read_directory place
-  rest (target_of directory name)
+  bytes ← ask (Read place.container place.listing)
+  rest (found_in bytes name)
 
 -- the place of a directory: from `/` on each one on the way to it is read, and the next name is looked up in it
 unfoldable pub find_place : Places → Path → Part Place
@@ -107,21 +108,20 @@ find_place places (name ∷ parent) rest = do
   place ← given (directory_at target)
   rest place
 
--- a walk reads the directory segment of each directory from `/` to the last one of the path
+-- a walk finds the place of the directory, and reads its entries
 unfoldable pub walk : Places → Path → Part Directory
-walk places [] rest = read_directory places.slash rest
-walk places (name ∷ parent) rest = do
-  above ← walk places parent
-  place ← given (directory_at (target_of above name))
+walk places path rest = do
+  place ← find_place places path
   read_directory place rest
 
 -- the file of a path: `/` is none; else the walk is made, and the last name must lead to a file
 unfoldable pub find_file : Places → Path → Part FoundFile
 find_file places [] rest = Answers (Refused EISDIR)
 find_file places (name ∷ parent) rest = do
-  directory ← walk places parent
-  segment ← given (file_at (target_of directory name))
-  rest (record { container = directory.place.container; segment = segment })
+  place ← find_place places parent
+  target ← look_in place name
+  segment ← given (file_at target)
+  rest (record { container = place.container; segment = segment })
 
 -- the place of a new entry: `/` stands already; else the walk is made, and the directory must have room for the last name
 unfoldable pub find_room : Places → Path → Part Room

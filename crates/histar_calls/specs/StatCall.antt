@@ -12,16 +12,17 @@ use Rattle.histar_calls.specs.declared.stat.FoundObject.{FoundObject}
 use Rattle.histar_calls.specs.ClassOf.{class_of, stat_of}
 use Rattle.histar_calls.specs.Programs.{Program, Part}
 use Rattle.histar_calls.specs.Programs.Program.{Answers, Stops}
-use Rattle.histar_calls.specs.Parts.{◌>>=◌, ask, given, entry_at, target_of, walk}
+use Rattle.histar_calls.specs.Parts.{◌>>=◌, ask, given, entry_at, find_place, look_in}
 
 -- The object of what stands at a path, and the container that links it. `/` is linked by the root container; else the walk is made,
 -- and the last name must lead somewhere.
 unfoldable pub find_object : Places → Path → Part FoundObject
 find_object places [] rest = rest (record { container = root_number; object = places.slash.container; is_directory = true })
 find_object places (name ∷ parent) rest = do
-  directory ← walk places parent
-  target ← given (entry_at (target_of directory name))
-  rest (record { container = directory.place.container; object = object_of target; is_directory = is_directory target })
+  place ← find_place places parent
+  found ← look_in place name
+  target ← given (entry_at found)
+  rest (record { container = place.container; object = object_of target; is_directory = is_directory target })
 
 -- the reply tells of what is of a class; of a label that is of no class nothing can be told
 abbrev pub told : Bool → Option Class → Program

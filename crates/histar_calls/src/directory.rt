@@ -98,8 +98,8 @@ pub fn file_at(target: Option<Target>) -> Result<ObjId, Errno>
     }
 }
 
-/// Where a name leads in a directory, which is read in place: EACCES where the kernel doesn't let the
-/// thread observe its segment.
+/// Where a name leads in a directory, whose segment is read in place, as far as it must be: EACCES where the
+/// kernel doesn't let the thread observe it.
 pub fn look_in<S: LabelStore + Drop>(
     kernel: &mut Kernel<S>,
     thread: ObjId,
@@ -109,8 +109,7 @@ pub fn look_in<S: LabelStore + Drop>(
     ensures { RunsPart (look_in place name.now) kernel.old kernel.new thread result }
 {
     let bytes = kernel.read(thread, place.container, place.listing)?;
-    let target = look_up(bytes, name)?;
-    Ok(target)
+    Ok(look_up(bytes, name))
 }
 
 /// Writes the directory segment of a directory, with these entries: EACCES where the kernel doesn't let

@@ -3,7 +3,7 @@ ghost use Rattle.std.specs.Prelude.{◌≡◌};
 ghost use Rattle.histar_calls.specs.Refusals.{errno_of, write_errno_of, or_ending, settled, ending_of, ending_with};
 
 use histar_flat::{Errno, Reply};
-use histar_layout::{NotADirectory, NotAStatus};
+use histar_layout::NotAStatus;
 use histar_syscall::{Denied, Refusal};
 use std::alloc::{AllocError, AllocFailed};
 
@@ -68,18 +68,6 @@ impl From<AllocError> for Ending {
     ghost from_gives = { λ _ e. e ≡ Stopped };
 
     fn from(_error: AllocError) -> Self {
-        Ending::Stopped
-    }
-}
-
-/// A directory segment that holds no directory. No such segment is on a machine that lays out a flat state.
-impl From<NotADirectory> for Ending {
-    ghost use Rattle.std.specs.Prelude.{◌≡◌};
-    ghost use Rattle.histar_calls.specs.declared.ending.Ending.TheVariants.{Stopped};
-
-    ghost from_gives = { λ _ e. e ≡ Stopped };
-
-    fn from(_error: NotADirectory) -> Self {
         Ending::Stopped
     }
 }

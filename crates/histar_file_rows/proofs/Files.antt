@@ -45,7 +45,7 @@ use Rattle.histar_rows.specs.Rows.{IsReady, AreAmong, HasWalk, HasReads}
 use Rattle.histar_rows.proofs.Chains.{Step, all_granted, entries_of, Chain}
 use Rattle.histar_rows.proofs.Endings.{ReadsAmong, IsBacked}
 use Rattle.histar_rows.proofs.Steps.{Goal, refused_at_once, granted_step, refused_step, answered_step}
-use Rattle.histar_rows.proofs.Walks.{numbers, place_at, walk_reads, nothing_there, file_there, directory_there, among_granted_all, has_walk, walk_step, among_then, among_also}
+use Rattle.histar_rows.proofs.Walks.{numbers, place_at, walk_reads, nothing_there, file_there, directory_there, among_granted_all, has_walk, look_step, among_then, among_also}
 use Rattle.histar_file_rows.proofs.FoundObjects.{container, segment, file_numbered, holds_bytes, held_there, write_said}
 
 -- What the flat rules say of a call on a file: what they refuse once it is reached, and that the call cannot do without the reads of the walk.
@@ -141,7 +141,7 @@ module _ (session : Session) (ok : IsSession session) (old new : KernelModel) (f
       -- the file is found, or the call is refused
       pub file_step : Runs (find_file (places_of (length session.users)) (m ∷ d) rest) old new t result → GoesOn → Row
       unfolding find_file
-      file_step runs go_on = walk_step session ok old new f me t ready call result d (λ directory. given (file_at (map.get directory.entries m)) (λ segment. rest (record { container = directory.place.container; segment = segment }))) runs
+      file_step runs go_on = look_step session ok old new f me t ready call result d m (λ place target. given (file_at target) (λ segment. rest (record { container = place.container; segment = segment }))) runs
           (λ errno is steps among. (refused_is (Some errno) (get f.files (m ∷ d)) is refl, has_reads steps (Refused errno) among))
           (λ open_so_far mid stays chain on. by_stands go_on open_so_far mid stays chain on (get f.files (m ∷ d)) refl)
 

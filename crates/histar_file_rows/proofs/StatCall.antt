@@ -54,7 +54,7 @@ use Rattle.histar_rows.specs.Laws.{StatsAreRows}
 use Rattle.histar_rows.proofs.Chains.{all_granted, entries_of, Chain}
 use Rattle.histar_rows.proofs.Endings.{IsBacked, ReadsAmong}
 use Rattle.histar_rows.proofs.Steps.{Goal, granted_step, refused_at_once, answered_step}
-use Rattle.histar_rows.proofs.Walks.{runs, place_at, walk_reads, reads_way, has_way, stands, found, holds, at_container, at_listing, dir, seen, nothing_there, file_number, file_there, directory_there, among_granted_all, walk_step}
+use Rattle.histar_rows.proofs.Walks.{runs, place_at, walk_reads, reads_way, has_way, stands, found, holds, at_container, at_listing, dir, seen, nothing_there, file_number, file_there, directory_there, among_granted_all, look_step}
 
 -- the way into a directory, where no label is asked for
 label_less : (session : Session) (s : State) (f : Flat) (m : Name) (d : Path) (errno : Errno) (entries : List TraceEntry) (p : Process) → HasWay session s f p d entries → HasLabel session s f p (m ∷ d) (Refused errno) entries
@@ -157,7 +157,7 @@ module _ (session : Session) (ok : IsSession session) (old new : KernelModel) (f
     stat_is_row : Runs (stat_program session (places_of (length session.users)) (m ∷ d)) old new t result → Row (m ∷ d)
     unfolding stat_program find_object
     stat_is_row run =
-        walk_step session ok old new f me t ready stat result d (λ directory. given (entry_at (map.get directory.entries m)) (λ found. ask (raw.LabelOf directory.place.container (object_of found)) (λ label. told (is_directory found) (class_of session label)))) run
+        look_step session ok old new f me t ready stat result d m (λ place target. given (entry_at target) (λ found. ask (raw.LabelOf place.container (object_of found)) (λ label. told (is_directory found) (class_of session label)))) run
         (λ errno is steps among. (refused_is (Some errno) (get f.files (m ∷ d)) is refl, label_less session (state old) f m d errno _ ready.caller.process (has_way session ok (state old) f me t ready d _ among)))
         (λ open_so_far mid stays chain on. by_stands open_so_far mid stays chain on (get f.files (m ∷ d)) refl)
 

@@ -71,7 +71,7 @@ front_takes n bytes x fits e =
     })
 
 -- a front that was written is split off again
-front_again : (n : ℕ) (front rest : List ℕ) → length front ≡ n → front_at n (front ++ rest) ≡ Some (front, rest)
+pub front_again : (n : ℕ) (front rest : List ℕ) → length front ≡ n → front_at n (front ++ rest) ≡ Some (front, rest)
 unfolding front_at
 front_again n front rest len =
     let long : leb n (length (front ++ rest)) ≡ true = le-leb n (length (front ++ rest)) (omega (arith, length-append front rest)) in
@@ -185,7 +185,7 @@ numbers_again letter object listing t rest lt1 lt2 is =
     ∙ bind_at (target_of letter object listing) (λ target. Some (target, rest)) t is
 
 -- a target that was written is read again
-target_again : (t : Target) (rest : List ℕ) → IsTarget t → target_at (target_bytes t ++ rest) ≡ Some (t, rest)
+pub target_again : (t : Target) (rest : List ℕ) → IsTarget t → target_at (target_bytes t ++ rest) ≡ Some (t, rest)
 target_again (File file) rest h = numbers_again 102 file 0 (File file) rest h.1 (omega arith) (target_of_file file h.0)
 target_again (Directory container listing) rest h = numbers_again 100 container listing (Directory container listing) rest h.0.1 h.1.1 (target_of_directory container listing h.0.0 h.1.0)
 

@@ -3,6 +3,7 @@ pub mod MapLemmas
 pub mod DirectoryLemmas
 pub mod WritingLemmas
 pub mod LookingUp
+pub mod CheckedLookups
 pub mod Statuses
 pub mod ReadingStatuses
 pub mod WritingStatuses

@@ -1,66 +1,128 @@
--- Looking a name up in a beginning of the entries.
-use Rattle.std.proofs.Common.{◌≡◌, ℕ, ◌+◌, ◌<◌, Bool, true, IsTrue, refl, cond, List, [], ◌∷◌, length, Option, Some, None, sym, ap, subst, ◌∙◌, length-append, append-nil, arith}
-use Rattle.std.specs.Prelude.{if◌then◌else◌}
-use Rattle.std.specs.Cmp.Lexicographic.{nat_list_cmp_total, texts_ties, slice_cmp}
-use Rattle.std.specs.Ordering.{nat_cmp, is_lt}
+-- Looking a name up: what one entry at the front leaves to be looked up, and what is found in a directory.
+use Rattle.std.proofs.Common.{◌≡◌, ℕ, zero, suc, ◌+◌, ◌<◌, ◌≤◌, Bool, true, false, refl, cond, leb, List, [], ◌∷◌, ◌++◌, length, take, drop, Option, Some, None, sym, ap, subst, ◌∙◌, append_assoc, append-nil, length-append, arith}
+use Rattle.std.specs.List.{flat_map, AllByRecursion}
+use Rattle.std.specs.Cmp.Lexicographic.{texts_ties}
 use Rattle.std.specs.FinMap as map
-use Rattle.histar_flat.specs.Words.{Name, is_name}
+use Rattle.std.proofs.lemmas.List.{length-drop}
+use Rattle.std.proofs.lemmas.Option.{cond_some, same_Some}
+use Rattle.histar_flat.specs.Words.{Name}
 use Rattle.histar_flat.specs.PathOrder.{same}
 use Rattle.histar_layout.specs.declared.entry.Target.{Target}
-use Rattle.histar_layout.specs.Directory.{Entries, spelling, IsDirectory}
-use Rattle.histar_layout.specs.Reading.{entry_at, comes_after}
-use Rattle.histar_layout.proofs.EntryLemmas.{IsBytes}
+use Rattle.histar_layout.specs.declared.entry.Target.TheVariants.{File, Directory}
+use Rattle.histar_layout.specs.Directory.{Entries, target_bytes, entry_bytes, IsTarget, IsEntry, IsDirectory}
+use Rattle.histar_layout.specs.Reading.{◌>>=◌, front_at, target_at}
+use Rattle.histar_layout.specs.Found.{slot_at, told_by, found_among, found_in}
+use Rattle.histar_layout.proofs.EntryLemmas.{bind_some, bind_at, front_again, target_again}
 use Rattle.histar_layout.proofs.MapLemmas.{by_bytes}
-use Rattle.histar_layout.proofs.DirectoryLemmas.{IsReadUpTo, starts, goes_on, entry_added}
+use Rattle.histar_layout.proofs.DirectoryLemmas.{Entry}
 
--- the bytes begin with the entries of a directory, so many, in which the name leads there
-pub record IsFoundUpTo (bytes rest : List ℕ) (last : Option Name) (name : Name) (found : Option Target) (count : ℕ) : Type 0 where
-  pub dir : Entries
-  pub read : IsReadUpTo bytes rest last dir
-  pub found_is : found ≡ map.get dir name
-  pub count_is : count ≡ map.len dir
+-- what is looked up in the whole is looked up in the rest, which has no more bytes than entries are still gone over
+pub record IsLeft (bytes rest : List ℕ) (name : Name) : Type 0 where
+  pub most : ℕ
+  pub enough : length rest ≤ most
+  pub same_found : found_in bytes name ≡ found_among most rest name
 
--- the last name that was read, of which these are the bytes; none was read yet where there are none
-abbrev pub last_name : List ℕ → Option Name
-last_name [] = None
-last_name (b ∷ bs) = Some (b ∷ bs)
+-- at the start the whole is left
+pub all_left : (bytes : List ℕ) (name : Name) → IsLeft bytes bytes name
+unfolding found_in
+all_left bytes name = record { most = length bytes; enough = omega arith; same_found = refl }
 
--- a name has bytes
-pub name_is_last : (text : List ℕ) → IsTrue (is_name text) → last_name text ≡ Some text
-unfolding is_name
-name_is_last [] h = absurd cc
-name_is_last (b ∷ bs) h = refl
+-- no bytes have no entry at the front
+none_at_end : slot_at [] ≡ None
+unfolding slot_at
+none_at_end = refl
 
--- a name comes after the last one where its bytes do
-pub comes_after_bytes : (last text : List ℕ) → IsTrue (is_name text) → is_lt (slice_cmp nat_cmp last text) ≡ comes_after (last_name last) text
-unfolding is_name
-comes_after_bytes [] [] h = absurd cc
-comes_after_bytes [] (b ∷ bs) h = refl
-comes_after_bytes (a ∷ last) text h = refl
+-- where no entry is at the front, the name leads nowhere
+nowhere : (most : ℕ) (rest : List ℕ) (name : Name) → slot_at rest ≡ None → found_among most rest name ≡ None
+unfolding found_among
+nowhere zero rest name none = refl
+nowhere (suc most) rest name none = ap (λ o. o >>= λ slot. cond (same name slot.0.0) (told_by slot.0.1) (found_among most slot.1 name)) none
 
--- at the start nothing is found
-pub nothing_found : (bytes : List ℕ) (name : Name) → IsBytes bytes → IsFoundUpTo bytes bytes None name None 0
-nothing_found bytes name fits = record {
-  dir = map.empty;
-  read = starts bytes fits;
-  found_is = sym (map.get-empty by_bytes name);
-  count_is = sym (map.len-empty by_bytes Target);
-}
+pub leads_nowhere : (bytes rest : List ℕ) (name : Name) → IsLeft bytes rest name → slot_at rest ≡ None → found_in bytes name ≡ None
+leads_nowhere bytes rest name left none = left.same_found ∙ nowhere left.most rest name none
 
--- one more entry is read
-pub finds_on : (bytes rest after : List ℕ) (last : Option Name) (name next : Name) (target : Target) (found : Option Target) (count : ℕ) → IsFoundUpTo bytes rest last name found count → entry_at rest ≡ Some ((next, target), after)
-    → count < 64 → comes_after last next ≡ true → (b : Bool) → same name next ≡ b → IsFoundUpTo bytes after (Some next) name (if b then Some target else found) (count + 1)
-finds_on bytes rest after last name next target found count h read room rises b is = record {
-  dir = map.insert h.dir next target;
-  read = goes_on bytes rest after last h.dir next target h.read read (subst (λ (n : ℕ). n < 64) h.count_is room) rises;
-  found_is = sym (map.get-insert nat_list_cmp_total h.dir next target name ∙ ap (λ t. cond t (Some target) (map.get h.dir name)) (sym (texts_ties name next) ∙ is)
-      ∙ ap (cond b (Some target)) (sym h.found_is));
-  count_is =
-      let grown = entry_added last h.dir next target h.read.last_is rises in
-      omega (arith, h.count_is, map.len-entries (map.insert h.dir next target), map.len-entries h.dir, ap length grown, length-append (map.entries h.dir) ((next, target) ∷ []));
-}
+-- ---- one entry at the front
 
--- at the end the whole directory is read
-pub found_whole : (bytes rest : List ℕ) (last : Option Name) (name : Name) (found : Option Target) (count : ℕ) → IsFoundUpTo bytes rest last name found count → length rest ≡ 0 → (dir : Entries) × IsDirectory bytes dir × (found ≡ map.get dir name)
-found_whole bytes [] last name found count h none = (h.dir, record { listable = h.read.listable; spelled = h.read.spelled ∙ append-nil (spelling h.dir) }, h.found_is)
-found_whole bytes (x ∷ rest) last name found count h none = absurd cc
+-- what is split off leaves no more bytes
+front_shorter : (n : ℕ) (bytes : List ℕ) (x : List ℕ × List ℕ) → front_at n bytes ≡ Some x → length x.1 ≤ length bytes
+unfolding front_at
+front_shorter n bytes x e =
+    let g = cond_some (leb n (length bytes)) (take n bytes, drop n bytes) x e in
+    omega (arith, ap (λ (y : List ℕ × List ℕ). length y.1) g.1, length-drop n bytes)
+
+-- behind an entry there are fewer bytes
+pub slot_shorter : (rest : List ℕ) (x : (List ℕ × List ℕ) × List ℕ) → slot_at rest ≡ Some x → length x.1 < length rest
+unfolding slot_at
+slot_shorter [] x e = absurd cc
+slot_shorter (len ∷ bytes) x e =
+    let a = bind_some (front_at len bytes) (λ text. front_at 17 text.1 >>= λ told. Some ((text.0, told.0), told.1)) x e in
+    let b = bind_some (front_at 17 a.0.1) (λ told. Some ((a.0.0, told.0), told.1)) x a.2 in
+    let same_rest : b.0.1 ≡ x.1 = ap (λ (y : (List ℕ × List ℕ) × List ℕ). y.1) (same_Some ((a.0.0, b.0.0), b.0.1) x b.2) in
+    omega (arith, ap length same_rest, front_shorter len bytes a.0 a.1, front_shorter 17 a.0.1 b.0 b.1)
+
+module _ (rest : List ℕ) (name : Name) (x : (List ℕ × List ℕ) × List ℕ) (is : slot_at rest ≡ Some x) where
+  -- one entry is gone over
+  over_one : (most : ℕ) (b : Bool) → same name x.0.0 ≡ b → found_among (suc most) rest name ≡ cond b (told_by x.0.1) (found_among most x.1 name)
+  unfolding found_among
+  over_one most b test =
+      bind_at (slot_at rest) (λ slot. cond (same name slot.0.0) (told_by slot.0.1) (found_among most slot.1 name)) x is
+      ∙ ap (λ (c : Bool). cond c (told_by x.0.1) (found_among most x.1 name)) test
+
+  -- so where at most so many are
+  over_first : (most : ℕ) → length rest ≤ most → (b : Bool) → same name x.0.0 ≡ b → (fewer : ℕ) × (most ≡ suc fewer) × (found_among most rest name ≡ cond b (told_by x.0.1) (found_among fewer x.1 name))
+  over_first zero enough b test = absurd (omega (arith, slot_shorter rest x is))
+  over_first (suc most) enough b test = (most, refl, over_one most b test)
+
+  module _ (bytes : List ℕ) (left : IsLeft bytes rest name) where
+    -- where it has the name, that is what is found
+    pub found_here : same name x.0.0 ≡ true → found_in bytes name ≡ told_by x.0.1
+    found_here test =
+        let first = over_first left.most left.enough true test in
+        left.same_found ∙ first.2
+
+    -- else what is behind it is left
+    pub left_behind : same name x.0.0 ≡ false → IsLeft bytes x.1 name
+    left_behind test =
+        let first = over_first left.most left.enough false test in
+        record { most = first.0; enough = omega (arith, left.enough, first.1, slot_shorter rest x is); same_found = left.same_found ∙ first.2 }
+
+-- ---- the bytes of a directory
+
+-- a target has 17 bytes
+target_len : (t : Target) → length (target_bytes t) ≡ 17
+target_len (File file) = refl
+target_len (Directory container listing) = refl
+
+-- they tell the target
+told_again : (t : Target) → IsTarget t → told_by (target_bytes t) ≡ Some t
+unfolding told_by
+told_again t is =
+    bind_at (target_at (target_bytes t)) (λ (x : Target × List ℕ). Some x.0) (t, [])
+    (ap target_at (sym (append-nil (target_bytes t))) ∙ target_again t [] is)
+
+-- the parts of an entry that was written are found again
+slot_again : (e : Entry) (rest : List ℕ) → slot_at (entry_bytes e ++ rest) ≡ Some ((e.0, target_bytes e.1), rest)
+unfolding slot_at
+slot_again e rest =
+    bind_at (front_at (length e.0) ((e.0 ++ target_bytes e.1) ++ rest)) (λ text. front_at 17 text.1 >>= λ told. Some ((text.0, told.0), told.1)) (e.0, target_bytes e.1 ++ rest)
+    (ap (front_at (length e.0)) (append_assoc e.0 (target_bytes e.1) rest) ∙ front_again (length e.0) e.0 (target_bytes e.1 ++ rest) refl)
+    ∙ bind_at (front_at 17 (target_bytes e.1 ++ rest)) (λ told. Some ((e.0, told.0), told.1)) (target_bytes e.1, rest) (front_again 17 (target_bytes e.1) rest (target_len e.1))
+
+-- in the bytes of entries the first one of the name is found
+found_of_entries : (most : ℕ) (es : List Entry) (name : Name) → AllByRecursion IsEntry es → length (flat_map entry_bytes es) ≤ most → found_among most (flat_map entry_bytes es) name ≡ map.find by_bytes name es
+found_of_entries most [] name each enough = nowhere most [] name none_at_end
+found_of_entries most (e ∷ es) name each enough =
+    let slot = slot_again e (flat_map entry_bytes es) in
+    let first = over_first (flat_map entry_bytes (e ∷ es)) name ((e.0, target_bytes e.1), flat_map entry_bytes es) slot most enough (same name e.0) refl in
+    let shorter = slot_shorter (flat_map entry_bytes (e ∷ es)) ((e.0, target_bytes e.1), flat_map entry_bytes es) slot in
+    let later = found_of_entries first.0 es name each.1 (omega (arith, enough, first.1, shorter)) in
+    first.2
+    ∙ (λ i. cond (texts_ties name e.0 i) (told_again e.1 each.0.1 i) (later i))
+
+-- in the bytes of a directory a name is found where its entry leads
+pub found_in_directory : (bytes : List ℕ) (dir : Entries) (name : Name) → IsDirectory bytes dir → found_in bytes name ≡ map.get dir name
+unfolding found_in
+found_in_directory bytes dir name is =
+    ap (λ (b : List ℕ). found_among (length b) b name) is.spelled
+    ∙ found_of_entries (length (flat_map entry_bytes (map.entries dir))) (map.entries dir) name is.listable.each (omega arith)
+    ∙ sym (map.get-entries dir name)

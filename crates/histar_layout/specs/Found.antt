@@ -1,12 +1,35 @@
--- What a name is looked up as in bytes.
-use Rattle.std.specs.Prelude.{◌≡◌, ℕ, List, Option, Result, Ok, Err}
-use Rattle.std.specs.FinMap as map
+-- Looking a name up in bytes, from the front.
+use Rattle.std.specs.Prelude.{◌≡◌, ℕ, zero, suc, List, [], ◌∷◌, length, Option, Some, None, if◌then◌else◌}
 use Rattle.histar_flat.specs.Words.{Name}
-use Rattle.histar_layout.specs.Directory.{Entries, IsDirectory}
+use Rattle.histar_flat.specs.PathOrder.{same}
+use Rattle.histar_layout.specs.Reading.{◌>>=◌, front_at, target_at}
 use Rattle.histar_layout.specs.declared.entry.Target.{Target}
-use Rattle.histar_layout.specs.declared.lookup.NotADirectory.{NotADirectory}
 
--- where its entry leads in the directory that the bytes are, or that they are none
-abbrev pub IsLookedUp : List ℕ → Name → Result (Option Target) NotADirectory → Type 0
-IsLookedUp bytes name (Ok found) = (dir : Entries) × IsDirectory bytes dir × (found ≡ map.get dir name)
-IsLookedUp bytes name (Err fault) = (dir : Entries) → IsDirectory bytes dir → ⊥
+-- how many bytes tell where an entry leads: a letter and two numbers
+abbrev pub target_length : ℕ
+target_length = 17
+
+-- a length, so many bytes of a name and the bytes that tell where it leads, and the bytes after them
+unfoldable pub slot_at : List ℕ → Option ((List ℕ × List ℕ) × List ℕ)
+slot_at [] = None
+slot_at (len ∷ bytes) = do
+  text ← front_at len bytes
+  told ← front_at target_length text.1
+  Some ((text.0, told.0), told.1)
+
+-- where these bytes tell that an entry leads
+unfoldable pub told_by : List ℕ → Option Target
+told_by bytes = do
+  target ← target_at bytes
+  Some target.0
+
+-- where the first entry of this name leads, of so many at the front; nowhere where the bytes end or break off before it
+unfoldable pub found_among : ℕ → List ℕ → Name → Option Target
+found_among zero bytes name = None
+found_among (suc most) bytes name = do
+  slot ← slot_at bytes
+  if same name slot.0.0 then told_by slot.0.1 else found_among most slot.1 name
+
+-- where the first entry of this name leads in the bytes, which have more bytes than entries
+unfoldable pub found_in : List ℕ → Name → Option Target
+found_in bytes name = found_among (length bytes) bytes name

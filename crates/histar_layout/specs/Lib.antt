@@ -4,5 +4,6 @@ pub mod Reading
 pub mod Writing
 pub mod Listing
 pub mod Found
+pub mod Checked
 pub mod Status
 pub mod StatusParts

@@ -1,6 +1,7 @@
 //! How files and directories lie in the bytes of segments.
 #![tactic(auto)]
 
+mod checked;
 mod directory;
 mod entry;
 mod lookup;
@@ -8,9 +9,10 @@ mod reading;
 mod status;
 mod writing;
 
+pub use checked::{NotADirectory, look_up_checked};
 pub use directory::{Dir, MOST_ENTRIES, list_dir, one_directory, read_dir, write_dir};
 pub use entry::Target;
-pub use lookup::{NotADirectory, look_up};
+pub use lookup::look_up;
 pub use status::{
     Child, NotAStatus, StatusHead, add_child, exit_status, find_child, first_status, read_status,
     remove_child, statuses_are_spelled,

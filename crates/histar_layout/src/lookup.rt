@@ -1,48 +1,27 @@
 //! Looking a name up in the bytes of a directory.
 ghost use Rattle.std.specs.Prelude.{◌≡◌};
-ghost use Rattle.std.specs.Cmp.Lexicographic.{slice_cmp};
-ghost use Rattle.std.specs.Ordering.{is_lt, nat_cmp};
-ghost use Rattle.histar_layout.specs.Found.{IsLookedUp};
+ghost use Rattle.std.specs.FinMap as map;
+ghost use Rattle.histar_layout.specs.Directory.{Entries, IsDirectory};
+ghost use Rattle.histar_layout.specs.Found.{found_in};
 
-use crate::directory::MOST_ENTRIES;
 use crate::entry::Target;
-use crate::reading::read_named;
+use crate::reading::{read_slot, told_by};
 use histar_flat::Name;
-use std::cmp::Ordering;
 
-/// Bytes are no directory.
-#[derive(Clone, Copy, Debug, PartialEq, Eq)]
-pub struct NotADirectory;
-
-/// Where the entry of this name leads in the directory that the bytes are, if they are one. It goes over
-/// the bytes once, and takes no memory.
-pub fn look_up(bytes: &[u8], name: &Name) -> Result<Option<Target>, NotADirectory>
-    ensures { IsLookedUp bytes.now name.now result }
+/// Where the entry of this name leads. It goes from entry to entry, up to the one that has the name and no
+/// further, and looks at no byte of where the others lead. Where the bytes end or break off before one that has
+/// the name, it leads nowhere. It takes no memory.
+pub fn look_up(bytes: &[u8], name: &Name) -> Option<Target>
+    ensures found { result ≡ found_in bytes.now name.now }
+    ensures entry { (dir : Entries) → IsDirectory bytes.now dir → result ≡ map.get dir name.now }
 {
-    let mut found = None;
-    let mut count = 0;
-    let mut last: &[u8] = &[];
+    let wanted = name.as_bytes();
     let mut rest = bytes;
-    'entries: while !rest.is_empty() {
-        let Some((text, target, after)) = read_named(rest) else {
-            return Err(NotADirectory);
-        };
-        if count == MOST_ENTRIES || !precedes(last, text) {
-            return Err(NotADirectory);
+    'entries: while let Some((text, told, after)) = read_slot(rest) {
+        if wanted == text {
+            return told_by(told);
         }
-        if name.as_bytes() == text {
-            found = Some(target);
-        }
-        count += 1;
-        last = text;
         rest = after;
     }
-    Ok(found)
-}
-
-/// Whether the bytes of one name come before those of another.
-fn precedes(first: &[u8], second: &[u8]) -> bool
-    ensures { result ≡ is_lt (slice_cmp nat_cmp first.now second.now) }
-{
-    matches!(first.cmp(second), Ordering::Less)
+    None
 }

@@ -1,11 +1,15 @@
 //! Reading the entries of directories.
 ghost use Rattle.std.specs.Prelude.{◌≡◌, IfSome, IsTrue};
 ghost use Rattle.histar_flat.specs.Words.{is_name};
+ghost use Rattle.histar_layout.specs.Found.{slot_at, told_by};
 ghost use Rattle.histar_layout.specs.Reading.{Gives, front_at, number_at, target_of, target_at, entry_at, comes_after};
 
 use crate::entry::Target;
 use histar_flat::{Name, is_name, read_name};
 use histar_object::ObjId;
+
+/// How many bytes tell where an entry leads: a letter and two numbers.
+const TARGET_LENGTH: usize = 17;
 
 /// The entry at the front, and the bytes after it.
 pub fn read_entry(bytes: &[u8]) -> Option<(Name, Target, &[u8])>
@@ -35,6 +39,35 @@ pub fn read_named(bytes: &[u8]) -> Option<(&[u8], Target, &[u8])>
         return None;
     };
     Some((text, target, rest))
+}
+
+/// The bytes of the name at the front and those that tell where it leads, all in place, and the bytes after
+/// them.
+#[tactic(auto, unfolding(crate::specs::Found::slot_at, crate::specs::Reading::front_at))]
+pub fn read_slot(bytes: &[u8]) -> Option<(&[u8], &[u8], &[u8])>
+    ensures { Gives (λ found. ((found.0.now, found.1.now), found.2.now)) result (slot_at bytes.now) }
+{
+    let [len, rest @ ..] = bytes else {
+        return None;
+    };
+    let len = *len as usize;
+    if rest.len() < len + TARGET_LENGTH {
+        return None;
+    }
+    let (text, rest) = rest.split_at(len);
+    let (told, after) = rest.split_at(TARGET_LENGTH);
+    Some((text, told, after))
+}
+
+/// Where these bytes tell that an entry leads.
+#[tactic(auto, unfolding(crate::specs::Found::told_by))]
+pub fn told_by(bytes: &[u8]) -> Option<Target>
+    ensures { result ≡ told_by bytes.now }
+{
+    let Some((target, _)) = read_target(bytes) else {
+        return None;
+    };
+    Some(target)
 }
 
 /// Whether a name may follow the last one that was read.

@@ -114,17 +114,23 @@ fn a_name_is_looked_up(rt: HostRuntime) -> Result<(), Fail> {
     let a = read_name(b"a".as_slice()).ok_or("`a` is a name")?;
     let ab = read_name(b"ab".as_slice()).ok_or("`ab` is a name")?;
     let b = read_name(b"b".as_slice()).ok_or("`b` is a name")?;
-    assert_eq!(rt; look_up(TWO_ENTRIES, &a), Ok(None));
+    assert_eq!(rt; look_up(TWO_ENTRIES, &a), None);
     assert_eq!(rt;
         look_up(TWO_ENTRIES, &ab),
-        Ok(Some(Target::File(ObjId::new(12))))
+        Some(Target::File(ObjId::new(12)))
     );
     assert_eq!(rt;
         look_up(TWO_ENTRIES, &b),
-        Ok(Some(Target::Directory(ObjId::new(258), ObjId::new(13))))
+        Some(Target::Directory(ObjId::new(258), ObjId::new(13)))
     );
-    assert_eq!(rt; look_up(b"".as_slice(), &a), Ok(None));
-    assert_eq!(rt; look_up(b"ab".as_slice(), &ab), Err(NotADirectory));
+    assert_eq!(rt; look_up(b"".as_slice(), &a), None);
+    assert_eq!(rt; look_up(b"\x02ab".as_slice(), &ab), None);
+    assert_eq!(rt; look_up_checked(TWO_ENTRIES, &a), Ok(None));
+    assert_eq!(rt;
+        look_up_checked(TWO_ENTRIES, &ab),
+        Ok(Some(Target::File(ObjId::new(12))))
+    );
+    assert_eq!(rt; look_up_checked(b"ab".as_slice(), &ab), Err(NotADirectory));
     Ok(())
 }
 

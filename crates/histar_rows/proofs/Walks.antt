@@ -29,14 +29,16 @@ use Rattle.histar_rules.specs.Rules.{check}
 use Rattle.histar_syscall.specs.KernelModel.{KernelModel, state}
 use Rattle.histar_syscall.specs.declared.trace.TraceEntry.{TraceEntry}
 use Rattle.histar_syscall.proofs.Runs.{same_kernel, entry_of}
-use Rattle.histar_layout.specs.Directory.{IsDirectory}
+use Rattle.histar_layout.specs.Directory.{Entries, IsDirectory}
+use Rattle.histar_layout.specs.Found.{found_in}
 use Rattle.histar_layout.specs.declared.entry.Target.{Target}
 use Rattle.histar_layout.specs.declared.entry.Target.TheVariants as targets
+use Rattle.histar_layout.proofs.LookingUp.{found_in_directory}
 use Rattle.histar_calls.specs.declared.ending.Stopped.{Stopped}
 use Rattle.histar_calls.specs.declared.directory.Directory.{Directory}
 use Rattle.histar_calls.specs.declared.places.Place.{Place}
 use Rattle.histar_calls.specs.Programs.{Program, Runs}
-use Rattle.histar_calls.specs.Parts.{given, read_directory, walk, directory_at}
+use Rattle.histar_calls.specs.Parts.{ask, given, list, read_directory, look_in, find_place, walk, directory_at}
 use Rattle.histar_login.specs.Start.{places_of}
 use Rattle.histar_refinement.specs.Sessions.{IsSession}
 use Rattle.histar_refinement.specs.Addresses.{Numbers, address_of, slash_number, slash_listing_number}
@@ -289,13 +291,17 @@ module _ (session : Session) (ok : IsSession session) (old new : KernelModel) (f
   abbrev pub Refuses : Path → Type 0
   Refuses d = (errno : Errno) → into session f process d ≡ Some errno → (steps : List Step) → AreAmong (calls_to d) (entries_of old.line t steps) → IsRefusedBy errno steps
 
-  -- a directory is read after these raw calls
-  pub read_step : (d : Path) → is_dir_at f d ≡ true → (before : List RawCall) (mid : KernelModel) → state mid ≡ state old → Chain old t (all_granted before) mid
-      → (rest : Directory → Program) → Runs (read_directory (place_at session ok (state old) f me t ready d) rest) mid new t result
+  -- the entries of a directory
+  abbrev entries_at : Path → Entries
+  entries_at d = directory_of f.files ready.lays_out.laid.naming.number d
+
+  -- the bytes of a directory segment are read after these raw calls
+  bytes_step : (d : Path) → is_dir_at f d ≡ true → (before : List RawCall) (mid : KernelModel) → state mid ≡ state old → Chain old t (all_granted before) mid
+      → (rest : List ℕ → Program) → Runs (ask (read d) rest) mid new t result
       → (reads session f process d ≡ false → IsRefusedBy EACCES (all_granted before ++ (read d, Some Observe) ∷ []))
-      → (reads session f process d ≡ true → (later : KernelModel) → state later ≡ state old → Chain old t (all_granted (before ++ read d ∷ [])) later → Runs (rest (last_of d)) later new t result → Row) → Row
-  unfolding read_directory
-  read_step d dir before mid stays chain rest run refuses go_on = by (reads session f process d) refl
+      → (reads session f process d ≡ true → (later : KernelModel) → state later ≡ state old → Chain old t (all_granted (before ++ read d ∷ [])) later
+      → (bytes : List ℕ) → IsDirectory bytes (entries_at d) → Runs (rest bytes) later new t result → Row) → Row
+  bytes_step d dir before mid stays chain rest run refuses go_on = by (reads session f process d) refl
     where
       said : (b : Bool) → reads session f process d ≡ b → check (state mid) t (read d) ≡ unless b Observe
       said b is = ap (λ (s : State). check s t (read d)) stays ∙ read_said session ok (state old) f me t ready d dir ∙ ap (λ (b : Bool). unless b Observe) is
@@ -303,15 +309,22 @@ module _ (session : Session) (ok : IsSession session) (old new : KernelModel) (f
       by : (b : Bool) → reads session f process d ≡ b → Row
       by false is =
           let end = refuses is in
-          refused_step session f me ready.caller call old new t ready.thread result before mid chain stays ready.lays_out EACCES end.0 (read d) _ Observe (said false is) refl end.1 run
+          refused_step session f me ready.caller call old new t ready.thread result before mid chain stays ready.lays_out EACCES end.0 (read d) rest Observe (said false is) refl end.1 run
       by true is =
-          granted_step session f me ready.caller call old new t ready.thread result before mid chain (read d) _ (said true is) run
+          granted_step session f me ready.caller call old new t ready.thread result before mid chain (read d) rest (said true is) run
           (λ later bytes called right longer on.
           let bytes_are : bytes ≡ bytes_in ((state old).objects (place_at session ok (state old) f me t ready d).listing) = right ∙ ap (λ (s : State). bytes_in (s.objects (place_at session ok (state old) f me t ready d).listing)) stays in
-          let entries = directory_of f.files ready.lays_out.laid.naming.number d in
-          listed_step session f me ready.caller call old new t ready.thread result (before ++ read d ∷ []) later longer bytes entries
-          (subst (λ (b : List ℕ). IsDirectory b entries) (sym bytes_are) (holds session ok (state old) f me t ready d dir)) _ on
-          (go_on is later (called.state ∙ stays) longer))
+          go_on is later (called.state ∙ stays) longer bytes (subst (λ (b : List ℕ). IsDirectory b (entries_at d)) (sym bytes_are) (holds session ok (state old) f me t ready d dir)) on)
+
+  -- a directory is read after these raw calls
+  pub read_step : (d : Path) → is_dir_at f d ≡ true → (before : List RawCall) (mid : KernelModel) → state mid ≡ state old → Chain old t (all_granted before) mid
+      → (rest : Directory → Program) → Runs (read_directory (place_at session ok (state old) f me t ready d) rest) mid new t result
+      → (reads session f process d ≡ false → IsRefusedBy EACCES (all_granted before ++ (read d, Some Observe) ∷ []))
+      → (reads session f process d ≡ true → (later : KernelModel) → state later ≡ state old → Chain old t (all_granted (before ++ read d ∷ [])) later → Runs (rest (last_of d)) later new t result → Row) → Row
+  unfolding read_directory
+  read_step d dir before mid stays chain rest run refuses go_on =
+      bytes_step d dir before mid stays chain (λ bytes. list bytes (λ entries. rest (record { place = place_at session ok (state old) f me t ready d; entries = entries }))) run refuses
+      (λ seen later same longer bytes is on. listed_step session f me ready.caller call old new t ready.thread result (before ++ read d ∷ []) later longer bytes (entries_at d) is _ on (go_on seen later same longer))
 
   -- the walk is made behind raw calls that were granted and have changed nothing
   module _ (before : List RawCall) (start : KernelModel) (unchanged : state start ≡ state old) (begun : Chain old t (all_granted before) start) where
@@ -319,12 +332,28 @@ module _ (session : Session) (ok : IsSession session) (old new : KernelModel) (f
     abbrev reached : Path → List RawCall
     reached d = before ++ calls_to d
 
-    -- where the way is not refused, the call goes on with the directory
+    -- the directory segment is read, and the call goes on so
+    abbrev reading : (Place → List ℕ → Program) → Place → Program
+    reading after place = ask (raw.Read place.container place.listing) (after place)
+
+    -- where the way is not refused, it goes on with the bytes of the directory
+    abbrev GoesOnReading : Path → (Place → List ℕ → Program) → Type 0
+    GoesOnReading d after =
+        into session f process d ≡ None → (mid : KernelModel) → state mid ≡ state old → Chain old t (all_granted (reached d)) mid
+        → (bytes : List ℕ) → IsDirectory bytes (entries_at d) → Runs (after (place_at session ok (state old) f me t ready d) bytes) mid new t result → Row
+
+    -- or with where a name leads in it
+    abbrev pub GoesOnLooking : Path → Name → (Place → Option Target → Program) → Type 0
+    GoesOnLooking d n rest =
+        into session f process d ≡ None → (mid : KernelModel) → state mid ≡ state old → Chain old t (all_granted (reached d)) mid
+        → Runs (rest (place_at session ok (state old) f me t ready d) (finite.get (entries_at d) n)) mid new t result → Row
+
+    -- or with the directory
     abbrev pub GoesOn : Path → (Directory → Program) → Type 0
     GoesOn d rest = into session f process d ≡ None → (mid : KernelModel) → state mid ≡ state old → Chain old t (all_granted (reached d)) mid → Runs (rest (last_of d)) mid new t result → Row
 
     -- from a directory that may be read on to the next
-    module _ (n : Name) (d : Path) (rest : Directory → Program) (refuses : Refuses (n ∷ d)) (go_on : GoesOn (n ∷ d) rest) (open_so_far : into session f process d ≡ None) (mid : KernelModel) (stays : state mid ≡ state old) (chain : Chain old t (all_granted (reached d)) mid) where
+    module _ (n : Name) (d : Path) (after : Place → List ℕ → Program) (refuses : Refuses (n ∷ d)) (go_on : GoesOnReading (n ∷ d) after) (open_so_far : into session f process d ≡ None) (mid : KernelModel) (stays : state mid ≡ state old) (chain : Chain old t (all_granted (reached d)) mid) where
       -- the tests of the next name
       abbrev tests : Option Node → Option Errno
       tests o = unless (is_some_and o (λ n. true)) ENOENT orelse unless (is_some_and o is_dir) ENOTDIR orelse unless (is_some_and o (λ n. may_read session process n.class)) EACCES
@@ -347,46 +376,48 @@ module _ (session : Session) (ok : IsSession session) (old new : KernelModel) (f
       breaks_off errno is no_dir = refuses errno is (all_granted (reached d))
           (subst (λ (calls : List RawCall). AreAmong calls (entries_of old.line t (all_granted (reached d)))) (sym (calls_are false no_dir ∙ append-nil (calls_to d))) (among_granted_behind old.line t before (calls_to d)))
 
-      enters : (class : Class) → get f.files (n ∷ d) ≡ Some (record { class = class; content = Dir }) → Runs (read_directory (place_at session ok (state old) f me t ready (n ∷ d)) rest) mid new t result → Row
+      enters : (class : Class) → get f.files (n ∷ d) ≡ Some (record { class = class; content = Dir }) → Runs (reading after (place_at session ok (state old) f me t ready (n ∷ d))) mid new t result → Row
       enters class is on =
           let dir : is_dir_at f (n ∷ d) ≡ true = ap (λ (o : Option Node). is_some_and o is_dir) is in
           let into_so : into session f process (n ∷ d) ≡ unless (reads session f process (n ∷ d)) EACCES = λ i. open_so_far i orelse unless (is_some_and (is i) (λ n. true)) ENOENT orelse unless (is_some_and (is i) is_dir) ENOTDIR orelse unless (reads session f process (n ∷ d)) EACCES in
-          read_step (n ∷ d) dir (reached d) mid stays chain rest on
+          bytes_step (n ∷ d) dir (reached d) mid stays chain (after (place_at session ok (state old) f me t ready (n ∷ d))) on
           (λ unseen. refuses EACCES (into_so ∙ ap (λ (b : Bool). unless b EACCES) unseen) (all_granted (reached d) ++ (read (n ∷ d), Some Observe) ∷ [])
           (subst (λ (calls : List RawCall). AreAmong calls (entries_of old.line t (all_granted (reached d) ++ (read (n ∷ d), Some Observe) ∷ []))) (sym (calls_are true dir)) (among_refused_behind old.line t before (calls_to d) (read (n ∷ d)) Observe)))
-          (λ seen later same longer end. go_on (into_so ∙ ap (λ (b : Bool). unless b EACCES) seen) later same (subst (λ (calls : List RawCall). Chain old t (all_granted calls) later) (append_assoc before (calls_to d) (read (n ∷ d) ∷ []) ∙ ap (λ (calls : List RawCall). before ++ calls) (sym (calls_are true dir))) longer) end)
+          (λ seen later same longer bytes holds end. go_on (into_so ∙ ap (λ (b : Bool). unless b EACCES) seen) later same (subst (λ (calls : List RawCall). Chain old t (all_granted calls) later) (append_assoc before (calls_to d) (read (n ∷ d) ∷ []) ∙ ap (λ (calls : List RawCall). before ++ calls) (sym (calls_are true dir))) longer) bytes holds end)
 
       -- once the name was looked up
       abbrev at_name : Option Target → Program
-      at_name target = given (directory_at target) (λ place. read_directory place rest)
+      at_name target = given (directory_at target) (reading after)
 
-      by_content : (class : Class) (c : Content) → get f.files (n ∷ d) ≡ Some (record { class = class; content = c }) → Runs (at_name (finite.get (directory_of f.files ready.lays_out.laid.naming.number d) n)) mid new t result → Row
+      by_content : (class : Class) (c : Content) → get f.files (n ∷ d) ≡ Some (record { class = class; content = c }) → Runs (at_name (finite.get (entries_at d) n)) mid new t result → Row
       by_content class Dir is on = enters class is (subst (λ (target : Option Target). Runs (at_name target) mid new t result) (directory_there session ok (state old) f me t ready n d class is) on)
       by_content class (File bytes) is on =
           let end = breaks_off ENOTDIR (into_is _ is) (ap (λ (o : Option Node). is_some_and o is_dir) is) in
           refused_at_once session f me ready.caller call old new t ready.thread result (reached d) mid chain stays ready.lays_out ENOTDIR end.0 refl refl end.1
           (subst (λ (target : Option Target). Runs (at_name target) mid new t result) (file_there session ok (state old) f me t ready n d class bytes is) on)
 
-      next_step : (o : Option Node) → get f.files (n ∷ d) ≡ o → Runs (at_name (finite.get (directory_of f.files ready.lays_out.laid.naming.number d) n)) mid new t result → Row
+      next_step : (o : Option Node) → get f.files (n ∷ d) ≡ o → Runs (at_name (finite.get (entries_at d) n)) mid new t result → Row
       next_step None is on =
           let end = breaks_off ENOENT (into_is _ is) (ap (λ (o : Option Node). is_some_and o is_dir) is) in
           refused_at_once session f me ready.caller call old new t ready.thread result (reached d) mid chain stays ready.lays_out ENOENT end.0 refl refl end.1
           (subst (λ (target : Option Target). Runs (at_name target) mid new t result) (nothing_there session ok (state old) f me t ready n d is) on)
       next_step (Some node) is on = by_content node.class node.content is on
 
-    -- The walk into a directory: it is refused as the flat rules refuse the call, or the call goes on with the directory.
-    pub walk_step_behind : (d : Path) (rest : Directory → Program) → Runs (walk (places_of (length session.users)) d rest) start new t result → Refuses d → GoesOn d rest → Row
-    unfolding walk
-    walk_step_behind [] rest run refuses go_on =
-        read_step [] (slash_is_dir session ok (state old) f me t ready) before start unchanged begun rest
-        (subst (λ (place : Place). Runs (read_directory place rest) start new t result) (slash_place session ok (state old) f me t ready) run)
+    -- the walk into a directory up to its bytes
+    reading_step : (d : Path) (after : Place → List ℕ → Program) → Runs (find_place (places_of (length session.users)) d (reading after)) start new t result → Refuses d → GoesOnReading d after → Row
+    unfolding find_place look_in
+    reading_step [] after run refuses go_on =
+        bytes_step [] (slash_is_dir session ok (state old) f me t ready) before start unchanged begun (after (place_at session ok (state old) f me t ready []))
+        (subst (λ (place : Place). Runs (reading after place) start new t result) (slash_place session ok (state old) f me t ready) run)
         (λ unseen. refuses EACCES (ap (λ (b : Bool). unless b EACCES) unseen) (all_granted before ++ (read [], Some Observe) ∷ []) (among_behind old.line t (read [] ∷ []) before ((read [], Some Observe) ∷ []) (inl (refl, tt))))
-        (λ seen later stays chain on. go_on (ap (λ (b : Bool). unless b EACCES) seen) later stays chain on)
-    walk_step_behind (n ∷ d) rest run refuses go_on =
-        walk_step_behind d (λ above. given (directory_at (finite.get above.entries n)) (λ place. read_directory place rest)) run
+        (λ seen. go_on (ap (λ (b : Bool). unless b EACCES) seen))
+    reading_step (n ∷ d) after run refuses go_on =
+        reading_step d (λ above bytes. given (directory_at (found_in bytes n)) (reading after)) run
         (λ errno is steps among. refuses errno (ap (λ (o : Option Errno). o orelse unless (is_there f (n ∷ d)) ENOENT orelse unless (is_dir_at f (n ∷ d)) ENOTDIR orelse unless (reads session f process (n ∷ d)) EACCES) is) steps
         (subst (λ (calls : List RawCall). AreAmong calls (entries_of old.line t steps)) (sym (stopped_before n d errno is)) among))
-        (λ open_so_far mid stays chain on. next_step n d rest refuses go_on open_so_far mid stays chain (get f.files (n ∷ d)) refl on)
+        (λ open_so_far mid stays chain bytes is on.
+        next_step n d after refuses go_on open_so_far mid stays chain (get f.files (n ∷ d)) refl
+        (subst (λ (target : Option Target). Runs (given (directory_at target) (reading after)) mid new t result) (found_in_directory bytes (entries_at d) n is) on))
       where
         -- a walk that was refused looks at no directory more
         stopped_before : (n : Name) (d : Path) (errno : Errno) → into session f process d ≡ Some errno → calls_to (n ∷ d) ≡ calls_to d
@@ -394,6 +425,29 @@ module _ (session : Session) (ok : IsSession session) (old new : KernelModel) (f
             map-append read (tested session f process d) (if not (is_some (into session f process d)) && is_dir_at f (n ∷ d) then (n ∷ d) ∷ [] else [])
             ∙ (λ i. calls_to d ++ map read (if not (is_some (is i)) && is_dir_at f (n ∷ d) then (n ∷ d) ∷ [] else [])) ∙ append-nil (calls_to d)
 
+    -- The walk into a directory: it is refused as the flat rules refuse the call, or the call goes on with the directory.
+    pub walk_step_behind : (d : Path) (rest : Directory → Program) → Runs (walk (places_of (length session.users)) d rest) start new t result → Refuses d → GoesOn d rest → Row
+    unfolding walk read_directory
+    walk_step_behind d rest run refuses go_on =
+        reading_step d (λ place bytes. list bytes (λ entries. rest (record { place = place; entries = entries }))) run refuses
+        (λ open_so_far mid stays chain bytes is on.
+        listed_step session f me ready.caller call old new t ready.thread result (reached d) mid chain bytes (entries_at d) is _ on (go_on open_so_far mid stays chain))
+
+    -- The walk to a directory, and a look-up in it: it is refused as the flat rules refuse the call, or the call goes on with where the name leads.
+    pub look_step_behind : (d : Path) (n : Name) (rest : Place → Option Target → Program) → Runs (find_place (places_of (length session.users)) d (λ place. look_in place n (rest place))) start new t result
+        → Refuses d → GoesOnLooking d n rest → Row
+    unfolding look_in
+    look_step_behind d n rest run refuses go_on =
+        reading_step d (λ place bytes. rest place (found_in bytes n)) run refuses
+        (λ open_so_far mid stays chain bytes is on.
+        go_on open_so_far mid stays chain
+        (subst (λ (target : Option Target). Runs (rest (place_at session ok (state old) f me t ready d) target) mid new t result) (found_in_directory bytes (entries_at d) n is) on))
+
   -- the same of a walk with which the call begins
   pub walk_step : (d : Path) (rest : Directory → Program) → Runs (walk (places_of (length session.users)) d rest) old new t result → Refuses d → GoesOn [] old refl (same_kernel old) d rest → Row
   walk_step d rest run refuses go_on = walk_step_behind [] old refl (same_kernel old) d rest run refuses go_on
+
+  -- and of a look-up
+  pub look_step : (d : Path) (n : Name) (rest : Place → Option Target → Program) → Runs (find_place (places_of (length session.users)) d (λ place. look_in place n (rest place))) old new t result
+      → Refuses d → GoesOnLooking [] old refl (same_kernel old) d n rest → Row
+  look_step d n rest run refuses go_on = look_step_behind [] old refl (same_kernel old) d n rest run refuses go_on

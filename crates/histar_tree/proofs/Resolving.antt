@@ -8,10 +8,10 @@ use Rattle.histar_flat.specs.Words.{Name, Path}
 use Rattle.histar_object.specs.Objects.{bytes_in}
 use Rattle.histar_object.specs.State.{State}
 use Rattle.histar_layout.specs.Directory.{Entries, IsDirectory}
-use Rattle.histar_layout.specs.Found.{IsLookedUp}
+use Rattle.histar_layout.specs.Checked.{IsLookedUp}
 use Rattle.histar_layout.specs.declared.entry.Target.{Target}
 use Rattle.histar_layout.specs.declared.entry.Target.TheVariants.{File, Directory}
-use Rattle.histar_layout.specs.declared.lookup.NotADirectory.{NotADirectory}
+use Rattle.histar_layout.specs.declared.checked.NotADirectory.{NotADirectory}
 use Rattle.histar_layout.proofs.DirectoryLemmas.{same_directory}
 use Rattle.histar_calls.specs.declared.places.Places.{Places}
 use Rattle.histar_tree.specs.Resolve.{LeadsTo, LeadsNowhere, Resolves}

@@ -5,7 +5,7 @@ ghost use Rattle.histar_tree.specs.Resolve.{Resolves};
 use histar_calls::Places;
 use histar_flat::{Name, Path};
 use histar_label::LabelStore;
-use histar_layout::{Target, look_up};
+use histar_layout::{Target, look_up_checked};
 use histar_syscall::Kernel;
 
 /// Where a path leads in a kernel's own objects: the container and directory segment of a directory,
@@ -36,7 +36,7 @@ fn resolve_names<S: LabelStore + Drop>(
     let Target::Directory(_, listing) = resolve_names(kernel, places, above)? else {
         return None;
     };
-    let Ok(found) = look_up(kernel.bytes(listing), name) else {
+    let Ok(found) = look_up_checked(kernel.bytes(listing), name) else {
         return None;
     };
     found

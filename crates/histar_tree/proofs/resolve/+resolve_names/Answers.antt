@@ -13,10 +13,10 @@ pub returns-in_default-2 : goal.returns-in_default-2
 returns-in_default-2 g t c =
     nowhere_below_file (state c.args.kernel.now) c.args.places.now c.args.names.now c.name-item.result c.in-len1-up.len_at_least c.name-item.is c.in_ok-listing.field-0 c.in_ok-listing.ensures c.in_default-2.field-0 c.in_default-2.is
 
-pub returns-in_default-look_up : goal.returns-in_default-look_up
-returns-in_default-look_up g t c =
+pub returns-in_default-look_up_checked : goal.returns-in_default-look_up_checked
+returns-in_default-look_up_checked g t c =
     nowhere_unlisted (state c.args.kernel.now) c.args.places.now c.args.names.now c.name-item.result c.in-len1-up.len_at_least c.name-item.is c.in_ok-listing.field-0 c.in_ok-listing.ensures
-    c.in-Directory.field-0 c.in-Directory.listing c.in-Directory.is c.bytes.result.now c.bytes.ensures c.in_default-look_up.field-0 c.in_default-look_up.ensures
+    c.in-Directory.field-0 c.in-Directory.listing c.in-Directory.is c.bytes.result.now c.bytes.ensures c.in_default-look_up_checked.field-0 c.in_default-look_up_checked.ensures
 
 pub returns : goal.returns
 returns g t c =
