@@ -11,3 +11,4 @@ pub mod Telling
 pub mod TellingPrograms
 pub mod MakingDirectories
 pub mod ClassSteps
+pub mod Lookups

@@ -2,10 +2,9 @@
 use Rattle.std.proofs.Common.{◌≡◌, ℕ, ◌+◌, ◌<◌, Bool, true, false, List, [], ◌∷◌, ◌++◌, length, get_or, take, sym, ap, ◌∙◌, arith, add-zero, append-nil, if◌then◌else◌}
 use Rattle.std.specs.Prelude.{map}
 use Rattle.std.proofs.lemmas.List.{map-append, length-take-le}
-use Rattle.histar_flat.specs.declared.calls.User.{User}
 use Rattle.histar_flat.specs.Sessions.{Group, has, numbers_with}
 use Rattle.histar_flat.specs.Words.{Name}
-use Rattle.histar_calls.specs.Categories.{group_owner, owners_of}
+use Rattle.histar_calls.specs.Categories.{group_owner, owners_among}
 use Rattle.histar_calls.proofs.LabellingLemmas.{take_next}
 
 -- what stands behind a list that may begin with one number more
@@ -23,22 +22,21 @@ numbers-more m (y ∷ xs) x name =
     (numbers-more (m + 1) xs x name ∙ ap (λ (k : ℕ). numbers_with (m + 1) xs name ++ (if has x.members name then k ∷ [] else [])) next)
 
 -- what a user owns with one group more, by whether it is a member
-owners_with : (users : List User) (groups : List Group) (k i : ℕ) (x : Group) (name : Name) (b : Bool) → k < length groups → x ≡ get_or groups k x → has x.members name ≡ b
-    → owners_of (record { users = users; groups = take (k + 1) groups }) i name
-    ≡ owners_of (record { users = users; groups = take k groups }) i name ++ map (group_owner (length users)) (if b then (k + 1) ∷ [] else [])
+owners_with : (users : ℕ) (groups : List Group) (k i : ℕ) (x : Group) (name : Name) (b : Bool) → k < length groups → x ≡ get_or groups k x → has x.members name ≡ b
+    → owners_among users (take (k + 1) groups) i name ≡ owners_among users (take k groups) i name ++ map (group_owner users) (if b then (k + 1) ∷ [] else [])
 owners_with users groups k i x name b lt is member =
     let place : 1 + length (take k groups) ≡ k + 1 = omega (arith, length-take-le k groups (omega arith)) in
-    ap (λ (l : List Group). owners_of (record { users = users; groups = l }) i name) (take_next groups k x lt is)
-    ∙ ap (λ (l : List ℕ). i ∷ map (group_owner (length users)) l)
+    ap (λ (l : List Group). owners_among users l i name) (take_next groups k x lt is)
+    ∙ ap (λ (l : List ℕ). i ∷ map (group_owner users) l)
     (numbers-more 1 (take k groups) x name ∙ (λ j. numbers_with 1 (take k groups) name ++ (if member j then place j ∷ [] else [])))
-    ∙ ap (λ (l : List ℕ). i ∷ l) (map-append (group_owner (length users)) (numbers_with 1 (take k groups) name) (if b then (k + 1) ∷ [] else []))
+    ∙ ap (λ (l : List ℕ). i ∷ l) (map-append (group_owner users) (numbers_with 1 (take k groups) name) (if b then (k + 1) ∷ [] else []))
 
 -- with one more of its groups a user owns that one's categories too
-pub owners_more : (users : List User) (groups : List Group) (k i : ℕ) (x : Group) (name : Name) → k < length groups → x ≡ get_or groups k x → has x.members name ≡ true
-    → owners_of (record { users = users; groups = take (k + 1) groups }) i name ≡ owners_of (record { users = users; groups = take k groups }) i name ++ group_owner (length users) (k + 1) ∷ []
+pub owners_more : (users : ℕ) (groups : List Group) (k i : ℕ) (x : Group) (name : Name) → k < length groups → x ≡ get_or groups k x → has x.members name ≡ true
+    → owners_among users (take (k + 1) groups) i name ≡ owners_among users (take k groups) i name ++ group_owner users (k + 1) ∷ []
 owners_more users groups k i x name lt is member = owners_with users groups k i x name true lt is member
 
 -- and with a group that it is no member of it owns no more
-pub owners_same : (users : List User) (groups : List Group) (k i : ℕ) (x : Group) (name : Name) → k < length groups → x ≡ get_or groups k x → has x.members name ≡ false
-    → owners_of (record { users = users; groups = take (k + 1) groups }) i name ≡ owners_of (record { users = users; groups = take k groups }) i name
+pub owners_same : (users : ℕ) (groups : List Group) (k i : ℕ) (x : Group) (name : Name) → k < length groups → x ≡ get_or groups k x → has x.members name ≡ false
+    → owners_among users (take (k + 1) groups) i name ≡ owners_among users (take k groups) i name
 owners_same users groups k i x name lt is member = owners_with users groups k i x name false lt is member ∙ append-nil _

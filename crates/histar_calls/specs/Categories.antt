@@ -3,7 +3,7 @@ use Rattle.std.specs.Prelude.{◌≡◌, ℕ, zero, suc, ◌+◌, ◌*◌, ◌<�
 use Rattle.histar_flat.specs.declared.calls.Mode.{Mode}
 use Rattle.histar_flat.specs.declared.calls.Mode.TheVariants.{Private, Readable, Open, Group}
 use Rattle.histar_flat.specs.Words.{Name}
-use Rattle.histar_flat.specs.Sessions.{Session, group_number, groups_of}
+use Rattle.histar_flat.specs.Sessions.{Group as DeclaredGroup, Session, group_number, numbers_with}
 use Rattle.histar_label.specs.Level.{is_star}
 use Rattle.histar_label.specs.declared.levels.Level.TheVariants.{L1}
 use Rattle.histar_label.specs.Levels.{Levels, constant, level_of}
@@ -26,9 +26,14 @@ group_owner users k = users + k
 abbrev pub owner_of_group : Session → Name → ℕ
 owner_of_group session group = elim (group_number session group) [ None ↦ 0 | Some k ↦ group_owner (length session.users) k ]
 
--- the numbers by which the categories go that the user i of this name owns: its own, and those of the groups that it is a member of
+-- the numbers by which the categories go that the user i of this name owns, of so many users and of these groups: its own, and those of
+-- the groups that it is a member of
+abbrev pub owners_among : ℕ → List DeclaredGroup → ℕ → Name → List ℕ
+owners_among users groups i name = i ∷ map (group_owner users) (numbers_with 1 groups name)
+
+-- those that the user owns of the users and the groups of a session
 abbrev pub owners_of : Session → ℕ → Name → List ℕ
-owners_of session i name = i ∷ map (group_owner (length session.users)) (groups_of session name)
+owners_of session i name = owners_among (length session.users) session.groups i name
 
 -- a label owns the read category of a user
 abbrev pub owns : Levels → ℕ → Bool

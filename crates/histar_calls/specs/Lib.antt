@@ -1,6 +1,7 @@
 pub mod Labelling
 pub mod Jobs
 pub mod Categories
+pub mod UserTable
 pub mod Refusals
 pub mod Replies
 pub mod Programs

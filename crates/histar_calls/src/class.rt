@@ -4,7 +4,8 @@ ghost use Rattle.histar_calls.specs.ClassOf.{class_at, class_of, group_class_at,
 
 use crate::owners::group_owner;
 use crate::places::{read_category, write_category};
-use histar_flat::{FileMode, Name, Session, Stat};
+use crate::user_table::UserTable;
+use histar_flat::{FileMode, Name, Stat};
 use histar_label::{Label, Level};
 
 /// Whose a file or a directory is, and for whom, as its label tells.
@@ -87,28 +88,27 @@ fn is_all_plain(label: &Label) -> bool
 
 /// The class of what has this label: that of the first user or group whose categories the label names.
 /// Where it names none's it is open to everyone, if it names no category at all, and else of no class.
-pub fn class_of(label: &Label, session: &Session) -> Option<Class>
-    ensures { result ≡ class_of session.now label.now }
+pub fn class_of(label: &Label, users: &UserTable) -> Option<Class>
+    ensures { result ≡ class_of users.now label.now }
 {
-    let users = session.users();
-    for (place, user) in users.iter().enumerate() {
+    for place in 0..users.len() {
         let number = place as u8 + 1;
         let read = label.get(read_category(number));
         let write = label.get(write_category(number));
         if !are_plain(read, write) {
-            return class_at(user.name, read, write);
+            return class_at(users.name_at(place), read, write);
         }
     }
-    group_class_of(label, session)
+    group_class_of(label, users)
 }
 
 /// The class of what has this label, which names no user's category.
-fn group_class_of(label: &Label, session: &Session) -> Option<Class>
-    ensures { result ≡ group_class_from label.now (length session.now.users + 1) session.now.groups }
+fn group_class_of(label: &Label, users: &UserTable) -> Option<Class>
+    ensures { result ≡ group_class_from label.now (length users.now.users + 1) users.now.groups }
 {
-    let groups = session.groups();
+    let groups = users.groups();
     for (place, group) in groups.iter().enumerate() {
-        let number = group_owner(session, place as u8 + 1);
+        let number = group_owner(users.len(), place as u8 + 1);
         let read = label.get(read_category(number));
         let write = label.get(write_category(number));
         if !are_plain(read, write) {

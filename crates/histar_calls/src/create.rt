@@ -8,8 +8,9 @@ use crate::ending::{Ending, Stopped, settle};
 use crate::find::{Room, find_room};
 use crate::labels::label_made;
 use crate::places::Places;
+use crate::user_table::UserTable;
 use histar_base::Bytes;
-use histar_flat::{Mode, Path, Reply, Session};
+use histar_flat::{Mode, Path, Reply};
 use histar_label::LabelStore;
 use histar_layout::Target;
 use histar_object::ObjId;
@@ -24,26 +25,26 @@ pub fn create<S: LabelStore + Drop>(
     kernel: &mut Kernel<S>,
     alloc: Global,
     places: &Places,
-    session: &Session,
+    users: &UserTable,
     thread: ObjId,
     path: &Path,
     mode: Mode,
 ) -> Result<Reply, Stopped>
-    ensures { Runs (create_program session.now places.now path.now mode) kernel.old kernel.new thread result }
+    ensures { Runs (create_program users.now places.now path.now mode) kernel.old kernel.new thread result }
 {
-    settle(create_file(kernel, alloc, places, session, thread, path, mode))
+    settle(create_file(kernel, alloc, places, users, thread, path, mode))
 }
 
 fn create_file<S: LabelStore + Drop>(
     kernel: &mut Kernel<S>,
     alloc: Global,
     places: &Places,
-    session: &Session,
+    users: &UserTable,
     thread: ObjId,
     path: &Path,
     mode: Mode,
 ) -> Result<Reply, Ending>
-    ensures { Runs (create_program session.now places.now path.now mode) kernel.old kernel.new thread (settled result) }
+    ensures { Runs (create_program users.now places.now path.now mode) kernel.old kernel.new thread (settled result) }
 {
     let Room {
         place,
@@ -51,7 +52,7 @@ fn create_file<S: LabelStore + Drop>(
         name,
     } = find_room(kernel, alloc, places, thread, path)?;
     let (own, _) = kernel.own_label(thread)?;
-    let label = label_made(alloc, &own, session, mode)?;
+    let label = label_made(alloc, &own, users, mode)?;
     let empty = Bytes::new(alloc);
     let file = kernel.make_segment(alloc, thread, place.container, label, empty)?;
     entries.insert(name, Target::File(file))?;

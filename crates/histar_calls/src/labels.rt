@@ -6,7 +6,8 @@ ghost use Rattle.histar_calls.specs.Labelling.{cleared_at, each_at, guarded_by, 
 use crate::jobs::{is_in_job, jobs_in};
 use crate::owners::owner_of_group;
 use crate::places::{read_category, write_category};
-use histar_flat::{Mode, Session};
+use crate::user_table::UserTable;
+use histar_flat::Mode;
 use histar_label::{Category, Label, Level};
 use std::alloc::{AllocError, Global};
 
@@ -69,11 +70,11 @@ fn with_each(label: Label, level: Level, categories: &[Category]) -> Result<Labe
 
 /// The number of the user whose read category a thread owns by its label: 0, nobody's, where it owns
 /// none. That it is the thread's user is read off its label alone, as the kernel does.
-pub fn user_of(own: &Label, session: &Session) -> u8
-    ensures { IsUserOf own.now (length session.now.users) result }
+pub fn user_of(own: &Label, users: &UserTable) -> u8
+    ensures { IsUserOf own.now (length users.now.users) result }
 {
-    let users = session.users().len() as u8;
-    for before in 0..users {
+    let count = users.len() as u8;
+    for before in 0..count {
         if own.get(read_category(before + 1)).is_star() {
             return before + 1;
         }
@@ -100,14 +101,14 @@ pub fn scratch_label(alloc: Global, user: u8, jobs: &[Category]) -> Result<Label
 
 /// The label of what a user makes in no job, in this mode. Nobody's categories are owned by no thread, so
 /// nobody may make no file with them, and nobody makes a file for a group that is not declared.
-fn file_label(alloc: Global, session: &Session, mode: Mode, user: u8) -> Result<Label, AllocError>
-    ensures { IfOk result (λ label. label ≡ file_label session.now mode user) }
+fn file_label(alloc: Global, users: &UserTable, mode: Mode, user: u8) -> Result<Label, AllocError>
+    ensures { IfOk result (λ label. label ≡ file_label users.now mode user) }
 {
     match mode {
         Mode::Readable => label_of(alloc, Level::L1, &[(write_category(user), Level::L0)]),
         Mode::Private => secret_of(alloc, user),
         Mode::Open => label_of(alloc, Level::L1, &[]),
-        Mode::Group(name) => secret_of(alloc, owner_of_group(session, name)),
+        Mode::Group(name) => secret_of(alloc, owner_of_group(users, name)),
     }
 }
 
@@ -115,14 +116,14 @@ fn file_label(alloc: Global, session: &Session, mode: Mode, user: u8) -> Result<
 pub fn label_made(
     alloc: Global,
     own: &Label,
-    session: &Session,
+    users: &UserTable,
     mode: Mode,
 ) -> Result<Label, AllocError>
-    ensures { IfOk result (λ label. label ≡ label_made session.now own.now mode) }
+    ensures { IfOk result (λ label. label ≡ label_made users.now own.now mode) }
 {
-    let user = user_of(own, session);
+    let user = user_of(own, users);
     if !is_in_job(own) {
-        return file_label(alloc, session, mode, user);
+        return file_label(alloc, users, mode, user);
     }
     let jobs = jobs_in(alloc, own)?;
     scratch_label(alloc, user, jobs.as_slice())

@@ -8,8 +8,9 @@ use crate::ending::{Ending, Stopped, settle};
 use crate::find::{Room, find_room};
 use crate::labels::label_made;
 use crate::places::Places;
+use crate::user_table::UserTable;
 use histar_base::Bytes;
-use histar_flat::{Mode, Path, Reply, Session};
+use histar_flat::{Mode, Path, Reply};
 use histar_label::LabelStore;
 use histar_layout::Target;
 use histar_object::ObjId;
@@ -22,26 +23,26 @@ pub fn mkdir<S: LabelStore + Drop>(
     kernel: &mut Kernel<S>,
     alloc: Global,
     places: &Places,
-    session: &Session,
+    users: &UserTable,
     thread: ObjId,
     path: &Path,
     mode: Mode,
 ) -> Result<Reply, Stopped>
-    ensures { Runs (mkdir_program session.now places.now path.now mode) kernel.old kernel.new thread result }
+    ensures { Runs (mkdir_program users.now places.now path.now mode) kernel.old kernel.new thread result }
 {
-    settle(make_directory(kernel, alloc, places, session, thread, path, mode))
+    settle(make_directory(kernel, alloc, places, users, thread, path, mode))
 }
 
 fn make_directory<S: LabelStore + Drop>(
     kernel: &mut Kernel<S>,
     alloc: Global,
     places: &Places,
-    session: &Session,
+    users: &UserTable,
     thread: ObjId,
     path: &Path,
     mode: Mode,
 ) -> Result<Reply, Ending>
-    ensures { Runs (mkdir_program session.now places.now path.now mode) kernel.old kernel.new thread (settled result) }
+    ensures { Runs (mkdir_program users.now places.now path.now mode) kernel.old kernel.new thread (settled result) }
 {
     let Room {
         place,
@@ -49,7 +50,7 @@ fn make_directory<S: LabelStore + Drop>(
         name,
     } = find_room(kernel, alloc, places, thread, path)?;
     let (own, _) = kernel.own_label(thread)?;
-    let label = label_made(alloc, &own, session, mode)?;
+    let label = label_made(alloc, &own, users, mode)?;
     let same = label.copy()?;
     let container = kernel.make_container(alloc, thread, place.container, label)?;
     let empty = Bytes::new(alloc);

@@ -7,7 +7,8 @@ use crate::class::class_of;
 use crate::directory::{entry_at, find_place, look_in};
 use crate::ending::{Ending, Stopped, settle};
 use crate::places::Places;
-use histar_flat::{Path, Reply, Session};
+use crate::user_table::UserTable;
+use histar_flat::{Path, Reply};
 use histar_label::LabelStore;
 use histar_object::ObjId;
 use histar_syscall::Kernel;
@@ -30,27 +31,27 @@ pub struct FoundObject {
 pub fn stat<S: LabelStore + Drop>(
     kernel: &mut Kernel<S>,
     places: &Places,
-    session: &Session,
+    users: &UserTable,
     thread: ObjId,
     path: &Path,
 ) -> Result<Reply, Stopped>
-    ensures { Runs (stat_program session.now places.now path.now) kernel.old kernel.new thread result }
+    ensures { Runs (stat_program users.now places.now path.now) kernel.old kernel.new thread result }
 {
-    settle(stat_object(kernel, places, session, thread, path))
+    settle(stat_object(kernel, places, users, thread, path))
 }
 
 fn stat_object<S: LabelStore + Drop>(
     kernel: &mut Kernel<S>,
     places: &Places,
-    session: &Session,
+    users: &UserTable,
     thread: ObjId,
     path: &Path,
 ) -> Result<Reply, Ending>
-    ensures { Runs (stat_program session.now places.now path.now) kernel.old kernel.new thread (settled result) }
+    ensures { Runs (stat_program users.now places.now path.now) kernel.old kernel.new thread (settled result) }
 {
     let found = find_object(kernel, places, thread, path)?;
     let label = kernel.label_of(thread, found.container, found.object)?;
-    let Some(class) = class_of(&label, session) else {
+    let Some(class) = class_of(&label, users) else {
         return Err(Ending::Stopped);
     };
     Ok(Reply::Stats(class.stat(found.is_directory)))

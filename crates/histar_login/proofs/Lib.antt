@@ -14,3 +14,4 @@ pub mod AllowedCalls
 pub mod Beginnings
 pub mod MadeLabels
 pub mod TellingLogins
+pub mod Numbers

@@ -14,7 +14,7 @@ use crate::gates::gate_labels;
 use crate::table::user_table;
 use histar_base::Bytes;
 use histar_calls::{
-    Home, Place, Places, Stopped, label_of, owners_of, read_category, write_category,
+    Home, Place, Places, Stopped, label_of, owners_among, read_category, write_category,
 };
 use histar_flat::{Session, User};
 use histar_label::{Category, Label, LabelStore, Level};
@@ -146,7 +146,9 @@ fn make_user<S: LabelStore + Drop>(
     ensures ok { OnOk result (MakesUser kernel.old kernel.new session.now number user.now) }
     ensures err { OnErr result (BeginsUser kernel.old kernel.new session.now number user.now) }
 {
-    let owners = owners_of(alloc, session, number, user.name)?;
+    let users = session.users();
+    let groups = session.groups();
+    let owners = owners_among(alloc, users.len(), groups, number, user.name)?;
     make_password(alloc, kernel, number, user.password.as_bytes())?;
     make_login_gate(alloc, kernel, number, owners.as_slice())?;
     Ok(())

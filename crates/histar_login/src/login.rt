@@ -8,10 +8,9 @@ ghost use Rattle.histar_calls.specs.Refusals.{settled};
 ghost use Rattle.histar_login.specs.Login.{user_label, user_clearance, gate_of, password_of, entering, label_if, clearance_if, reply_if, login_program, login_as_program};
 
 use crate::gates::gate_labels;
-use crate::table::{number_of, place_of};
 use histar_base::Bytes;
-use histar_calls::{Ending, Stopped, cleared_at, owner_label, owners_of, settle};
-use histar_flat::{Errno, Name, Password, Reply, Session};
+use histar_calls::{Ending, Stopped, UserTable, cleared_at, owner_label, owners_of, settle};
+use histar_flat::{Errno, Name, Password, Reply};
 use histar_label::{Label, LabelStore};
 use histar_object::{Entry, ObjId};
 use histar_process::{Caller, categories_of, joined};
@@ -101,18 +100,17 @@ fn is_password(kept: &Bytes, password: Password) -> bool
 pub fn login<S: LabelStore + Drop>(
     kernel: &mut Kernel<S>,
     alloc: Global,
-    session: &Session,
+    users: &UserTable,
     caller: &Caller,
     name: Name,
     password: Password,
 ) -> Result<Reply, Stopped>
-    ensures { Runs (login_program session.now caller.now name password) kernel.old kernel.new caller.now.thread result }
+    ensures { Runs (login_program users.now caller.now name password) kernel.old kernel.new caller.now.thread result }
 {
-    let Some(at) = place_of(session.users(), name) else {
+    let Some(number) = users.number_of(name) else {
         return Ok(Reply::Refused(Errno::ENOENT));
     };
-    let number = number_of(at);
-    let owners = owners_of(alloc, session, number, name)?;
+    let owners = owners_of(alloc, users, number, name)?;
     settle(login_as(kernel, alloc, caller, number, owners.as_slice(), password))
 }
 

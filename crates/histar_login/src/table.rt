@@ -2,28 +2,12 @@
 //! is theirs.
 ghost use Rattle.std.specs.Prelude.{◌≡◌, ◌+◌, ◌<◌, ◌≤◌, ◌++◌, length, IfOk, OnOk};
 ghost use Rattle.histar_flat.specs.Sessions.{most_groups, most_users};
-ghost use Rattle.histar_login.specs.Login.{place_of};
 ghost use Rattle.histar_login.specs.Start.{numbers_among, user_entry, group_entry, group_part, user_table};
 
 use histar_base::Bytes;
 use histar_calls::{group_owner, read_category, write_category};
-use histar_flat::{Group, Name, Session, User};
+use histar_flat::{Group, Session, User};
 use std::alloc::{AllocError, Global};
-
-/// The place of the user with this name.
-pub(crate) fn place_of(users: &[User], name: Name) -> Option<usize>
-    ensures { result ≡ place_of users.now name }
-{
-    users.iter().position(|user| user.name == name)
-}
-
-/// The number of the user at a place: users are numbered from 1 on.
-pub(crate) fn number_of(place: usize) -> u8
-    requires { place < 16 }
-    ensures { result ≡ place + 1 }
-{
-    place as u8 + 1
-}
 
 /// Adds a user to the user table: the length of the name, the name, the user's two categories, its
 /// gate and its password segment.
@@ -74,14 +58,15 @@ fn push_group(
         ≡ table.old.items ++ group_entry session.now.users number group.now) }
     ensures few { OnOk result (length table.new.items ≤ length table.old.items + 66) }
 {
+    let users = session.users();
     let name = group.name();
-    let owner = group_owner(session, number);
+    let owner = group_owner(users.len(), number);
     table.push(name.as_bytes().len() as u8)?;
     table.extend_from_slice(name.as_bytes())?;
     table.extend_from_slice(&read_category(owner).number().to_be_bytes())?;
     table.extend_from_slice(&write_category(owner).number().to_be_bytes())?;
     table.push(group.members().len() as u8)?;
-    push_members(table, session.users(), group)
+    push_members(table, users, group)
 }
 
 /// Adds the groups to the user table, which has a zero before them where a group is.

@@ -4,25 +4,25 @@ ghost use Rattle.histar_flat.specs.Classes.{nobody};
 ghost use Rattle.histar_calls.specs.Categories.{read_category, write_category};
 ghost use Rattle.histar_process.specs.Kin.{categories_of, owned_by, user_name};
 
-use histar_calls::{owners_of, read_category, write_category};
-use histar_flat::{Name, Session, User, read_name};
+use histar_calls::{UserTable, owners_of, read_category, write_category};
+use histar_flat::{Name, read_name};
 use histar_label::Category;
 use std::alloc::{AllocError, Global};
 
 /// The categories that a process owns as the user of this number, if it is free of jobs or not.
 pub fn owned_by(
     alloc: Global,
-    session: &Session,
+    users: &UserTable,
     user: u8,
     free: bool,
 ) -> Result<Vec<Category>, AllocError>
-    ensures { IfOk result (λ owned. owned.items ≡ owned_by session.now user free) }
+    ensures { IfOk result (λ owned. owned.items ≡ owned_by users.now user free) }
 {
     if user == 0 {
         return Ok(Vec::new(alloc));
     }
-    let name = user_name(session.users(), user);
-    let owners = owners_of(alloc, session, user, name)?;
+    let name = user_name(users, user);
+    let owners = owners_of(alloc, users, user, name)?;
     categories_of(alloc, owners.as_slice(), free)
 }
 
@@ -73,11 +73,11 @@ pub fn joined(
 }
 
 /// The name of the user of this number, from 1 on; nobody's is number 0.
-pub fn user_name(users: &[User], number: u8) -> Name
-    ensures { result ≡ user_name users.now number }
+pub fn user_name(users: &UserTable, number: u8) -> Name
+    ensures { result ≡ user_name users.now.users number }
 {
     if number > 0 && (number as usize) <= users.len() {
-        return users[number as usize - 1].name;
+        return users.name_at(number as usize - 1);
     }
     nobody()
 }

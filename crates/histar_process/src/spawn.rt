@@ -10,8 +10,8 @@ use crate::birth::give_birth;
 use crate::caller::Caller;
 use crate::find::{Segment, read_segment};
 use crate::kin::owned_by;
-use histar_calls::{Ending, Home, Stopped, is_in_job, jobs_in, settle, user_of};
-use histar_flat::{Errno, MOST_NUMBERS, ProcName, Reply, Session};
+use histar_calls::{Ending, Home, Stopped, UserTable, is_in_job, jobs_in, settle, user_of};
+use histar_flat::{Errno, MOST_NUMBERS, ProcName, Reply};
 use histar_label::LabelStore;
 use histar_object::ObjId;
 use histar_syscall::Kernel;
@@ -26,29 +26,29 @@ const MOST_CHILDREN: u8 = 64;
 pub fn spawn<S: LabelStore + Drop>(
     kernel: &mut Kernel<S>,
     alloc: Global,
-    session: &Session,
+    users: &UserTable,
     name: &ProcName,
     caller: &Caller,
 ) -> Result<Reply, Stopped>
-    ensures { Runs (spawn_program session.now name.now caller.now.home) kernel.old kernel.new caller.now.thread result }
+    ensures { Runs (spawn_program users.now name.now caller.now.home) kernel.old kernel.new caller.now.thread result }
 {
-    settle(spawn_child(kernel, alloc, session, name, caller))
+    settle(spawn_child(kernel, alloc, users, name, caller))
 }
 
 fn spawn_child<S: LabelStore + Drop>(
     kernel: &mut Kernel<S>,
     alloc: Global,
-    session: &Session,
+    users: &UserTable,
     name: &ProcName,
     caller: &Caller,
 ) -> Result<Reply, Ending>
-    ensures { Runs (spawn_program session.now name.now caller.now.home) kernel.old kernel.new caller.now.thread (settled result) }
+    ensures { Runs (spawn_program users.now name.now caller.now.home) kernel.old kernel.new caller.now.thread (settled result) }
 {
     let (home, thread) = (&caller.home, caller.thread);
     let Segment { head, bytes } = room_for_child(kernel, alloc, thread, name, home)?;
     let (own, most) = kernel.own_label(thread)?;
     let jobs = jobs_in(alloc, &own)?;
-    let owned = owned_by(alloc, session, user_of(&own, session), !is_in_job(&own))?;
+    let owned = owned_by(alloc, users, user_of(&own, users), !is_in_job(&own))?;
     give_birth(
         kernel,
         alloc,

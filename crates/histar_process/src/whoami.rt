@@ -4,8 +4,8 @@ ghost use Rattle.histar_calls.specs.Refusals.{settled};
 ghost use Rattle.histar_process.specs.Whoami.{whoami_program};
 
 use crate::kin::user_name;
-use histar_calls::{Ending, Stopped, is_in_job, settle, user_of};
-use histar_flat::{Reply, Session};
+use histar_calls::{Ending, Stopped, UserTable, is_in_job, settle, user_of};
+use histar_flat::Reply;
 use histar_label::LabelStore;
 use histar_object::ObjId;
 use histar_syscall::Kernel;
@@ -14,22 +14,22 @@ use histar_syscall::Kernel;
 /// own label tells.
 pub fn whoami<S: LabelStore + Drop>(
     kernel: &mut Kernel<S>,
-    session: &Session,
+    users: &UserTable,
     thread: ObjId,
 ) -> Result<Reply, Stopped>
-    ensures { Runs (whoami_program session.now) kernel.old kernel.new thread result }
+    ensures { Runs (whoami_program users.now) kernel.old kernel.new thread result }
 {
-    settle(tell_user(kernel, session, thread))
+    settle(tell_user(kernel, users, thread))
 }
 
 fn tell_user<S: LabelStore + Drop>(
     kernel: &mut Kernel<S>,
-    session: &Session,
+    users: &UserTable,
     thread: ObjId,
 ) -> Result<Reply, Ending>
-    ensures { Runs (whoami_program session.now) kernel.old kernel.new thread (settled result) }
+    ensures { Runs (whoami_program users.now) kernel.old kernel.new thread (settled result) }
 {
     let (own, _most) = kernel.own_label(thread)?;
-    let number = user_of(&own, session);
-    Ok(Reply::User(user_name(session.users(), number), is_in_job(&own)))
+    let number = user_of(&own, users);
+    Ok(Reply::User(user_name(users, number), is_in_job(&own)))
 }

@@ -1,5 +1,8 @@
+ghost use Rattle.std.specs.Prelude.{IfOk};
+ghost use Rattle.histar_calls.specs.UserTable.{HaveOwnNames};
+
 use super::*;
-use histar_calls::create;
+use histar_calls::{UserTable, create};
 use histar_flat::{
     Mode, Name, Password, Path, ProcName, Session, User, read_password, read_path, read_user_name,
 };
@@ -11,7 +14,9 @@ use std::alloc::Global;
 use std::test::Fail;
 
 /// A session with one user, `root`.
-fn session(alloc: Global) -> Result<Session, Fail> {
+fn session(alloc: Global) -> Result<Session, Fail>
+    ensures { IfOk result (λ session. HaveOwnNames session.users) }
+{
     let mut session = Session::new(alloc);
     let (name, password) = root()?;
     session.add_user(User { name, password })?;
@@ -47,18 +52,19 @@ fn a_path_leads_to_a_new_file(rt: HostRuntime) -> Result<(), Fail> {
     let alloc = rt.alloc();
     let session = session(alloc)?;
     assert!(rt; !session.users().is_empty());
+    let users = UserTable::of(alloc, &session)?;
     let (mut kernel, places) = boot(alloc, PlainStore::new(alloc), &session)?;
     let zero = ProcName::zero();
     let caller = find_caller(&kernel, places.home, &zero).ok_or("process 0")?;
     let (name, password) = root()?;
-    login::login(&mut kernel, alloc, &session, &caller, name, password)?;
+    login::login(&mut kernel, alloc, &users, &caller, name, password)?;
     let file = read_path(b"/file").ok_or("a path")?;
     let thread = caller.thread;
     create::create(
         &mut kernel,
         alloc,
         &places,
-        &session,
+        &users,
         thread,
         &file,
         Mode::Open,
@@ -73,12 +79,13 @@ fn a_new_process_stands_behind_the_first(rt: HostRuntime) -> Result<(), Fail> {
     let alloc = rt.alloc();
     let session = session(alloc)?;
     assert!(rt; !session.users().is_empty());
+    let users = UserTable::of(alloc, &session)?;
     let (mut kernel, places) = boot(alloc, PlainStore::new(alloc), &session)?;
     let zero = ProcName::zero();
     let first = procs_of(alloc, &kernel, &places)?.ok_or("processes")?;
     assert_eq!(rt; first.len(), 1);
     let caller = find_caller(&kernel, places.home, &zero).ok_or("process 0")?;
-    spawn::spawn(&mut kernel, alloc, &session, &zero, &caller)?;
+    spawn::spawn(&mut kernel, alloc, &users, &zero, &caller)?;
     let both = procs_of(alloc, &kernel, &places)?.ok_or("processes")?;
     assert_eq!(rt; both.len(), 2);
     assert!(rt; both[0].name == zero);

@@ -6,8 +6,8 @@ ghost use Rattle.histar_tree.specs.declared.tree.TreeError.TheVariants.{NotATree
 ghost use Rattle.histar_tree.specs.TreeLines.{bytes_at};
 ghost use Rattle.histar_tree.specs.Tree.{AddsBelow, AddsTree, FindsTree, node_at};
 
-use histar_calls::{Places, class_of};
-use histar_flat::{Path, Session, Stat};
+use histar_calls::{Places, UserTable, class_of};
+use histar_flat::{Path, Stat};
 use histar_label::LabelStore;
 use histar_layout::{Target, read_dir};
 use histar_object::ObjId;
@@ -63,13 +63,13 @@ pub fn tree_of<S: LabelStore + Drop>(
     alloc: Global,
     kernel: &Kernel<S>,
     places: &Places,
-    session: &Session,
+    users: &UserTable,
 ) -> Result<Option<Vec<TreeNode>>, AllocError>
-    ensures { IfOk result (FindsTree session.now (state kernel.now) places.now) }
+    ensures { IfOk result (FindsTree users.now (state kernel.now) places.now) }
 {
     let mut tree = Vec::new(alloc);
     let slash = Target::Directory(places.slash.container, places.slash.listing);
-    match push_tree(alloc, kernel, session, &Path::root(), slash, &mut tree) {
+    match push_tree(alloc, kernel, users, &Path::root(), slash, &mut tree) {
         Ok(()) => Ok(Some(tree)),
         Err(TreeError::NotATree) => Ok(None),
         Err(TreeError::OutOfMemory) => Err(AllocError),
@@ -91,19 +91,19 @@ pub fn bytes_of<'a, S: LabelStore + Drop>(kernel: &'a Kernel<S>, target: Target)
 fn push_tree<S: LabelStore + Drop>(
     alloc: Global,
     kernel: &Kernel<S>,
-    session: &Session,
+    users: &UserTable,
     path: &Path,
     target: Target,
     tree: &mut Vec<TreeNode>,
 ) -> Result<(), TreeError>
     requires { length path.now ≤ most_names }
-    ensures { AddsTree session.now (state kernel.now) path.now target tree.old.items tree.new.items result }
+    ensures { AddsTree users.now (state kernel.now) path.now target tree.old.items tree.new.items result }
 {
-    let node = node_at(kernel, session, path, target)?;
+    let node = node_at(kernel, users, path, target)?;
     tree.push(node)?;
     match &target {
         Target::File(_) => Ok(()),
-        Target::Directory(_, listing) => push_below(alloc, kernel, session, path, *listing, tree),
+        Target::Directory(_, listing) => push_below(alloc, kernel, users, path, *listing, tree),
     }
 }
 
@@ -112,13 +112,13 @@ fn push_tree<S: LabelStore + Drop>(
 fn push_below<S: LabelStore + Drop>(
     alloc: Global,
     kernel: &Kernel<S>,
-    session: &Session,
+    users: &UserTable,
     path: &Path,
     listing: ObjId,
     tree: &mut Vec<TreeNode>,
 ) -> Result<(), TreeError>
     requires { length path.now ≤ most_names }
-    ensures { AddsBelow session.now (state kernel.now) path.now listing tree.old.items tree.new.items result }
+    ensures { AddsBelow users.now (state kernel.now) path.now listing tree.old.items tree.new.items result }
 {
     let Some(directory) = read_dir(alloc, kernel.bytes(listing))? else {
         return Err(TreeError::NotATree);
@@ -129,7 +129,7 @@ fn push_below<S: LabelStore + Drop>(
             return Err(TreeError::NotATree);
         }
         let inner = path.entry(*name);
-        push_tree(alloc, kernel, session, &inner, *target, tree)?;
+        push_tree(alloc, kernel, users, &inner, *target, tree)?;
     }
     Ok(())
 }
@@ -137,16 +137,16 @@ fn push_below<S: LabelStore + Drop>(
 /// What stands at a path where its entry leads: its object has a label, which is of a class.
 fn node_at<S: LabelStore + Drop>(
     kernel: &Kernel<S>,
-    session: &Session,
+    users: &UserTable,
     path: &Path,
     target: Target,
 ) -> Result<TreeNode, TreeError>
-    ensures { result ≡ ok_or (node_at session.now (state kernel.now) path.now target) NotATree }
+    ensures { result ≡ ok_or (node_at users.now (state kernel.now) path.now target) NotATree }
 {
     let Some(label) = kernel.label(target.object()) else {
         return Err(TreeError::NotATree);
     };
-    let Some(class) = class_of(label, session) else {
+    let Some(class) = class_of(label, users) else {
         return Err(TreeError::NotATree);
     };
     Ok(TreeNode {

@@ -6,8 +6,10 @@ ghost use Rattle.histar_wrap.specs.Scratch.{jobs_with};
 ghost use Rattle.histar_wrap.specs.WrapCall.{wrap_program};
 
 use crate::scratch::{hold_job, make_scratch};
-use histar_calls::{Ending, Places, Stopped, find_room, jobs_in, scratch_label, settle, user_of};
-use histar_flat::{Path, ProcName, Reply, Session};
+use histar_calls::{
+    Ending, Places, Stopped, UserTable, find_room, jobs_in, scratch_label, settle, user_of,
+};
+use histar_flat::{Path, ProcName, Reply};
 use histar_label::{Category, Label, LabelStore};
 use histar_process::{Caller, Segment, give_birth, owned_by, room_for_child};
 use histar_syscall::Kernel;
@@ -28,37 +30,37 @@ pub fn wrap<S: LabelStore + Drop>(
     kernel: &mut Kernel<S>,
     alloc: Global,
     places: &Places,
-    session: &Session,
+    users: &UserTable,
     name: &ProcName,
     caller: &Caller,
     path: &Path,
 ) -> Result<Reply, Stopped>
-    ensures { Runs (wrap_program session.now places.now name.now caller.now.home path.now) kernel.old kernel.new caller.now.thread result }
+    ensures { Runs (wrap_program users.now places.now name.now caller.now.home path.now) kernel.old kernel.new caller.now.thread result }
 {
-    settle(start_job(kernel, alloc, places, session, name, caller, path))
+    settle(start_job(kernel, alloc, places, users, name, caller, path))
 }
 
 fn start_job<S: LabelStore + Drop>(
     kernel: &mut Kernel<S>,
     alloc: Global,
     places: &Places,
-    session: &Session,
+    users: &UserTable,
     name: &ProcName,
     caller: &Caller,
     path: &Path,
 ) -> Result<Reply, Ending>
-    ensures { Runs (wrap_program session.now places.now name.now caller.now.home path.now) kernel.old kernel.new caller.now.thread (settled result) }
+    ensures { Runs (wrap_program users.now places.now name.now caller.now.home path.now) kernel.old kernel.new caller.now.thread (settled result) }
 {
     let (home, thread) = (&caller.home, caller.thread);
     let Segment { head, bytes } = room_for_child(kernel, alloc, thread, name, home)?;
     let room = find_room(kernel, alloc, places, thread, path)?;
     let (own, most) = kernel.own_label(thread)?;
     let job = kernel.make_category(thread)?;
-    let user = user_of(&own, session);
+    let user = user_of(&own, users);
     let jobs = jobs_with(alloc, &own, job)?;
     let label = scratch_label(alloc, user, jobs.as_slice())?;
     make_scratch(kernel, alloc, thread, &own, &most, label, room)?;
-    let owned = owned_by(alloc, session, user, false)?;
+    let owned = owned_by(alloc, users, user, false)?;
     give_birth(
         kernel,
         alloc,

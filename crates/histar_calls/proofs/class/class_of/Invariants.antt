@@ -3,4 +3,4 @@ use Rattle.histar_calls.specs.ClassOf.{class_from}
 use Rattle.histar_calls.proofs.class.class_of.Given as goal
 
 abbrev pub invariant-loop-place : goal.invariant-loop-place
-invariant-loop-place l = class_from l.label 1 l.session.groups l.session.users ≡ class_from l.label (l.place + 1) l.session.groups (drop l.place l.session.users)
+invariant-loop-place l = class_from l.label 1 l.users.groups l.users.users ≡ class_from l.label (l.place + 1) l.users.groups (drop l.place l.users.users)

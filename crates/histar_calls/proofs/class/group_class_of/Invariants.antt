@@ -4,4 +4,4 @@ use Rattle.histar_calls.proofs.class.group_class_of.Given as goal
 
 abbrev pub invariant-loop-place : goal.invariant-loop-place
 invariant-loop-place l =
-    group_class_from l.label (length l.session.users + 1) l.session.groups ≡ group_class_from l.label (length l.session.users + 1 + l.place) (drop l.place l.session.groups)
+    group_class_from l.label (length l.users.users + 1) l.users.groups ≡ group_class_from l.label (length l.users.users + 1 + l.place) (drop l.place l.users.groups)

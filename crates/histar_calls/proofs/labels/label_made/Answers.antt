@@ -7,11 +7,11 @@ use Rattle.histar_calls.proofs.labels.label_made.Goals as goal
 
 pub returns-then-not-is_in_job : goal.returns-then-not-is_in_job
 returns-then-not-is_in_job c =
-    made_free c.file_label.result c.args.own.now c.args.session.now c.user_of-user.result c.args.mode c.user_of-user.ensures
+    made_free c.file_label.result c.args.own.now c.args.users.now c.user_of-user.result c.args.mode c.user_of-user.ensures
     (not_twice (is_empty (jobs_in c.args.own.now)) c.is_in_job.result true c.is_in_job.ensures (ap not c.if-not-is_in_job.true)) c.file_label.ensures
 
 pub returns : goal.returns
 returns c =
-    made_in_jobs c.scratch_label.result c.args.own.now c.args.session.now c.user_of-user.result c.args.mode c.user_of-user.ensures
+    made_in_jobs c.scratch_label.result c.args.own.now c.args.users.now c.user_of-user.result c.args.mode c.user_of-user.ensures
     (not_twice (is_empty (jobs_in c.args.own.now)) c.is_in_job.result false c.is_in_job.ensures (ap not c.if-not-is_in_job.false))
     (subst (λ (jobs : List ℕ). IfOk c.scratch_label.result (λ label. label ≡ scratch_label c.user_of-user.result jobs)) (c.as_slice.ensures.value ∙ c.in_ok-jobs.ensures) c.scratch_label.ensures)

@@ -19,13 +19,13 @@ unfolding mkdir_program
 returns-in_err-place g c =
     let t = c.args.thread in
     let end = c.find_room.new.kernel in
-    call_fails_so t (mkdir_program c.args.session.now c.args.places.now c.args.path.now c.args.mode) c.args.kernel.now end c.in_err-place.field-0.0 _ c.from_residual.ensures.1
+    call_fails_so t (mkdir_program c.args.users.now c.args.places.now c.args.path.now c.args.mode) c.args.kernel.now end c.in_err-place.field-0.0 _ c.from_residual.ensures.1
     (call_fails t (find_room c.args.places.now c.args.path.now) c.args.kernel.now end _ c.in_err-place.field-0.0 c.in_err-place.ensures.runs)
 
 pub returns-in_err-own : goal.returns-in_err-own
 returns-in_err-own g c =
     let t = c.args.thread in
-    let session = c.args.session.now in
+    let session = c.args.users.now in
     let places = c.args.places.now in
     let room = c.in_ok-place.field-0 in
     let end = c.own_label.new.self in
@@ -36,7 +36,7 @@ returns-in_err-own g c =
 pub returns-in_err-label : goal.returns-in_err-label
 returns-in_err-label g c =
     let t = c.args.thread in
-    let session = c.args.session.now in
+    let session = c.args.users.now in
     let places = c.args.places.now in
     let mode = c.args.mode in
     let path = c.args.path.now in
@@ -51,7 +51,7 @@ returns-in_err-label g c =
 pub returns-in_err-same : goal.returns-in_err-same
 returns-in_err-same g c =
     let t = c.args.thread in
-    let session = c.args.session.now in
+    let session = c.args.users.now in
     let places = c.args.places.now in
     let mode = c.args.mode in
     let path = c.args.path.now in
@@ -66,7 +66,7 @@ returns-in_err-same g c =
 pub returns-in_err-container : goal.returns-in_err-container
 returns-in_err-container g c =
     let t = c.args.thread in
-    let session = c.args.session.now in
+    let session = c.args.users.now in
     let places = c.args.places.now in
     let mode = c.args.mode in
     let path = c.args.path.now in
@@ -82,7 +82,7 @@ returns-in_err-container g c =
 pub returns-in_err-listing : goal.returns-in_err-listing
 returns-in_err-listing g c =
     let t = c.args.thread in
-    let session = c.args.session.now in
+    let session = c.args.users.now in
     let places = c.args.places.now in
     let mode = c.args.mode in
     let path = c.args.path.now in
@@ -100,7 +100,7 @@ returns-in_err-listing g c =
 pub returns-in_err-insert : goal.returns-in_err-insert
 returns-in_err-insert g c =
     let t = c.args.thread in
-    let session = c.args.session.now in
+    let session = c.args.users.now in
     let places = c.args.places.now in
     let mode = c.args.mode in
     let path = c.args.path.now in
@@ -119,7 +119,7 @@ returns-in_err-insert g c =
 pub returns-in_err-write_entries : goal.returns-in_err-write_entries
 returns-in_err-write_entries g c =
     let t = c.args.thread in
-    let session = c.args.session.now in
+    let session = c.args.users.now in
     let places = c.args.places.now in
     let mode = c.args.mode in
     let path = c.args.path.now in
@@ -139,7 +139,7 @@ returns-in_err-write_entries g c =
 pub returns : goal.returns
 returns g c =
     let t = c.args.thread in
-    let session = c.args.session.now in
+    let session = c.args.users.now in
     let places = c.args.places.now in
     let mode = c.args.mode in
     let path = c.args.path.now in

@@ -1,0 +1,21 @@
+-- The users and the groups of a session as they are known after boot, with no passwords.
+use Rattle.std.specs.Prelude.{◌≢◌, List, [], map, AllPairs}
+use Rattle.histar_flat.specs.declared.calls.User.{User}
+use Rattle.histar_flat.specs.Words.{Name}
+use Rattle.histar_flat.specs.Sessions.{Session}
+
+-- the user of this name, with no password
+abbrev pub called : Name → User
+called name = record { name = name; password = [] }
+
+-- a user, with no password
+abbrev pub without_password : User → User
+without_password user = called user.name
+
+-- the users and the groups of a session, where each user has no password
+abbrev pub without_passwords : Session → Session
+without_passwords session = record { users = map without_password session.users; groups = session.groups }
+
+-- no two users have one name
+abbrev pub HaveOwnNames : List User → Type 0
+HaveOwnNames users = AllPairs (λ u v. u.name ≢ v.name) users
