@@ -1,5 +1,5 @@
 -- The programs of calls read no password.
-use Rattle.std.proofs.Common.{◌≡◌, ℕ, ◌+◌, List, [], ◌∷◌, length, not, Option, None, Some, refl, ap, ◌∙◌}
+use Rattle.std.proofs.Common.{◌≡◌, ℕ, ◌+◌, List, [], ◌∷◌, not, Option, None, Some, refl, ap, ◌∙◌}
 use Rattle.std.specs.FinMap as map
 use Rattle.histar_flat.specs.declared.calls.Mode.{Mode}
 use Rattle.histar_flat.specs.declared.calls.UnixCall.{UnixCall}

@@ -1,5 +1,5 @@
 -- What is read of the users and groups of a session reads no password.
-use Rattle.std.proofs.Common.{◌≡◌, ℕ, zero, suc, ◌+◌, ◌++◌, Bool, false, List, [], ◌∷◌, length, cond, Option, None, Some, refl, sym, ap, if◌then◌else◌}
+use Rattle.std.proofs.Common.{◌≡◌, ℕ, zero, suc, ◌+◌, Bool, false, List, [], ◌∷◌, length, cond, Option, None, Some, refl, sym, ap, if◌then◌else◌}
 use Rattle.std.specs.Prelude.{map, not, nat_lt, option_and_then, option_map}
 use Rattle.std.specs.List.{position_or_len}
 use Rattle.std.specs.Str.{bytes_eq}
@@ -21,9 +21,9 @@ use Rattle.histar_calls.specs.declared.places.Places.{Places}
 use Rattle.histar_calls.specs.Jobs.{jobs_in, is_empty}
 use Rattle.histar_calls.specs.Labelling.{secret_of}
 use Rattle.histar_calls.specs.Categories.{read_category, write_category, group_owner, owner_of_group, owners_among, owners_of, user_of, file_label, scratch_label, label_made}
-use Rattle.histar_calls.specs.ClassOf.{class_at, class_from, class_of, group_class_from, is_unnamed}
+use Rattle.histar_calls.specs.ClassOf.{class_at, class_from, class_of, is_unnamed}
 use Rattle.histar_calls.specs.UserTable.{without_password, without_passwords}
-use Rattle.histar_process.specs.Kin.{Kin, categories_of, kin_of, owned_by, user_name}
+use Rattle.histar_process.specs.Kin.{categories_of, kin_of, owned_by, user_name}
 use Rattle.histar_wrap.specs.Scratch.{directory_label, jobs_with, kin_in}
 use Rattle.histar_login.specs.Login.{place_of}
 use Rattle.histar_tree.specs.declared.tree.TreeNode.{TreeNode}

@@ -24,7 +24,7 @@ use Rattle.histar_shell.proofs.CallRows.{LinesAreRows}
 use Rattle.histar_rows.specs.Rows.{AreRows}
 use Rattle.histar_rows.proofs.Chains.{entries_of, chain_run, chain_own, granted_run}
 use Rattle.histar_devices.specs.Writing.{AppendsFront}
-use Rattle.histar_shell.specs.Answers.{answer_text, answers_text, calls_of, line_text}
+use Rattle.histar_shell.specs.Answers.{answer_text, answers_text, calls_of}
 use Rattle.histar_shell.specs.Machine.{MachineModel, IsStart, IsTraced}
 use Rattle.histar_shell.specs.AnsweredCalls.{AnswersInTurn, AnswersCalls, BeginsAnswers}
 use Rattle.histar_shell.specs.declared.session.Options.{Options}

@@ -5,7 +5,6 @@ use Rattle.histar_flat.specs.Meaning.{boot}
 use Rattle.histar_object.specs.State.{State}
 use Rattle.histar_script.specs.Script.{IsDeclared}
 use Rattle.histar_rules.specs.Rules.{greatest}
-use Rattle.histar_syscall.specs.KernelModel.{state}
 use Rattle.histar_login.specs.Start.{start_state}
 use Rattle.histar_refinement.specs.LaysOut.{LaysOut}
 use Rattle.histar_refinement.proofs.Start.{start_lays_out}
