@@ -32,12 +32,12 @@ lines_of_flat entries = sym (map_twice line_text flat_line entries)
 
 module _ (job : ProcName) (script : Reading) (can : CanRun script) (start end : MachineModel) (starts : IsStart script.session start) (old new : RepliesModel) (kept : KeepsReplies job start end old new script.calls) where
   -- the flat state at the end is shown
-  shows : Shows end (last_state script)
+  shows : Shows script.session end (last_state script)
   shows = shows_end lines_are_rows script can.declared can.calls start starts end kept.answers kept.each kept.in_turn
 
   -- so there is a tree
   pub has_tree : HasTree end
-  has_tree = shown_tree end (last_state script) shows (shallow lines_are_rows script can.declared can.calls start starts)
+  has_tree = shown_tree script.session end (last_state script) shows (shallow lines_are_rows script can.declared can.calls start starts)
 
   -- the replies are those that the script means
   pub replies_are : old ≡ no_replies → new ≡ with_replies job no_replies (meaning script.session script.calls)
@@ -45,4 +45,4 @@ module _ (job : ProcName) (script : Reading) (can : CanRun script) (start end : 
 
   -- and the lines are those of the tree
   pub tree_is : (lines : List PathText) → ShowsTree end lines → lines ≡ tree_lines (last_state script)
-  tree_is lines told = told.2 ∙ map_twice line_text (line_at (state end.kernel)) told.0 ∙ ap (map line_text) (same_lines end (last_state script) shows (shallow lines_are_rows script can.declared can.calls start starts) told.0 told.1) ∙ lines_of_flat (last_state script).files.entries
+  tree_is lines told = told.2 ∙ map_twice line_text (line_at (state end.kernel)) told.0 ∙ ap (map line_text) (same_lines script.session end (last_state script) shows (shallow lines_are_rows script can.declared can.calls start starts) told.0 told.1) ∙ lines_of_flat (last_state script).files.entries

@@ -7,6 +7,8 @@ pub mod SmallFiles
 pub mod RowRuns
 pub mod TraceRuns
 pub mod CallRows
+pub mod SameUsers
+pub mod SamePrograms
 pub mod LineMeanings
 pub mod Starts
 pub mod ShallowPaths

@@ -13,13 +13,13 @@ use Rattle.histar_flat.specs.Classes.{Process}
 use Rattle.histar_flat.specs.FlatState.{Flat}
 use Rattle.histar_flat.specs.FlatCalls.{running, reply_to, flat_after}
 use Rattle.histar_flat.proofs.Laws.{not_running_is_gone}
-use Rattle.histar_script.specs.Script.{IsDeclared}
 use Rattle.histar_object.specs.State.{State}
 use Rattle.histar_syscall.specs.declared.trace.TraceEntry.{TraceEntry}
 use Rattle.histar_syscall.specs.KernelModel.{KernelModel, state}
 use Rattle.histar_syscall.specs.Runs.{IsBy}
 use Rattle.histar_calls.specs.declared.places.Places.{Places}
 use Rattle.histar_calls.specs.declared.ending.Stopped.{Stopped}
+use Rattle.histar_calls.specs.Programs.{Program, Runs}
 use Rattle.histar_process.specs.declared.caller.Caller.{Caller}
 use Rattle.histar_process.specs.Caller.{caller_at}
 use Rattle.histar_login.specs.Start.{places_of}
@@ -32,9 +32,10 @@ use Rattle.histar_refinement.proofs.Renaming.{nothing_under}
 use Rattle.histar_refinement.proofs.StatusFound.{thread_led}
 use Rattle.histar_rows.specs.Rows.{IsScriptable, IsLine, IsReady, HasReadsOf, DoesItsRow, IsFirstFree, AreFilesSmall}
 use Rattle.histar_rows.proofs.FirstFree.{first_free_after}
-use Rattle.histar_shell.specs.Machine.{MachineModel, on_line, Makes, HasMade, AnswersFound, AnswersRunning, AnswersIf, AnswersLine}
+use Rattle.histar_shell.specs.Machine.{MachineModel, on_line, program_of, Makes, HasMade, AnswersFound, AnswersRunning, AnswersIf, AnswersLine}
 use Rattle.histar_shell.specs.Meaning.{Shows, EndsAsMeant, FollowsMeaning}
 use Rattle.histar_shell.proofs.CallRows.{LinesAreRows}
+use Rattle.histar_shell.proofs.SamePrograms.{same_program}
 use Rattle.histar_shell.proofs.SmallFiles.{small_after}
 use Rattle.histar_shell.proofs.Users.{is_session}
 
@@ -43,19 +44,16 @@ none_of : {A : Type 0} (o : Option A) → is_some o ≡ false → o ≡ None
 none_of None e = refl
 none_of (Some x) e = absurd (true≢false e)
 
-module _ (rows : LinesAreRows) (old new : MachineModel) (f : Flat) (shows : Shows old f) where
-  abbrev session : Session
-  session = old.session
+module _ (rows : LinesAreRows) (session : Session) (old new : MachineModel) (f : Flat) (shows : Shows session old f) where
+  ok : IsSession session
+  ok = is_session session shows.declared
 
-  ok : IsSession old.session
-  ok = is_session old.session shows.declared
-
-  module _ (me : ProcName) (caller : Caller) (found : caller_at (state old.kernel) (places_of (length old.session.users)).home me ≡ Some caller) where
+  module _ (me : ProcName) (caller : Caller) (found : caller_at (state old.kernel) (places_of (length session.users)).home me ≡ Some caller) where
     -- the process is found where it runs
-    running_as : (p : Process) × IsCallerOf old.session (state old.kernel) f shows.lays_out.laid me p caller
-    running_as = caller_found old.session (state old.kernel) f shows.lays_out.laid me caller found
+    running_as : (p : Process) × IsCallerOf session (state old.kernel) f shows.lays_out.laid me p caller
+    running_as = caller_found session (state old.kernel) f shows.lays_out.laid me caller found
 
-    ready : IsReady old.session (state old.kernel) f me caller.thread
+    ready : IsReady session (state old.kernel) f me caller.thread
     ready =
         let p = running_as.0 in
         let runs = running_as.1 in
@@ -64,21 +62,21 @@ module _ (rows : LinesAreRows) (old new : MachineModel) (f : Flat) (shows : Show
           caller = record { process = p; stands = runs.runs.0; runs = runs.runs.1 };
           first = shows.first;
           small = shows.small;
-          thread = thread_led old.session (state old.kernel) f shows.lays_out.laid me p caller.thread runs.runs.0 runs.runs.1 runs.runs.2;
+          thread = thread_led session (state old.kernel) f shows.lays_out.laid me p caller.thread runs.runs.0 runs.runs.1 runs.runs.2;
         }
 
     -- a call of the process is its row
     made_row : (k : KernelModel) → state k ≡ state old.kernel → (call : UnixCall) (result : Result Reply Stopped) → IsScriptable call
-        → Makes old.session (places_of (length old.session.users)) me caller k new.kernel call result → DoesItsRow old.session f me call k new.kernel caller.thread result
+        → Makes session (places_of (length session.users)) me caller k new.kernel call result → DoesItsRow session f me call k new.kernel caller.thread result
     made_row k same call result can made = by call can made
       where
-        there : IsReady old.session (state k) f me caller.thread
-        there = subst (λ (s : State). IsReady old.session s f me caller.thread) (sym same) ready
+        there : IsReady session (state k) f me caller.thread
+        there = subst (λ (s : State). IsReady session s f me caller.thread) (sym same) ready
 
-        at : caller_at (state k) (places_of (length old.session.users)).home me ≡ Some caller
-        at = ap (λ (s : State). caller_at s (places_of (length old.session.users)).home me) same ∙ found
+        at : caller_at (state k) (places_of (length session.users)).home me ≡ Some caller
+        at = ap (λ (s : State). caller_at s (places_of (length session.users)).home me) same ∙ found
 
-        by : (c : UnixCall) → IsScriptable c → Makes old.session (places_of (length old.session.users)) me caller k new.kernel c result → DoesItsRow old.session f me c k new.kernel caller.thread result
+        by : (c : UnixCall) → IsScriptable c → Makes session (places_of (length session.users)) me caller k new.kernel c result → DoesItsRow session f me c k new.kernel caller.thread result
         by (Create path mode) can made = rows.calls.create session ok path mode can me k new.kernel f caller.thread result there made
         by (Write path bytes) can made = rows.calls.write session ok path bytes me k new.kernel f caller.thread result there made
         by (Mkdir path mode) can made = rows.calls.mkdir session ok path mode can me k new.kernel f caller.thread result there made
@@ -98,30 +96,37 @@ module _ (rows : LinesAreRows) (old new : MachineModel) (f : Flat) (shows : Show
         by (Login name password) can made = rows.calls.login session ok name password me caller k new.kernel f result there at made
         by (Wrap path) can made = rows.wraps session ok path can me caller k new.kernel f result there at made
 
+    -- its program reads no password
+    made_of : (k : KernelModel) (call : UnixCall) (result : Result Reply Stopped) → Makes old.users (places_of (length session.users)) me caller k new.kernel call result → Makes session (places_of (length session.users)) me caller k new.kernel call result
+    made_of k call result made =
+        let places = places_of (length session.users) in
+        subst (λ (p : Program). Runs p k new.kernel caller.thread result) (ap (λ (users : Session). program_of users places me caller call) shows.users ∙ same_program session places me caller call) made
+
     -- at the places that boot told the machine
     row_of_made : (line : ℕ) (call : UnixCall) (result : Result Reply Stopped) → IsScriptable call → HasMade old new line me caller call result
-        → DoesItsRow old.session f me call (on_line line old.kernel) new.kernel caller.thread result
+        → DoesItsRow session f me call (on_line line old.kernel) new.kernel caller.thread result
     row_of_made line call result can h =
         made_row (on_line line old.kernel) refl call result can
-        (subst (λ (places : Places). Makes old.session places me caller (on_line line old.kernel) new.kernel call result) shows.places h.made)
+        (made_of (on_line line old.kernel) call result (subst (λ (places : Places). Makes old.users places me caller (on_line line old.kernel) new.kernel call result) shows.places h.made))
 
     -- the machine after it shows what its kernel lays out
-    still_shows : (line : ℕ) (call : UnixCall) (result : Result Reply Stopped) (g : Flat) → HasMade old new line me caller call result → LaysOut old.session (state new.kernel) g → IsFirstFree g → AreFilesSmall g → Shows new g
+    still_shows : (line : ℕ) (call : UnixCall) (result : Result Reply Stopped) (g : Flat) → HasMade old new line me caller call result → LaysOut session (state new.kernel) g → IsFirstFree g → AreFilesSmall g → Shows session new g
     still_shows line call result g h lays first small = record {
-      declared = subst IsDeclared (sym h.session) shows.declared;
-      places = h.places ∙ shows.places ∙ ap (λ (declared : Session). places_of (length declared.users)) (sym h.session);
-      lays_out = subst (λ (declared : Session). LaysOut declared (state new.kernel) g) (sym h.session) lays;
+      declared = shows.declared;
+      users = h.users ∙ shows.users;
+      places = h.places ∙ shows.places;
+      lays_out = lays;
       first = first;
       small = small;
     }
 
     -- each raw call is by the process's thread
-    own_thread : (line : ℕ) (entries : List TraceEntry) → AllByRecursion (IsBy line caller.thread) entries → AllByRecursion (λ (e : TraceEntry). (e.line ≡ line) × IsThreadOf old.session (state old.kernel) me e.thread) entries
+    own_thread : (line : ℕ) (entries : List TraceEntry) → AllByRecursion (IsBy line caller.thread) entries → AllByRecursion (λ (e : TraceEntry). (e.line ≡ line) × IsThreadOf session (state old.kernel) me e.thread) entries
     own_thread line [] own = tt
-    own_thread line (e ∷ entries) own = ((own.0.0, subst (IsThreadOf old.session (state old.kernel) me) (sym own.0.1) ready.thread), own_thread line entries own.1)
+    own_thread line (e ∷ entries) own = ((own.0.0, subst (IsThreadOf session (state old.kernel) me) (sym own.0.1) ready.thread), own_thread line entries own.1)
 
     -- the call ends as is meant
-    made_ends : (line : ℕ) (call : UnixCall) (result : Result Reply Stopped) → IsScriptable call → HasMade old new line me caller call result → EndsAsMeant old new f (record { line = line; process = me; call = call }) result
+    made_ends : (line : ℕ) (call : UnixCall) (result : Result Reply Stopped) → IsScriptable call → HasMade old new line me caller call result → EndsAsMeant session old new f (record { line = line; process = me; call = call }) result
     made_ends line call (Ok reply) can h =
         let row = row_of_made line call (Ok reply) can h in
         record {
@@ -129,16 +134,16 @@ module _ (rows : LinesAreRows) (old new : MachineModel) (f : Flat) (shows : Show
           entries = row.1.entries;
           trace = row.1.trace;
           row = row.1.row;
-          shows = still_shows line call (Ok reply) (flat_after old.session f me call) h row.1.row.lays_out
-              (first_free_after old.session f shows.first me call)
-              (small_after f shows.small old.session me (nothing_under old.session (state old.kernel) f shows.lays_out.laid) call can);
+          shows = still_shows line call (Ok reply) (flat_after session f me call) h row.1.row.lays_out
+              (first_free_after session f shows.first me call)
+              (small_after f shows.small session me (nothing_under session (state old.kernel) f shows.lays_out.laid) call can);
         }
     made_ends line call (Err stopped) can h =
         let out = row_of_made line call (Err stopped) can h in
         record { entries = out.entries; trace = out.trace; run = out.run; own = own_thread line out.entries out.own }
 
   -- a line of a process that doesn't run is answered `gone`, and makes no raw call
-  gone_ends : (line : ℕ) (me : ProcName) (call : UnixCall) → running f me ≡ None → EndsAsMeant old old f (record { line = line; process = me; call = call }) (Ok Gone)
+  gone_ends : (line : ℕ) (me : ProcName) (call : UnixCall) → running f me ≡ None → EndsAsMeant session old old f (record { line = line; process = me; call = call }) (Ok Gone)
   gone_ends line me call none =
       let still = not_running_is_gone session f me call none in
       let is_line : IsLine session (state old.kernel) line me Gone [] (state old.kernel) = record {
@@ -160,25 +165,25 @@ module _ (rows : LinesAreRows) (old new : MachineModel) (f : Flat) (shows : Show
           reads = subst (λ (o : Option Process). HasReadsOf session (state old.kernel) f o call (reply_to session f me call) []) (sym none) tt;
           lays_out = subst (LaysOut session (state old.kernel)) (sym still.1) shows.lays_out;
         };
-        shows = subst (Shows old) (sym still.1) shows;
+        shows = subst (Shows session old) (sym still.1) shows;
       }
 
   -- who is not found doesn't run
-  lost_is_gone : (me : ProcName) → caller_at (state old.kernel) (places_of (length old.session.users)).home me ≡ None → running f me ≡ None
-  lost_is_gone me lost = none_of (running f me) (sym (caller_there old.session (state old.kernel) f shows.lays_out.laid me) ∙ ap is_some lost)
+  lost_is_gone : (me : ProcName) → caller_at (state old.kernel) (places_of (length session.users)).home me ≡ None → running f me ≡ None
+  lost_is_gone me lost = none_of (running f me) (sym (caller_there session (state old.kernel) f shows.lays_out.laid me) ∙ ap is_some lost)
 
-  runs_end : (line : ℕ) (me : ProcName) (call : UnixCall) (result : Result Reply Stopped) → IsScriptable call → AnswersRunning old new line me call result → EndsAsMeant old new f (record { line = line; process = me; call = call }) result
-  runs_end line me call result can h = by (caller_at (state old.kernel) (places_of (length old.session.users)).home me) refl
+  runs_end : (line : ℕ) (me : ProcName) (call : UnixCall) (result : Result Reply Stopped) → IsScriptable call → AnswersRunning old new line me call result → EndsAsMeant session old new f (record { line = line; process = me; call = call }) result
+  runs_end line me call result can h = by (caller_at (state old.kernel) (places_of (length session.users)).home me) refl
       (subst (λ (places : Places). AnswersFound (caller_at (state old.kernel) places.home me) old new line me call result) shows.places h)
     where
-      by : (o : Option Caller) → caller_at (state old.kernel) (places_of (length old.session.users)).home me ≡ o → AnswersFound o old new line me call result → EndsAsMeant old new f (record { line = line; process = me; call = call }) result
+      by : (o : Option Caller) → caller_at (state old.kernel) (places_of (length session.users)).home me ≡ o → AnswersFound o old new line me call result → EndsAsMeant session old new f (record { line = line; process = me; call = call }) result
       by None lost k =
-          subst (λ (m : MachineModel). EndsAsMeant old m f (record { line = line; process = me; call = call }) result) (sym k.1)
-          (subst (EndsAsMeant old old f (record { line = line; process = me; call = call })) (sym k.0) (gone_ends line me call (lost_is_gone me lost)))
+          subst (λ (m : MachineModel). EndsAsMeant session old m f (record { line = line; process = me; call = call }) result) (sym k.1)
+          (subst (EndsAsMeant session old old f (record { line = line; process = me; call = call })) (sym k.0) (gone_ends line me call (lost_is_gone me lost)))
       by (Some caller) found made = made_ends me caller found line call result can made
 
   -- a machine that had stopped makes no raw call
-  stopped_ends : (line : ℕ) (process : ProcName) (call : UnixCall) (result : Result Reply Stopped) → AnswersIf true old new line process call result → EndsAsMeant old new f (record { line = line; process = process; call = call }) result
+  stopped_ends : (line : ℕ) (process : ProcName) (call : UnixCall) (result : Result Reply Stopped) → AnswersIf true old new line process call result → EndsAsMeant session old new f (record { line = line; process = process; call = call }) result
   stopped_ends line process call (Ok reply) h = absurd cc
   stopped_ends line process call (Err stopped) h = record {
     entries = [];
@@ -187,25 +192,13 @@ module _ (rows : LinesAreRows) (old new : MachineModel) (f : Flat) (shows : Show
     own = tt;
   }
 
-  line_ends : (line : ℕ) (process : ProcName) (call : UnixCall) (result : Result Reply Stopped) → IsScriptable call → AnswersLine old new line process call result → EndsAsMeant old new f (record { line = line; process = process; call = call }) result
+  line_ends : (line : ℕ) (process : ProcName) (call : UnixCall) (result : Result Reply Stopped) → IsScriptable call → AnswersLine old new line process call result → EndsAsMeant session old new f (record { line = line; process = process; call = call }) result
   line_ends line process call result can h = by old.is_stopped h
     where
-      by : (b : Bool) → AnswersIf b old new line process call result → EndsAsMeant old new f (record { line = line; process = process; call = call }) result
+      by : (b : Bool) → AnswersIf b old new line process call result → EndsAsMeant session old new f (record { line = line; process = process; call = call }) result
       by true k = stopped_ends line process call result k
       by false k = runs_end line process call result can k
 
 -- a line follows the meaning
 pub line_follows : (rows : LinesAreRows) (old new : MachineModel) (line : ℕ) (process : ProcName) (call : UnixCall) (result : Result Reply Stopped) → AnswersLine old new line process call result → FollowsMeaning old new line process call result
-line_follows rows old new line process call result h f shows can = line_ends rows old new f shows line process call result can h
-
--- the users and groups of a machine stay
-pub session_stays : (old new : MachineModel) (line : ℕ) (process : ProcName) (call : UnixCall) (result : Result Reply Stopped) → AnswersLine old new line process call result → new.session ≡ old.session
-session_stays old new line process call result h = by old.is_stopped h
-  where
-    runs : (o : Option Caller) → AnswersFound o old new line process call result → new.session ≡ old.session
-    runs None k = ap (λ (m : MachineModel). m.session) k.1
-    runs (Some caller) k = k.session
-
-    by : (b : Bool) → AnswersIf b old new line process call result → new.session ≡ old.session
-    by true k = ap (λ (m : MachineModel). m.session) k.1
-    by false k = runs (caller_at (state old.kernel) old.places.home process) k
+line_follows rows old new line process call result h session f shows can = line_ends rows session old new f shows line process call result can h

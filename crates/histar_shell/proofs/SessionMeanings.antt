@@ -4,10 +4,9 @@ use Rattle.std.specs.List.{AllByRecursion}
 use Rattle.std.specs.Io.KnownBytes.{Appends}
 use Rattle.std.proofs.KnownBytes.{Appends-trans}
 use Rattle.std.proofs.lemmas.Grind.{flat_map-append}
-use Rattle.histar_flat.specs.declared.replies.Reply.{Reply}
 use Rattle.histar_flat.specs.Sessions.{Session}
 use Rattle.histar_flat.specs.FlatState.{Flat}
-use Rattle.histar_flat.specs.FlatCalls.{reply_to, flat_after}
+use Rattle.histar_flat.specs.FlatCalls.{flat_after}
 use Rattle.histar_flat.specs.Meaning.{boot, answered_from, flat_end, meaning, Answered}
 use Rattle.histar_flat.proofs.Laws.{replies_go_on}
 use Rattle.histar_object.specs.State.{State, empty_state}
@@ -25,7 +24,7 @@ use Rattle.histar_shell.proofs.CallRows.{LinesAreRows}
 use Rattle.histar_rows.specs.Rows.{AreRows}
 use Rattle.histar_rows.proofs.Chains.{entries_of, chain_run, chain_own, granted_run}
 use Rattle.histar_devices.specs.Writing.{AppendsFront}
-use Rattle.histar_shell.specs.Answers.{answer_text, answers_text, calls_of, line_text}
+use Rattle.histar_shell.specs.Answers.{answer_text, answers_text, calls_of}
 use Rattle.histar_shell.specs.Machine.{MachineModel, IsStart, IsTraced}
 use Rattle.histar_shell.specs.AnsweredCalls.{AnswersInTurn, AnswersCalls, BeginsAnswers}
 use Rattle.histar_shell.specs.declared.session.Options.{Options}
@@ -37,52 +36,47 @@ use Rattle.histar_shell.proofs.Users.{AreScriptable, script_says}
 use Rattle.histar_shell.proofs.AnswerLemmas.{front_after}
 use Rattle.histar_shell.proofs.ShallowPaths.{shallow_at_end}
 use Rattle.histar_shell.proofs.ShownTrees.{shown_tree, tree_asked}
-use Rattle.histar_shell.proofs.LineMeanings.{line_follows, session_stays}
+use Rattle.histar_shell.proofs.LineMeanings.{line_follows}
 use Rattle.histar_shell.proofs.RowRuns.{run_after, rows_run}
 use Rattle.histar_shell.proofs.Starts.{start_is_laid, start_shows}
 
 -- What the lines of a session have done, from a machine that shows a flat state on.
-pub record IsMeantSession (m : MachineModel) (f : Flat) (answers : List Answered) (end : MachineModel) : Type 0 where
-  pub replies : answers ≡ answered_from m.session f (calls_of answers)
+pub record IsMeantSession (session : Session) (m : MachineModel) (f : Flat) (answers : List Answered) (end : MachineModel) : Type 0 where
+  pub replies : answers ≡ answered_from session f (calls_of answers)
   pub entries : List TraceEntry
   pub trace : end.kernel.trace ≡ m.kernel.trace ++ entries
-  pub rows : AreRows m.session (state m.kernel) f (calls_of answers) entries (state end.kernel)
-  pub shows : Shows end (flat_end m.session f (calls_of answers))
+  pub rows : AreRows session (state m.kernel) f (calls_of answers) entries (state end.kernel)
+  pub shows : Shows session end (flat_end session f (calls_of answers))
 
--- a session of no line
-session_none : (m : MachineModel) (f : Flat) (end : MachineModel) → end ≡ m → Shows m f → IsMeantSession m f [] end
-session_none m f end same shows = record {
-  replies = refl;
-  entries = [];
-  trace = ap (λ (x : MachineModel). x.kernel.trace) same ∙ sym (append-nil m.kernel.trace);
-  rows = (refl, ap (λ (x : MachineModel). state x.kernel) same);
-  shows = subst (λ (x : MachineModel). Shows x f) (sym same) shows;
-}
+module _ (declared : Session) where
+  -- a session of no line
+  session_none : (m : MachineModel) (f : Flat) (end : MachineModel) → end ≡ m → Shows declared m f → IsMeantSession declared m f [] end
+  session_none m f end same shows = record {
+    replies = refl;
+    entries = [];
+    trace = ap (λ (x : MachineModel). x.kernel.trace) same ∙ sym (append-nil m.kernel.trace);
+    rows = (refl, ap (λ (x : MachineModel). state x.kernel) same);
+    shows = subst (λ (x : MachineModel). Shows declared x f) (sym same) shows;
+  }
 
--- a line before a session
-session_first : (m mid : MachineModel) (f : Flat) (a : Answered) (answers : List Answered) (end : MachineModel) → mid.session ≡ m.session → AnswersAsMeant m mid f a.call a.reply
-    → IsMeantSession mid (flat_after m.session f a.call.process a.call.call) answers end → IsMeantSession m f (a ∷ answers) end
-session_first m mid f a answers end same line later =
-    let g = flat_after m.session f a.call.process a.call.call in
-    let asked = calls_of answers in
-    record {
-      replies = (λ i. record { call = a.call; reply = line.told i } ∷ later.replies i) ∙ ap (λ (declared : Session). record { call = a.call; reply = reply_of line } ∷ answered_from declared g asked) same;
-      entries = line.entries ++ later.entries;
-      trace = later.trace ∙ ap (λ (es : List TraceEntry). es ++ later.entries) line.trace ∙ append_assoc m.kernel.trace line.entries later.entries;
-      rows = (line.entries, later.entries, state mid.kernel, refl, line.row, subst (λ (declared : Session). AreRows declared (state mid.kernel) g asked later.entries (state end.kernel)) same later.rows);
-      shows = subst (λ (declared : Session). Shows end (flat_end declared g asked)) same later.shows;
-    }
-  where
-    reply_of : AnswersAsMeant m mid f a.call a.reply → Reply
-    reply_of l = reply_to m.session f a.call.process a.call.call
+  -- a line before a session
+  session_first : (m mid : MachineModel) (f : Flat) (a : Answered) (answers : List Answered) (end : MachineModel) → AnswersAsMeant declared m mid f a.call a.reply
+      → IsMeantSession declared mid (flat_after declared f a.call.process a.call.call) answers end → IsMeantSession declared m f (a ∷ answers) end
+  session_first m mid f a answers end line later = record {
+    replies = λ i. record { call = a.call; reply = line.told i } ∷ later.replies i;
+    entries = line.entries ++ later.entries;
+    trace = later.trace ∙ ap (λ (es : List TraceEntry). es ++ later.entries) line.trace ∙ append_assoc m.kernel.trace line.entries later.entries;
+    rows = (line.entries, later.entries, state mid.kernel, refl, line.row, later.rows);
+    shows = later.shows;
+  }
 
--- a session of lines that a script can have
-pub session_means : (rows : LinesAreRows) (m : MachineModel) (f : Flat) (answers : List Answered) (end : MachineModel) → AnswersInTurn m answers end → Shows m f → AreScriptable (calls_of answers) → IsMeantSession m f answers end
-session_means rows m f [] end session shows can = session_none m f end session shows
-session_means rows m f (a ∷ answers) end session shows can =
-    let line = line_follows rows m session.0 a.call.line a.call.process a.call.call (Ok a.reply) session.1 f shows can.0 in
-    session_first m session.0 f a answers end (session_stays m session.0 a.call.line a.call.process a.call.call (Ok a.reply) session.1) line
-    (session_means rows session.0 (flat_after m.session f a.call.process a.call.call) answers end session.2 line.shows can.1)
+  -- a session of lines that a script can have
+  pub session_means : (rows : LinesAreRows) (m : MachineModel) (f : Flat) (answers : List Answered) (end : MachineModel) → AnswersInTurn m answers end → Shows declared m f → AreScriptable (calls_of answers) → IsMeantSession declared m f answers end
+  session_means rows m f [] end session shows can = session_none m f end session shows
+  session_means rows m f (a ∷ answers) end session shows can =
+      let line = line_follows rows m session.0 a.call.line a.call.process a.call.call (Ok a.reply) session.1 declared f shows can.0 in
+      session_first m session.0 f a answers end line
+      (session_means rows session.0 (flat_after declared f a.call.process a.call.call) answers end session.2 line.shows can.1)
 
 -- the raw calls of boot
 record IsBootTrace (session : Session) (m : MachineModel) : Type 0 where
@@ -113,12 +107,12 @@ boot_trace session m booted =
 
 module _ (rows : LinesAreRows) (script : Reading) (declared : IsDeclared script.session) (can : AreScriptable script.calls) (start : MachineModel) (starts : IsStart script.session start) where
   -- the session from the start on
-  from_start : (answers : List Answered) (end : MachineModel) → AreScriptable (calls_of answers) → AnswersInTurn start answers end → IsMeantSession start (boot script.session) answers end
-  from_start answers end these session = session_means rows start (boot script.session) answers end session (start_shows script.session declared start starts) these
+  from_start : (answers : List Answered) (end : MachineModel) → AreScriptable (calls_of answers) → AnswersInTurn start answers end → IsMeantSession script.session start (boot script.session) answers end
+  from_start answers end these session = session_means script.session rows start (boot script.session) answers end session (start_shows script.session declared start starts) these
 
   -- the replies to the lines that were answered
   replies_to : (answers : List Answered) (end : MachineModel) → AreScriptable (calls_of answers) → AnswersInTurn start answers end → answers ≡ meaning script.session (calls_of answers)
-  replies_to answers end these session = (from_start answers end these session).replies ∙ ap (λ (us : Session). answered_from us (boot script.session) (calls_of answers)) starts.session
+  replies_to answers end these session = (from_start answers end these session).replies
 
   -- the flat state after all lines
   abbrev last : Flat
@@ -129,14 +123,13 @@ module _ (rows : LinesAreRows) (script : Reading) (declared : IsDeclared script.
   shallow = shallow_at_end script.session script.calls can
 
   -- which the machine shows
-  pub shows_end : (end : MachineModel) (answers : List Answered) → calls_of answers ≡ script.calls → AnswersInTurn start answers end → Shows end last
+  pub shows_end : (end : MachineModel) (answers : List Answered) → calls_of answers ≡ script.calls → AnswersInTurn start answers end → Shows script.session end last
   shows_end end answers each in_turn =
       let these : AreScriptable (calls_of answers) = subst AreScriptable (sym each) can in
-      subst (λ (calls : List CallLine). Shows end (flat_end script.session (boot script.session) calls)) each
-      (subst (λ (us : Session). Shows end (flat_end us (boot script.session) (calls_of answers))) starts.session (from_start answers end these in_turn).shows)
+      subst (λ (calls : List CallLine). Shows script.session end (flat_end script.session (boot script.session) calls)) each (from_start answers end these in_turn).shows
 
   -- also where the replies were written
-  pub shows_last : (old replied : Option (List ℕ)) (end : MachineModel) → AnswersCalls start end old replied script.calls → Shows end last
+  pub shows_last : (old replied : Option (List ℕ)) (end : MachineModel) → AnswersCalls start end old replied script.calls → Shows script.session end last
   shows_last old replied end answered = shows_end end answered.answers answered.each answered.in_turn
 
   -- the replies to all lines
@@ -156,8 +149,7 @@ module _ (rows : LinesAreRows) (script : Reading) (declared : IsDeclared script.
       let session = from_start answered.answers end these answered.in_turn in
       let of_boot = boot_trace script.session start starts.booted in
       let parts = recorded ∙ session.trace ∙ ap (λ (es : List TraceEntry). es ++ session.entries) of_boot.trace in
-      let of_lines = subst (λ (calls : List CallLine). AreRows script.session (state start.kernel) (boot script.session) calls session.entries (state end.kernel)) answered.each
-      (subst (λ (us : Session). AreRows us (state start.kernel) (boot script.session) (calls_of answered.answers) session.entries (state end.kernel)) starts.session session.rows) in
+      let of_lines = subst (λ (calls : List CallLine). AreRows script.session (state start.kernel) (boot script.session) calls session.entries (state end.kernel)) answered.each session.rows in
       record {
         of_boot = of_boot.entries;
         of_lines = session.entries;
@@ -180,7 +172,7 @@ module _ (rows : LinesAreRows) (script : Reading) (declared : IsDeclared script.
     whole_is old replied end answered ending ends trace recorded =
         let of_trace = asked_trace options trace in
         (λ i. replies_are old replied end answered i ++ ends.parts i)
-        ∙ (λ i. answers_text (meaning script.session script.calls) ++ (tree_asked end last (shows_last old replied end answered) shallow options.tree ends.tree ends.tells i ++ asked_trace options (sym recorded i)))
+        ∙ (λ i. answers_text (meaning script.session script.calls) ++ (tree_asked script.session end last (shows_last old replied end answered) shallow options.tree ends.tree ends.tells i ++ asked_trace options (sym recorded i)))
         ∙ sym (append_assoc (answers_text (meaning script.session script.calls)) (asked_tree options last) of_trace)
 
     -- all lines were answered
@@ -254,4 +246,4 @@ meant_run rows options old new text (Err fault) h = meant_at_fault rows options 
 pub tree_at_last : (rows : LinesAreRows) (text : List ℕ) (script : Reading) → script_of text ≡ Ok script → (start end : MachineModel) → IsStart script.session start → (calls : List CallLine) → calls ≡ script.calls → (old replied : Option (List ℕ)) → AnswersCalls start end old replied calls → HasTree end
 tree_at_last rows text script is_read start end starts calls listed old replied answered =
     let says = script_says text script is_read in
-    shown_tree end (last_state script) (shows_last rows script says.0 says.1 start starts old replied end (subst (λ (l : List CallLine). AnswersCalls start end old replied l) listed answered)) (shallow_at_end script.session script.calls says.1)
+    shown_tree script.session end (last_state script) (shows_last rows script says.0 says.1 start starts old replied end (subst (λ (l : List CallLine). AnswersCalls start end old replied l) listed answered)) (shallow_at_end script.session script.calls says.1)

@@ -1,12 +1,11 @@
 -- A machine that was booted shows the flat start.
-use Rattle.std.proofs.Common.{◌≤◌, length, sym, ap, ◌∙◌, subst, arith}
+use Rattle.std.proofs.Common.{◌≤◌, sym, subst, arith}
 use Rattle.histar_flat.specs.Sessions.{Session}
 use Rattle.histar_flat.specs.Meaning.{boot}
 use Rattle.histar_object.specs.State.{State}
 use Rattle.histar_script.specs.Script.{IsDeclared}
 use Rattle.histar_rules.specs.Rules.{greatest}
-use Rattle.histar_syscall.specs.KernelModel.{state}
-use Rattle.histar_login.specs.Start.{start_state, places_of}
+use Rattle.histar_login.specs.Start.{start_state}
 use Rattle.histar_refinement.specs.LaysOut.{LaysOut}
 use Rattle.histar_refinement.proofs.Start.{start_lays_out}
 use Rattle.histar_refinement.proofs.StartTable.{length_start}
@@ -26,13 +25,12 @@ module _ (session : Session) (declared : IsDeclared session) where
   start_is_laid = start_lays_out session declared.users.some (is_session session declared).no_one room
 
   -- a machine that was booted shows the flat start
-  pub start_shows : (m : MachineModel) → IsStart session m → Shows m (boot session)
+  pub start_shows : (m : MachineModel) → IsStart session m → Shows session m (boot session)
   start_shows m start = record {
-    declared = subst IsDeclared (sym start.session) declared;
-    places = start.places ∙ ap (λ (x : Session). places_of (length x.users)) (sym start.session);
-    lays_out =
-        subst (λ (x : Session). LaysOut x (state m.kernel) (boot session)) (sym start.session)
-        (subst (λ (s : State). LaysOut session s (boot session)) (sym start.state) start_is_laid);
+    declared = declared;
+    users = start.users;
+    places = start.places;
+    lays_out = subst (λ (s : State). LaysOut session s (boot session)) (sym start.state) start_is_laid;
     first = first_free_at_start session;
     small = small_at_start session;
   }

@@ -14,7 +14,7 @@ use Rattle.histar_shell.specs.TreeText.{tree_text}
 
 -- the objects of a machine's kernel list this tree from `/` on
 abbrev pub IsTreeIn : MachineModel → List TreeNode → Type 0
-IsTreeIn m tree = IsTreeOf m.session (state m.kernel) m.places tree
+IsTreeIn m tree = IsTreeOf m.users (state m.kernel) m.places tree
 
 -- they list a tree
 abbrev pub HasTree : MachineModel → Type 0

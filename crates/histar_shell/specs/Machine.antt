@@ -14,6 +14,7 @@ use Rattle.histar_syscall.specs.Runs.{IsRun}
 use Rattle.histar_calls.specs.declared.places.Places.{Places}
 use Rattle.histar_calls.specs.contracts.places.Places as where_is
 use Rattle.histar_calls.specs.Programs.{Program, Runs}
+use Rattle.histar_calls.specs.UserTable.{without_passwords}
 use Rattle.histar_calls.specs.Create.{create_program}
 use Rattle.histar_calls.specs.Mkdir.{mkdir_program}
 use Rattle.histar_calls.specs.Append.{append_program}
@@ -38,24 +39,26 @@ use Rattle.histar_process.specs.Whoami.{whoami_program}
 use Rattle.histar_login.specs.Start.{places_of, start_state}
 use Rattle.histar_calls.specs.declared.ending.Stopped.{Stopped}
 
--- the kernel of a machine, the places of `/` and process 0, its users and groups, and whether a call of it has ended without a reply
+-- the kernel of a machine, the places of `/` and process 0, its users and groups with no passwords, and whether a call of it has ended
+-- without a reply
 pub record MachineModel : Type 0 where
   pub kernel : KernelModel
   pub places : Places
-  pub session : Session
+  pub users : Session
   pub is_stopped : Bool
 
 -- stored as the tuple of its parts
 abbrev pub coded_machine_model : Coded MachineModel
-coded_machine_model = code_by (KernelModel × (Places × (Session × Bool))) (coded× coded_kernel_model (coded× where_is.the_row.coded (coded× sessions.the_row.coded coded_bool))) (λ m. (m.kernel, (m.places, (m.session, m.is_stopped)))) (λ p. record { kernel = p.0; places = p.1.0; session = p.1.1.0; is_stopped = p.1.1.1 }) (λ _. refl)
+coded_machine_model = code_by (KernelModel × (Places × (Session × Bool))) (coded× coded_kernel_model (coded× where_is.the_row.coded (coded× sessions.the_row.coded coded_bool))) (λ m. (m.kernel, (m.places, (m.users, m.is_stopped)))) (λ p. record { kernel = p.0; places = p.1.0; users = p.1.1.0; is_stopped = p.1.1.1 }) (λ _. refl)
 
 -- the trace of the kernel is a run from the empty kernel to its state
 abbrev pub IsTraced : KernelModel → Type 0
 IsTraced k = IsRun empty_state k.trace (state k)
 
--- a machine that was booted with these users and groups: it runs, and no raw call but those of boot was made
+-- a machine that was booted with these users and groups: it keeps no passwords of them, it runs, and no raw call but those of boot was
+-- made
 pub record IsStart (declared : Session) (m : MachineModel) : Type 0 where
-  pub session : m.session ≡ declared
+  pub users : m.users ≡ without_passwords declared
   pub places : m.places ≡ places_of (length declared.users)
   pub state : state m.kernel ≡ start_state declared
   pub booted : IsBooted declared m.kernel
@@ -94,9 +97,9 @@ Makes session places me caller old new call result = Runs (program_of session pl
 -- The call was made by the thread of the process on the line that was begun; the machine has the places, the users and the groups that
 -- it had, and has stopped where the call ended without an answer.
 pub record HasMade (old new : MachineModel) (line : ℕ) (me : ProcName) (caller : Caller) (call : UnixCall) (result : Result Reply Stopped) : Type 0 where
-  pub made : Makes old.session old.places me caller (on_line line old.kernel) new.kernel call result
+  pub made : Makes old.users old.places me caller (on_line line old.kernel) new.kernel call result
   pub places : new.places ≡ old.places
-  pub session : new.session ≡ old.session
+  pub users : new.users ≡ old.users
   pub stops : new.is_stopped ≡ is_err result
 
 -- a process that is found has its call made; one that is not is answered `gone`, and nothing changes

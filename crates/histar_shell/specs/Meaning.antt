@@ -18,6 +18,7 @@ use Rattle.histar_syscall.specs.declared.trace.TraceEntry.{TraceEntry}
 use Rattle.histar_syscall.specs.KernelModel.{state}
 use Rattle.histar_syscall.specs.Runs.{IsBy, IsRun}
 use Rattle.histar_calls.specs.declared.ending.Stopped.{Stopped}
+use Rattle.histar_calls.specs.UserTable.{without_passwords}
 use Rattle.histar_login.specs.Boot.{boot_thread_number}
 use Rattle.histar_login.specs.Start.{places_of}
 use Rattle.histar_refinement.specs.LaysOut.{LaysOut}
@@ -44,45 +45,46 @@ asked_tree options f = if options.tree then tree_text (flat_lines f) else []
 abbrev pub meaning_text : Options → Reading → List ℕ
 meaning_text options script = answers_text (meaning script.session script.calls) ++ asked_tree options (last_state script)
 
--- A machine lays out a flat state, in which process 0 is in no job: its kernel does, its users and groups are those of a script, and it
--- knows of `/` and of process 0 what boot told it.
-pub record Shows (m : MachineModel) (f : Flat) : Type 0 where
-  pub declared : IsDeclared m.session
-  pub places : m.places ≡ places_of (length m.session.users)
-  pub lays_out : LaysOut m.session (state m.kernel) f
+-- A machine of these users and groups, which are those of a script, lays out a flat state, in which process 0 is in no job: its kernel
+-- does, it has the names and the groups and no passwords, and it knows of `/` and of process 0 what boot told it.
+pub record Shows (session : Session) (m : MachineModel) (f : Flat) : Type 0 where
+  pub declared : IsDeclared session
+  pub users : m.users ≡ without_passwords session
+  pub places : m.places ≡ places_of (length session.users)
+  pub lays_out : LaysOut session (state m.kernel) f
   pub first : IsFirstFree f
   pub small : AreFilesSmall f
 
 -- The line was answered what the flat state says. The new end of the trace are its raw calls, which are its row, and the machine lays
 -- out the flat state after the call.
-pub record AnswersAsMeant (old new : MachineModel) (f : Flat) (asked : CallLine) (reply : Reply) : Type 0 where
-  pub told : reply ≡ reply_to old.session f asked.process asked.call
+pub record AnswersAsMeant (session : Session) (old new : MachineModel) (f : Flat) (asked : CallLine) (reply : Reply) : Type 0 where
+  pub told : reply ≡ reply_to session f asked.process asked.call
   pub entries : List TraceEntry
   pub trace : new.kernel.trace ≡ old.kernel.trace ++ entries
-  pub row : IsRow old.session (state old.kernel) f asked entries (state new.kernel)
-  pub shows : Shows new (flat_after old.session f asked.process asked.call)
+  pub row : IsRow session (state old.kernel) f asked entries (state new.kernel)
+  pub shows : Shows session new (flat_after session f asked.process asked.call)
 
 -- The line ended without an answer: its raw calls are a run of the kernel by the thread of its process, broken off before the reply that
 -- the flat state says.
-pub record StopsAsMeant (old new : MachineModel) (f : Flat) (asked : CallLine) : Type 0 where
+pub record StopsAsMeant (session : Session) (old new : MachineModel) (f : Flat) (asked : CallLine) : Type 0 where
   pub entries : List TraceEntry
   pub trace : new.kernel.trace ≡ old.kernel.trace ++ entries
-  pub run : IsBrokenOff (reply_to old.session f asked.process asked.call) (state old.kernel) entries (state new.kernel)
-  pub own : AllByRecursion (λ e. (e.line ≡ asked.line) × IsThreadOf old.session (state old.kernel) asked.process e.thread) entries
+  pub run : IsBrokenOff (reply_to session f asked.process asked.call) (state old.kernel) entries (state new.kernel)
+  pub own : AllByRecursion (λ e. (e.line ≡ asked.line) × IsThreadOf session (state old.kernel) asked.process e.thread) entries
 
 -- a line that ends so
-abbrev pub EndsAsMeant : MachineModel → MachineModel → Flat → CallLine → Result Reply Stopped → Type 0
-EndsAsMeant old new f asked (Ok reply) = AnswersAsMeant old new f asked reply
-EndsAsMeant old new f asked (Err stopped) = StopsAsMeant old new f asked
+abbrev pub EndsAsMeant : Session → MachineModel → MachineModel → Flat → CallLine → Result Reply Stopped → Type 0
+EndsAsMeant session old new f asked (Ok reply) = AnswersAsMeant session old new f asked reply
+EndsAsMeant session old new f asked (Err stopped) = StopsAsMeant session old new f asked
 
--- Whatever flat state the machine lays out before the line, the line ends as that says.
+-- Whatever flat state the machine lays out before the line, of whatever users and groups whose names it has, the line ends as that says.
 abbrev pub FollowsMeaning : MachineModel → MachineModel → ℕ → ProcName → UnixCall → Result Reply Stopped → Type 0
 FollowsMeaning old new line process call result =
-    (f : Flat) → Shows old f → IsScriptable call → EndsAsMeant old new f (record { line = line; process = process; call = call }) result
+    (session : Session) (f : Flat) → Shows session old f → IsScriptable call → EndsAsMeant session old new f (record { line = line; process = process; call = call }) result
 
 -- a machine lays out the flat start
 abbrev pub ShowsStart : Session → MachineModel → Type 0
-ShowsStart session m = Shows m (boot session)
+ShowsStart session m = Shows session m (boot session)
 
 -- The trace of a run: one run of the labelled kernel from its empty state on. It is raw calls of boot, by the boot thread on line 0,
 -- which leave a state that lays out the flat start; then the raw calls of the lines, each line the row of its call.

@@ -7,7 +7,7 @@ ghost use Rattle.histar_shell.specs.Meaning.{FollowsMeaning, ShowsStart};
 ghost use Rattle.histar_syscall.specs.KernelModel.{state};
 ghost use Rattle.histar_tree.specs.TreeLines.{bytes_at};
 
-use histar_calls::{Places, Stopped, append, create, list, mkdir, read, stat, write};
+use histar_calls::{Places, Stopped, UserTable, append, create, list, mkdir, read, stat, write};
 use histar_flat::{ProcName, Reply, Session, UnixCall};
 use histar_label::LabelStore;
 use histar_layout::Target;
@@ -54,7 +54,7 @@ impl Trace {
 pub struct Machine<S: LabelStore + Drop> {
     kernel: Kernel<S>,
     places: Places,
-    session: Session,
+    users: UserTable,
     is_stopped: bool,
 }
 
@@ -65,24 +65,26 @@ impl<S: LabelStore + Drop> Model for Machine<S> {
 
     ghost coded = { coded_machine_model };
 
-    ghost view = { λ m. record { kernel = m.kernel; places = m.places; session = m.session; is_stopped = m.is_stopped } };
+    ghost view = { λ m. record { kernel = m.kernel; places = m.places; users = m.users; is_stopped = m.is_stopped } };
 
     ghost invariant = { λ m. IsTraced m.kernel };
 }
 
 impl<S: LabelStore + Drop> Machine<S> {
     /// A machine with these users and groups that was booted by its raw calls, before the first call of a
-    /// script: `/` is the first user's, readable and empty, and process 0 is nobody's.
+    /// script: `/` is the first user's, readable and empty, and process 0 is nobody's. It keeps the names of
+    /// the users and their groups, and none of the passwords.
     pub fn boot(alloc: Global, store: S, session: Session) -> Result<Self, Stopped>
         requires { IsDeclared session }
         ensures starts { IfOk result (IsStart session) }
         ensures shows { IfOk result (ShowsStart session) }
     {
+        let users = UserTable::of(alloc, &session)?;
         let (kernel, places) = boot(alloc, store, &session)?;
         Ok(Machine {
             kernel,
             places,
-            session,
+            users,
             is_stopped: false,
         })
     }
@@ -110,7 +112,7 @@ impl<S: LabelStore + Drop> Machine<S> {
             &mut self.kernel,
             alloc,
             &self.places,
-            &self.session,
+            &self.users,
             process,
             &caller,
             call,
@@ -132,7 +134,7 @@ impl<S: LabelStore + Drop> Machine<S> {
         requires { HasTree self.now }
         ensures { IfOk result (λ tree. IsTreeIn self.now tree.items) }
     {
-        match tree_of(alloc, &self.kernel, &self.places, &self.session)? {
+        match tree_of(alloc, &self.kernel, &self.places, &self.users)? {
             Some(tree) => Ok(tree),
             None => unreachable!(),
         }
@@ -161,20 +163,20 @@ fn make<S: LabelStore + Drop>(
     kernel: &mut Kernel<S>,
     alloc: Global,
     places: &Places,
-    session: &Session,
+    users: &UserTable,
     me: &ProcName,
     caller: &Caller,
     call: UnixCall,
 ) -> Result<Reply, Stopped>
-    ensures { Makes session.now places.now me.now caller.now kernel.old kernel.new call result }
+    ensures { Makes users.now places.now me.now caller.now kernel.old kernel.new call result }
 {
     let thread = caller.thread;
     match call {
         UnixCall::Create(path, mode) => create::create(
-            kernel, alloc, places, session, thread, &path, mode,
+            kernel, alloc, places, users, thread, &path, mode,
         ),
         UnixCall::Mkdir(path, mode) => mkdir::mkdir(
-            kernel, alloc, places, session, thread, &path, mode,
+            kernel, alloc, places, users, thread, &path, mode,
         ),
         UnixCall::Read(path) => read::read(kernel, alloc, places, thread, &path),
         UnixCall::Write(path, bytes) => write::write(kernel, alloc, places, thread, &path, bytes),
@@ -182,19 +184,19 @@ fn make<S: LabelStore + Drop>(
             kernel, alloc, places, thread, &path, bytes,
         ),
         UnixCall::List(path) => list::list(kernel, alloc, places, thread, &path),
-        UnixCall::Stat(path) => stat::stat(kernel, places, session, thread, &path),
+        UnixCall::Stat(path) => stat::stat(kernel, places, users, thread, &path),
         UnixCall::Unlink(path) => unlink::unlink(kernel, alloc, places, thread, &path),
         UnixCall::Rmdir(path) => rmdir::rmdir(kernel, alloc, places, thread, &path),
         UnixCall::Rmtree(path) => rmtree::rmtree(kernel, alloc, places, thread, &path),
         UnixCall::Rename(path, name) => rename::rename(kernel, alloc, places, thread, &path, &name),
-        UnixCall::Spawn => spawn::spawn(kernel, alloc, session, me, caller),
+        UnixCall::Spawn => spawn::spawn(kernel, alloc, users, me, caller),
         UnixCall::Exit(number) => exit::exit(kernel, alloc, caller, number),
         UnixCall::Status(name) => status::status(kernel, places, thread, &name),
         UnixCall::Kill(name) => kill::kill(kernel, alloc, places, thread, &name),
-        UnixCall::Whoami => whoami::whoami(kernel, session, thread),
+        UnixCall::Whoami => whoami::whoami(kernel, users, thread),
         UnixCall::Login(name, password) => login::login(
-            kernel, alloc, session, caller, name, password,
+            kernel, alloc, users, caller, name, password,
         ),
-        UnixCall::Wrap(path) => wrap::wrap(kernel, alloc, places, session, me, caller, &path),
+        UnixCall::Wrap(path) => wrap::wrap(kernel, alloc, places, users, me, caller, &path),
     }
 }

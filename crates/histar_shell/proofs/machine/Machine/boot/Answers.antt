@@ -10,7 +10,7 @@ invariant_of-result g c = booted_traced c.args.session c.in_ok-kernel.kernel c.i
 
 pub returns-clause-starts : goal.returns-clause-starts
 returns-clause-starts g c = record {
-  session = refl;
+  users = c.in_ok-users.ensures;
   places = c.in_ok-kernel.ensures.places;
   state = c.in_ok-kernel.ensures.state;
   booted = c.in_ok-kernel.ensures.booted;
@@ -20,6 +20,9 @@ returns-clause-starts g c = record {
 
 pub returns-clause-shows : goal.returns-clause-shows
 returns-clause-shows g c = start_shows c.args.session c.requires _ (returns-clause-starts g c)
+
+pub of-requires : goal.of-requires
+of-requires g c = c.requires.users.distinct
 
 pub boot-requires : goal.boot-requires
 boot-requires g c = c.requires.users.some

@@ -1,0 +1,118 @@
+-- What is read of the users and groups of a session reads no password.
+use Rattle.std.proofs.Common.{◌≡◌, ℕ, zero, suc, ◌+◌, Bool, false, List, [], ◌∷◌, length, cond, Option, None, Some, refl, sym, ap, if◌then◌else◌}
+use Rattle.std.specs.Prelude.{map, not, nat_lt, option_and_then, option_map}
+use Rattle.std.specs.List.{position_or_len}
+use Rattle.std.specs.Str.{bytes_eq}
+use Rattle.std.proofs.Math.Path.{transport}
+use Rattle.std.proofs.lemmas.List.{length-map}
+use Rattle.histar_flat.specs.declared.calls.User.{User}
+use Rattle.histar_flat.specs.declared.calls.Mode.{Mode}
+use Rattle.histar_flat.specs.declared.calls.Mode.TheVariants as modes
+use Rattle.histar_flat.specs.Sessions.{Group, Session, group_number}
+use Rattle.histar_flat.specs.Words.{Name, Path}
+use Rattle.histar_label.specs.Levels.{Levels, level_of}
+use Rattle.histar_object.specs.Objects.{label_there}
+use Rattle.histar_object.specs.State.{State}
+use Rattle.histar_layout.specs.declared.entry.Target.{Target}
+use Rattle.histar_layout.specs.declared.entry.Target.TheVariants.{Directory}
+use Rattle.histar_layout.specs.Listing.{object_of}
+use Rattle.histar_calls.specs.declared.class.Class.{Class}
+use Rattle.histar_calls.specs.declared.places.Places.{Places}
+use Rattle.histar_calls.specs.Jobs.{jobs_in, is_empty}
+use Rattle.histar_calls.specs.Labelling.{secret_of}
+use Rattle.histar_calls.specs.Categories.{read_category, write_category, group_owner, owner_of_group, owners_among, owners_of, user_of, file_label, scratch_label, label_made}
+use Rattle.histar_calls.specs.ClassOf.{class_at, class_from, class_of, is_unnamed}
+use Rattle.histar_calls.specs.UserTable.{without_password, without_passwords}
+use Rattle.histar_process.specs.Kin.{categories_of, kin_of, owned_by, user_name}
+use Rattle.histar_wrap.specs.Scratch.{directory_label, jobs_with, kin_in}
+use Rattle.histar_login.specs.Login.{place_of}
+use Rattle.histar_tree.specs.declared.tree.TreeNode.{TreeNode}
+use Rattle.histar_tree.specs.Tree.{IsBelow, IsTreeAt, IsTreeOf, levels_at, node_at, node_of}
+
+-- ---- the users
+
+-- there are as many
+as_many : (users : List User) → length (map without_password users) ≡ length users
+as_many users = search length-map
+
+-- they have the names that they had
+pub same_name : (users : List User) (number : ℕ) → user_name (map without_password users) number ≡ user_name users number
+same_name [] zero = refl
+same_name [] (suc i) = refl
+same_name (user ∷ users) zero = refl
+same_name (user ∷ users) (suc zero) = refl
+same_name (user ∷ users) (suc (suc i)) = same_name users (suc i)
+
+-- each is found where it was
+found_at : (users : List User) (name : Name) → position_or_len (λ (u : User). bytes_eq u.name name) (map without_password users) ≡ position_or_len (λ (u : User). bytes_eq u.name name) users
+found_at [] name = refl
+found_at (user ∷ users) name = λ i. cond (not (bytes_eq user.name name)) (1 + found_at users name i) 0
+
+pub same_place : (users : List User) (name : Name) → place_of (map without_password users) name ≡ place_of users name
+same_place users name = λ i. cond (nat_lt (found_at users name i) (as_many users i)) (Some (found_at users name i)) None
+
+-- the class that a label tells is the same
+class_from_same : (label : Levels) (groups : List Group) (users : List User) (k : ℕ) → class_from label k groups (map without_password users) ≡ class_from label k groups users
+class_from_same label groups [] k = refl
+class_from_same label groups (user ∷ users) k =
+    ap (λ (rest : Option Class). if is_unnamed label k then rest else class_at user.name (level_of label (read_category k)) (level_of label (write_category k))) (class_from_same label groups users (k + 1))
+
+module _ (session : Session) where
+  -- how many there are
+  count : length (without_passwords session).users ≡ length session.users
+  count = as_many session.users
+
+  pub same_class : (label : Levels) → class_of (without_passwords session) label ≡ class_of session label
+  unfolding class_of
+  same_class label = class_from_same label session.groups session.users 1
+
+  -- ---- the labels of files
+
+  same_owner : (group : Name) → owner_of_group (without_passwords session) group ≡ owner_of_group session group
+  same_owner group = λ i. elim (group_number session group) [ None ↦ 0 | Some k ↦ group_owner (count i) k ]
+
+  same_file_label : (mode : Mode) (user : ℕ) → file_label (without_passwords session) mode user ≡ file_label session mode user
+  same_file_label modes.Readable user = refl
+  same_file_label modes.Private user = refl
+  same_file_label modes.Open user = refl
+  same_file_label (modes.Group group) user = λ i. secret_of (read_category (same_owner group i)) (write_category (same_owner group i))
+
+  pub same_label : (own : Levels) (mode : Mode) → label_made (without_passwords session) own mode ≡ label_made session own mode
+  same_label own mode = λ i. if is_empty (jobs_in own) then same_file_label mode (user_of own (count i)) i else scratch_label (user_of own (count i)) (jobs_in own)
+
+  pub same_directory_label : (own : Levels) (job : ℕ) → directory_label (without_passwords session) own job ≡ directory_label session own job
+  same_directory_label own job = λ i. scratch_label (user_of own (count i)) (jobs_with own job)
+
+  -- ---- what a process owns
+
+  pub same_owners : (number : ℕ) (name : Name) → owners_of (without_passwords session) number name ≡ owners_of session number name
+  same_owners number name = λ i. owners_among (count i) session.groups number name
+
+  same_owned : (user : ℕ) (free : Bool) → owned_by (without_passwords session) user free ≡ owned_by session user free
+  same_owned zero free = refl
+  same_owned (suc k) free = λ i. categories_of (owners_among (count i) session.groups (suc k) (same_name session.users (suc k) i)) free
+
+  pub same_user : (own : Levels) → user_name (without_passwords session).users (user_of own (length (without_passwords session).users)) ≡ user_name session.users (user_of own (length session.users))
+  same_user own = λ i. same_name session.users (user_of own (count i)) i
+
+  pub same_kin : (own : Levels) → kin_of (without_passwords session) own ≡ kin_of session own
+  same_kin own = λ i. record { owned = same_owned (user_of own (count i)) (is_empty (jobs_in own)) i; jobs = jobs_in own }
+
+  pub same_kin_in : (own : Levels) (job : ℕ) → kin_in (without_passwords session) own job ≡ kin_in session own job
+  same_kin_in own job = λ i. record { owned = same_owned (user_of own (count i)) false i; jobs = jobs_with own job }
+
+  -- ---- the tree
+
+  module _ (s : State) where
+    same_node : (q : Path) (target : Target) → node_at (without_passwords session) s q target ≡ node_at session s q target
+    same_node q target = λ i. option_map (node_of q target) (option_and_then (λ label. same_class label i) (label_there (s.objects (object_of target))))
+
+    same_tree_at : (levels : ℕ) (q : Path) (target : Target) (tree : List TreeNode) → IsTreeAt levels (without_passwords session) s q target tree ≡ IsTreeAt levels session s q target tree
+    same_tree_at zero q target tree = refl
+    same_tree_at (suc levels) q target tree =
+        λ i. (node : TreeNode) × (below : List TreeNode) × (same_node q target i ≡ Some node) × IsBelow (λ d t trees. same_tree_at levels d t trees i) s q target below × (tree ≡ node ∷ below)
+
+    -- the tree of a session is that of its users with no passwords
+    pub tree_unproved : (places : Places) (tree : List TreeNode) → IsTreeOf session s places tree → IsTreeOf (without_passwords session) s places tree
+    unfolding IsTreeOf
+    tree_unproved places tree is = transport (sym (same_tree_at (levels_at []) [] (Directory places.slash.container places.slash.listing) tree)) is
