@@ -1,5 +1,5 @@
 -- How the code that looks for a file, or for room, runs its part: it goes to the directory, and decides there.
-use Rattle.std.proofs.Common.{◌≡◌, ℕ, ◌∷◌, Option, Result, Ok, Err, sym, ◌∙◌, subst}
+use Rattle.std.proofs.Common.{◌≡◌, ℕ, ◌∷◌, Option, Result, Ok, Err, sym, subst}
 use Rattle.histar_flat.specs.Words.{Name, Path}
 use Rattle.histar_flat.specs.declared.replies.Errno.{Errno}
 use Rattle.histar_syscall.specs.KernelModel.{KernelModel}
