@@ -1,5 +1,5 @@
 pub mod Passing
-pub mod Labelled
+pub mod WellLabelled
 pub mod Shapes
 pub mod Sound
 pub mod Tainted

@@ -5,7 +5,7 @@ ghost use Rattle.histar_container.specs.ObjectsModel.{state_of};
 ghost use Rattle.histar_rules.specs.Rules.{no_container, no_making, no_link, no_segment, no_gate, Tells};
 
 use crate::raw::Denied;
-use histar_container::LabelledObjects;
+use crate::labelled::LabelledObjects;
 use histar_label::LabelStore;
 use histar_object::ObjId;
 

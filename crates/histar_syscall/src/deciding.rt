@@ -8,7 +8,7 @@ ghost use Rattle.histar_syscall.specs.Answers.{IsRightAnswer};
 use crate::answers::{Answer, Reading};
 use crate::containers::{label_of, make_container, own_label, unlink};
 use crate::segments::{make_segment, read, write};
-use histar_container::LabelledObjects;
+use histar_rules::LabelledObjects;
 use histar_gate::{enter, make_gate};
 use histar_label::LabelStore;
 use histar_object::ObjId;

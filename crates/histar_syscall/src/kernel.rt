@@ -14,7 +14,7 @@ use crate::deciding::decide;
 use crate::starting::empty_objects;
 use crate::trace::{TraceEntry, log};
 use histar_base::Bytes;
-use histar_container::LabelledObjects;
+use histar_rules::LabelledObjects;
 use histar_label::{Category, Label, LabelStore, OutOfMemory};
 use histar_object::{Entry, ObjId};
 use histar_rules::{RawCall, Refusal};

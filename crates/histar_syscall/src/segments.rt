@@ -11,7 +11,7 @@ ghost use Rattle.histar_syscall.specs.Answers.{IsRightAnswer};
 
 use crate::answers::{Answer, Reading};
 use histar_base::Bytes;
-use histar_container::LabelledObjects;
+use histar_rules::LabelledObjects;
 use histar_label::{Label, LabelStore};
 use histar_object::{Kind, ObjId};
 use histar_rules::{Denied, Refusal, check_making, check_segment, require};

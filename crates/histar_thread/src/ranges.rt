@@ -3,7 +3,7 @@ ghost use Rattle.std.specs.Prelude.{◌≡◌};
 ghost use Rattle.histar_object.specs.Objects.{objects_of};
 ghost use Rattle.histar_object.specs.Rights.{may_clear, in_span};
 
-use histar_container::LabelledObjects;
+use histar_rules::LabelledObjects;
 use histar_label::{Label, LabelStore};
 use histar_object::ObjId;
 

@@ -5,7 +5,7 @@ ghost use Rattle.histar_rules.specs.Rules.{check, Tells, Decides, IsNextNumber};
 ghost use Rattle.histar_rules.specs.declared.raw.RawCall.TheVariants as calls;
 
 use crate::ranges::{in_span, may_clear};
-use histar_container::LabelledObjects;
+use histar_rules::LabelledObjects;
 use histar_label::{Category, Label, LabelStore, Level};
 use histar_object::{Kind, ObjId};
 use histar_rules::{Denied, Refusal, check_making, require};
