@@ -5,3 +5,4 @@ pub mod Sound
 pub mod Tainted
 pub mod TaintedMoves
 pub mod TaintedCalls
+pub mod Meetings

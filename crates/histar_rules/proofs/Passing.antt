@@ -1,5 +1,5 @@
 -- What a call that passes its checks knows.
-use Rattle.std.proofs.Common.{◌≡◌, ℕ, Bool, true, false, Option, None, Some, refl, subst}
+use Rattle.std.proofs.Common.{◌≡◌, ℕ, Bool, true, false, Option, None, Some, Err, refl, sym, ap, subst}
 use Rattle.std.specs.Prelude.{not, Result}
 use Rattle.histar_base.specs.Refusals.{unless, ◌orelse◌}
 use Rattle.histar_object.specs.Objects.{is_there, is_container, is_thread}
@@ -57,3 +57,7 @@ container_is s t d e =
     let there = rest (no_thread s t) _ e in
     let container = (passes (is_there (s.objects d)) NoEntry _ there).1 in
     (passes (is_container (s.objects d)) BadKind _ container).0
+
+-- a test that refuses tells its denial
+pub refused_tells : {A : Type 0} (is : Bool) (denied : Denied) (after : Option Denied) (r : Result A Denied) → is ≡ false → r ≡ Err denied → Tells (unless is denied orelse after) r
+refused_tells {A} is denied after r fails told = subst (λ (x : Result A Denied). Tells (unless is denied orelse after) x) (sym told) (ap (λ b. unless b denied orelse after) fails)

@@ -25,10 +25,7 @@ pub fn check_container<S: LabelStore + Drop>(
     ensures answer { Tells (no_container (state_of objects.old) thread container) result }
     ensures unchanged { objects.new ≡ objects.old }
 {
-    require(objects.is_thread(thread), Denied::NoThread)?;
-    require(objects.is_there(container), Denied::NoEntry)?;
-    require(objects.is_container(container), Denied::BadKind)?;
-    require(objects.observes(thread, container), Denied::Observe)
+    objects.check_container(thread, container)
 }
 
 /// The checks of every call that makes an object in a container, before those of its labels.
@@ -40,8 +37,7 @@ pub fn check_making<S: LabelStore + Drop>(
     ensures answer { Tells (no_making (state_of objects.old) thread container) result }
     ensures unchanged { objects.new ≡ objects.old }
 {
-    check_container(objects, thread, container)?;
-    require(objects.modifies(thread, container), Denied::Modify)
+    objects.check_making(thread, container)
 }
 
 /// The checks of every call that names an object in a container.
@@ -54,8 +50,7 @@ pub fn check_link<S: LabelStore + Drop>(
     ensures answer { Tells (no_link (state_of objects.old) thread container object) result }
     ensures unchanged { objects.new ≡ objects.old }
 {
-    check_container(objects, thread, container)?;
-    require(objects.is_linked(container, object), Denied::NoEntry)
+    objects.check_link(thread, container, object)
 }
 
 /// The checks of every call that names a segment in a container.

@@ -9,9 +9,13 @@ ghost use Rattle.histar_object.specs.State.{observes, modifies, in_range, with_o
 ghost use Rattle.histar_container.specs.Shown.{objects_shown, kind_by, AllStand, KindStands, IsKept};
 ghost use Rattle.histar_container.specs.ObjectsModel.{state_of, CutsOff};
 ghost use Rattle.histar_container.specs.Tree.{AreTree};
+ghost use Rattle.histar_rules.specs.Finds.{LendsThread};
+ghost use Rattle.histar_rules.specs.Rules.{no_container, no_making, no_link, Tells};
 
-use histar_container::{link_new, linked, remove_tree};
+use crate::meeting::{link_in, make_in, meet_in, thread_in};
+use crate::raw::Denied;
 use histar_base::Bytes;
+use histar_container::{link_new, linked, remove_tree};
 use histar_label::{Label, LabelStore};
 use histar_object::{Entry, Kind, ObjId, Object, Table};
 use std::alloc::{AllocError, Global};
@@ -181,6 +185,18 @@ impl<S: LabelStore + Drop> LabelledObjects<S> {
         }
     }
 
+    /// The label and the clearance of a thread, by one look-up.
+    pub fn own(&self, thread: ObjId) -> Option<(&Label, &Label)>
+        ensures { LendsThread (objects_of self.now.objects thread) result }
+    {
+        let Some((own, most)) = thread_in(&self.table, thread) else {
+            return None;
+        };
+        let label = self.store.get(own).unwrap();
+        let clearance = self.store.get(most).unwrap();
+        Some((label, clearance))
+    }
+
     /// What a gate gives to those who enter it.
     pub fn entry(&self, object: ObjId) -> Option<Entry>
         ensures { result ≡ entry_there (objects_of self.now.objects object) }
@@ -218,6 +234,39 @@ impl<S: LabelStore + Drop> LabelledObjects<S> {
             (Some(own), Some(clearance)) => own.below(label) && label.below(clearance),
             _ => false,
         }
+    }
+
+    /// The checks of every call that names a container. The thread and the container are looked up
+    /// once each.
+    pub fn check_container(&mut self, thread: ObjId, container: ObjId) -> Result<(), Denied>
+        ensures answer { Tells (no_container (state_of self.old) thread container) result }
+        ensures unchanged { self.new ≡ self.old }
+    {
+        match meet_in(&mut self.store, &self.table, thread, container) {
+            Ok(_) => Ok(()),
+            Err(denied) => Err(denied),
+        }
+    }
+
+    /// The checks of every call that makes an object in a container, before those of its labels.
+    pub fn check_making(&mut self, thread: ObjId, container: ObjId) -> Result<(), Denied>
+        ensures answer { Tells (no_making (state_of self.old) thread container) result }
+        ensures unchanged { self.new ≡ self.old }
+    {
+        make_in(&mut self.store, &self.table, thread, container)
+    }
+
+    /// The checks of every call that names an object in a container.
+    pub fn check_link(
+        &mut self,
+        thread: ObjId,
+        container: ObjId,
+        object: ObjId,
+    ) -> Result<(), Denied>
+        ensures answer { Tells (no_link (state_of self.old) thread container object) result }
+        ensures unchanged { self.new ≡ self.old }
+    {
+        link_in(&mut self.store, &self.table, thread, container, object)
     }
 
     /// Makes an object in a container, under the next number.

@@ -4,6 +4,7 @@
 
 mod checks;
 mod labelled;
+mod meeting;
 mod raw;
 
 pub use checks::{check_container, check_gate, check_link, check_making, check_segment, require};
