@@ -1,13 +1,13 @@
 //! The checks that raw calls have in common, in their order: the first failing test answers.
-ghost use Rattle.std.specs.Prelude.{◌≡◌};
+ghost use Rattle.std.specs.Prelude.{◌≡◌, IfOk};
 ghost use Rattle.histar_base.specs.Refusals.{unless};
 ghost use Rattle.histar_container.specs.ObjectsModel.{state_of};
-ghost use Rattle.histar_rules.specs.Rules.{no_container, no_making, no_link, no_segment, no_gate, Tells};
+ghost use Rattle.histar_rules.specs.Rules.{no_container, no_making, no_link, no_segment, no_gate, Tells, IsEntryOf};
 
-use crate::raw::Denied;
 use crate::labelled::LabelledObjects;
+use crate::raw::Denied;
 use histar_label::LabelStore;
-use histar_object::ObjId;
+use histar_object::{Entry, ObjId};
 
 /// A test that must hold: where it fails, the call is denied so.
 pub fn require(test: bool, denied: Denied) -> Result<(), Denied>
@@ -67,16 +67,20 @@ pub fn check_segment<S: LabelStore + Drop>(
     require(objects.is_segment(segment), Denied::BadKind)
 }
 
-/// The checks of every call that names a gate in a container.
+/// The checks of every call that names a gate in a container: where they pass, the gate's entry.
 pub fn check_gate<S: LabelStore + Drop>(
     objects: &mut LabelledObjects<S>,
     thread: ObjId,
     container: ObjId,
     gate: ObjId,
-) -> Result<(), Denied>
+) -> Result<Entry, Denied>
     ensures answer { Tells (no_gate (state_of objects.old) thread container gate) result }
+    ensures entry { IfOk result (IsEntryOf objects.old gate) }
     ensures unchanged { objects.new ≡ objects.old }
 {
     check_link(objects, thread, container, gate)?;
-    require(objects.is_gate(gate), Denied::BadKind)
+    match objects.entry(gate) {
+        Some(entry) => Ok(entry),
+        None => Err(Denied::BadKind),
+    }
 }

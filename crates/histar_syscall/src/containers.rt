@@ -13,16 +13,6 @@ use histar_object::{Kind, Links, ObjId};
 use histar_rules::{Denied, Refusal, check_link, check_making, require};
 use std::alloc::Global;
 
-/// The checks of a thread that asks for its own labels.
-fn check_own_label<S: LabelStore + Drop>(
-    objects: &LabelledObjects<S>,
-    thread: ObjId,
-) -> Result<(), Denied>
-    ensures { Tells (check (state_of objects.now) thread calls.OwnLabel) result }
-{
-    require(objects.is_thread(thread), Denied::NoThread)
-}
-
 /// The thread's own label and clearance.
 pub fn own_label<S: LabelStore + Drop>(
     objects: &LabelledObjects<S>,
@@ -30,12 +20,8 @@ pub fn own_label<S: LabelStore + Drop>(
 ) -> Result<(Label, Label), Refusal>
     ensures { Decides objects.now objects.now thread calls.OwnLabel result (AreLabelsOf objects.now thread) }
 {
-    check_own_label(objects, thread)?;
-    let Some(label) = objects.label(thread) else {
-        unreachable!()
-    };
-    let Some(clearance) = objects.clearance(thread) else {
-        unreachable!()
+    let Some((label, clearance)) = objects.own(thread) else {
+        return Err(Refusal::Denied(Denied::NoThread));
     };
     let label = label.copy()?;
     let clearance = clearance.copy()?;
@@ -69,7 +55,7 @@ pub fn label_of<S: LabelStore + Drop>(
 {
     check_label(objects, thread, container, object)?;
     let Some(label) = objects.label(object) else {
-        unreachable!()
+        return Err(Refusal::Denied(Denied::NoEntry));
     };
     Ok(label.copy()?)
 }
