@@ -5,10 +5,9 @@ ghost use Rattle.histar_rules.specs.Rules.{check, Tells, TellsUnlessExhausted, D
 ghost use Rattle.histar_rules.specs.declared.raw.RawCall.TheVariants as calls;
 
 use crate::openings::{in_gate, is_let_in, is_under};
-use histar_rules::LabelledObjects;
 use histar_label::{Label, LabelStore};
 use histar_object::{Entry, Kind, ObjId};
-use histar_rules::{Denied, Refusal, check_gate, check_making, require};
+use histar_rules::{Denied, LabelledObjects, Refusal, check_gate, check_making, require};
 use histar_thread::in_span;
 
 /// The checks of the making of a gate.
