@@ -7,10 +7,9 @@ ghost use Rattle.histar_container.specs.Tree.{AreTree};
 ghost use Rattle.histar_rules.specs.Rules.{check, Tells, Decides, IsNextNumber, AreLabelsOf, IsLabelOf};
 ghost use Rattle.histar_rules.specs.declared.raw.RawCall.TheVariants as calls;
 
-use histar_rules::LabelledObjects;
 use histar_label::{Label, LabelStore};
 use histar_object::{Kind, Links, ObjId};
-use histar_rules::{Denied, Refusal, check_link, check_making, require};
+use histar_rules::{Denied, LabelledObjects, Refusal, check_link, check_making, require};
 use std::alloc::Global;
 
 /// The thread's own label and clearance.
