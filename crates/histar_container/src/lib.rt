@@ -1,11 +1,9 @@
-//! Links between objects, and the objects of a kernel with their labels in a store.
+//! Links between objects, and the removal of an object with all that hangs below it.
 #![tactic(auto)]
 
-mod labelled;
 mod linking;
 mod removing;
 
-pub use labelled::LabelledObjects;
 pub use linking::{link_new, linked};
 pub use removing::remove_tree;
 

@@ -1,14 +1,13 @@
 //! The making of gates, and entering them.
-ghost use Rattle.std.specs.Prelude.{◌≡◌};
+ghost use Rattle.std.specs.Prelude.{◌≡◌, IfOk};
 ghost use Rattle.histar_container.specs.ObjectsModel.{state_of};
 ghost use Rattle.histar_rules.specs.Rules.{check, Tells, TellsUnlessExhausted, Decides, IsNextNumber, IsEntryOf};
 ghost use Rattle.histar_rules.specs.declared.raw.RawCall.TheVariants as calls;
 
 use crate::openings::{in_gate, is_let_in, is_under};
-use histar_container::LabelledObjects;
 use histar_label::{Label, LabelStore};
 use histar_object::{Entry, Kind, ObjId};
-use histar_rules::{Denied, Refusal, check_gate, check_making, require};
+use histar_rules::{Denied, LabelledObjects, Refusal, check_gate, check_making, require};
 use histar_thread::in_span;
 
 /// The checks of the making of a gate.
@@ -56,7 +55,8 @@ pub fn make_gate<S: LabelStore + Drop>(
     Ok(number)
 }
 
-/// The checks of entering a gate, the labels that were handed in last. They want memory.
+/// The checks of entering a gate, the labels that were handed in last. They want memory. Where they
+/// pass, the gate's entry.
 fn check_enter<S: LabelStore + Drop>(
     objects: &mut LabelledObjects<S>,
     thread: ObjId,
@@ -65,12 +65,13 @@ fn check_enter<S: LabelStore + Drop>(
     wanted: &Label,
     clearance: &Label,
     shown: &Label,
-) -> Result<(), Refusal>
+) -> Result<Entry, Refusal>
     ensures answer { TellsUnlessExhausted
         (check (state_of objects.old) thread (calls.Enter container gate wanted.now clearance.now shown.now)) result }
+    ensures entry { IfOk result (IsEntryOf objects.old gate) }
     ensures unchanged { objects.new ≡ objects.old }
 {
-    check_gate(objects, thread, container, gate)?;
+    let entry = check_gate(objects, thread, container, gate)?;
     require(is_let_in(objects, thread, gate), Denied::Gate)?;
     require(is_under(objects, thread, shown), Denied::Gate)?;
     require(
@@ -89,7 +90,7 @@ fn check_enter<S: LabelStore + Drop>(
         shown.names_only_made(objects.next_category()),
         Denied::Range,
     )?;
-    Ok(())
+    Ok(entry)
 }
 
 /// Enters a gate: the thread gets the label and the clearance that it wants, within what the gate and
@@ -107,10 +108,7 @@ pub fn enter<S: LabelStore + Drop>(
     ensures { Decides objects.old objects.new thread
         (calls.Enter container gate wanted.now clearance.now shown.now) result (IsEntryOf objects.old gate) }
 {
-    check_enter(objects, thread, container, gate, wanted, clearance, shown)?;
-    let Some(entry) = objects.entry(gate) else {
-        unreachable!()
-    };
+    let entry = check_enter(objects, thread, container, gate, wanted, clearance, shown)?;
     objects.set_own(thread, wanted.copy()?, clearance.copy()?)?;
     Ok(entry)
 }

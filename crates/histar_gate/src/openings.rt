@@ -3,9 +3,9 @@ ghost use Rattle.std.specs.Prelude.{◌≡◌, ◌&&◌, IfOk};
 ghost use Rattle.histar_object.specs.Objects.{objects_of};
 ghost use Rattle.histar_object.specs.Rights.{is_under, is_let_in, in_gate, lies_between};
 
-use histar_container::LabelledObjects;
 use histar_label::{Label, LabelStore, OutOfMemory};
 use histar_object::ObjId;
+use histar_rules::LabelledObjects;
 
 /// Whether a thread's own label is below a label.
 pub fn is_under<S: LabelStore + Drop>(

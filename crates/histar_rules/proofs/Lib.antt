@@ -1,7 +1,8 @@
 pub mod Passing
-pub mod Labelled
+pub mod WellLabelled
 pub mod Shapes
 pub mod Sound
 pub mod Tainted
 pub mod TaintedMoves
 pub mod TaintedCalls
+pub mod Meetings

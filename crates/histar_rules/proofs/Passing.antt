@@ -2,8 +2,12 @@
 use Rattle.std.proofs.Common.{◌≡◌, ℕ, Bool, true, false, Option, None, Some, refl, subst}
 use Rattle.std.specs.Prelude.{not, Result}
 use Rattle.histar_base.specs.Refusals.{unless, ◌orelse◌}
-use Rattle.histar_object.specs.Objects.{is_there, is_container, is_thread}
-use Rattle.histar_object.specs.State.{State}
+use Rattle.histar_label.specs.Levels.{Levels}
+use Rattle.histar_object.specs.declared.objects.Entry.{Entry}
+use Rattle.histar_object.specs.declared.objects.Kind.{Kind}
+use Rattle.histar_object.specs.declared.objects.Kind.TheVariants.{Segment, Container, Thread, Gate}
+use Rattle.histar_object.specs.Objects.{is_there, is_container, is_thread, is_gate, entry_there, kind_entry, kind_is_gate}
+use Rattle.histar_object.specs.State.{State, Found}
 use Rattle.histar_rules.specs.declared.raw.Denied.{Denied}
 use Rattle.histar_rules.specs.declared.raw.Denied.TheVariants.{NoThread, NoEntry, BadKind}
 use Rattle.histar_rules.specs.Rules.{no_thread, no_container, Tells}
@@ -57,3 +61,25 @@ container_is s t d e =
     let there = rest (no_thread s t) _ e in
     let container = (passes (is_there (s.objects d)) NoEntry _ there).1 in
     (passes (is_container (s.objects d)) BadKind _ container).0
+
+kind_is_gate_by : (k : Kind Levels) (e : Entry) → Some e ≡ kind_entry k → kind_is_gate k ≡ true
+kind_is_gate_by (Segment bytes) e is = cc
+kind_is_gate_by (Container links) e is = cc
+kind_is_gate_by (Thread clearance) e is = cc
+kind_is_gate_by (Gate clearance entry) e is = refl
+
+-- what has an entry is a gate
+pub gate_is : (o : Found) (e : Entry) → Some e ≡ entry_there o → is_gate o ≡ true
+gate_is None e is = cc
+gate_is (Some o) e is = kind_is_gate_by o.kind e is
+
+kind_no_gate : (k : Kind Levels) → None ≡ kind_entry k → kind_is_gate k ≡ false
+kind_no_gate (Segment bytes) is = refl
+kind_no_gate (Container links) is = refl
+kind_no_gate (Thread clearance) is = refl
+kind_no_gate (Gate clearance entry) is = cc
+
+-- what has none is not
+pub no_gate_is : (o : Found) → None ≡ entry_there o → is_gate o ≡ false
+no_gate_is None is = refl
+no_gate_is (Some o) is = kind_no_gate o.kind is

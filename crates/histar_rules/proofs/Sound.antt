@@ -27,7 +27,7 @@ use Rattle.histar_rules.specs.declared.raw.RawCall.TheVariants.{MakeCategory, Ow
 use Rattle.histar_rules.specs.Rules.{no_thread, no_container, no_link, no_gate, no_making, known, check, Changes, Decides}
 use Rattle.histar_rules.specs.Sound.{root_number, IsWellLabelled, IsSound}
 use Rattle.histar_rules.proofs.Passing.{unless_none, first, rest, passes, not_passes, caller_is, container_is}
-use Rattle.histar_rules.proofs.Labelled.{well_holding, well_plain, well_cleared, well_thread, well_relabelled, well_clearing, well_owning, well_later, labelled_put, labelled_changed, labelled_cut, labelled_new}
+use Rattle.histar_rules.proofs.WellLabelled.{well_holding, well_plain, well_cleared, well_thread, well_relabelled, well_clearing, well_owning, well_later, labelled_put, labelled_changed, labelled_cut, labelled_new}
 use Rattle.histar_rules.proofs.Shapes.{thread_there, thread_links, clearing_links, cleared_links}
 
 module _ (s : State) (sound : IsSound s) where

@@ -1,3 +1,4 @@
+pub mod Finds
 pub mod Rules
 pub mod Sound
 pub mod Visible

@@ -1,13 +1,13 @@
 //! The checks that raw calls have in common, in their order: the first failing test answers.
-ghost use Rattle.std.specs.Prelude.{◌≡◌};
+ghost use Rattle.std.specs.Prelude.{◌≡◌, IfOk};
 ghost use Rattle.histar_base.specs.Refusals.{unless};
 ghost use Rattle.histar_container.specs.ObjectsModel.{state_of};
-ghost use Rattle.histar_rules.specs.Rules.{no_container, no_making, no_link, no_segment, no_gate, Tells};
+ghost use Rattle.histar_rules.specs.Rules.{no_container, no_making, no_link, no_segment, no_gate, Tells, IsEntryOf};
 
+use crate::labelled::LabelledObjects;
 use crate::raw::Denied;
-use histar_container::LabelledObjects;
 use histar_label::LabelStore;
-use histar_object::ObjId;
+use histar_object::{Entry, ObjId};
 
 /// A test that must hold: where it fails, the call is denied so.
 pub fn require(test: bool, denied: Denied) -> Result<(), Denied>
@@ -25,10 +25,7 @@ pub fn check_container<S: LabelStore + Drop>(
     ensures answer { Tells (no_container (state_of objects.old) thread container) result }
     ensures unchanged { objects.new ≡ objects.old }
 {
-    require(objects.is_thread(thread), Denied::NoThread)?;
-    require(objects.is_there(container), Denied::NoEntry)?;
-    require(objects.is_container(container), Denied::BadKind)?;
-    require(objects.observes(thread, container), Denied::Observe)
+    objects.check_container(thread, container)
 }
 
 /// The checks of every call that makes an object in a container, before those of its labels.
@@ -40,8 +37,7 @@ pub fn check_making<S: LabelStore + Drop>(
     ensures answer { Tells (no_making (state_of objects.old) thread container) result }
     ensures unchanged { objects.new ≡ objects.old }
 {
-    check_container(objects, thread, container)?;
-    require(objects.modifies(thread, container), Denied::Modify)
+    objects.check_making(thread, container)
 }
 
 /// The checks of every call that names an object in a container.
@@ -54,8 +50,7 @@ pub fn check_link<S: LabelStore + Drop>(
     ensures answer { Tells (no_link (state_of objects.old) thread container object) result }
     ensures unchanged { objects.new ≡ objects.old }
 {
-    check_container(objects, thread, container)?;
-    require(objects.is_linked(container, object), Denied::NoEntry)
+    objects.check_link(thread, container, object)
 }
 
 /// The checks of every call that names a segment in a container.
@@ -72,16 +67,20 @@ pub fn check_segment<S: LabelStore + Drop>(
     require(objects.is_segment(segment), Denied::BadKind)
 }
 
-/// The checks of every call that names a gate in a container.
+/// The checks of every call that names a gate in a container: where they pass, the gate's entry.
 pub fn check_gate<S: LabelStore + Drop>(
     objects: &mut LabelledObjects<S>,
     thread: ObjId,
     container: ObjId,
     gate: ObjId,
-) -> Result<(), Denied>
+) -> Result<Entry, Denied>
     ensures answer { Tells (no_gate (state_of objects.old) thread container gate) result }
+    ensures entry { IfOk result (IsEntryOf objects.old gate) }
     ensures unchanged { objects.new ≡ objects.old }
 {
     check_link(objects, thread, container, gate)?;
-    require(objects.is_gate(gate), Denied::BadKind)
+    match objects.entry(gate) {
+        Some(entry) => Ok(entry),
+        None => Err(Denied::BadKind),
+    }
 }

@@ -7,21 +7,10 @@ ghost use Rattle.histar_container.specs.Tree.{AreTree};
 ghost use Rattle.histar_rules.specs.Rules.{check, Tells, Decides, IsNextNumber, AreLabelsOf, IsLabelOf};
 ghost use Rattle.histar_rules.specs.declared.raw.RawCall.TheVariants as calls;
 
-use histar_container::LabelledObjects;
 use histar_label::{Label, LabelStore};
 use histar_object::{Kind, Links, ObjId};
-use histar_rules::{Denied, Refusal, check_link, check_making, require};
+use histar_rules::{Denied, LabelledObjects, Refusal, check_link, check_making, require};
 use std::alloc::Global;
-
-/// The checks of a thread that asks for its own labels.
-fn check_own_label<S: LabelStore + Drop>(
-    objects: &LabelledObjects<S>,
-    thread: ObjId,
-) -> Result<(), Denied>
-    ensures { Tells (check (state_of objects.now) thread calls.OwnLabel) result }
-{
-    require(objects.is_thread(thread), Denied::NoThread)
-}
 
 /// The thread's own label and clearance.
 pub fn own_label<S: LabelStore + Drop>(
@@ -30,12 +19,8 @@ pub fn own_label<S: LabelStore + Drop>(
 ) -> Result<(Label, Label), Refusal>
     ensures { Decides objects.now objects.now thread calls.OwnLabel result (AreLabelsOf objects.now thread) }
 {
-    check_own_label(objects, thread)?;
-    let Some(label) = objects.label(thread) else {
-        unreachable!()
-    };
-    let Some(clearance) = objects.clearance(thread) else {
-        unreachable!()
+    let Some((label, clearance)) = objects.own(thread) else {
+        return Err(Refusal::Denied(Denied::NoThread));
     };
     let label = label.copy()?;
     let clearance = clearance.copy()?;
@@ -69,7 +54,7 @@ pub fn label_of<S: LabelStore + Drop>(
 {
     check_label(objects, thread, container, object)?;
     let Some(label) = objects.label(object) else {
-        unreachable!()
+        return Err(Refusal::Denied(Denied::NoEntry));
     };
     Ok(label.copy()?)
 }

@@ -14,10 +14,9 @@ use crate::deciding::decide;
 use crate::starting::empty_objects;
 use crate::trace::{TraceEntry, log};
 use histar_base::Bytes;
-use histar_container::LabelledObjects;
 use histar_label::{Category, Label, LabelStore, OutOfMemory};
 use histar_object::{Entry, ObjId};
-use histar_rules::{HandedLabel, RawCall, Refusal};
+use histar_rules::{HandedLabel, LabelledObjects, RawCall, Refusal};
 use std::alloc::Global;
 use std::marker::Model;
 

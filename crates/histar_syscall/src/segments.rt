@@ -11,10 +11,9 @@ ghost use Rattle.histar_syscall.specs.Answers.{IsRightAnswer};
 
 use crate::answers::{Answer, Reading};
 use histar_base::Bytes;
-use histar_container::LabelledObjects;
 use histar_label::{Label, LabelStore};
 use histar_object::{Kind, ObjId};
-use histar_rules::{Denied, Refusal, check_making, check_segment, require};
+use histar_rules::{Denied, LabelledObjects, Refusal, check_making, check_segment, require};
 use std::alloc::{AllocError, Global};
 
 /// The most bytes that a segment holds.

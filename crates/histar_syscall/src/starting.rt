@@ -4,9 +4,9 @@ ghost use Rattle.histar_label.specs.Levels.{constant, with_level};
 ghost use Rattle.histar_object.specs.State.{empty_state};
 ghost use Rattle.histar_container.specs.ObjectsModel.{state_of};
 
-use histar_container::LabelledObjects;
 use histar_label::{Category, Label, LabelStore, Level, OutOfMemory};
 use histar_object::{Kind, Links, ObjId};
+use histar_rules::LabelledObjects;
 use std::alloc::Global;
 
 /// The root container, which the owner of category 1 alone may modify, and the boot thread in it,

@@ -30,8 +30,3 @@ pub category_made : (s : State) (t : ℕ) (label clearance : Levels) → Some la
     → with_next_category (with_own s t (with_level label s.next_category Star) (with_level clearance s.next_category L3)) ≡ with_category s t
 category_made s t label clearance l k thread =
     ap (λ (objects : Objects Levels). record { objects = objects; next_object = s.next_object; next_category = s.next_category + 1 }) (owned_at s.objects t (s.objects t) label clearance s.next_category refl l k thread)
-
--- who may make a category is a thread
-pub is_maker : (b e : Bool) → (unless b NoThread orelse unless e TooBig) ≡ None → b ≡ true
-is_maker true e none = refl
-is_maker false e none = cc

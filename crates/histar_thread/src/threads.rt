@@ -1,24 +1,29 @@
 //! The calls of a thread on itself, and the making of threads.
-ghost use Rattle.std.specs.Prelude.{◌≡◌, ◌<◌};
+ghost use Rattle.std.specs.Prelude.{◌≡◌, ◌<◌, IfOk, Some};
+ghost use Rattle.histar_label.specs.Levels.{Levels};
+ghost use Rattle.histar_object.specs.Objects.{objects_of, thread_of};
 ghost use Rattle.histar_container.specs.ObjectsModel.{state_of};
 ghost use Rattle.histar_rules.specs.Rules.{check, Tells, Decides, IsNextNumber};
 ghost use Rattle.histar_rules.specs.declared.raw.RawCall.TheVariants as calls;
 
-use crate::ranges::{in_span, may_clear};
-use histar_container::LabelledObjects;
+use crate::ranges::{in_range, in_span, may_clear};
 use histar_label::{Category, Label, LabelStore, Level};
 use histar_object::{Kind, ObjId};
-use histar_rules::{Denied, Refusal, check_making, require};
+use histar_rules::{Denied, LabelledObjects, Refusal, check_making, require};
 
-/// The checks of the making of a category.
+/// The checks of the making of a category: where they pass, the thread's label and clearance.
 fn check_make_category<S: LabelStore + Drop>(
     objects: &LabelledObjects<S>,
     thread: ObjId,
-) -> Result<(), Denied>
-    ensures { Tells (check (state_of objects.now) thread calls.MakeCategory) result }
+) -> Result<(&Label, &Label), Denied>
+    ensures answer { Tells (check (state_of objects.now) thread calls.MakeCategory) result }
+    ensures own { IfOk result (λ own. objects_of objects.now.objects thread ≡ Some (thread_of own.0.now own.1.now)) }
 {
-    require(objects.is_thread(thread), Denied::NoThread)?;
-    require(objects.next_category() < u64::MAX, Denied::TooBig)
+    let Some(own) = objects.own(thread) else {
+        return Err(Denied::NoThread);
+    };
+    require(objects.next_category() < u64::MAX, Denied::TooBig)?;
+    Ok(own)
 }
 
 /// Makes a category. The thread owns it from then on, and may give anyone level 3 there.
@@ -28,14 +33,8 @@ pub fn make_category<S: LabelStore + Drop>(
 ) -> Result<Category, Refusal>
     ensures { Decides objects.old objects.new thread calls.MakeCategory result (λ category. category ≡ objects.old.next_category) }
 {
-    check_make_category(objects, thread)?;
+    let (label, clearance) = check_make_category(objects, thread)?;
     let category = Category::new(objects.next_category());
-    let Some(label) = objects.label(thread) else {
-        unreachable!()
-    };
-    let Some(clearance) = objects.clearance(thread) else {
-        unreachable!()
-    };
     let label = label.with(category, Level::Star)?;
     let clearance = clearance.with(category, Level::L3)?;
     objects.set_own(thread, label, clearance)?;
@@ -43,20 +42,24 @@ pub fn make_category<S: LabelStore + Drop>(
     Ok(category)
 }
 
-/// The checks of a new label for the thread itself.
-fn check_set_label<S: LabelStore + Drop>(
-    objects: &LabelledObjects<S>,
+/// The checks of a new label for the thread itself: where they pass, the thread's clearance.
+fn check_set_label<'o, S: LabelStore + Drop>(
+    objects: &'o LabelledObjects<S>,
     thread: ObjId,
     label: &Label,
-) -> Result<(), Denied>
-    ensures { Tells (check (state_of objects.now) thread (calls.SetLabel label.now)) result }
+) -> Result<&'o Label, Denied>
+    ensures answer { Tells (check (state_of objects.now) thread (calls.SetLabel label.now)) result }
+    ensures clearance { IfOk result (λ most. (own : Levels) × (objects_of objects.now.objects thread ≡ Some (thread_of own most.now))) }
 {
-    require(objects.is_thread(thread), Denied::NoThread)?;
-    require(objects.in_range(thread, label), Denied::Range)?;
+    let Some((own, most)) = objects.own(thread) else {
+        return Err(Denied::NoThread);
+    };
+    require(in_range(own, most, label), Denied::Range)?;
     require(
         label.names_only_made(objects.next_category()),
         Denied::Range,
-    )
+    )?;
+    Ok(most)
 }
 
 /// Gives the thread another label, which lies between its own label and its clearance: it may give
@@ -68,29 +71,30 @@ pub fn set_label<S: LabelStore + Drop>(
 ) -> Result<(), Refusal>
     ensures { Decides objects.old objects.new thread (calls.SetLabel label.now) result (λ _. Unit {0}) }
 {
-    check_set_label(objects, thread, label)?;
-    let Some(clearance) = objects.clearance(thread) else {
-        unreachable!()
-    };
+    let clearance = check_set_label(objects, thread, label)?;
     let clearance = clearance.copy()?;
     objects.set_own(thread, label.copy()?, clearance)?;
     Ok(())
 }
 
-/// The checks of a new clearance for the thread itself.
-fn check_set_clearance<S: LabelStore + Drop>(
-    objects: &LabelledObjects<S>,
+/// The checks of a new clearance for the thread itself: where they pass, the thread's label.
+fn check_set_clearance<'o, S: LabelStore + Drop>(
+    objects: &'o LabelledObjects<S>,
     thread: ObjId,
     clearance: &Label,
-) -> Result<(), Denied>
-    ensures { Tells (check (state_of objects.now) thread (calls.SetClearance clearance.now)) result }
+) -> Result<&'o Label, Denied>
+    ensures answer { Tells (check (state_of objects.now) thread (calls.SetClearance clearance.now)) result }
+    ensures label { IfOk result (λ own. (most : Levels) × (objects_of objects.now.objects thread ≡ Some (thread_of own.now most))) }
 {
-    require(objects.is_thread(thread), Denied::NoThread)?;
-    require(may_clear(objects, thread, clearance), Denied::Range)?;
+    let Some((own, most)) = objects.own(thread) else {
+        return Err(Denied::NoThread);
+    };
+    require(may_clear(own, most, clearance), Denied::Range)?;
     require(
         clearance.names_only_made(objects.next_category()),
         Denied::Range,
-    )
+    )?;
+    Ok(own)
 }
 
 /// Gives the thread another clearance, which is above its own label, and above its old clearance only
@@ -102,10 +106,7 @@ pub fn set_clearance<S: LabelStore + Drop>(
 ) -> Result<(), Refusal>
     ensures { Decides objects.old objects.new thread (calls.SetClearance clearance.now) result (λ _. Unit {0}) }
 {
-    check_set_clearance(objects, thread, clearance)?;
-    let Some(label) = objects.label(thread) else {
-        unreachable!()
-    };
+    let label = check_set_clearance(objects, thread, clearance)?;
     let label = label.copy()?;
     objects.set_own(thread, label, clearance.copy()?)?;
     Ok(())

@@ -1,0 +1,15 @@
+use Rattle.std.proofs.Common.{ℕ, ◌+◌, subst}
+use Rattle.histar_object.specs.declared.objects.Object.{Object}
+use Rattle.histar_label.specs.Levels.{Levels}
+use Rattle.histar_object.specs.Objects.{objects_of}
+use Rattle.histar_container.specs.Shown.{shown, IsUnusedFrom, IsKept}
+use Rattle.histar_container.proofs.Keeping.{kept_new}
+use Rattle.histar_rules.proofs.labelled.LabelledObjects.add.Goals as goal
+
+pub invariant_of-self-2 : goal.invariant_of-self-2
+invariant_of-self-2 g c =
+    let before = objects_of (shown (g.S.LabelStore.labels c.self.inside.store) c.self.inside.table) in
+    let o : Object Levels = record { label = c.args.label; kind = c.args.kind } in
+    let unused : IsUnusedFrom before c.new.result = rw c.new.ensures c.self.invariant.unused in
+    let kept = kept_new (g.S.LabelStore.labels c.add_in.new.store) before c.add_in.new.table c.new.result c.args.container o c.in_ok-add_in.ensures.stand unused c.in_ok-add_in.ensures.ok in
+    subst (λ (n : ℕ). IsKept (g.S.LabelStore.labels c.add_in.new.store) c.add_in.new.table (n + 1)) c.new.ensures kept

@@ -1,0 +1,27 @@
+-- What a look-up finds of a thread, a container, a segment or a gate, each told once by its parts.
+use Rattle.std.specs.Prelude.{◌≡◌, ℕ, List, false, Option, None, Some}
+use Rattle.std.specs.Borrow.{Bor}
+use Rattle.histar_label.specs.Levels.{Levels}
+use Rattle.histar_object.specs.declared.objects.Object.{Object}
+use Rattle.histar_object.specs.declared.objects.Kind.TheVariants.{Container}
+use Rattle.histar_object.specs.Objects.{Numbers, thread_of, is_thread}
+use Rattle.histar_object.specs.State.{State, Found}
+use Rattle.histar_container.specs.Shown.{objects_shown}
+
+-- a thread with this label and this clearance was found, or what is there is no thread
+abbrev pub FindsThread : {L : Type 0} → Option (Object L) → Option (L × L) → Type 0
+FindsThread here None = is_thread here ≡ false
+FindsThread here (Some own) = here ≡ Some (thread_of own.0 own.1)
+
+-- the same, of labels that are lent
+abbrev pub LendsThread : Found → Option (Bor Levels × Bor Levels) → Type 0
+LendsThread here None = is_thread here ≡ false
+LendsThread here (Some own) = here ≡ Some (thread_of own.0.now own.1.now)
+
+-- a container with this label, which links these numbers
+abbrev pub container_of : {L : Type 0} → L → Numbers → Object L
+container_of label links = record { label = label; kind = Container links }
+
+-- the objects that a table and its store show, as a state of which no next number is told
+abbrev pub state_shown : {Id : Type 0} → (Id → Option Levels) → List (ℕ × Object Id) → State
+state_shown labels es = record { objects = objects_shown labels es; next_object = 0; next_category = 0 }

@@ -1,0 +1,124 @@
+//! What a call finds of its thread and of the container that it names, each by one look-up.
+ghost use Rattle.std.specs.Prelude.{◌≡◌, IfOk, Some};
+ghost use Rattle.histar_base.specs.Refusals.{unless, ◌orelse◌};
+ghost use Rattle.histar_object.specs.Objects.{objects_of, thread_of, is_there, is_container};
+ghost use Rattle.histar_container.specs.Shown.{AllStand};
+ghost use Rattle.histar_rules.specs.Finds.{FindsThread, container_of, state_shown};
+ghost use Rattle.histar_rules.specs.Rules.{no_container, no_making, no_link, Tells};
+ghost use Rattle.histar_rules.specs.declared.raw.Denied.TheVariants.{NoEntry, BadKind};
+
+use crate::raw::Denied;
+use histar_label::LabelStore;
+use histar_object::{Kind, Links, ObjId, Table};
+
+/// A thread and a container that it may observe, as they were found.
+#[derive(Clone, Copy)]
+pub(crate) struct Meeting<'t, L> {
+    /// The thread's own label.
+    pub(crate) own: L,
+    /// Its clearance.
+    pub(crate) most: L,
+    /// The container's label.
+    pub(crate) label: L,
+    /// What the container links.
+    pub(crate) links: &'t Links,
+}
+
+/// The label and the clearance of a thread.
+pub(crate) fn thread_in<L: Copy>(table: &Table<L>, thread: ObjId) -> Option<(L, L)>
+    ensures { FindsThread (objects_of table.now thread) result }
+{
+    match table.get(thread) {
+        Some(object) => match object.kind {
+            Kind::Thread(clearance) => Some((object.label, clearance)),
+            _ => None,
+        },
+        None => None,
+    }
+}
+
+/// The label of a container, and what it links.
+pub(crate) fn container_in<L: Copy>(
+    table: &Table<L>,
+    container: ObjId,
+) -> Result<(L, &Links), Denied>
+    ensures answer { Tells (unless (is_there (objects_of table.now container)) NoEntry
+        orelse unless (is_container (objects_of table.now container)) BadKind) result }
+    ensures found { IfOk result (λ found. objects_of table.now container ≡ Some (container_of found.0 found.1.now)) }
+{
+    match table.get(container) {
+        Some(object) => match &object.kind {
+            Kind::Container(links) => Ok((object.label, links)),
+            _ => Err(Denied::BadKind),
+        },
+        None => Err(Denied::NoEntry),
+    }
+}
+
+/// The checks of every call that names a container.
+pub(crate) fn meet_in<'t, S: LabelStore>(
+    store: &mut S,
+    table: &'t Table<S::Id>,
+    thread: ObjId,
+    container: ObjId,
+) -> Result<Meeting<'t, S::Id>, Denied>
+    requires { AllStand (S.labels store.old) (objects_of table.now) }
+    ensures answer { Tells (no_container (state_shown (S.labels store.old) table.now) thread container) result }
+    ensures thread { IfOk result (λ met. objects_of table.now thread ≡ Some (thread_of met.own met.most)) }
+    ensures container { IfOk result (λ met. objects_of table.now container ≡ Some (container_of met.label met.links.now)) }
+    ensures unchanged { S.labels store.new ≡ S.labels store.old }
+{
+    let Some((own, most)) = thread_in(table, thread) else {
+        return Err(Denied::NoThread);
+    };
+    let (label, links) = container_in(table, container)?;
+    if store.below_raised(label, own) {
+        Ok(Meeting {
+            own,
+            most,
+            label,
+            links,
+        })
+    } else {
+        Err(Denied::Observe)
+    }
+}
+
+/// The checks of every call that makes an object in a container, before those of its labels.
+pub(crate) fn make_in<S: LabelStore>(
+    store: &mut S,
+    table: &Table<S::Id>,
+    thread: ObjId,
+    container: ObjId,
+) -> Result<(), Denied>
+    requires { AllStand (S.labels store.old) (objects_of table.now) }
+    ensures answer { Tells (no_making (state_shown (S.labels store.old) table.now) thread container) result }
+    ensures unchanged { S.labels store.new ≡ S.labels store.old }
+{
+    let met = meet_in(store, table, thread, container)?;
+    if store.below(met.own, met.label) {
+        Ok(())
+    } else {
+        Err(Denied::Modify)
+    }
+}
+
+/// The checks of every call that names an object in a container.
+pub(crate) fn link_in<S: LabelStore>(
+    store: &mut S,
+    table: &Table<S::Id>,
+    thread: ObjId,
+    container: ObjId,
+    object: ObjId,
+) -> Result<(), Denied>
+    requires { AllStand (S.labels store.old) (objects_of table.now) }
+    ensures answer { Tells (no_link (state_shown (S.labels store.old) table.now) thread container object) result }
+    ensures unchanged { S.labels store.new ≡ S.labels store.old }
+{
+    let met = meet_in(store, table, thread, container)?;
+    if met.links.contains(object) {
+        Ok(())
+    } else {
+        Err(Denied::NoEntry)
+    }
+}
