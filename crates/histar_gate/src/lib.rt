@@ -2,6 +2,5 @@
 #![tactic(auto)]
 
 mod gates;
-mod openings;
 
 pub use gates::{enter, make_gate};

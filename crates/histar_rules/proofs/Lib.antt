@@ -6,3 +6,4 @@ pub mod Tainted
 pub mod TaintedMoves
 pub mod TaintedCalls
 pub mod Meetings
+pub mod LinkedObjects

@@ -6,6 +6,7 @@ use Rattle.std.specs.Result.{IsErrAnd}
 use Rattle.histar_base.specs.Refusals.{unless, ◌orelse◌}
 use Rattle.histar_label.specs.Levels.{Levels, is_below, is_below_raised}
 use Rattle.histar_label.specs.Store.{label_at}
+use Rattle.histar_object.specs.declared.objects.Entry.{Entry}
 use Rattle.histar_object.specs.declared.objects.Object.{Object}
 use Rattle.histar_object.specs.declared.objects.Kind.{Kind}
 use Rattle.histar_object.specs.declared.objects.Kind.TheVariants.{Segment, Container, Thread, Gate}
@@ -15,8 +16,10 @@ use Rattle.histar_container.specs.Shown.{kind_by, object_by, shown, AllStand, St
 use Rattle.histar_container.proofs.Shows.{shows}
 use Rattle.histar_rules.specs.declared.raw.Denied.{Denied}
 use Rattle.histar_rules.specs.declared.raw.Denied.TheVariants.{NoThread, NoEntry, BadKind, Observe, Modify}
-use Rattle.histar_rules.specs.Finds.{container_of, state_shown}
-use Rattle.histar_rules.specs.Rules.{no_container, no_making, no_link, Tells}
+use Rattle.histar_rules.specs.declared.raw.Refusal.{Refusal}
+use Rattle.histar_rules.specs.declared.raw.Refusal.TheVariants as refusals
+use Rattle.histar_rules.specs.Finds.{container_of, gate_of, state_shown}
+use Rattle.histar_rules.specs.Rules.{no_container, no_making, no_link, Tells, TellsUnlessExhausted}
 use Rattle.histar_rules.proofs.Passing.{unless_none}
 
 -- a check tells the denial that it answers
@@ -24,10 +27,25 @@ pub told : {A : Type 0} (failing : Option Denied) (denied : Denied) (r : Result 
 told failing denied (Ok x) is e = absurd is
 told failing denied (Err other) is e = e ∙ ap (λ (d : Denied). Some d) (sym is)
 
+-- and where memory may run out too
+pub told_as_refusal : {A : Type 0} (failing : Option Denied) (denied : Denied) (r : Result A Refusal) → IsErrAnd r (λ e. e ≡ refusals.Denied denied) → failing ≡ Some denied → TellsUnlessExhausted failing r
+told_as_refusal failing denied (Ok x) is e = absurd is
+told_as_refusal {A} failing denied (Err other) is e = subst (λ (x : Refusal). TellsUnlessExhausted {A = A} failing (Err x)) (sym is) e
+
+-- what an earlier check told is told
+pub told_on : {A : Type 0} (failing : Option Denied) (refusal : Refusal) (r : Result A Refusal) → IsErrAnd r (λ e. e ≡ refusal) → TellsUnlessExhausted {A = Unit {0}} failing (Err refusal) → TellsUnlessExhausted failing r
+told_on failing refusal (Ok x) is tells = absurd is
+told_on {A} failing (refusals.Denied denied) (Err other) is tells = subst (λ (x : Refusal). TellsUnlessExhausted {A = A} failing (Err x)) (sym is) tells
+told_on {A} failing refusals.OutOfMemory (Err other) is tells = subst (λ (x : Refusal). TellsUnlessExhausted {A = A} failing (Err x)) (sym is) tt
+
 -- what refuses first tells
 pub behind_refusal : {A : Type 0} (failing later : Option Denied) (denied : Denied) (r : Result A Denied) → failing ≡ Some denied → IsErrAnd r (λ e. e ≡ denied) → Tells (failing orelse later) r
 behind_refusal failing later denied (Ok x) e is = absurd is
 behind_refusal failing later denied (Err other) e is = ap (λ (f : Option Denied). f orelse later) e ∙ ap (λ (d : Denied). Some d) (sym is)
+
+-- the same of two tests more
+pub before_both : {A : Type 0} (failing second third : Option Denied) (denied : Denied) (r : Result A Denied) → failing ≡ Some denied → IsErrAnd r (λ e. e ≡ denied) → Tells ((failing orelse second) orelse third) r
+before_both failing second third denied r e is = behind_refusal (failing orelse second) third denied r (ap (λ (f : Option Denied). f orelse second) e) is
 
 and_true : (b : Bool) → (b && true) ≡ b
 and_true true = refl
@@ -46,7 +64,7 @@ module _ {Id : Type 0} (labels : Id → Option Levels) (es : List (ℕ × Object
   kind_container (Thread clearance) = refl
   kind_container (Gate clearance entry) = refl
 
-  thread_by : (o : Option (Object Id)) → is_thread (option_map (object_by (label_at labels)) o) ≡ is_thread o
+  pub thread_by : (o : Option (Object Id)) → is_thread (option_map (object_by (label_at labels)) o) ≡ is_thread o
   thread_by None = refl
   thread_by (Some o) = kind_thread o.kind
 
@@ -69,6 +87,10 @@ module _ {Id : Type 0} (labels : Id → Option Levels) (es : List (ℕ × Object
   -- and so does the clearance of a thread
   pub clearance_stands : AllStand labels (objects_of es) → (q : ℕ) (own most : Id) → objects_of es q ≡ Some (thread_of own most) → IsSome (labels most)
   clearance_stands stand q own most e = (stand.each q (thread_of own most) e).kind
+
+  -- and that of a gate
+  pub limit_stands : AllStand labels (objects_of es) → (q : ℕ) (given limit : Id) (entry : Entry) → objects_of es q ≡ Some (gate_of given limit entry) → IsSome (labels limit)
+  limit_stands stand q given limit entry e = (stand.each q (gate_of given limit entry) e).kind
 
   -- where there is no thread, this is told
   pub thread_missing : (t d : ℕ) → is_thread (objects_of es t) ≡ false → no_container (state_shown labels es) t d ≡ Some NoThread

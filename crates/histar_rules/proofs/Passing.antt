@@ -1,16 +1,18 @@
 -- What a call that passes its checks knows.
 use Rattle.std.proofs.Common.{◌≡◌, ℕ, Bool, true, false, Option, None, Some, refl, subst}
 use Rattle.std.specs.Prelude.{not, Result}
+use Rattle.std.specs.FinSet as set
+use mathlib.Core.Bool.{false≢true}
 use Rattle.histar_base.specs.Refusals.{unless, ◌orelse◌}
 use Rattle.histar_label.specs.Levels.{Levels}
-use Rattle.histar_object.specs.declared.objects.Entry.{Entry}
-use Rattle.histar_object.specs.declared.objects.Kind.{Kind}
-use Rattle.histar_object.specs.declared.objects.Kind.TheVariants.{Segment, Container, Thread, Gate}
-use Rattle.histar_object.specs.Objects.{is_there, is_container, is_thread, is_gate, entry_there, kind_entry, kind_is_gate}
+use Rattle.histar_object.specs.Objects.{is_there, is_container, is_thread, links_in, label_there}
 use Rattle.histar_object.specs.State.{State, Found}
+use Rattle.histar_container.specs.Tree.{AreTree}
+use Rattle.histar_container.proofs.Trees.{linked_there}
 use Rattle.histar_rules.specs.declared.raw.Denied.{Denied}
 use Rattle.histar_rules.specs.declared.raw.Denied.TheVariants.{NoThread, NoEntry, BadKind}
-use Rattle.histar_rules.specs.Rules.{no_thread, no_container, Tells}
+use Rattle.histar_rules.specs.declared.raw.RawCall.TheVariants.{LabelOf}
+use Rattle.histar_rules.specs.Rules.{check, no_thread, no_container, no_link, Tells}
 
 -- a test that doesn't refuse passes
 pub unless_none : (b : Bool) (d : Denied) → unless b d ≡ None → b ≡ true
@@ -62,24 +64,14 @@ container_is s t d e =
     let container = (passes (is_there (s.objects d)) NoEntry _ there).1 in
     (passes (is_container (s.objects d)) BadKind _ container).0
 
-kind_is_gate_by : (k : Kind Levels) (e : Entry) → Some e ≡ kind_entry k → kind_is_gate k ≡ true
-kind_is_gate_by (Segment bytes) e is = cc
-kind_is_gate_by (Container links) e is = cc
-kind_is_gate_by (Thread clearance) e is = cc
-kind_is_gate_by (Gate clearance entry) e is = refl
+-- what is there has a label
+no_label : (o : Found) → is_there o ≡ true → label_there o ≡ None → ⊥
+no_label None there none = absurd (false≢true there)
+no_label (Some o) there none = absurd cc
 
--- what has an entry is a gate
-pub gate_is : (o : Found) (e : Entry) → Some e ≡ entry_there o → is_gate o ≡ true
-gate_is None e is = cc
-gate_is (Some o) e is = kind_is_gate_by o.kind e is
-
-kind_no_gate : (k : Kind Levels) → None ≡ kind_entry k → kind_is_gate k ≡ false
-kind_no_gate (Segment bytes) is = refl
-kind_no_gate (Container links) is = refl
-kind_no_gate (Thread clearance) is = refl
-kind_no_gate (Gate clearance entry) is = cc
-
--- what has none is not
-pub no_gate_is : (o : Found) → None ≡ entry_there o → is_gate o ≡ false
-no_gate_is None is = refl
-no_gate_is (Some o) is = kind_no_gate o.kind is
+-- what a container links has a label, since it is there
+pub label_told : (s : State) (t d o : ℕ) → AreTree s.objects → check s t (LabelOf d o) ≡ None → label_there (s.objects o) ≡ None → ⊥
+label_told s t d o tree passed none =
+    let links = first (no_link s t d o) (unless (not (is_thread (s.objects o))) BadKind) passed in
+    let linked = unless_none (set.contains (links_in (s.objects d)) o) NoEntry (rest (no_container s t d) (unless (set.contains (links_in (s.objects d)) o) NoEntry) links) in
+    no_label (s.objects o) (linked_there s.objects tree.root tree.next tree.tree d o linked) none

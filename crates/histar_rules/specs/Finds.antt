@@ -2,11 +2,13 @@
 use Rattle.std.specs.Prelude.{◌≡◌, ℕ, List, false, Option, None, Some}
 use Rattle.std.specs.Borrow.{Bor}
 use Rattle.histar_label.specs.Levels.{Levels}
+use Rattle.histar_object.specs.declared.objects.Entry.{Entry}
 use Rattle.histar_object.specs.declared.objects.Object.{Object}
-use Rattle.histar_object.specs.declared.objects.Kind.TheVariants.{Container}
+use Rattle.histar_object.specs.declared.objects.Kind.TheVariants.{Segment, Container, Gate}
 use Rattle.histar_object.specs.Objects.{Numbers, thread_of, is_thread}
 use Rattle.histar_object.specs.State.{State, Found}
 use Rattle.histar_container.specs.Shown.{objects_shown}
+use Rattle.histar_rules.specs.declared.limits.Next.{Next}
 
 -- a thread with this label and this clearance was found, or what is there is no thread
 abbrev pub FindsThread : {L : Type 0} → Option (Object L) → Option (L × L) → Type 0
@@ -22,6 +24,18 @@ LendsThread here (Some own) = here ≡ Some (thread_of own.0.now own.1.now)
 abbrev pub container_of : {L : Type 0} → L → Numbers → Object L
 container_of label links = record { label = label; kind = Container links }
 
+-- a segment with this label, which has these bytes
+abbrev pub segment_of : {L : Type 0} → L → List ℕ → Object L
+segment_of label bytes = record { label = label; kind = Segment bytes }
+
+-- a gate with this label and this clearance, which gives this to those who enter it
+abbrev pub gate_of : {L : Type 0} → L → L → Entry → Object L
+gate_of label clearance entry = record { label = label; kind = Gate clearance entry }
+
 -- the objects that a table and its store show, as a state of which no next number is told
 abbrev pub state_shown : {Id : Type 0} → (Id → Option Levels) → List (ℕ × Object Id) → State
 state_shown labels es = record { objects = objects_shown labels es; next_object = 0; next_category = 0 }
+
+-- the same, with the numbers that come next
+abbrev pub state_with : {Id : Type 0} → (Id → Option Levels) → List (ℕ × Object Id) → Next → State
+state_with labels es next = record { objects = objects_shown labels es; next_object = next.object; next_category = next.category }

@@ -63,6 +63,25 @@ has_number s = nat_lt s.next_object greatest
 abbrev pub known : State → Levels → Bool
 known s label = is_made s.next_category label
 
+-- of every call that makes an object that owns nothing: its label is in the thread's range, and its bytes fit a segment
+abbrev pub no_new : State → ℕ → ℕ → Levels → ℕ → Option Denied
+no_new s t d label size =
+    no_making s t d
+    orelse unless (in_range (s.objects t) label) Range
+    orelse unless (known s label) Range
+    orelse unless (not (has_star label)) Range
+    orelse unless (fits_segment size) TooBig
+    orelse unless (has_number s) TooBig
+
+-- of every call that makes an object that may own: its label and its clearance are in the thread's range
+abbrev pub no_new_owner : State → ℕ → ℕ → Levels → Levels → Option Denied
+no_new_owner s t d label clearance =
+    no_making s t d
+    orelse unless (in_span (s.objects t) label clearance) Range
+    orelse unless (known s label) Range
+    orelse unless (known s clearance) Range
+    orelse unless (has_number s) TooBig
+
 -- The first failing check of a raw call. First come the caller, the container and the object; then whether labels let the
 -- thread observe, modify or enter; then the ranges of the labels that were handed in; then sizes and counters.
 abbrev pub check : State → ℕ → RawCall → Option Denied
@@ -78,31 +97,10 @@ check s t (SetClearance clearance) =
     no_thread s t
     orelse unless (may_clear (s.objects t) clearance) Range
     orelse unless (known s clearance) Range
-check s t (MakeSegment d label bytes) =
-    no_making s t d
-    orelse unless (in_range (s.objects t) label) Range
-    orelse unless (known s label) Range
-    orelse unless (not (has_star label)) Range
-    orelse unless (fits_segment (length bytes)) TooBig
-    orelse unless (has_number s) TooBig
-check s t (MakeContainer d label) =
-    no_making s t d
-    orelse unless (in_range (s.objects t) label) Range
-    orelse unless (known s label) Range
-    orelse unless (not (has_star label)) Range
-    orelse unless (has_number s) TooBig
-check s t (MakeThread d label clearance) =
-    no_making s t d
-    orelse unless (in_span (s.objects t) label clearance) Range
-    orelse unless (known s label) Range
-    orelse unless (known s clearance) Range
-    orelse unless (has_number s) TooBig
-check s t (MakeGate d label clearance entry) =
-    no_making s t d
-    orelse unless (in_span (s.objects t) label clearance) Range
-    orelse unless (known s label) Range
-    orelse unless (known s clearance) Range
-    orelse unless (has_number s) TooBig
+check s t (MakeSegment d label bytes) = no_new s t d label (length bytes)
+check s t (MakeContainer d label) = no_new s t d label 0
+check s t (MakeThread d label clearance) = no_new_owner s t d label clearance
+check s t (MakeGate d label clearance entry) = no_new_owner s t d label clearance
 check s t (Enter d o wanted clearance shown) =
     no_gate s t d o
     orelse unless (is_let_in (s.objects t) (s.objects o)) Gate

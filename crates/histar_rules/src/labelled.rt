@@ -4,16 +4,19 @@ ghost use Rattle.std.specs.Option.{option_copied};
 ghost use Rattle.std.specs.FinSet as set;
 ghost use Rattle.histar_label.specs.Levels.{Levels};
 ghost use Rattle.histar_label.specs.Store.{label_at, Keeps};
-ghost use Rattle.histar_object.specs.Objects.{objects_of, put, changed_at, with_new, holding, no_objects, thread_of, is_there, is_segment, is_container, is_thread, is_gate, links_in, bytes_there, label_there, clearance_there, entry_there};
-ghost use Rattle.histar_object.specs.State.{observes, modifies, in_range, with_object, with_next, with_next_category, with_own, with_bytes};
+ghost use Rattle.histar_object.specs.Objects.{objects_of, put, changed_at, with_new, holding, no_objects, thread_of, is_container, is_thread, links_in, bytes_there, label_there};
+ghost use Rattle.histar_object.specs.State.{with_object, with_next, with_next_category, with_own, with_bytes};
 ghost use Rattle.histar_container.specs.Shown.{objects_shown, kind_by, AllStand, KindStands, IsKept};
 ghost use Rattle.histar_container.specs.ObjectsModel.{state_of, CutsOff};
 ghost use Rattle.histar_container.specs.Tree.{AreTree};
 ghost use Rattle.histar_rules.specs.Finds.{LendsThread};
-ghost use Rattle.histar_rules.specs.Rules.{no_container, no_making, no_link, Tells};
+ghost use Rattle.histar_rules.specs.Rules.{check, no_new, no_new_owner, Tells, TellsUnlessExhausted, Decides, AreBytesOf, IsLabelOf, IsEntryOf};
+ghost use Rattle.histar_rules.specs.declared.raw.RawCall.TheVariants as calls;
 
-use crate::meeting::{link_in, make_in, meet_in, thread_in};
-use crate::raw::Denied;
+use crate::limits::Next;
+use crate::linked::{enter_in, label_in, read_in, unlink_in, write_in};
+use crate::meeting::{new_in, new_owner_in, thread_in};
+use crate::raw::{Denied, Refusal};
 use histar_base::Bytes;
 use histar_container::{link_new, linked, remove_tree};
 use histar_label::{Label, LabelStore};
@@ -100,49 +103,12 @@ impl<S: LabelStore + Drop> LabelledObjects<S> {
         self.next_category += 1;
     }
 
-    /// Whether an object has this number.
-    pub fn is_there(&self, object: ObjId) -> bool
-        ensures { result ≡ is_there (objects_of self.now.objects object) }
-    {
-        self.table.get(object).is_some()
-    }
-
-    /// Whether a segment has this number.
-    pub fn is_segment(&self, object: ObjId) -> bool
-        ensures { result ≡ is_segment (objects_of self.now.objects object) }
-    {
-        match self.table.get(object) {
-            Some(object) => matches!(object.kind, Kind::Segment(_)),
-            None => false,
-        }
-    }
-
     /// Whether a container has this number.
     pub fn is_container(&self, object: ObjId) -> bool
         ensures { result ≡ is_container (objects_of self.now.objects object) }
     {
         match self.table.get(object) {
             Some(object) => matches!(object.kind, Kind::Container(_)),
-            None => false,
-        }
-    }
-
-    /// Whether a thread has this number.
-    pub fn is_thread(&self, object: ObjId) -> bool
-        ensures { result ≡ is_thread (objects_of self.now.objects object) }
-    {
-        match self.table.get(object) {
-            Some(object) => matches!(object.kind, Kind::Thread(_)),
-            None => false,
-        }
-    }
-
-    /// Whether a gate has this number.
-    pub fn is_gate(&self, object: ObjId) -> bool
-        ensures { result ≡ is_gate (objects_of self.now.objects object) }
-    {
-        match self.table.get(object) {
-            Some(object) => matches!(object.kind, Kind::Gate(_, _)),
             None => false,
         }
     }
@@ -171,20 +137,6 @@ impl<S: LabelStore + Drop> LabelledObjects<S> {
         }
     }
 
-    /// The clearance of a thread or a gate.
-    pub fn clearance(&self, object: ObjId) -> Option<&Label>
-        ensures { option_copied result ≡ clearance_there (objects_of self.now.objects object) }
-    {
-        match self.table.get(object) {
-            Some(object) => match &object.kind {
-                Kind::Thread(clearance) => Some(self.store.get(*clearance).unwrap()),
-                Kind::Gate(clearance, _) => Some(self.store.get(*clearance).unwrap()),
-                _ => None,
-            },
-            None => None,
-        }
-    }
-
     /// The label and the clearance of a thread, by one look-up.
     pub fn own(&self, thread: ObjId) -> Option<(&Label, &Label)>
         ensures { LendsThread (objects_of self.now.objects thread) result }
@@ -197,76 +149,141 @@ impl<S: LabelStore + Drop> LabelledObjects<S> {
         Some((label, clearance))
     }
 
-    /// What a gate gives to those who enter it.
-    pub fn entry(&self, object: ObjId) -> Option<Entry>
-        ensures { result ≡ entry_there (objects_of self.now.objects object) }
+    // The numbers that come next.
+    fn next(&self) -> Next
+        ensures object { result.object ≡ self.now.next_object }
+        ensures category { result.category ≡ self.now.next_category }
     {
-        match self.table.get(object) {
-            Some(object) => match &object.kind {
-                Kind::Gate(_, entry) => Some(*entry),
-                _ => None,
-            },
-            None => None,
+        Next {
+            object: self.next_object,
+            category: self.next_category,
         }
     }
 
-    /// Whether a thread may observe an object.
-    pub fn observes(&mut self, thread: ObjId, object: ObjId) -> bool
-        ensures answer { result ≡ observes (objects_of self.old.objects thread) (objects_of self.old.objects object) }
+    /// The checks of the making of a segment of so many bytes, or of a container, which holds none.
+    pub fn check_new(
+        &mut self,
+        thread: ObjId,
+        container: ObjId,
+        label: &Label,
+        size: usize,
+    ) -> Result<(), Denied>
+        ensures answer { Tells (no_new (state_of self.old) thread container label.now size) result }
         ensures unchanged { self.new ≡ self.old }
     {
-        observes_in(&mut self.store, &self.table, thread, object)
+        let next = self.next();
+        new_in(&mut self.store, &self.table, next, thread, container, label, size)
     }
 
-    /// Whether a thread may modify an object.
-    pub fn modifies(&mut self, thread: ObjId, object: ObjId) -> bool
-        ensures answer { result ≡ modifies (objects_of self.old.objects thread) (objects_of self.old.objects object) }
+    /// The checks of the making of a thread or a gate.
+    pub fn check_new_owner(
+        &mut self,
+        thread: ObjId,
+        container: ObjId,
+        label: &Label,
+        clearance: &Label,
+    ) -> Result<(), Denied>
+        ensures answer { Tells (no_new_owner (state_of self.old) thread container label.now clearance.now) result }
         ensures unchanged { self.new ≡ self.old }
     {
-        modifies_in(&mut self.store, &self.table, thread, object)
+        let next = self.next();
+        new_owner_in(&mut self.store, &self.table, next, thread, container, label, clearance)
     }
 
-    /// Whether a label lies between a thread's own label and its clearance.
-    pub fn in_range(&self, thread: ObjId, label: &Label) -> bool
-        ensures { result ≡ in_range (objects_of self.now.objects thread) label.now }
-    {
-        match (self.label(thread), self.clearance(thread)) {
-            (Some(own), Some(clearance)) => own.below(label) && label.below(clearance),
-            _ => false,
-        }
-    }
-
-    /// The checks of every call that names a container. The thread and the container are looked up
-    /// once each.
-    pub fn check_container(&mut self, thread: ObjId, container: ObjId) -> Result<(), Denied>
-        ensures answer { Tells (no_container (state_of self.old) thread container) result }
+    /// The checks of entering a gate, which want memory: where they pass, what the gate gives.
+    pub fn check_enter(
+        &mut self,
+        thread: ObjId,
+        container: ObjId,
+        gate: ObjId,
+        wanted: &Label,
+        clearance: &Label,
+        shown: &Label,
+    ) -> Result<Entry, Refusal>
+        ensures answer { TellsUnlessExhausted
+            (check (state_of self.old) thread (calls.Enter container gate wanted.now clearance.now shown.now)) result }
+        ensures entry { IfOk result (IsEntryOf self.old gate) }
         ensures unchanged { self.new ≡ self.old }
     {
-        match meet_in(&mut self.store, &self.table, thread, container) {
+        let next = self.next();
+        enter_in(&mut self.store, &self.table, next, thread, container, gate, wanted, clearance, shown)
+    }
+
+    /// The checks of a read.
+    pub fn check_read(
+        &mut self,
+        thread: ObjId,
+        container: ObjId,
+        segment: ObjId,
+    ) -> Result<(), Denied>
+        ensures answer { Tells (check (state_of self.old) thread (calls.Read container segment)) result }
+        ensures unchanged { self.new ≡ self.old }
+    {
+        match read_in(&mut self.store, &self.table, thread, container, segment) {
             Ok(_) => Ok(()),
             Err(denied) => Err(denied),
         }
     }
 
-    /// The checks of every call that makes an object in a container, before those of its labels.
-    pub fn check_making(&mut self, thread: ObjId, container: ObjId) -> Result<(), Denied>
-        ensures answer { Tells (no_making (state_of self.old) thread container) result }
+    /// The checks of a read: where they pass, a copy of the bytes of the segment.
+    pub fn read(
+        &mut self,
+        alloc: Global,
+        thread: ObjId,
+        container: ObjId,
+        segment: ObjId,
+    ) -> Result<Bytes, Refusal>
+        ensures answer { TellsUnlessExhausted (check (state_of self.old) thread (calls.Read container segment)) result }
+        ensures bytes { IfOk result (AreBytesOf self.old segment) }
         ensures unchanged { self.new ≡ self.old }
     {
-        make_in(&mut self.store, &self.table, thread, container)
+        let bytes = read_in(&mut self.store, &self.table, thread, container, segment)?;
+        Ok(bytes.copy(alloc)?)
     }
 
-    /// The checks of every call that names an object in a container.
-    pub fn check_link(
+    /// The checks of a write.
+    pub fn check_write(
+        &mut self,
+        thread: ObjId,
+        container: ObjId,
+        segment: ObjId,
+        keep: u32,
+        bytes: &Bytes,
+    ) -> Result<(), Denied>
+        ensures answer { Tells (check (state_of self.old) thread (calls.Write container segment keep bytes.now)) result }
+        ensures unchanged { self.new ≡ self.old }
+    {
+        write_in(&mut self.store, &self.table, thread, container, segment, keep, bytes)
+    }
+
+    /// The checks of the taking away of an object.
+    pub fn check_unlink(
         &mut self,
         thread: ObjId,
         container: ObjId,
         object: ObjId,
     ) -> Result<(), Denied>
-        ensures answer { Tells (no_link (state_of self.old) thread container object) result }
+        ensures answer { Tells (check (state_of self.old) thread (calls.Unlink container object)) result }
         ensures unchanged { self.new ≡ self.old }
     {
-        link_in(&mut self.store, &self.table, thread, container, object)
+        unlink_in(&mut self.store, &self.table, thread, container, object)
+    }
+
+    /// The label of an object that a container links, a copy of it, where the checks of the question
+    /// pass.
+    pub fn label_of(
+        &mut self,
+        thread: ObjId,
+        container: ObjId,
+        object: ObjId,
+    ) -> Result<Label, Refusal>
+        requires { AreTree (objects_of self.old.objects) }
+        ensures { Decides self.old self.new thread (calls.LabelOf container object) result (IsLabelOf self.old object) }
+    {
+        let Some(label) = label_in(&mut self.store, &self.table, thread, container, object)? else {
+            return Err(Refusal::Denied(Denied::NoEntry));
+        };
+        Ok(self.store.get(label).unwrap().copy()?)
     }
 
     /// Makes an object in a container, under the next number.
@@ -327,47 +344,6 @@ impl<S: LabelStore + Drop> LabelledObjects<S> {
         ensures { state_of self.new ≡ with_bytes (state_of self.old) segment bytes }
     {
         set_bytes_in(&mut self.table, segment, bytes)
-    }
-}
-
-// Whether a thread may observe an object.
-#[tactic(auto, using(histar_container::proofs::Shows::shows, histar_container::proofs::Shows::stand_there))]
-fn observes_in<S: LabelStore>(
-    store: &mut S,
-    table: &Table<S::Id>,
-    thread: ObjId,
-    object: ObjId,
-) -> bool
-    requires { AllStand (S.labels store.old) (objects_of table.now) }
-    ensures answer { result ≡
-        observes (objects_shown (S.labels store.old) table.now thread) (objects_shown (S.labels store.old) table.now object) }
-    ensures unchanged { S.labels store.new ≡ S.labels store.old }
-{
-    match (table.get(thread), table.get(object)) {
-        (Some(thread), Some(object)) => store.below_raised(object.label, thread.label),
-        _ => false,
-    }
-}
-
-// Whether a thread may modify an object.
-#[tactic(auto, using(histar_container::proofs::Shows::shows, histar_container::proofs::Shows::stand_there))]
-fn modifies_in<S: LabelStore>(
-    store: &mut S,
-    table: &Table<S::Id>,
-    thread: ObjId,
-    object: ObjId,
-) -> bool
-    requires { AllStand (S.labels store.old) (objects_of table.now) }
-    ensures answer { result ≡
-        modifies (objects_shown (S.labels store.old) table.now thread) (objects_shown (S.labels store.old) table.now object) }
-    ensures unchanged { S.labels store.new ≡ S.labels store.old }
-{
-    match (table.get(thread), table.get(object)) {
-        (Some(thread), Some(object)) => {
-            store.below(thread.label, object.label)
-                && store.below_raised(object.label, thread.label)
-        }
-        _ => false,
     }
 }
 

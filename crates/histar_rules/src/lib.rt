@@ -5,12 +5,16 @@
 mod checks;
 mod handed;
 mod labelled;
+mod limits;
+mod linked;
 mod meeting;
+mod ranges;
 mod raw;
 
-pub use checks::{check_container, check_gate, check_link, check_making, check_segment, require};
+pub use checks::require;
 pub use handed::HandedLabel;
 pub use labelled::LabelledObjects;
+pub use ranges::in_range;
 pub use raw::{Denied, RawCall, Refusal};
 
 #[cfg(test)]

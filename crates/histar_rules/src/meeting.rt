@@ -1,14 +1,17 @@
 //! What a call finds of its thread and of the container that it names, each by one look-up.
-ghost use Rattle.std.specs.Prelude.{◌≡◌, IfOk, Some};
+ghost use Rattle.std.specs.Prelude.{◌≡◌, IfOk, IsSome, Some};
 ghost use Rattle.histar_base.specs.Refusals.{unless, ◌orelse◌};
+ghost use Rattle.histar_label.specs.Store.{label_at};
 ghost use Rattle.histar_object.specs.Objects.{objects_of, thread_of, is_there, is_container};
 ghost use Rattle.histar_container.specs.Shown.{AllStand};
-ghost use Rattle.histar_rules.specs.Finds.{FindsThread, container_of, state_shown};
-ghost use Rattle.histar_rules.specs.Rules.{no_container, no_making, no_link, Tells};
+ghost use Rattle.histar_rules.specs.Finds.{FindsThread, container_of, state_shown, state_with};
+ghost use Rattle.histar_rules.specs.Rules.{no_container, no_making, no_new, no_new_owner, no_link, Tells};
 ghost use Rattle.histar_rules.specs.declared.raw.Denied.TheVariants.{NoEntry, BadKind};
 
+use crate::limits::Next;
+use crate::ranges::{check_new, check_new_owner};
 use crate::raw::Denied;
-use histar_label::LabelStore;
+use histar_label::{Label, LabelStore};
 use histar_object::{Kind, Links, ObjId, Table};
 
 /// A thread and a container that it may observe, as they were found.
@@ -85,39 +88,90 @@ pub(crate) fn meet_in<'t, S: LabelStore>(
 }
 
 /// The checks of every call that makes an object in a container, before those of its labels.
-pub(crate) fn make_in<S: LabelStore>(
+pub(crate) fn make_in<'t, S: LabelStore>(
     store: &mut S,
-    table: &Table<S::Id>,
+    table: &'t Table<S::Id>,
     thread: ObjId,
     container: ObjId,
-) -> Result<(), Denied>
+) -> Result<Meeting<'t, S::Id>, Denied>
     requires { AllStand (S.labels store.old) (objects_of table.now) }
     ensures answer { Tells (no_making (state_shown (S.labels store.old) table.now) thread container) result }
+    ensures thread { IfOk result (λ met. objects_of table.now thread ≡ Some (thread_of met.own met.most)) }
     ensures unchanged { S.labels store.new ≡ S.labels store.old }
 {
     let met = meet_in(store, table, thread, container)?;
     if store.below(met.own, met.label) {
-        Ok(())
+        Ok(met)
     } else {
         Err(Denied::Modify)
     }
 }
 
-/// The checks of every call that names an object in a container.
-pub(crate) fn link_in<S: LabelStore>(
+// The labels that two Ids stand for.
+pub(crate) fn labels_in<S: LabelStore>(store: &S, first: S::Id, second: S::Id) -> (&Label, &Label)
+    requires first { IsSome (S.labels store.now first) }
+    requires second { IsSome (S.labels store.now second) }
+    ensures first { result.0.now ≡ label_at (S.labels store.now) first }
+    ensures second { result.1.now ≡ label_at (S.labels store.now) second }
+{
+    (store.get(first).unwrap(), store.get(second).unwrap())
+}
+
+/// The checks of the making of an object that owns nothing and holds so many bytes.
+pub(crate) fn new_in<S: LabelStore>(
     store: &mut S,
     table: &Table<S::Id>,
+    next: Next,
+    thread: ObjId,
+    container: ObjId,
+    label: &Label,
+    size: usize,
+) -> Result<(), Denied>
+    requires { AllStand (S.labels store.old) (objects_of table.now) }
+    ensures answer { Tells (no_new (state_with (S.labels store.old) table.now next) thread container label.now size) result }
+    ensures unchanged { S.labels store.new ≡ S.labels store.old }
+{
+    let met = make_in(store, table, thread, container)?;
+    let (own, most) = labels_in(store, met.own, met.most);
+    check_new(own, most, label, size, next)
+}
+
+/// The checks of the making of an object that may own.
+pub(crate) fn new_owner_in<S: LabelStore>(
+    store: &mut S,
+    table: &Table<S::Id>,
+    next: Next,
+    thread: ObjId,
+    container: ObjId,
+    label: &Label,
+    clearance: &Label,
+) -> Result<(), Denied>
+    requires { AllStand (S.labels store.old) (objects_of table.now) }
+    ensures answer { Tells (no_new_owner (state_with (S.labels store.old) table.now next) thread container label.now clearance.now) result }
+    ensures unchanged { S.labels store.new ≡ S.labels store.old }
+{
+    let met = make_in(store, table, thread, container)?;
+    let (own, most) = labels_in(store, met.own, met.most);
+    check_new_owner(own, most, label, clearance, next)
+}
+
+/// The checks of every call that names an object in a container.
+pub(crate) fn link_in<'t, S: LabelStore>(
+    store: &mut S,
+    table: &'t Table<S::Id>,
     thread: ObjId,
     container: ObjId,
     object: ObjId,
-) -> Result<(), Denied>
+) -> Result<Meeting<'t, S::Id>, Denied>
     requires { AllStand (S.labels store.old) (objects_of table.now) }
     ensures answer { Tells (no_link (state_shown (S.labels store.old) table.now) thread container object) result }
+    ensures thread { IfOk result (λ met. objects_of table.now thread ≡ Some (thread_of met.own met.most)) }
+    ensures container { IfOk result (λ met. objects_of table.now container ≡ Some (container_of met.label met.links.now)) }
     ensures unchanged { S.labels store.new ≡ S.labels store.old }
 {
     let met = meet_in(store, table, thread, container)?;
     if met.links.contains(object) {
-        Ok(())
+        Ok(met)
     } else {
         Err(Denied::NoEntry)
     }

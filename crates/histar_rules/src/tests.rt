@@ -51,10 +51,10 @@ fn the_kernel_takes_a_container_out(rt: HostRuntime) -> Result<(), Fail> {
     let gone = ObjId::new(2);
     assert!(rt; objects.is_linked(root, gone));
     objects.remove(rt.alloc(), root, gone)?;
-    assert!(rt; objects.is_there(root));
-    assert!(rt; !objects.is_there(gone));
-    assert!(rt; !objects.is_there(ObjId::new(3)));
-    assert!(rt; objects.is_there(ObjId::new(4)));
+    assert!(rt; objects.label(root).is_some());
+    assert!(rt; objects.label(gone).is_none());
+    assert!(rt; objects.label(ObjId::new(3)).is_none());
+    assert!(rt; objects.label(ObjId::new(4)).is_some());
     assert!(rt; !objects.is_linked(root, gone));
     assert!(rt; objects.is_linked(root, ObjId::new(4)));
     assert_eq!(rt; objects.next_object(), ObjId::new(5));

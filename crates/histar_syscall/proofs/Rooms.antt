@@ -37,15 +37,3 @@ answered old kept trace t call (Err refusals.OutOfMemory) P decided entry = reco
 -- what a call with this answer leaves is sound
 pub stays_sound : {A : Type 0} (old new : ObjectsModel) (t : ℕ) (call : RawCall) (r : Result A Refusal) (P : A → Type 0) → IsSound (state_of old) → Decides old new t call r P → IsSound (state_of new)
 stays_sound old new t call r P sound decided = sound_decided old new t call r P sound decided
-
--- what is there has a label
-no_label : (o : Found) → is_there o ≡ true → label_there o ≡ None → ⊥
-no_label None there none = absurd (false≢true there)
-no_label (Some o) there none = absurd cc
-
--- what a container links has a label, since it is there
-pub label_told : (s : State) (t d o : ℕ) → AreTree s.objects → check s t (LabelOf d o) ≡ None → label_there (s.objects o) ≡ None → ⊥
-label_told s t d o tree passed none =
-    let links = first (no_link s t d o) (unless (not (is_thread (s.objects o))) BadKind) passed in
-    let linked = unless_none (set.contains (links_in (s.objects d)) o) NoEntry (rest (no_container s t d) (unless (set.contains (links_in (s.objects d)) o) NoEntry) links) in
-    no_label (s.objects o) (linked_there s.objects tree.root tree.next tree.tree d o linked) none

@@ -4,5 +4,4 @@
 mod ranges;
 mod threads;
 
-pub use ranges::in_span;
 pub use threads::{make_category, make_thread, set_clearance, set_label};

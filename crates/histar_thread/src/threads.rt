@@ -6,10 +6,10 @@ ghost use Rattle.histar_container.specs.ObjectsModel.{state_of};
 ghost use Rattle.histar_rules.specs.Rules.{check, Tells, Decides, IsNextNumber};
 ghost use Rattle.histar_rules.specs.declared.raw.RawCall.TheVariants as calls;
 
-use crate::ranges::{in_range, in_span, may_clear};
+use crate::ranges::may_clear;
 use histar_label::{Category, Label, LabelStore, Level};
 use histar_object::{Kind, ObjId};
-use histar_rules::{Denied, LabelledObjects, Refusal, check_making, require};
+use histar_rules::{Denied, LabelledObjects, Refusal, in_range, require};
 
 /// The checks of the making of a category: where they pass, the thread's label and clearance.
 fn check_make_category<S: LabelStore + Drop>(
@@ -112,31 +112,6 @@ pub fn set_clearance<S: LabelStore + Drop>(
     Ok(())
 }
 
-/// The checks of the making of a thread.
-fn check_make_thread<S: LabelStore + Drop>(
-    objects: &mut LabelledObjects<S>,
-    thread: ObjId,
-    container: ObjId,
-    label: &Label,
-    clearance: &Label,
-) -> Result<(), Denied>
-    ensures answer { Tells (check (state_of objects.old) thread (calls.MakeThread container label.now clearance.now)) result }
-    ensures unchanged { objects.new ≡ objects.old }
-{
-    check_making(objects, thread, container)?;
-    require(in_span(objects, thread, label, clearance), Denied::Range)?;
-    require(
-        label.names_only_made(objects.next_category()),
-        Denied::Range,
-    )?;
-    require(
-        clearance.names_only_made(objects.next_category()),
-        Denied::Range,
-    )?;
-    require(objects.next_object().number() < u64::MAX, Denied::TooBig)?;
-    Ok(())
-}
-
 /// Makes a thread in a container, and answers its number. The new thread owns no more than its maker,
 /// and is cleared for no more.
 pub fn make_thread<S: LabelStore + Drop>(
@@ -148,7 +123,7 @@ pub fn make_thread<S: LabelStore + Drop>(
 ) -> Result<ObjId, Refusal>
     ensures { Decides objects.old objects.new thread (calls.MakeThread container label.now clearance.now) result (IsNextNumber objects.old) }
 {
-    check_make_thread(objects, thread, container, label, clearance)?;
+    objects.check_new_owner(thread, container, label, clearance)?;
     let number = objects.next_object();
     let most = clearance.copy()?;
     objects.add(container, label.copy()?, Kind::Thread(most))?;

@@ -1,0 +1,34 @@
+use Rattle.std.proofs.Common.{Option, IsSome, sym, ap, ◌∙◌, ◌&&◌, subst}
+use Rattle.histar_label.specs.Levels.{Levels, is_below, is_below_raised}
+use Rattle.histar_label.specs.Store.{label_at}
+use Rattle.histar_object.specs.Objects.{thread_of}
+use Rattle.histar_rules.specs.declared.raw.Denied.{Denied}
+use Rattle.histar_rules.specs.Finds.{segment_of}
+use Rattle.histar_rules.specs.Rules.{Tells}
+use Rattle.histar_rules.proofs.Meetings.{told, label_stands}
+use Rattle.histar_rules.proofs.LinkedObjects.{segment_missing, write_met}
+use Rattle.histar_rules.proofs.linked.write_in.Goals as goal
+
+pub returns-in_err-label-clause-answer : goal.returns-in_err-label-clause-answer
+returns-in_err-label-clause-answer g c =
+    told _ _ c.from_residual-in_err-label.result c.from_residual-in_err-label.ensures.1
+    (segment_missing (g.S.LabelStore.labels c.args.store.now) c.args.table.now c.args.thread c.args.container c.args.segment c.in_ok-met.ensures.answer _ _ c.in_err-label.ensures.answer)
+
+pub modifies_by-modifies-requires-clause-own : goal.modifies_by-modifies-requires-clause-own
+modifies_by-modifies-requires-clause-own g c =
+    subst (λ (labels : g.row.S-Id.Denot → Option Levels). IsSome (labels c.in_ok-met.met.own)) (sym c.in_ok-met.ensures.unchanged)
+    (label_stands (g.S.LabelStore.labels c.args.store.now) c.args.table.now c.requires c.args.thread (thread_of c.in_ok-met.met.own c.in_ok-met.met.most) c.in_ok-met.ensures.thread)
+
+pub modifies_by-modifies-requires-clause-label : goal.modifies_by-modifies-requires-clause-label
+modifies_by-modifies-requires-clause-label g c =
+    subst (λ (labels : g.row.S-Id.Denot → Option Levels). IsSome (labels c.in_ok-label.label)) (sym c.in_ok-met.ensures.unchanged)
+    (label_stands (g.S.LabelStore.labels c.args.store.now) c.args.table.now c.requires c.args.segment (segment_of c.in_ok-label.label c.in_ok-label.held.now) c.in_ok-label.ensures.found)
+
+pub returns-clause-answer : goal.returns-clause-answer
+returns-clause-answer g c =
+    let met = c.in_ok-met.met in
+    let label = c.in_ok-label.label in
+    subst (λ (f : Option Denied). Tells f c.check_change.result) (sym
+    (write_met (g.S.LabelStore.labels c.args.store.now) c.args.table.now c.args.thread c.args.container c.args.segment c.in_ok-met.ensures.answer met.own met.most c.in_ok-met.ensures.thread c.args.keep c.args.bytes.now label c.in_ok-label.held.now c.modifies_by-modifies.result c.len.result c.len-2.result c.in_ok-label.ensures.found
+    (c.modifies_by-modifies.ensures.answer ∙ ap (λ (labels : g.row.S-Id.Denot → Option Levels). is_below (label_at labels met.own) (label_at labels label) && is_below_raised (label_at labels label) (label_at labels met.own)) c.in_ok-met.ensures.unchanged)
+    c.len.ensures c.len-2.ensures)) c.check_change.ensures

@@ -1,0 +1,193 @@
+//! The checks of the calls on an object that a container links: it is looked up once, as are the
+//! thread and the container.
+ghost use Rattle.std.specs.Prelude.{◌≡◌, ◌+◌, ◌&&◌, not, IfOk, IsSome, min};
+ghost use Rattle.histar_base.specs.Refusals.{unless, ◌orelse◌};
+ghost use Rattle.histar_label.specs.Levels.{is_below, is_below_raised};
+ghost use Rattle.histar_label.specs.Store.{label_at};
+ghost use Rattle.histar_object.specs.Objects.{objects_of, label_there, bytes_there, entry_there, is_segment, is_thread, is_gate};
+ghost use Rattle.histar_container.specs.Shown.{AllStand};
+ghost use Rattle.histar_rules.specs.Finds.{state_shown, state_with, segment_of, gate_of};
+ghost use Rattle.histar_rules.specs.Rules.{check, fits_segment, Tells, TellsUnlessExhausted};
+ghost use Rattle.histar_rules.specs.declared.raw.RawCall.TheVariants as calls;
+ghost use Rattle.histar_rules.specs.declared.raw.Denied.TheVariants.{BadKind, Modify, TooBig};
+
+use crate::checks::require;
+use crate::limits::{Next, fits};
+use crate::meeting::{labels_in, link_in};
+use crate::ranges::{Opening, check_opening};
+use crate::raw::{Denied, Refusal};
+use histar_base::Bytes;
+use histar_label::{Label, LabelStore};
+use histar_object::{Entry, Kind, ObjId, Table};
+
+// The label of a segment, and its bytes.
+fn segment_in<L: Copy>(table: &Table<L>, segment: ObjId) -> Result<(L, &Bytes), Denied>
+    ensures answer { Tells (unless (is_segment (objects_of table.now segment)) BadKind) result }
+    ensures found { IfOk result (λ found. objects_of table.now segment ≡ Some (segment_of found.0 found.1.now)) }
+{
+    match table.get(segment) {
+        Some(object) => match &object.kind {
+            Kind::Segment(bytes) => Ok((object.label, bytes)),
+            _ => Err(Denied::BadKind),
+        },
+        None => Err(Denied::BadKind),
+    }
+}
+
+// The label of a gate, its clearance, and what it gives to those who enter it.
+fn gate_in<L: Copy>(table: &Table<L>, gate: ObjId) -> Result<(L, L, Entry), Denied>
+    ensures answer { Tells (unless (is_gate (objects_of table.now gate)) BadKind) result }
+    ensures found { IfOk result (λ found. objects_of table.now gate ≡ Some (gate_of found.0 found.1 found.2)) }
+{
+    match table.get(gate) {
+        Some(object) => match &object.kind {
+            Kind::Gate(clearance, entry) => Ok((object.label, *clearance, *entry)),
+            _ => Err(Denied::BadKind),
+        },
+        None => Err(Denied::BadKind),
+    }
+}
+
+/// The checks of a read: where they pass, the bytes of the segment.
+pub(crate) fn read_in<'t, S: LabelStore>(
+    store: &mut S,
+    table: &'t Table<S::Id>,
+    thread: ObjId,
+    container: ObjId,
+    segment: ObjId,
+) -> Result<&'t Bytes, Denied>
+    requires { AllStand (S.labels store.old) (objects_of table.now) }
+    ensures answer { Tells (check (state_shown (S.labels store.old) table.now) thread (calls.Read container segment)) result }
+    ensures bytes { IfOk result (λ bytes. bytes_there (objects_of table.now segment) ≡ Some bytes.now) }
+    ensures unchanged { S.labels store.new ≡ S.labels store.old }
+{
+    let met = link_in(store, table, thread, container, segment)?;
+    let (label, bytes) = segment_in(table, segment)?;
+    if store.below_raised(label, met.own) {
+        Ok(bytes)
+    } else {
+        Err(Denied::Observe)
+    }
+}
+
+// Whether what has one label may modify what has another.
+fn modifies_by<S: LabelStore>(store: &mut S, own: S::Id, label: S::Id) -> bool
+    requires own { IsSome (S.labels store.old own) }
+    requires label { IsSome (S.labels store.old label) }
+    ensures answer { result ≡ (is_below (label_at (S.labels store.old) own) (label_at (S.labels store.old) label)
+        && is_below_raised (label_at (S.labels store.old) label) (label_at (S.labels store.old) own)) }
+    ensures unchanged { S.labels store.new ≡ S.labels store.old }
+{
+    store.below(own, label) && store.below_raised(label, own)
+}
+
+// The last checks of a write: the thread modifies the segment, and what it is to hold fits it.
+fn check_change(modifies: bool, held: usize, keep: u32, more: usize) -> Result<(), Denied>
+    ensures { Tells (unless modifies Modify orelse unless (fits_segment (min keep held + more)) TooBig) result }
+{
+    require(modifies, Denied::Modify)?;
+    require(fits((keep as usize).min(held), more), Denied::TooBig)
+}
+
+/// The checks of a write.
+pub(crate) fn write_in<S: LabelStore>(
+    store: &mut S,
+    table: &Table<S::Id>,
+    thread: ObjId,
+    container: ObjId,
+    segment: ObjId,
+    keep: u32,
+    bytes: &Bytes,
+) -> Result<(), Denied>
+    requires { AllStand (S.labels store.old) (objects_of table.now) }
+    ensures answer { Tells (check (state_shown (S.labels store.old) table.now) thread (calls.Write container segment keep bytes.now)) result }
+    ensures unchanged { S.labels store.new ≡ S.labels store.old }
+{
+    let met = link_in(store, table, thread, container, segment)?;
+    let (label, held) = segment_in(table, segment)?;
+    let modifies = modifies_by(store, met.own, label);
+    check_change(modifies, held.len(), keep, bytes.len())
+}
+
+/// The checks of the taking away of an object.
+pub(crate) fn unlink_in<S: LabelStore>(
+    store: &mut S,
+    table: &Table<S::Id>,
+    thread: ObjId,
+    container: ObjId,
+    object: ObjId,
+) -> Result<(), Denied>
+    requires { AllStand (S.labels store.old) (objects_of table.now) }
+    ensures answer { Tells (check (state_shown (S.labels store.old) table.now) thread (calls.Unlink container object)) result }
+    ensures unchanged { S.labels store.new ≡ S.labels store.old }
+{
+    let met = link_in(store, table, thread, container, object)?;
+    if store.below(met.own, met.label) {
+        Ok(())
+    } else {
+        Err(Denied::Modify)
+    }
+}
+
+/// The checks of a question for a label: where they pass, the label, if the object is there.
+pub(crate) fn label_in<S: LabelStore>(
+    store: &mut S,
+    table: &Table<S::Id>,
+    thread: ObjId,
+    container: ObjId,
+    object: ObjId,
+) -> Result<Option<S::Id>, Denied>
+    requires { AllStand (S.labels store.old) (objects_of table.now) }
+    ensures answer { Tells (check (state_shown (S.labels store.old) table.now) thread (calls.LabelOf container object)) result }
+    ensures label { IfOk result (λ label. label ≡ label_there (objects_of table.now object)) }
+    ensures unchanged { S.labels store.new ≡ S.labels store.old }
+{
+    link_in(store, table, thread, container, object)?;
+    label_unless_thread(table, object)
+}
+
+// The label of an object that is no thread, if it is there.
+fn label_unless_thread<L: Copy>(table: &Table<L>, object: ObjId) -> Result<Option<L>, Denied>
+    ensures answer { Tells (unless (not (is_thread (objects_of table.now object))) BadKind) result }
+    ensures label { IfOk result (λ label. label ≡ label_there (objects_of table.now object)) }
+{
+    match table.get(object) {
+        Some(object) => match object.kind {
+            Kind::Thread(_) => Err(Denied::BadKind),
+            _ => Ok(Some(object.label)),
+        },
+        None => Ok(None),
+    }
+}
+
+/// The checks of entering a gate, which want memory: where they pass, what the gate gives.
+pub(crate) fn enter_in<S: LabelStore>(
+    store: &mut S,
+    table: &Table<S::Id>,
+    next: Next,
+    thread: ObjId,
+    container: ObjId,
+    gate: ObjId,
+    wanted: &Label,
+    clearance: &Label,
+    shown: &Label,
+) -> Result<Entry, Refusal>
+    requires { AllStand (S.labels store.old) (objects_of table.now) }
+    ensures answer { TellsUnlessExhausted
+        (check (state_with (S.labels store.old) table.now next) thread (calls.Enter container gate wanted.now clearance.now shown.now)) result }
+    ensures entry { IfOk result (λ entry. Some entry ≡ entry_there (objects_of table.now gate)) }
+    ensures unchanged { S.labels store.new ≡ S.labels store.old }
+{
+    let met = link_in(store, table, thread, container, gate)?;
+    let (given, limit, entry) = gate_in(table, gate)?;
+    let (own, most) = labels_in(store, met.own, met.most);
+    let (given, limit) = labels_in(store, given, limit);
+    let opening = Opening {
+        own,
+        most,
+        given,
+        limit,
+    };
+    check_opening(opening, wanted, clearance, shown, next)?;
+    Ok(entry)
+}

@@ -1,0 +1,120 @@
+//! The ranges in which a thread chooses labels, of itself, of what it makes, and behind a gate.
+ghost use Rattle.std.specs.Prelude.{◌≡◌, ◌&&◌, not, nat_lt, IfOk};
+ghost use Rattle.histar_base.specs.Refusals.{unless, ◌orelse◌};
+ghost use Rattle.histar_label.specs.Levels.{is_below, is_made, has_star};
+ghost use Rattle.histar_object.specs.Rights.{lies_between};
+ghost use Rattle.histar_rules.specs.Rules.{fits_segment, greatest, Tells, TellsUnlessExhausted};
+ghost use Rattle.histar_rules.specs.declared.raw.Denied.TheVariants.{Range, Gate, TooBig};
+
+use crate::checks::require;
+use crate::limits::{Next, fits};
+use crate::raw::{Denied, Refusal};
+use histar_label::{Label, OutOfMemory};
+
+/// The labels of a thread that would enter a gate, and the gate's.
+#[derive(Clone, Copy)]
+pub(crate) struct Opening<'s> {
+    /// The thread's own label.
+    pub(crate) own: &'s Label,
+    /// The thread's clearance.
+    pub(crate) most: &'s Label,
+    /// The label that the gate gives.
+    pub(crate) given: &'s Label,
+    /// The gate's clearance.
+    pub(crate) limit: &'s Label,
+}
+
+/// Whether a label lies between a thread's own label and its clearance.
+pub fn in_range(own: &Label, most: &Label, label: &Label) -> bool
+    ensures { result ≡ (is_below own.now label.now && is_below label.now most.now) }
+{
+    own.below(label) && label.below(most)
+}
+
+/// Whether a label and a clearance above it lie between a thread's own label and its clearance.
+pub(crate) fn in_span(own: &Label, most: &Label, label: &Label, clearance: &Label) -> bool
+    ensures { result ≡ (is_below own.now label.now && is_below label.now clearance.now && is_below clearance.now most.now) }
+{
+    own.below(label) && label.below(clearance) && clearance.below(most)
+}
+
+/// Whether a label is above the floor of two labels, and a clearance between it and the join of two
+/// clearances.
+fn lies_between(opening: Opening, label: &Label, clearance: &Label) -> Result<bool, OutOfMemory>
+    ensures { IfOk result (λ passes. passes ≡
+        lies_between opening.entry.own.now opening.entry.given.now label.now clearance.now opening.entry.most.now opening.entry.limit.now) }
+{
+    let floor = opening.own.floor(opening.given)?;
+    Ok(floor.below(label)
+        && label.below(clearance)
+        && clearance.below_join(opening.most, opening.limit))
+}
+
+/// The last checks of the making of an object that owns nothing and holds so many bytes: its label,
+/// its size, and the counter of objects.
+pub(crate) fn check_new(
+    own: &Label,
+    most: &Label,
+    label: &Label,
+    size: usize,
+    next: Next,
+) -> Result<(), Denied>
+    ensures { Tells (unless (is_below own.now label.now && is_below label.now most.now) Range
+        orelse unless (is_made next.category label.now) Range
+        orelse unless (not (has_star label.now)) Range
+        orelse unless (fits_segment size) TooBig
+        orelse unless (nat_lt next.object greatest) TooBig) result }
+{
+    require(in_range(own, most, label), Denied::Range)?;
+    require(label.names_only_made(next.category), Denied::Range)?;
+    require(!label.has_star(), Denied::Range)?;
+    require(fits(size, 0), Denied::TooBig)?;
+    require(next.object < u64::MAX, Denied::TooBig)
+}
+
+/// The last checks of the making of an object that may own: its label, its clearance, and the counter
+/// of objects.
+pub(crate) fn check_new_owner(
+    own: &Label,
+    most: &Label,
+    label: &Label,
+    clearance: &Label,
+    next: Next,
+) -> Result<(), Denied>
+    ensures { Tells (unless (is_below own.now label.now && is_below label.now clearance.now && is_below clearance.now most.now) Range
+        orelse unless (is_made next.category label.now) Range
+        orelse unless (is_made next.category clearance.now) Range
+        orelse unless (nat_lt next.object greatest) TooBig) result }
+{
+    require(in_span(own, most, label, clearance), Denied::Range)?;
+    require(label.names_only_made(next.category), Denied::Range)?;
+    require(clearance.names_only_made(next.category), Denied::Range)?;
+    require(next.object < u64::MAX, Denied::TooBig)
+}
+
+/// The last checks of entering a gate: whether the gate lets a thread in that shows a label, and gives
+/// it the label and the clearance that it wants. What the thread or the gate owns it may own;
+/// elsewhere the label is at least both labels, so that no taint is lost, and the clearance is at
+/// most the greater of both clearances. They want memory for the least such label.
+pub(crate) fn check_opening(
+    opening: Opening,
+    wanted: &Label,
+    clearance: &Label,
+    shown: &Label,
+    next: Next,
+) -> Result<(), Refusal>
+    ensures { TellsUnlessExhausted (unless (is_below opening.entry.own.now opening.entry.limit.now) Gate
+        orelse unless (is_below opening.entry.own.now shown.now) Gate
+        orelse unless (lies_between opening.entry.own.now opening.entry.given.now wanted.now clearance.now opening.entry.most.now opening.entry.limit.now) Range
+        orelse unless (is_made next.category wanted.now) Range
+        orelse unless (is_made next.category clearance.now) Range
+        orelse unless (is_made next.category shown.now) Range) result }
+{
+    require(opening.own.below(opening.limit), Denied::Gate)?;
+    require(opening.own.below(shown), Denied::Gate)?;
+    require(lies_between(opening, wanted, clearance)?, Denied::Range)?;
+    require(wanted.names_only_made(next.category), Denied::Range)?;
+    require(clearance.names_only_made(next.category), Denied::Range)?;
+    require(shown.names_only_made(next.category), Denied::Range)?;
+    Ok(())
+}
