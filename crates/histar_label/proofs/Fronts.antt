@@ -1,5 +1,6 @@
--- One pass over the exceptions of three labels meets each category that one of them lists.
-use Rattle.std.proofs.Common.{◌≡◌, ◌≢◌, ℕ, suc, ◌<◌, ◌≤◌, ◌+◌, [], ◌∷◌, length, max, min, leb, is_some, eq-eqb, subst, Option, Some, None, unwrap_or, eqb, true, false, refl, sym, ap, ◌∙◌, ◌⊎◌, inl, inr, arith}
+-- One pass over the exceptions of three labels meets each category that one of them lists. A pass over two is one over three of which
+-- the last two are the same.
+use Rattle.std.proofs.Common.{◌≡◌, ◌≢◌, ℕ, suc, ◌≤◌, [], ◌∷◌, max, min, is_some, eq-eqb, subst, Option, Some, None, unwrap_or, eqb, true, false, refl, sym, ap, ◌∙◌, arith}
 use Rattle.std.specs.Ordering.{nat_cmp}
 use mathlib.Core.Bool.{false≢true}
 use Rattle.std.specs.FinMap.{find}
@@ -9,7 +10,7 @@ use Rattle.histar_label.specs.declared.levels.Reading.{Reading}
 use Rattle.histar_label.specs.Level.{rank, read}
 use Rattle.histar_label.specs.Levels.{Levels, level_of, default_of, exceptions_of, level_of-exceptions, beyond, level_of-beyond, Fits}
 use Rattle.histar_label.specs.Exceptions.{Exceptions, IsRising}
-use Rattle.histar_label.specs.Front.{first_category, earlier, lowest, level_at, after}
+use Rattle.histar_label.specs.Front.{first_category, earlier, lower, lowest, level_at, after}
 use Rattle.histar_label.proofs.Canonical.{rising_tail}
 use Rattle.histar_label.proofs.Finds.{find_absent}
 
@@ -57,11 +58,6 @@ rising_after (e ∷ es) c rising = elim (eqb e.0 c) as (λ b. eqb e.0 c ≡ b �
   | false ↦ λ other. rw other rising
 ] refl
 
--- and is no longer
-pub shorter_after : (es : Exceptions) (c : ℕ) → length (after es c) ≤ length es
-shorter_after [] c = omega arith
-shorter_after (e ∷ es) c = grind (arith, nat_tests)
-
 -- a category is not above another, if this is there
 abbrev IsUnderFirst : ℕ → Option ℕ → Type 0
 IsUnderFirst c None = Unit {0}
@@ -72,17 +68,6 @@ under_both : (x y : Option ℕ) (c : ℕ) → IsUnderFirst c (earlier x y) → I
 under_both None y c h = (tt, h)
 under_both (Some a) None c h = (h, tt)
 under_both (Some a) (Some b) c h = (omega (arith, h), omega (arith, h))
-
--- the lower of two is one of them
-is_either : (x y : Option ℕ) (c : ℕ) → earlier x y ≡ Some c → (x ≡ Some c) ⊎ (y ≡ Some c)
-is_either None y c e = inr e
-is_either (Some a) None c e = inl e
-is_either (Some a) (Some b) c e =
-    let is : min a b ≡ c = ap (λ o. unwrap_or o 0) e in
-    elim (leb a b) as (λ t. leb a b ≡ t → (Some a ≡ Some c) ⊎ (Some b ≡ Some c)) [
-      | true ↦ λ less. inl (ap Some (grind (arith, nat_tests, less, is)))
-      | false ↦ λ more. inr (ap Some (grind (arith, nat_tests, more, is)))
-    ] refl
 
 -- where there is none of two, there is neither
 earlier_none : (x y : Option ℕ) → earlier x y ≡ None → (x ≡ None) × (y ≡ None)
@@ -100,37 +85,39 @@ empty_from_none : (es : Exceptions) → first_category es ≡ None → es ≡ []
 empty_from_none [] h = refl
 empty_from_none (e ∷ es) h = absurd (some_is_there e.0 h)
 
--- without the first exception a list is shorter
-shorter_first : (es : Exceptions) (c : ℕ) → first_category es ≡ Some c → length (after es c) < length es
-shorter_first [] c h = absurd (some_is_there c (sym h))
-shorter_first (e ∷ es) c h = let is : e.0 ≡ c = ap (λ o. unwrap_or o 0) h in grind (arith, nat_tests, is)
+-- the lower of a category and itself is that category
+earlier_same : (x : Option ℕ) → earlier x x ≡ x
+earlier_same None = refl
+earlier_same (Some a) = ap Some (omega arith)
+
+module _ (A B : Exceptions) where
+  -- no exception comes before the lower category
+  lower_under : (c : ℕ) → IsUnderFirst c (lower A B) → IsUnder c A × IsUnder c B
+  lower_under c h = let both = under_both (first_category A) (first_category B) c h in (under_first A c both.0, under_first B c both.1)
+
+  -- where there is none, both are empty
+  lower_none : lower A B ≡ None → (A ≡ []) × (B ≡ [])
+  lower_none h = let both = earlier_none (first_category A) (first_category B) h in (empty_from_none A both.0, empty_from_none B both.1)
+
+  -- a list that comes twice makes no other lowest category
+  pub lower_is_lowest : lowest A B B ≡ lower A B
+  lower_is_lowest = ap (earlier (first_category A)) (earlier_same (first_category B))
 
 module _ (A B C : Exceptions) where
   -- no exception comes before the lowest category
   pub lowest_under : (c : ℕ) → lowest A B C ≡ Some c → IsUnder c A × IsUnder c B × IsUnder c C
   lowest_under c h =
       let under : IsUnderFirst c (lowest A B C) = rw h (omega arith) in
-      let first = under_both (first_category A) (earlier (first_category B) (first_category C)) c under in
-      let others = under_both (first_category B) (first_category C) c first.1 in
-      (under_first A c first.0, under_first B c others.0, under_first C c others.1)
-
-  -- without it the lists are shorter together
-  pub lowest_shorter : (c : ℕ) → lowest A B C ≡ Some c → length (after A c) + (length (after B c) + length (after C c)) < length A + (length B + length C)
-  lowest_shorter c h =
-      elim (is_either (first_category A) (earlier (first_category B) (first_category C)) c h) [
-        | inl first ↦ omega (arith, shorter_first A c first, shorter_after B c, shorter_after C c)
-        | inr other ↦ elim (is_either (first_category B) (first_category C) c other) [
-          | inl second ↦ omega (arith, shorter_after A c, shorter_first B c second, shorter_after C c)
-          | inr third ↦ omega (arith, shorter_after A c, shorter_after B c, shorter_first C c third)
-        ]
-      ]
+      let first = under_both (first_category A) (lower B C) c under in
+      let others = lower_under B C c first.1 in
+      (under_first A c first.0, others.0, others.1)
 
   -- where there is none, all are empty
   pub lowest_none : lowest A B C ≡ None → (A ≡ []) × (B ≡ []) × (C ≡ [])
   lowest_none h =
-      let first = earlier_none (first_category A) (earlier (first_category B) (first_category C)) h in
-      let others = earlier_none (first_category B) (first_category C) first.1 in
-      (empty_from_none A first.0, empty_from_none B others.0, empty_from_none C others.1)
+      let first = earlier_none (first_category A) (lower B C) h in
+      let others = lower_none B C first.1 in
+      (empty_from_none A first.0, others.0, others.1)
 
 -- three lists fit at a category, where else three labels have their defaults
 abbrev pub FitsAt : Reading → Levels → Levels → Levels → Exceptions → Exceptions → Exceptions → ℕ → Type 0

@@ -14,9 +14,13 @@ earlier None second = second
 earlier (Some c) None = Some c
 earlier (Some c) (Some d) = Some (min c d)
 
+-- the lowest category that has an exception in one of two lists that rise
+abbrev pub lower : Exceptions → Exceptions → Option ℕ
+lower first second = earlier (first_category first) (first_category second)
+
 -- the lowest category that has an exception in one of three lists that rise
 abbrev pub lowest : Exceptions → Exceptions → Exceptions → Option ℕ
-lowest first second third = earlier (first_category first) (earlier (first_category second) (first_category third))
+lowest first second third = earlier (first_category first) (lower second third)
 
 -- the level of a category that no exception comes before: the first exception's where it is of the category, or else the default
 abbrev pub level_at : Exceptions → ℕ → Level → Level

@@ -1,6 +1,6 @@
 //! The front of a label's exceptions, as one pass goes over those of several labels.
 ghost use Rattle.std.specs.Prelude.{◌≡◌};
-ghost use Rattle.histar_label.specs.Front.{after, earlier, first_category, level_at, lowest};
+ghost use Rattle.histar_label.specs.Front.{after, earlier, first_category, level_at, lower, lowest};
 
 use crate::{Category, Level};
 
@@ -12,8 +12,14 @@ pub(crate) fn lowest(
 ) -> Option<Category>
     ensures { result ≡ lowest first.now second.now third.now }
 {
-    let later = earlier(first_category(second), first_category(third));
-    earlier(first_category(first), later)
+    earlier(first_category(first), lower(second, third))
+}
+
+/// The lowest category that has an exception in one of the two lists, which rise.
+pub(crate) fn lower(first: &[(Category, Level)], second: &[(Category, Level)]) -> Option<Category>
+    ensures { result ≡ lower first.now second.now }
+{
+    earlier(first_category(first), first_category(second))
 }
 
 // The category of the first exception.
