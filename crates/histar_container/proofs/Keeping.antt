@@ -1,7 +1,7 @@
 -- What the table shows after a change of it, or after its store has taken more labels.
 use Rattle.std.proofs.Common.{◌≡◌, ℕ, ◌==◌, ◌+◌, Result, Ok, Err, OnOk, OnErr, ◌<◌, ◌≤◌, arith, List, Option, Some, None, IsSome, Bool, true, false, inl, inr, refl, sym, ap, ◌∙◌, subst, if◌then◌else◌}
 use Rattle.std.specs.Borrow.{Bor}
-use Rattle.std.specs.Prelude.{option_map, is_some}
+use Rattle.std.specs.Prelude.{option_map, is_some, take, ◌++◌}
 use Rattle.std.specs.Option.{option_copied}
 use mathlib.Core.Bool.{false≢true}
 use Rattle.std.proofs.lemmas.Bool.{cases_lt}
@@ -12,8 +12,8 @@ use Rattle.histar_label.proofs.Stands.{label_at-stands, label_at-Keeps}
 use Rattle.histar_object.specs.declared.objects.Kind.{Kind}
 use Rattle.histar_object.specs.declared.objects.Kind.TheVariants.{Segment, Container, Thread, Gate}
 use Rattle.histar_object.specs.declared.objects.Object.{Object}
-use Rattle.histar_object.specs.Objects.{Objects, objects_of, put, changed_at, kind_linking, linking, with_new, kind_holding, holding, no_objects, kind_is_segment, kind_is_container, is_container, is_thread}
-use Rattle.histar_object.proofs.Changes.{put_changed}
+use Rattle.histar_object.specs.Objects.{Objects, objects_of, put, changed_at, kind_linking, linking, with_new, kind_holding, holding, kind_bytes, or_no_bytes, bytes_in, no_objects, kind_is_segment, kind_is_container, is_container, is_thread}
+use Rattle.histar_object.proofs.Changes.{put_back, put_changed}
 use Rattle.histar_container.specs.Shown.{kind_by, object_by, shown, KindStands, Stands, AllStand, IsUnusedFrom, IsKept}
 use Rattle.histar_container.proofs.Shows.{shows}
 
@@ -296,11 +296,17 @@ pub kept_own : {Id A E : Type 0} (labels : Id → Option Levels) (objects : Obje
 kept_own labels objects fs next t o (Ok x) stand unused positive thread ok err = record { stand = stand; unused = subst (λ (f : Objects Levels). IsUnusedFrom f next) (sym ok) (unused_own objects next unused t o thread); positive = positive }
 kept_own labels objects fs next t o (Err x) stand unused positive thread ok err = record { stand = stand; unused = subst (λ (f : Objects Levels). IsUnusedFrom f next) (sym err) unused; positive = positive }
 
--- what a call that sets a segment's bytes keeps
-pub kept_held : {Id : Type 0} (labels : Id → Option Levels) (es fs : List (ℕ × Object Id)) (next q : ℕ) (bytes : List ℕ) → objects_of fs ≡ changed_at (objects_of es) q (holding bytes) → IsKept labels es next → IsKept labels fs next
-kept_held labels es fs next q bytes e kept = record {
-  stand = subst (AllStand labels) (sym e) (stand_held labels (objects_of es) q bytes kept.stand);
-  unused = subst (λ (f : Objects Levels). IsUnusedFrom f next) (sym (shown_held labels es fs q bytes e)) (unused_changed (objects_of (shown labels es)) next kept.unused q (holding bytes));
+-- what a call that splices a segment keeps, whether it did or not
+pub kept_spliced : {Id A E : Type 0} (labels : Id → Option Levels) (es fs : List (ℕ × Object Id)) (next q : ℕ) (bytes : List ℕ) (r : Result A E)
+    → OnOk r (objects_of fs ≡ changed_at (objects_of es) q (holding bytes)) → OnErr r (objects_of fs ≡ objects_of es) → IsKept labels es next → IsKept labels fs next
+kept_spliced labels es fs next q bytes (Ok x) ok err kept = record {
+  stand = subst (AllStand labels) (sym ok) (stand_held labels (objects_of es) q bytes kept.stand);
+  unused = subst (λ (f : Objects Levels). IsUnusedFrom f next) (sym (shown_held labels es fs q bytes ok)) (unused_changed (objects_of (shown labels es)) next kept.unused q (holding bytes));
+  positive = kept.positive;
+}
+kept_spliced labels es fs next q bytes (Err x) ok err kept = record {
+  stand = subst (AllStand labels) (sym err) kept.stand;
+  unused = subst (λ (f : Objects Levels). IsUnusedFrom f next) (sym (shown_same labels es fs err)) kept.unused;
   positive = kept.positive;
 }
 
@@ -319,3 +325,31 @@ kind_stays new (Gate clearance entry) e = refl
 pub held_not : {L : Type 0} (objects after : Objects L) (q : ℕ) (o : Object L) (new : List ℕ) → Some o ≡ objects q → kind_is_segment o.kind ≡ false → after ≡ put objects q o → after ≡ changed_at objects q (holding new)
 held_not objects after q o new here other e =
     e ∙ ap (put objects q) (λ i. record { label = o.label; kind = kind_stays new o.kind other i }) ∙ put_changed objects q (holding new) o here
+
+-- a segment that keeps some of its bytes, with new ones behind them
+pub spliced_there : {L : Type 0} (objects after : Objects L) (q : ℕ) (o : Object L) (old : List ℕ) (keep : ℕ) (more new : List ℕ) → Some o ≡ objects q → o.kind ≡ Segment old → new ≡ take keep old ++ more
+    → after ≡ put objects q (record { label = o.label; kind = Segment new }) → after ≡ changed_at objects q (holding (take keep (bytes_in (objects q)) ++ more))
+spliced_there objects after q o old keep more new here is new_is e =
+    held_there objects after q o old new here is e
+    ∙ ap (λ b. changed_at objects q (holding b)) (new_is ∙ ap (λ b. take keep b ++ more) (sym (ap bytes_in (sym here) ∙ ap (λ k. or_no_bytes (kind_bytes k)) is)))
+
+-- a segment that is lent and left alone is as it was
+pub left_alone : {L : Type 0} (objects after : Objects L) (q : ℕ) (o : Object L) (old : List ℕ) → Some o ≡ objects q → o.kind ≡ Segment old → after ≡ put objects q (record { label = o.label; kind = Segment old }) → after ≡ objects
+left_alone objects after q o old here is e = e ∙ ap (put objects q) (λ i. record { label = o.label; kind = sym is i }) ∙ put_back objects q o here
+
+module _ {Id : Type 0} (labels : Id → Option Levels) (es : List (ℕ × Object Id)) (q : ℕ) where
+  kind_bytes_by : (k : Kind Id) → kind_bytes (kind_by (label_at labels) k) ≡ kind_bytes k
+  kind_bytes_by (Segment bytes) = refl
+  kind_bytes_by (Container links) = refl
+  kind_bytes_by (Thread clearance) = refl
+  kind_bytes_by (Gate clearance entry) = refl
+
+  bytes_by : (o : Option (Object Id)) → bytes_in (option_map (object_by (label_at labels)) o) ≡ bytes_in o
+  bytes_by None = refl
+  bytes_by (Some o) = ap or_no_bytes (kind_bytes_by o.kind)
+
+  -- what the table shows once a segment was spliced
+  pub spliced_shown : (fs : List (ℕ × Object Id)) (keep : ℕ) (more : List ℕ) → objects_of fs ≡ changed_at (objects_of es) q (holding (take keep (bytes_in (objects_of es q)) ++ more))
+      → objects_of (shown labels fs) ≡ changed_at (objects_of (shown labels es)) q (holding (take keep (bytes_in (objects_of (shown labels es) q)) ++ more))
+  spliced_shown fs keep more e =
+      shown_held labels es fs q _ e ∙ ap (λ b. changed_at (objects_of (shown labels es)) q (holding (take keep b ++ more))) (sym (ap bytes_in (shows labels es q) ∙ bytes_by (objects_of es q)))

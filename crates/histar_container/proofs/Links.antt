@@ -91,6 +91,16 @@ module _ {L : Type 0} where
     pub unlinked_there : (new : Numbers) (after : Objects L) → new ≡ set.remove links n → after ≡ put objects d (record { label = o.label; kind = Container new }) → after ≡ changed_at objects d (unlinking n)
     unlinked_there new after less e = e ∙ ap (put objects d) (λ i. record { label = o.label; kind = (ap Container less ∙ sym (ap (kind_unlinking n) is)) i }) ∙ put_changed objects d (unlinking n) o here
 
+  kind_not_linked : (n : ℕ) (k : Kind L) → kind_is_container k ≡ false → k ≡ kind_linking n k
+  kind_not_linked n (Segment bytes) e = refl
+  kind_not_linked n (Container links) e = absurd (false≢true (sym e))
+  kind_not_linked n (Thread clearance) e = refl
+  kind_not_linked n (Gate clearance entry) e = refl
+
+  -- what is no container stays where it was to link one more
+  pub linked_not : (objects after : Objects L) (d n : ℕ) (o : Object L) → Some o ≡ objects d → kind_is_container o.kind ≡ false → after ≡ put objects d o → after ≡ changed_at objects d (linking n)
+  linked_not objects after d n o here other e = e ∙ ap (put objects d) (λ i. record { label = o.label; kind = kind_not_linked n o.kind other i }) ∙ put_changed objects d (linking n) o here
+
   kind_not_unlinked : (n : ℕ) (k : Kind L) → kind_is_container k ≡ false → k ≡ kind_unlinking n k
   kind_not_unlinked n (Segment bytes) e = refl
   kind_not_unlinked n (Container links) e = absurd (false≢true (sym e))

@@ -1,7 +1,7 @@
 //! Links of containers.
-ghost use Rattle.std.specs.Prelude.{◌≡◌, None, OnOk, OnErr, IsTrue};
+ghost use Rattle.std.specs.Prelude.{◌≡◌, None, OnOk, OnErr};
 ghost use Rattle.std.specs.FinSet as set;
-ghost use Rattle.histar_object.specs.Objects.{objects_of, put, changed_at, linking, unlinking, with_new, links_in, is_container};
+ghost use Rattle.histar_object.specs.Objects.{objects_of, put, changed_at, linking, unlinking, with_new, links_in};
 
 use histar_object::{Kind, ObjId, Object, Table};
 use std::alloc::AllocError;
@@ -27,8 +27,7 @@ pub fn link_new<L: Drop>(
     number: ObjId,
     object: Object<L>,
 ) -> Result<(), AllocError>
-    requires is_there { IsTrue (is_container (objects_of table.old container)) }
-    requires is_new { objects_of table.old number ≡ None }
+    requires { objects_of table.old number ≡ None }
     ensures ok { OnOk result (objects_of table.new ≡ with_new (objects_of table.old) container number object) }
     ensures err { OnErr result (objects_of table.new ≡ objects_of table.old) }
 {
@@ -44,17 +43,15 @@ pub fn link_new<L: Drop>(
 
 /// Links an object in a container.
 fn link<L>(table: &mut Table<L>, container: ObjId, object: ObjId) -> Result<(), AllocError>
-    requires { IsTrue (is_container (objects_of table.old container)) }
     ensures ok { OnOk result (objects_of table.new ≡ changed_at (objects_of table.old) container (linking object)) }
     ensures err { OnErr result (objects_of table.new ≡ objects_of table.old) }
 {
-    let Some(holder) = table.get_mut(container) else {
-        unreachable!()
-    };
-    match &mut holder.kind {
-        Kind::Container(links) => links.insert(object),
-        _ => unreachable!(),
+    if let Some(holder) = table.get_mut(container) {
+        if let Kind::Container(links) = &mut holder.kind {
+            return links.insert(object);
+        }
     }
+    Ok(())
 }
 
 /// Links an object in a container no more.

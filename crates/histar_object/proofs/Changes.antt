@@ -1,10 +1,9 @@
 -- What objects are after a change at one number.
-use Rattle.std.proofs.Common.{◌≡◌, ◌≢◌, ℕ, ◌==◌, true, None, Some, inl, inr, refl, sym, ap, ◌∙◌, if◌then◌else◌}
+use Rattle.std.proofs.Common.{◌≡◌, ◌≢◌, ℕ, ◌==◌, None, Some, inl, inr, refl, sym, ap, ◌∙◌, if◌then◌else◌}
 use Rattle.std.specs.Prelude.{option_map}
-use mathlib.Core.Bool.{false≢true}
 use Rattle.std.proofs.lemmas.Bool.Decides.{eqb_tells}
 use Rattle.histar_object.specs.declared.objects.Object.{Object}
-use Rattle.histar_object.specs.Objects.{Objects, put, without, changed_at, is_container}
+use Rattle.histar_object.specs.Objects.{Objects, put, without, changed_at}
 
 module _ {L : Type 0} (objects : Objects L) (n : ℕ) where
   -- at the number itself by the first fact, and elsewhere by the second
@@ -28,10 +27,3 @@ module _ {L : Type 0} (objects : Objects L) (n : ℕ) where
   -- a new object that is taken out again leaves what was there
   pub without_put : (o : Object L) → objects n ≡ None → without (put objects n o) n ≡ objects
   without_put o none i q = at_each q None (if q == n then Some o else objects q) (objects q) (λ e. sym none ∙ ap objects (sym e)) (λ e. at_each q (Some o) (objects q) (objects q) (λ s. absurd (e s)) (λ s. refl)) i
-
-  -- a container stays one when an object is put at a number where none was
-  pub container_stays : (o : Object L) (d : ℕ) → objects n ≡ None → is_container (objects d) ≡ true → is_container (put objects n o d) ≡ true
-  container_stays o d none container = elim (eqb_tells d n) [
-    | inl h ↦ absurd (false≢true (sym (ap is_container (ap objects h.1 ∙ none)) ∙ container))
-    | inr h ↦ ap (λ b. is_container (if b then Some o else objects d)) h.0 ∙ container
-  ]

@@ -1,8 +1,7 @@
 -- What the last checks of a call say of the object that was found.
-use Rattle.std.proofs.Common.{◌≡◌, ℕ, Bool, true, false, List, Option, None, Some, IsSome, Result, is_some, unwrap_or, refl, sym, ap, ◌∙◌, subst}
+use Rattle.std.proofs.Common.{◌≡◌, ℕ, Bool, List, Option, None, Some, IsSome, is_some, unwrap_or, refl, sym, ap, ◌∙◌, subst}
 use mathlib.Core.Bool.{false≢true}
 use Rattle.std.specs.Prelude.{option_map, ◌&&◌, ◌+◌, not, length, min, nat_lt}
-use Rattle.std.specs.FinSet as set
 use Rattle.histar_base.specs.Refusals.{unless, ◌orelse◌}
 use Rattle.histar_label.specs.Levels.{Levels, is_below, is_below_raised, is_made, has_star}
 use Rattle.histar_label.specs.Store.{label_at}
@@ -10,18 +9,17 @@ use Rattle.histar_object.specs.declared.objects.Entry.{Entry}
 use Rattle.histar_object.specs.declared.objects.Object.{Object}
 use Rattle.histar_object.specs.declared.objects.Kind.{Kind}
 use Rattle.histar_object.specs.declared.objects.Kind.TheVariants.{Segment, Container, Thread, Gate}
-use Rattle.histar_object.specs.Objects.{Numbers, objects_of, thread_of, links_in, bytes_in, label_there, is_thread, is_segment, is_gate, kind_is_segment, kind_is_gate}
-use Rattle.histar_object.specs.State.{State, Found, observes, modifies, in_range}
+use Rattle.histar_object.specs.Objects.{Numbers, objects_of, thread_of, bytes_in, label_there, is_thread, is_segment, is_gate, kind_is_segment, kind_is_gate}
+use Rattle.histar_object.specs.State.{observes, modifies, in_range}
 use Rattle.histar_object.specs.Rights.{in_span, is_let_in, is_under, in_gate, lies_between}
 use Rattle.histar_container.specs.Shown.{kind_by, object_by, shown, AllStand}
 use Rattle.histar_container.proofs.Shows.{shows}
 use Rattle.histar_rules.specs.declared.limits.Next.{Next}
 use Rattle.histar_rules.specs.declared.raw.Denied.{Denied}
-use Rattle.histar_rules.specs.declared.raw.Denied.TheVariants.{Observe, Modify, Range, Gate as NoWay, NoEntry, BadKind, TooBig}
+use Rattle.histar_rules.specs.declared.raw.Denied.TheVariants.{Observe, Modify, Range, Gate as NoWay, BadKind, TooBig}
 use Rattle.histar_rules.specs.declared.raw.RawCall.TheVariants as calls
-use Rattle.histar_rules.specs.declared.raw.Refusal.{Refusal}
 use Rattle.histar_rules.specs.Finds.{container_of, segment_of, gate_of, state_shown, state_with}
-use Rattle.histar_rules.specs.Rules.{check, no_container, no_making, no_new, no_new_owner, no_link, no_segment, no_gate, known, has_number, fits_segment, greatest, Tells, TellsUnlessExhausted}
+use Rattle.histar_rules.specs.Rules.{check, no_container, no_making, no_new, no_new_owner, no_link, no_segment, no_gate, fits_segment, greatest}
 use Rattle.histar_rules.proofs.Meetings.{object_shown, thread_by, making_met}
 use Rattle.histar_rules.proofs.Passing.{first}
 
@@ -106,8 +104,8 @@ module _ {Id : Type 0} (labels : Id → Option Levels) (es : List (ℕ × Object
           let T = object_shown labels es t (thread_of own most) thread in
           let O = object_shown labels es o (segment_of label bytes) segment in
           ap (λ (f : Option Denied). (f orelse unless (is_segment (objects_of (shown labels es) o)) BadKind)
-              orelse unless (modifies (objects_of (shown labels es) t) (objects_of (shown labels es) o)) Modify
-              orelse unless (fits_segment (min keep (length (bytes_in (objects_of (shown labels es) o))) + length more)) TooBig) linked
+          orelse unless (modifies (objects_of (shown labels es) t) (objects_of (shown labels es) o)) Modify
+          orelse unless (fits_segment (min keep (length (bytes_in (objects_of (shown labels es) o))) + length more)) TooBig) linked
           ∙ (λ i. unless (is_segment (O i)) BadKind orelse unless (modifies (T i) (O i)) Modify orelse unless (fits_segment (min keep (length (bytes_in (O i))) + length more)) TooBig)
           ∙ (λ i. unless (sym is i) Modify orelse unless (fits_segment (min keep (sym held_is i) + sym added_is i)) TooBig)
 
@@ -131,12 +129,12 @@ module _ {Id : Type 0} (labels : Id → Option Levels) (es : List (ℕ × Object
           let E = object_shown labels es o (gate_of given limit entry) gate in
           let made = unless (is_made next.category wanted) Range orelse unless (is_made next.category clearance) Range orelse unless (is_made next.category shown_label) Range in
           ap (λ (f : Option Denied). (f orelse unless (is_gate (objects_of (shown labels es) o)) BadKind)
-              orelse unless (is_let_in (objects_of (shown labels es) t) (objects_of (shown labels es) o)) NoWay
-              orelse unless (is_under (objects_of (shown labels es) t) shown_label) NoWay
-              orelse unless (in_gate (objects_of (shown labels es) t) (objects_of (shown labels es) o) wanted clearance) Range orelse made) linked
+          orelse unless (is_let_in (objects_of (shown labels es) t) (objects_of (shown labels es) o)) NoWay
+          orelse unless (is_under (objects_of (shown labels es) t) shown_label) NoWay
+          orelse unless (in_gate (objects_of (shown labels es) t) (objects_of (shown labels es) o) wanted clearance) Range orelse made) linked
           ∙ (λ i. unless (is_gate (E i)) BadKind orelse unless (is_let_in (T i) (E i)) NoWay orelse unless (is_under (T i) shown_label) NoWay orelse unless (in_gate (T i) (E i) wanted clearance) Range orelse made)
           ∙ (λ i. unless (is_below (sym own_is i) (sym limit_is i)) NoWay orelse unless (is_below (sym own_is i) shown_label) NoWay
-              orelse unless (lies_between (sym own_is i) (sym given_is i) wanted clearance (sym most_is i) (sym limit_is i)) Range orelse made)
+          orelse unless (lies_between (sym own_is i) (sym given_is i) wanted clearance (sym most_is i) (sym limit_is i)) Range orelse made)
 
   module _ (t d : ℕ) (own most : Id) (made : no_making (state_shown labels es) t d ≡ None) (thread : objects_of es t ≡ Some (thread_of own most)) where
     -- of the making of an object that owns nothing, the thread's labels

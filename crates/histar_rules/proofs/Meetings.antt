@@ -12,7 +12,7 @@ use Rattle.histar_object.specs.declared.objects.Kind.{Kind}
 use Rattle.histar_object.specs.declared.objects.Kind.TheVariants.{Segment, Container, Thread, Gate}
 use Rattle.histar_object.specs.Objects.{Numbers, objects_of, thread_of, links_in, is_there, is_container, is_thread, kind_is_thread, kind_is_container}
 use Rattle.histar_object.specs.State.{Found, observes, modifies}
-use Rattle.histar_container.specs.Shown.{kind_by, object_by, shown, AllStand, Stands}
+use Rattle.histar_container.specs.Shown.{kind_by, object_by, shown, AllStand}
 use Rattle.histar_container.proofs.Shows.{shows}
 use Rattle.histar_rules.specs.declared.raw.Denied.{Denied}
 use Rattle.histar_rules.specs.declared.raw.Denied.TheVariants.{NoThread, NoEntry, BadKind, Observe, Modify}

@@ -4,7 +4,6 @@ use Rattle.std.specs.Prelude.{not, Result}
 use Rattle.std.specs.FinSet as set
 use mathlib.Core.Bool.{false≢true}
 use Rattle.histar_base.specs.Refusals.{unless, ◌orelse◌}
-use Rattle.histar_label.specs.Levels.{Levels}
 use Rattle.histar_object.specs.Objects.{is_there, is_container, is_thread, links_in, label_there}
 use Rattle.histar_object.specs.State.{State, Found}
 use Rattle.histar_container.specs.Tree.{AreTree}

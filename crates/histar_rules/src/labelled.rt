@@ -1,10 +1,10 @@
 //! The objects of a kernel, with their labels in a store.
-ghost use Rattle.std.specs.Prelude.{◌≡◌, ◌+◌, ◌<◌, ℕ, List, None, Some, IsTrue, IsSome, IfOk, OnOk, OnErr};
+ghost use Rattle.std.specs.Prelude.{◌≡◌, ◌+◌, ◌++◌, ◌<◌, ℕ, List, None, Some, IsTrue, IsSome, IfOk, OnOk, OnErr, take};
 ghost use Rattle.std.specs.Option.{option_copied};
 ghost use Rattle.std.specs.FinSet as set;
 ghost use Rattle.histar_label.specs.Levels.{Levels};
 ghost use Rattle.histar_label.specs.Store.{label_at, Keeps};
-ghost use Rattle.histar_object.specs.Objects.{objects_of, put, changed_at, with_new, holding, no_objects, thread_of, is_container, is_thread, links_in, bytes_there, label_there};
+ghost use Rattle.histar_object.specs.Objects.{objects_of, put, changed_at, with_new, holding, no_objects, thread_of, is_container, is_thread, links_in, bytes_there, bytes_in, label_there};
 ghost use Rattle.histar_object.specs.State.{with_object, with_next, with_next_category, with_own, with_bytes};
 ghost use Rattle.histar_container.specs.Shown.{objects_shown, kind_by, AllStand, KindStands, IsKept};
 ghost use Rattle.histar_container.specs.ObjectsModel.{state_of, CutsOff};
@@ -172,7 +172,15 @@ impl<S: LabelStore + Drop> LabelledObjects<S> {
         ensures unchanged { self.new ≡ self.old }
     {
         let next = self.next();
-        new_in(&mut self.store, &self.table, next, thread, container, label, size)
+        new_in(
+            &mut self.store,
+            &self.table,
+            next,
+            thread,
+            container,
+            label,
+            size,
+        )
     }
 
     /// The checks of the making of a thread or a gate.
@@ -187,7 +195,15 @@ impl<S: LabelStore + Drop> LabelledObjects<S> {
         ensures unchanged { self.new ≡ self.old }
     {
         let next = self.next();
-        new_owner_in(&mut self.store, &self.table, next, thread, container, label, clearance)
+        new_owner_in(
+            &mut self.store,
+            &self.table,
+            next,
+            thread,
+            container,
+            label,
+            clearance,
+        )
     }
 
     /// The checks of entering a gate, which want memory: where they pass, what the gate gives.
@@ -206,7 +222,17 @@ impl<S: LabelStore + Drop> LabelledObjects<S> {
         ensures unchanged { self.new ≡ self.old }
     {
         let next = self.next();
-        enter_in(&mut self.store, &self.table, next, thread, container, gate, wanted, clearance, shown)
+        enter_in(
+            &mut self.store,
+            &self.table,
+            next,
+            thread,
+            container,
+            gate,
+            wanted,
+            clearance,
+            shown,
+        )
     }
 
     /// The checks of a read.
@@ -253,7 +279,15 @@ impl<S: LabelStore + Drop> LabelledObjects<S> {
         ensures answer { Tells (check (state_of self.old) thread (calls.Write container segment keep bytes.now)) result }
         ensures unchanged { self.new ≡ self.old }
     {
-        write_in(&mut self.store, &self.table, thread, container, segment, keep, bytes)
+        write_in(
+            &mut self.store,
+            &self.table,
+            thread,
+            container,
+            segment,
+            keep,
+            bytes,
+        )
     }
 
     /// The checks of the taking away of an object.
@@ -293,8 +327,7 @@ impl<S: LabelStore + Drop> LabelledObjects<S> {
         label: Label,
         kind: Kind<Label>,
     ) -> Result<(), AllocError>
-        requires is_there { IsTrue (is_container (objects_of self.old.objects container)) }
-        requires room { self.old.next_object < 18446744073709551615 }
+        requires { self.old.next_object < 18446744073709551615 }
         ensures ok { OnOk result (state_of self.new ≡ with_object (state_of self.old) container (record { label = label; kind = kind })) }
         ensures err { OnErr result (state_of self.new ≡ state_of self.old) }
     {
@@ -339,11 +372,19 @@ impl<S: LabelStore + Drop> LabelledObjects<S> {
         set_own_in(&mut self.store, &mut self.table, thread, label, clearance)
     }
 
-    /// Gives a segment other bytes.
-    pub fn set_bytes(&mut self, segment: ObjId, bytes: Bytes)
-        ensures { state_of self.new ≡ with_bytes (state_of self.old) segment bytes }
+    /// Keeps at most so many bytes of a segment, and puts these behind them.
+    pub fn splice(
+        &mut self,
+        alloc: Global,
+        segment: ObjId,
+        keep: u32,
+        bytes: &Bytes,
+    ) -> Result<(), AllocError>
+        ensures ok { OnOk result (state_of self.new ≡ with_bytes (state_of self.old) segment
+            (take keep (bytes_in (objects_of self.old.objects segment)) ++ bytes.now)) }
+        ensures err { OnErr result (state_of self.new ≡ state_of self.old) }
     {
-        set_bytes_in(&mut self.table, segment, bytes)
+        splice_in(&mut self.table, alloc, segment, keep, bytes)
     }
 }
 
@@ -397,7 +438,6 @@ fn add_in<S: LabelStore>(
     kind: Kind<Label>,
 ) -> Result<(), AllocError>
     requires stand { AllStand (S.labels store.old) (objects_of table.old) }
-    requires is_there { IsTrue (is_container (objects_shown (S.labels store.old) table.old container)) }
     requires is_new { objects_shown (S.labels store.old) table.old number ≡ None }
     ensures stand { AllStand (S.labels store.new) (objects_of table.new) }
     ensures ok { OnOk result (objects_shown (S.labels store.new) table.new
@@ -426,23 +466,43 @@ fn set_own_in<S: LabelStore>(
 {
     let clearance = store.put(clearance)?;
     let label = store.put(label)?;
-    let Some(object) = table.get_mut(thread) else {
-        unreachable!()
-    };
-    *object = Object {
-        label,
-        kind: Kind::Thread(clearance),
-    };
+    if let Some(object) = table.get_mut(thread) {
+        *object = Object {
+            label,
+            kind: Kind::Thread(clearance),
+        };
+    }
     Ok(())
 }
 
-// Gives a segment other bytes.
-fn set_bytes_in<L: Drop>(table: &mut Table<L>, segment: ObjId, bytes: Bytes)
-    ensures { objects_of table.new ≡ changed_at (objects_of table.old) segment (holding bytes) }
+// Keeps at most so many bytes of a segment, and puts these behind them.
+fn splice_in<L: Drop>(
+    table: &mut Table<L>,
+    alloc: Global,
+    segment: ObjId,
+    keep: u32,
+    bytes: &Bytes,
+) -> Result<(), AllocError>
+    ensures ok { OnOk result (objects_of table.new ≡ changed_at (objects_of table.old) segment
+        (holding (take keep (bytes_in (objects_of table.old segment)) ++ bytes.now))) }
+    ensures err { OnErr result (objects_of table.new ≡ objects_of table.old) }
 {
     if let Some(object) = table.get_mut(segment) {
         if let Kind::Segment(content) = &mut object.kind {
-            *content = bytes;
+            let new = spliced(alloc, content.as_slice(), keep, bytes)?;
+            *content = new;
         }
     }
+    Ok(())
+}
+
+// At most so many old bytes, and the new ones behind them.
+fn spliced(alloc: Global, old: &[u8], keep: u32, new: &Bytes) -> Result<Bytes, AllocError>
+    ensures { IfOk result (λ b. b ≡ take keep old.now ++ new.now) }
+{
+    let mut content = Vec::new(alloc);
+    let kept = (keep as usize).min(old.len());
+    content.extend_from_slice(&old[..kept])?;
+    content.extend_from_slice(new.as_slice())?;
+    Ok(Bytes::from_vec(content))
 }

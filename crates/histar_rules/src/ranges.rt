@@ -45,9 +45,11 @@ fn lies_between(opening: Opening, label: &Label, clearance: &Label) -> Result<bo
         lies_between opening.entry.own.now opening.entry.given.now label.now clearance.now opening.entry.most.now opening.entry.limit.now) }
 {
     let floor = opening.own.floor(opening.given)?;
-    Ok(floor.below(label)
-        && label.below(clearance)
-        && clearance.below_join(opening.most, opening.limit))
+    Ok(
+        floor.below(label)
+            && label.below(clearance)
+            && clearance.below_join(opening.most, opening.limit),
+    )
 }
 
 /// The last checks of the making of an object that owns nothing and holds so many bytes: its label,

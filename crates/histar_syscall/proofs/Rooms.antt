@@ -1,22 +1,11 @@
 -- What a raw call leaves in the kernel.
-use Rattle.std.proofs.Common.{◌≡◌, ℕ, true, None, Some, refl, sym, subst, Result, Ok, Err, List}
-use Rattle.std.specs.Prelude.{not}
-use Rattle.std.specs.FinSet as set
-use mathlib.Core.Bool.{false≢true}
+use Rattle.std.proofs.Common.{◌≡◌, ℕ, refl, sym, subst, Result, Ok, Err, List}
 use Rattle.std.specs.Result.{IsErrAnd}
-use Rattle.histar_base.specs.Refusals.{unless}
-use Rattle.histar_object.specs.Objects.{is_there, is_thread, links_in, label_there}
-use Rattle.histar_object.specs.State.{State, Found}
-use Rattle.histar_container.specs.Tree.{AreTree}
-use Rattle.histar_container.proofs.Trees.{linked_there}
 use Rattle.histar_container.specs.ObjectsModel.{ObjectsModel, state_of}
 use Rattle.histar_rules.specs.declared.raw.RawCall.{RawCall}
 use Rattle.histar_rules.specs.declared.raw.Refusal.{Refusal}
 use Rattle.histar_rules.specs.declared.raw.Refusal.TheVariants as refusals
-use Rattle.histar_rules.specs.declared.raw.Denied.TheVariants.{NoEntry, BadKind}
-use Rattle.histar_rules.specs.declared.raw.RawCall.TheVariants.{LabelOf}
-use Rattle.histar_rules.specs.Rules.{Decides, check, no_container, no_link}
-use Rattle.histar_rules.proofs.Passing.{unless_none, first, rest}
+use Rattle.histar_rules.specs.Rules.{Decides}
 use Rattle.histar_rules.specs.Sound.{IsSound}
 use Rattle.histar_rules.proofs.Sound.{sound_decided}
 use Rattle.histar_syscall.specs.declared.trace.TraceEntry.{TraceEntry}

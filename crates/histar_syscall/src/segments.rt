@@ -1,7 +1,4 @@
 //! The raw calls on segments.
-ghost use Rattle.std.specs.Prelude.{◌≡◌, ◌++◌, IfOk, take};
-ghost use Rattle.std.specs.Option.{option_copied};
-ghost use Rattle.histar_object.specs.Objects.{or_no_bytes};
 ghost use Rattle.histar_container.specs.ObjectsModel.{state_of};
 ghost use Rattle.histar_rules.specs.Rules.{Decides, IsNextNumber};
 ghost use Rattle.histar_rules.specs.declared.raw.RawCall.TheVariants as calls;
@@ -12,7 +9,7 @@ use histar_base::Bytes;
 use histar_label::{Label, LabelStore};
 use histar_object::{Kind, ObjId};
 use histar_rules::{LabelledObjects, Refusal};
-use std::alloc::{AllocError, Global};
+use std::alloc::Global;
 
 /// Makes a segment in a container, and answers its number.
 pub fn make_segment<S: LabelStore + Drop>(
@@ -67,20 +64,6 @@ pub fn write<S: LabelStore + Drop>(
     ensures { Decides objects.old objects.new thread (calls.Write container segment keep bytes.now) result (λ _. Unit {0}) }
 {
     objects.check_write(thread, container, segment, keep, bytes)?;
-    let content = spliced(alloc, objects.bytes(segment), keep, bytes)?;
-    objects.set_bytes(segment, content);
+    objects.splice(alloc, segment, keep, bytes)?;
     Ok(())
-}
-
-// At most so many old bytes, and the new ones behind them.
-fn spliced(alloc: Global, old: Option<&[u8]>, keep: u32, new: &Bytes) -> Result<Bytes, AllocError>
-    ensures { IfOk result (λ b. b ≡ take keep (or_no_bytes (option_copied old.entry)) ++ new.now) }
-{
-    let mut content = Vec::new(alloc);
-    if let Some(old) = old {
-        let kept = (keep as usize).min(old.len());
-        content.extend_from_slice(&old[..kept])?;
-    }
-    content.extend_from_slice(new.as_slice())?;
-    Ok(Bytes::from_vec(content))
 }

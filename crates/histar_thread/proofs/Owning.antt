@@ -1,7 +1,5 @@
 -- What a thread owns once it made a category.
-use Rattle.std.proofs.Common.{◌≡◌, ℕ, ◌+◌, Bool, false, None, Some, true, refl, sym, ap, ◌∙◌}
-use Rattle.histar_base.specs.Refusals.{unless, ◌orelse◌}
-use Rattle.histar_rules.specs.declared.raw.Denied.TheVariants.{NoThread, TooBig}
+use Rattle.std.proofs.Common.{◌≡◌, ℕ, ◌+◌, None, Some, true, refl, sym, ap, ◌∙◌}
 use Rattle.histar_label.specs.declared.levels.Level.TheVariants.{Star, L3}
 use Rattle.histar_label.specs.Levels.{Levels, with_level}
 use Rattle.histar_object.specs.declared.objects.Kind.{Kind}

@@ -1,7 +1,7 @@
 use Rattle.std.proofs.Common.{◌≡◌, ◌∙◌}
 use Rattle.histar_object.specs.declared.objects.Object.{Object}
 use Rattle.histar_object.specs.Objects.{objects_of, with_new}
-use Rattle.histar_container.proofs.Keeping.{trans, all_on, shown_on, on_err, on_ok_from, on_err_from, container_there, none_there, linked_stand, new_stands, new_shown, shown_new, shown_same}
+use Rattle.histar_container.proofs.Keeping.{trans, all_on, shown_on, on_err, on_ok_from, on_err_from, none_there, linked_stand, new_stands, new_shown, shown_new, shown_same}
 use Rattle.histar_rules.proofs.labelled.add_in.Goals as goal
 
 pub returns-in_err-kind-clause-stand : goal.returns-in_err-kind-clause-stand
@@ -24,11 +24,8 @@ returns-in_err-label-clause-err g c =
     let three = g.S.LabelStore.labels c.put.new.self in
     on_err _ _ (shown_on one three (trans one two three c.put_kind.ensures.keeps c.put.ensures.keeps) c.args.table.now c.requires.stand)
 
-pub link_new-requires-clause-is_there : goal.link_new-requires-clause-is_there
-link_new-requires-clause-is_there g c = container_there (g.S.LabelStore.labels c.args.store.now) c.args.table.now c.args.container c.requires.is_there
-
-pub link_new-requires-clause-is_new : goal.link_new-requires-clause-is_new
-link_new-requires-clause-is_new g c = none_there (g.S.LabelStore.labels c.args.store.now) c.args.table.now c.args.number c.requires.is_new
+pub link_new-requires : goal.link_new-requires
+link_new-requires g c = none_there (g.S.LabelStore.labels c.args.store.now) c.args.table.now c.args.number c.requires.is_new
 
 pub returns-clause-stand : goal.returns-clause-stand
 returns-clause-stand g c =

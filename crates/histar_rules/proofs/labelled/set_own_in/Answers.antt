@@ -30,13 +30,8 @@ returns-in_err-label-clause-err g c =
     let three = g.S.LabelStore.labels c.put-2.new.self in
     on_err _ _ (shown_on one three (trans one two three c.put.ensures.keeps c.put-2.ensures.keeps) c.args.table.now c.requires.stand)
 
-pub unreachable-requires : goal.unreachable-requires
-unreachable-requires g c =
-    thread_there (g.S.LabelStore.labels c.args.store.now) c.args.table.now c.args.thread c.requires.is_there
-    (sym (ap option_copied_mut c.in_default.is) ∙ c.get_mut.ensures.value)
-
-pub returns-clause-stand : goal.returns-clause-stand
-returns-clause-stand g c =
+pub returns-in-Some-clause-stand : goal.returns-in-Some-clause-stand
+returns-in-Some-clause-stand g c =
     let one = g.S.LabelStore.labels c.args.store.now in
     let two = g.S.LabelStore.labels c.put.new.self in
     let three = g.S.LabelStore.labels c.put-2.new.self in
@@ -47,8 +42,8 @@ returns-clause-stand g c =
     (all_on one three (trans one two three c.put.ensures.keeps c.put-2.ensures.keeps) (objects_of c.args.table.now) c.requires.stand)
     (new_stands two three c.put-2.ensures.keeps (Thread c.in_ok-clearance.clearance) (ap is_some c.in_ok-clearance.ensures.stands) c.in_ok-label.label c.args.label c.in_ok-label.ensures.stands))
 
-pub returns-clause-ok : goal.returns-clause-ok
-returns-clause-ok g c =
+pub returns-in-Some-clause-ok : goal.returns-in-Some-clause-ok
+returns-in-Some-clause-ok g c =
     let one = g.S.LabelStore.labels c.args.store.now in
     let two = g.S.LabelStore.labels c.put.new.self in
     let three = g.S.LabelStore.labels c.put-2.new.self in
@@ -58,3 +53,13 @@ returns-clause-ok g c =
     let value = new_shown two three c.put-2.ensures.keeps (Thread c.in_ok-clearance.clearance) (ap is_some c.in_ok-clearance.ensures.stands) (Thread c.args.clearance)
     (ap Thread (label_at-stands two c.in_ok-clearance.clearance c.args.clearance c.in_ok-clearance.ensures.stands)) c.in_ok-label.label c.args.label c.in_ok-label.ensures.stands in
     shown_put three c.args.table.now (c.get_mut.follows.lender left) c.args.thread left after ∙ (λ i. put (same i) c.args.thread (value i))
+
+pub returns-in_default-clause-stand : goal.returns-in_default-clause-stand
+returns-in_default-clause-stand g c =
+    absurd (thread_there (g.S.LabelStore.labels c.args.store.now) c.args.table.now c.args.thread c.requires.is_there
+    (sym (ap option_copied_mut c.in_default.is) ∙ c.get_mut.ensures.value))
+
+pub returns-in_default-clause-ok : goal.returns-in_default-clause-ok
+returns-in_default-clause-ok g c =
+    absurd (thread_there (g.S.LabelStore.labels c.args.store.now) c.args.table.now c.args.thread c.requires.is_there
+    (sym (ap option_copied_mut c.in_default.is) ∙ c.get_mut.ensures.value))

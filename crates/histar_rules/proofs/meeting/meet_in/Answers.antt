@@ -1,4 +1,4 @@
-use Rattle.std.proofs.Common.{sym, ap, ◌∙◌}
+use Rattle.std.proofs.Common.{ap, ◌∙◌}
 use Rattle.histar_object.specs.Objects.{thread_of}
 use Rattle.histar_rules.specs.declared.raw.Denied.TheVariants.{Observe}
 use Rattle.histar_base.specs.Refusals.{unless}

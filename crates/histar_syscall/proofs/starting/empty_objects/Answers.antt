@@ -1,18 +1,12 @@
-use Rattle.std.proofs.Common.{ℕ, true, ◌≡◌, ap, sym, subst, ◌∙◌}
+use Rattle.std.proofs.Common.{ℕ, ap, ◌∙◌}
 use Rattle.histar_label.specs.Levels.{Levels}
 use Rattle.histar_object.specs.declared.objects.Kind.TheVariants.{Container, Thread}
 use Rattle.histar_object.specs.declared.objects.Object.{Object}
-use Rattle.histar_object.specs.Objects.{Numbers, objects_of, is_container}
+use Rattle.histar_object.specs.Objects.{Numbers}
 use Rattle.histar_object.specs.State.{with_next, with_object}
 use Rattle.histar_container.specs.ObjectsModel.{state_of}
-use Rattle.histar_syscall.proofs.Beginnings.{root_there, empty_made}
+use Rattle.histar_syscall.proofs.Beginnings.{empty_made}
 use Rattle.histar_syscall.proofs.starting.empty_objects.Goals as goal
-
-pub add-requires-clause-is_there : goal.add-requires-clause-is_there
-add-requires-clause-is_there g c =
-    let next = c.in_ok-push.ensures.ok ∙ ap (λ (links : Numbers). with_next (state_of c.new-objects.result) (record { label = c.in_ok-guarded.guarded; kind = Container links })) c.new.ensures in
-    subst (λ (n : ℕ). is_container (objects_of c.push.new.self.objects n) ≡ true) (sym c.new-2.ensures)
-    (root_there (state_of c.new-objects.result) (state_of c.push.new.self) c.in_ok-guarded.guarded c.new-objects.ensures next)
 
 pub returns : goal.returns
 returns g c =

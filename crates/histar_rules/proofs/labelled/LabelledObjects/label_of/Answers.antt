@@ -1,4 +1,4 @@
-use Rattle.std.proofs.Common.{Option, IsSome, sym, ap, ◌∙◌, subst}
+use Rattle.std.proofs.Common.{Option, IsSome, sym, ◌∙◌, subst}
 use Rattle.histar_label.specs.Levels.{Levels}
 use Rattle.histar_object.specs.Objects.{objects_of}
 use Rattle.histar_container.specs.ObjectsModel.{ObjectsModel}
