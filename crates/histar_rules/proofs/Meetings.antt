@@ -43,10 +43,6 @@ pub behind_refusal : {A : Type 0} (failing later : Option Denied) (denied : Deni
 behind_refusal failing later denied (Ok x) e is = absurd is
 behind_refusal failing later denied (Err other) e is = ap (λ (f : Option Denied). f orelse later) e ∙ ap (λ (d : Denied). Some d) (sym is)
 
--- the same of two tests more
-pub before_both : {A : Type 0} (failing second third : Option Denied) (denied : Denied) (r : Result A Denied) → failing ≡ Some denied → IsErrAnd r (λ e. e ≡ denied) → Tells ((failing orelse second) orelse third) r
-before_both failing second third denied r e is = behind_refusal (failing orelse second) third denied r (ap (λ (f : Option Denied). f orelse second) e) is
-
 and_true : (b : Bool) → (b && true) ≡ b
 and_true true = refl
 and_true false = refl

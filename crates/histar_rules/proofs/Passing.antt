@@ -1,6 +1,6 @@
 -- What a call that passes its checks knows.
-use Rattle.std.proofs.Common.{◌≡◌, ℕ, Bool, true, false, Option, None, Some, refl, subst}
-use Rattle.std.specs.Prelude.{not, Result}
+use Rattle.std.proofs.Common.{◌≡◌, ℕ, Bool, true, false, Option, None, Some, refl}
+use Rattle.std.specs.Prelude.{not}
 use Rattle.std.specs.FinSet as set
 use mathlib.Core.Bool.{false≢true}
 use Rattle.histar_base.specs.Refusals.{unless, ◌orelse◌}
@@ -11,7 +11,7 @@ use Rattle.histar_container.proofs.Trees.{linked_there}
 use Rattle.histar_rules.specs.declared.raw.Denied.{Denied}
 use Rattle.histar_rules.specs.declared.raw.Denied.TheVariants.{NoThread, NoEntry, BadKind}
 use Rattle.histar_rules.specs.declared.raw.RawCall.TheVariants.{LabelOf}
-use Rattle.histar_rules.specs.Rules.{check, no_thread, no_container, no_link, Tells}
+use Rattle.histar_rules.specs.Rules.{check, no_thread, no_container, no_link}
 
 -- a test that doesn't refuse passes
 pub unless_none : (b : Bool) (d : Denied) → unless b d ≡ None → b ≡ true
@@ -32,20 +32,6 @@ rest (Some d) b e = cc
 pub passes : (b : Bool) (d : Denied) (later : Option Denied) → (unless b d orelse later) ≡ None → (b ≡ true) × (later ≡ None)
 passes true d later e = (refl, e)
 passes false d later e = cc
-
--- where checks pass, what comes behind them tells
-pub behind_tells : {A : Type 0} (before after : Option Denied) (r : Result A Denied) → before ≡ None → Tells after r → Tells (before orelse after) r
-behind_tells None after r none tells = tells
-behind_tells (Some other) after r none tells = cc
-
--- and so it does where a test passes
-pub passed_tells : {A : Type 0} (passes is : Bool) (denied : Denied) (after : Option Denied) (r : Result A Denied) → passes ≡ is → unless passes denied ≡ None → Tells after r → Tells (unless is denied orelse after) r
-passed_tells true is denied after r same none tells = subst (λ (b : Bool). Tells (unless b denied orelse after) r) same tells
-passed_tells false is denied after r same none tells = cc
-
--- the last test tells
-pub last_tells : {A : Type 0} (passes is : Bool) (denied : Denied) (r : Result A Denied) → passes ≡ is → Tells (unless passes denied) r → Tells (unless is denied) r
-last_tells passes is denied r same tells = subst (λ (b : Bool). Tells (unless b denied) r) same tells
 
 -- what is not true is false
 pub not_passes : (b : Bool) → not b ≡ true → b ≡ false
