@@ -18,7 +18,7 @@ use Rattle.histar_object.specs.declared.objects.Kind.{Kind}
 use Rattle.histar_object.specs.declared.objects.Kind.TheVariants.{Segment, Container, Thread, Gate}
 use Rattle.histar_object.specs.declared.objects.Object.{Object}
 use Rattle.histar_object.specs.Objects.{Objects, Numbers, no_objects, put, changed_at, with_new, kind_linking, linking, thread_of, links_in, kind_is_gate, is_gate}
-use Rattle.histar_object.specs.Rights.{kind_with_three_at, with_star_at, with_category}
+use Rattle.histar_rules.specs.Rights.{kind_with_three_at, with_star_at, with_category}
 use Rattle.histar_object.specs.State.{State, Found, with_object, root_object, boot_thread, empty_state}
 use Rattle.histar_container.specs.Tree.{Address}
 use Rattle.histar_container.proofs.Addresses.{inner}

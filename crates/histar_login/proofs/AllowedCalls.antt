@@ -11,7 +11,7 @@ use Rattle.histar_label.specs.Same.{and_true}
 use Rattle.histar_object.specs.declared.objects.Entry.{Entry}
 use Rattle.histar_object.specs.declared.objects.Object.{Object}
 use Rattle.histar_object.specs.Objects.{is_there, is_container, is_thread, links_in, kind_is_thread, kind_is_container, kind_clearance, kind_links}
-use Rattle.histar_object.specs.Rights.{in_span, both}
+use Rattle.histar_rules.specs.Rights.{in_span, both}
 use Rattle.histar_object.specs.State.{State, Found, observes, modifies, in_range, between}
 use Rattle.histar_rules.specs.declared.raw.Denied.{Denied}
 use Rattle.histar_rules.specs.declared.raw.RawCall.{RawCall}

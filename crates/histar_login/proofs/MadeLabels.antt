@@ -12,7 +12,7 @@ use Rattle.histar_label.proofs.Made.{is_made-constant, is_made-with_level}
 use Rattle.histar_label.proofs.Orders.{is_below-law, is_below_raised-law}
 use Rattle.histar_label.proofs.Stars.{has_star-none}
 use Rattle.histar_object.specs.declared.objects.Object.{Object}
-use Rattle.histar_object.specs.Rights.{with_star_at, kind_with_three_at}
+use Rattle.histar_rules.specs.Rights.{with_star_at, kind_with_three_at}
 use Rattle.histar_object.specs.State.{boot_thread}
 use Rattle.histar_calls.specs.Categories.{read_category, write_category}
 use Rattle.histar_calls.specs.Labelling.{with_levels, written_by, secret_of, owner_of, cleared_of}

@@ -7,7 +7,7 @@ use Rattle.histar_label.specs.Levels.{Levels}
 use Rattle.histar_object.specs.declared.objects.Kind.TheVariants.{Container}
 use Rattle.histar_object.specs.declared.objects.Object.{Object}
 use Rattle.histar_object.specs.Objects.{Numbers, linking, kind_is_thread}
-use Rattle.histar_object.specs.Rights.{with_category, with_star_at}
+use Rattle.histar_rules.specs.Rights.{with_category, with_star_at}
 use Rattle.histar_object.specs.State.{State, Found, with_object, empty_state, boot_thread}
 use Rattle.histar_rules.specs.declared.raw.RawCall.{RawCall}
 use Rattle.histar_rules.specs.declared.raw.RawCall.TheVariants.{MakeCategory, Unlink}

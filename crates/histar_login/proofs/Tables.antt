@@ -6,7 +6,7 @@ use Rattle.std.proofs.lemmas.List.{length-append}
 use Rattle.histar_label.specs.Levels.{Levels}
 use Rattle.histar_object.specs.declared.objects.Object.{Object}
 use Rattle.histar_object.specs.Objects.{put, changed_at, linking}
-use Rattle.histar_object.specs.Rights.{with_category, with_star_at}
+use Rattle.histar_rules.specs.Rights.{with_category, with_star_at}
 use Rattle.histar_object.specs.State.{Found, with_object}
 use Rattle.histar_login.specs.Start.{object_at, state_with}
 

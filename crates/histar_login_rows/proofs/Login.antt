@@ -20,7 +20,7 @@ use Rattle.histar_flat.specs.FlatCalls.{refused}
 use Rattle.histar_label.specs.Levels.{Levels}
 use Rattle.histar_label.specs.Floors.{join_of, floor_of}
 use Rattle.histar_object.specs.Objects.{thread_of, is_thread, label_there, clearance_there, bytes_in}
-use Rattle.histar_object.specs.Rights.{with_label, with_clearance, with_changed}
+use Rattle.histar_rules.specs.Rights.{with_label, with_clearance, with_changed}
 use Rattle.histar_object.specs.State.{State, with_own}
 use Rattle.histar_rules.specs.declared.raw.Denied.TheVariants.{NoThread, Gate}
 use Rattle.histar_rules.specs.declared.raw.RawCall.{RawCall}

@@ -5,7 +5,7 @@ use Rattle.std.proofs.lemmas.Bool.Decides.{eqb_tells}
 use Rattle.histar_label.specs.Levels.{Levels}
 use Rattle.histar_object.specs.declared.objects.Object.{Object}
 use Rattle.histar_object.specs.Objects.{Objects, thread_of, bytes_in}
-use Rattle.histar_object.specs.Rights.{with_label, with_clearance, with_changed}
+use Rattle.histar_rules.specs.Rights.{with_label, with_clearance, with_changed}
 use Rattle.histar_object.specs.State.{State, Found, with_own}
 use Rattle.histar_object.proofs.Changes.{put_back}
 use Rattle.histar_container.proofs.TableMoves.{put_here, put_other}

@@ -7,7 +7,7 @@ use Rattle.histar_label.specs.Levels.{Levels, is_below, is_below_raised, is_belo
 use Rattle.histar_object.specs.declared.objects.Kind.TheVariants.{Segment, Container, Thread}
 use Rattle.histar_object.specs.declared.objects.Object.{Object}
 use Rattle.histar_object.specs.Objects.{thread_of, is_thread}
-use Rattle.histar_object.specs.Rights.{in_span, may_clear, with_label, with_changed}
+use Rattle.histar_rules.specs.Rights.{in_span, may_clear, with_label, with_changed}
 use Rattle.histar_object.specs.State.{State, Found, in_range, with_object, with_bytes}
 use Rattle.histar_rules.specs.declared.raw.Denied.TheVariants.{Modify, NoThread, Range, TooBig}
 use Rattle.histar_rules.specs.declared.raw.RawCall.TheVariants.{MakeCategory, SetLabel, SetClearance, MakeSegment, MakeContainer, MakeThread, Write}

@@ -11,7 +11,7 @@ use Rattle.histar_flat.specs.FlatState as flat
 use Rattle.histar_label.specs.Levels.{Levels}
 use Rattle.histar_object.specs.declared.objects.Kind.TheVariants.{Segment, Container}
 use Rattle.histar_object.specs.Objects.{thread_of}
-use Rattle.histar_object.specs.Rights.{with_category}
+use Rattle.histar_rules.specs.Rights.{with_category}
 use Rattle.histar_object.specs.State.{State}
 use Rattle.histar_rules.specs.Rules.{greatest}
 use Rattle.histar_layout.specs.Status.{ProcessStatus}

@@ -10,7 +10,7 @@ use Rattle.histar_label.specs.Levels.{Levels, with_level}
 use Rattle.histar_object.specs.declared.objects.Kind.TheVariants.{Segment, Container, Thread}
 use Rattle.histar_object.specs.declared.objects.Object.{Object}
 use Rattle.histar_object.specs.Objects.{Numbers as Links, put, linking, holding, is_thread}
-use Rattle.histar_object.specs.Rights.{with_star_at, with_label, with_changed, with_category}
+use Rattle.histar_rules.specs.Rights.{with_star_at, with_label, with_changed, with_category}
 use Rattle.histar_object.specs.State.{State, Found, with_object, with_bytes}
 use Rattle.histar_container.proofs.TableMoves.{put_here, put_other, changed_here, changed_other}
 use Rattle.histar_refinement.proofs.Members.{or_second}

@@ -11,7 +11,7 @@ use Rattle.histar_label.specs.declared.levels.Level.TheVariants.{Star, L3}
 use Rattle.histar_label.specs.Levels.{Levels, with_level, is_below, is_below_raised}
 use Rattle.histar_object.specs.declared.objects.Kind.TheVariants.{Segment, Container}
 use Rattle.histar_object.specs.Objects.{Numbers as Links, links_in}
-use Rattle.histar_object.specs.Rights.{with_category}
+use Rattle.histar_rules.specs.Rights.{with_category}
 use Rattle.histar_object.specs.State.{State, Found}
 use Rattle.histar_refinement.specs.Categories.{CategoryName, Categories, AreDifferent, IsMade, IsUsed}
 use Rattle.histar_refinement.specs.Categories.CategoryName.{OfBoot, ReadsProcess, WritesProcess, OfJob}

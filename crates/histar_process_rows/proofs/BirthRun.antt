@@ -15,7 +15,7 @@ use Rattle.histar_label.specs.Levels.{Levels, with_level, is_below, is_below_rai
 use Rattle.histar_object.specs.declared.objects.Kind.TheVariants.{Segment, Container, Thread}
 use Rattle.histar_object.specs.Objects.{thread_of}
 use Rattle.histar_container.proofs.TableMoves.{changed_here}
-use Rattle.histar_object.specs.Rights.{with_star_at, with_label, with_clearance, with_changed, with_category}
+use Rattle.histar_rules.specs.Rights.{with_star_at, with_label, with_clearance, with_changed, with_category}
 use Rattle.histar_object.specs.State.{State, with_object, with_bytes}
 use Rattle.histar_rules.specs.declared.raw.Denied.TheVariants.{TooBig}
 use Rattle.histar_rules.specs.declared.raw.RawCall.{RawCall}

@@ -10,7 +10,7 @@ use Rattle.histar_object.specs.declared.objects.Kind.{Kind}
 use Rattle.histar_object.specs.declared.objects.Kind.TheVariants.{Segment, Container, Thread, Gate}
 use Rattle.histar_object.specs.declared.objects.Object.{Object}
 use Rattle.histar_object.specs.Objects.{changed_at, kind_links, thread_of}
-use Rattle.histar_object.specs.Rights.{with_label, with_clearance, kind_with_clearance}
+use Rattle.histar_rules.specs.Rights.{with_label, with_clearance, kind_with_clearance}
 use Rattle.histar_object.specs.State.{State, Found, with_own}
 use Rattle.histar_container.specs.Tree.{Address, set_at}
 use Rattle.histar_container.proofs.Addresses.{same_tells}

@@ -17,7 +17,7 @@ use Rattle.histar_label.proofs.Orders.{is_below-law, is_below_join-law, is_below
 use Rattle.histar_object.specs.declared.objects.Entry.TheVariants.{Login}
 use Rattle.histar_object.specs.declared.objects.Kind.TheVariants.{Segment, Container, Thread, Gate}
 use Rattle.histar_object.specs.Objects.{links_in, is_thread, is_gate, thread_of}
-use Rattle.histar_object.specs.Rights.{with_label, with_changed, is_let_in, is_under, in_gate, may_clear}
+use Rattle.histar_rules.specs.Rights.{with_label, with_changed, is_let_in, is_under, in_gate, may_clear}
 use Rattle.histar_object.specs.State.{State, Found, in_range, with_own}
 use Rattle.histar_container.proofs.TableMoves.{put_here, put_other, changed_here}
 use Rattle.histar_rules.specs.declared.raw.Denied.TheVariants as denials

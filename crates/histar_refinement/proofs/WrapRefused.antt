@@ -2,7 +2,7 @@
 -- same flat state. One category more was made, and has no name.
 use Rattle.std.proofs.Common.{◌≡◌, ℕ, ◌∷◌, None, Some, arith, refl}
 use Rattle.histar_flat.specs.Words.{ProcName}
-use Rattle.histar_object.specs.Rights.{with_category}
+use Rattle.histar_rules.specs.Rights.{with_category}
 use Rattle.histar_object.specs.State.{State}
 use Rattle.histar_flat.specs.Sessions.{Session}
 use Rattle.histar_flat.specs.Classes.{Process}

@@ -15,7 +15,7 @@ use Rattle.histar_layout.specs.declared.entry.Target.TheVariants as targets
 use Rattle.histar_object.specs.declared.objects.Kind.TheVariants.{Segment, Container}
 use Rattle.histar_object.specs.declared.objects.Object.{Object}
 use Rattle.histar_rules.specs.Rules.{greatest}
-use Rattle.histar_object.specs.Rights.{with_category}
+use Rattle.histar_rules.specs.Rights.{with_category}
 use Rattle.histar_object.specs.State.{State, with_object, with_bytes, with_next_category}
 use Rattle.histar_container.specs.Tree.{Naming}
 use Rattle.histar_flat.specs.Sessions.{Session, has, user_number}

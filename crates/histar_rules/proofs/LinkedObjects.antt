@@ -11,7 +11,7 @@ use Rattle.histar_object.specs.declared.objects.Kind.{Kind}
 use Rattle.histar_object.specs.declared.objects.Kind.TheVariants.{Segment, Container, Thread, Gate}
 use Rattle.histar_object.specs.Objects.{Numbers, objects_of, thread_of, bytes_in, label_there, is_thread, is_segment, is_gate, kind_is_segment, kind_is_gate}
 use Rattle.histar_object.specs.State.{observes, modifies, in_range}
-use Rattle.histar_object.specs.Rights.{in_span, is_let_in, is_under, in_gate, lies_between}
+use Rattle.histar_rules.specs.Rights.{in_span, is_let_in, is_under, in_gate, lies_between}
 use Rattle.histar_container.specs.Shown.{kind_by, object_by, shown, AllStand}
 use Rattle.histar_container.proofs.Shows.{shows}
 use Rattle.histar_rules.specs.declared.limits.Next.{Next}

@@ -12,7 +12,7 @@ use Rattle.histar_object.specs.declared.objects.Kind.TheVariants.{Segment, Conta
 use Rattle.histar_object.specs.declared.objects.Kind.TheVariants as gates
 use Rattle.histar_object.specs.declared.objects.Object.{Object}
 use Rattle.histar_object.specs.Objects.{holding, thread_of, links_in, bytes_in, kind_links, is_container, is_thread, kind_is_segment, kind_is_container, kind_is_thread, kind_clearance, no_objects, put}
-use Rattle.histar_object.specs.Rights.{with_star_at, with_label, with_clearance, with_changed, with_category, in_span, may_clear, is_let_in, is_under, in_gate}
+use Rattle.histar_rules.specs.Rights.{with_star_at, with_label, with_clearance, with_changed, with_category, in_span, may_clear, is_let_in, is_under, in_gate}
 use Rattle.histar_object.specs.State.{State, in_range, with_object, with_own, with_bytes, root_object, boot_thread, empty_state}
 use Rattle.histar_container.specs.ObjectsModel.{ObjectsModel, CutsOff, state_of}
 use Rattle.histar_container.specs.Tree.{IsTree}

@@ -15,7 +15,7 @@ use Rattle.histar_object.specs.declared.objects.Kind.TheVariants.{Segment, Conta
 use Rattle.histar_object.specs.declared.objects.Kind.TheVariants as gates
 use Rattle.histar_object.specs.declared.objects.Object.{Object}
 use Rattle.histar_object.specs.Objects.{Objects, put, changed_at, with_new, linking, unlinking, holding, thread_of, links_in, bytes_in, kind_clearance, kind_is_thread, kind_is_gate, is_thread, is_gate}
-use Rattle.histar_object.specs.Rights.{both, with_star_at, with_label, with_clearance, with_changed, with_category, in_span, is_let_in, is_under, in_gate}
+use Rattle.histar_rules.specs.Rights.{both, with_star_at, with_label, with_clearance, with_changed, with_category, in_span, is_let_in, is_under, in_gate}
 use Rattle.histar_object.specs.State.{State, Found, between, in_range, modifies, with_object, with_own, with_bytes}
 use Rattle.histar_container.specs.ObjectsModel.{CutsOff}
 use Rattle.histar_container.specs.Tree.{Reached, here, there, IsCut}

@@ -10,7 +10,7 @@ use Rattle.histar_object.specs.declared.objects.Kind.{Kind}
 use Rattle.histar_object.specs.declared.objects.Kind.TheVariants.{Segment, Container, Thread, Gate}
 use Rattle.histar_object.specs.declared.objects.Object.{Object}
 use Rattle.histar_object.specs.Objects.{Objects, put, changed_at, with_new, kind_linking, linking, kind_unlinking, unlinking, kind_holding, holding, thread_of, kind_is_segment, kind_is_container, kind_is_thread, kind_clearance}
-use Rattle.histar_object.specs.Rights.{kind_with_three_at, with_star_at, with_label, kind_with_clearance, with_clearance}
+use Rattle.histar_rules.specs.Rights.{kind_with_three_at, with_star_at, with_label, kind_with_clearance, with_clearance}
 use Rattle.histar_container.specs.Tree.{Reached, IsCut}
 use Rattle.histar_container.proofs.Addresses.{inner}
 use Rattle.histar_container.proofs.TableMoves.{put_here, put_other, changed_here, changed_other}

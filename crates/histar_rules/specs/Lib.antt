@@ -1,9 +1,9 @@
 pub mod Finds
+pub mod Rights
 pub mod Rules
 pub mod Sound
 pub mod Visible
 pub use Rattle.histar_object.specs.Objects
-pub use Rattle.histar_object.specs.Rights
 pub use Rattle.histar_object.specs.State
 pub use Rattle.histar_container.specs.ObjectsModel
 pub use Rattle.histar_container.specs.Tree

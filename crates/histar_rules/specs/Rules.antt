@@ -7,7 +7,7 @@ use Rattle.histar_object.specs.Objects.{is_there, is_segment, is_container, is_t
 use Rattle.histar_object.specs.declared.objects.Entry.{Entry}
 use Rattle.histar_object.specs.declared.objects.Kind.TheVariants.{Segment, Container}
 use Rattle.histar_object.specs.declared.objects.Kind.TheVariants as gates
-use Rattle.histar_object.specs.Rights.{in_span, may_clear, is_under, is_let_in, in_gate, with_label, with_clearance, with_changed, with_category}
+use Rattle.histar_rules.specs.Rights.{in_span, may_clear, is_under, is_let_in, in_gate, with_label, with_clearance, with_changed, with_category}
 use Rattle.histar_object.specs.State.{State, observes, modifies, in_range, with_object, with_own, with_bytes}
 use Rattle.histar_container.specs.ObjectsModel.{ObjectsModel, CutsOff, state_of}
 use Rattle.histar_rules.specs.declared.raw.Denied.{Denied}

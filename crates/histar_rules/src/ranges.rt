@@ -2,7 +2,7 @@
 ghost use Rattle.std.specs.Prelude.{◌≡◌, ◌&&◌, not, nat_lt, IfOk};
 ghost use Rattle.histar_base.specs.Refusals.{unless, ◌orelse◌};
 ghost use Rattle.histar_label.specs.Levels.{is_below, is_made, has_star};
-ghost use Rattle.histar_object.specs.Rights.{lies_between};
+ghost use Rattle.histar_rules.specs.Rights.{lies_between};
 ghost use Rattle.histar_rules.specs.Rules.{fits_segment, greatest, Tells, TellsUnlessExhausted};
 ghost use Rattle.histar_rules.specs.declared.raw.Denied.TheVariants.{Range, Gate, TooBig};
 

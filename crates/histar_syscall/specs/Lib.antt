@@ -3,7 +3,7 @@ pub mod Laws
 pub mod Runs
 pub mod KernelModel
 pub use Rattle.histar_object.specs.Objects
-pub use Rattle.histar_object.specs.Rights
+pub use Rattle.histar_rules.specs.Rights
 pub use Rattle.histar_object.specs.State
 pub use Rattle.histar_container.specs.ObjectsModel
 pub use Rattle.histar_container.specs.Tree

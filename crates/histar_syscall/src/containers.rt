@@ -1,28 +1,13 @@
-//! The raw calls on labels and on containers.
+//! The raw calls on containers, and on what they link.
 ghost use Rattle.histar_object.specs.Objects.{objects_of};
 ghost use Rattle.histar_container.specs.Tree.{AreTree};
-ghost use Rattle.histar_rules.specs.Rules.{Decides, IsNextNumber, AreLabelsOf, IsLabelOf};
+ghost use Rattle.histar_rules.specs.Rules.{Decides, IsNextNumber, IsLabelOf};
 ghost use Rattle.histar_rules.specs.declared.raw.RawCall.TheVariants as calls;
 
 use histar_label::{Label, LabelStore};
 use histar_object::{Kind, Links, ObjId};
-use histar_rules::{Denied, LabelledObjects, Refusal};
+use histar_rules::{LabelledObjects, Refusal};
 use std::alloc::Global;
-
-/// The thread's own label and clearance.
-pub fn own_label<S: LabelStore + Drop>(
-    objects: &LabelledObjects<S>,
-    thread: ObjId,
-) -> Result<(Label, Label), Refusal>
-    ensures { Decides objects.now objects.now thread calls.OwnLabel result (AreLabelsOf objects.now thread) }
-{
-    let Some((label, clearance)) = objects.own(thread) else {
-        return Err(Refusal::Denied(Denied::NoThread));
-    };
-    let label = label.copy()?;
-    let clearance = clearance.copy()?;
-    Ok((label, clearance))
-}
 
 /// The label of an object that the container links. Whoever may observe a container may learn the
 /// labels of all that it links, but not those of threads, which change.

@@ -6,13 +6,13 @@ ghost use Rattle.histar_rules.specs.Rules.{Decides};
 ghost use Rattle.histar_syscall.specs.Answers.{IsRightAnswer};
 
 use crate::answers::{Answer, Reading};
-use crate::containers::{label_of, make_container, own_label, unlink};
+use crate::containers::{label_of, make_container, unlink};
 use crate::segments::{make_segment, read, write};
 use histar_gate::{enter, make_gate};
 use histar_label::LabelStore;
 use histar_object::ObjId;
 use histar_rules::{LabelledObjects, RawCall, Refusal};
-use histar_thread::{make_category, make_thread, set_clearance, set_label};
+use histar_thread::{make_category, make_thread, own_label, set_clearance, set_label};
 use std::alloc::Global;
 
 /// Decides a raw call on the objects, and answers it where it is granted.

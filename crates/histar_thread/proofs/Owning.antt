@@ -5,7 +5,7 @@ use Rattle.histar_label.specs.Levels.{Levels, with_level}
 use Rattle.histar_object.specs.declared.objects.Kind.{Kind}
 use Rattle.histar_object.specs.declared.objects.Kind.TheVariants.{Segment, Container, Thread, Gate}
 use Rattle.histar_object.specs.Objects.{Objects, put, changed_at, thread_of, label_there, clearance_there, is_thread, kind_is_thread, kind_clearance}
-use Rattle.histar_object.specs.Rights.{with_star_at, kind_with_three_at, with_category}
+use Rattle.histar_rules.specs.Rights.{with_star_at, kind_with_three_at, with_category}
 use Rattle.histar_object.specs.State.{State, Found, with_own, with_next_category}
 use Rattle.histar_object.proofs.Changes.{put_changed}
 

@@ -1,7 +1,7 @@
-//! The raw calls by which threads get categories, change their own labels, and make threads.
+//! The raw calls by which threads get categories, learn and change their own labels, and make threads.
 #![tactic(auto)]
 
 mod ranges;
 mod threads;
 
-pub use threads::{make_category, make_thread, set_clearance, set_label};
+pub use threads::{make_category, make_thread, own_label, set_clearance, set_label};

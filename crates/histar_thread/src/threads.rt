@@ -3,13 +3,28 @@ ghost use Rattle.std.specs.Prelude.{◌≡◌, ◌<◌, IfOk, Some};
 ghost use Rattle.histar_label.specs.Levels.{Levels};
 ghost use Rattle.histar_object.specs.Objects.{objects_of, thread_of};
 ghost use Rattle.histar_container.specs.ObjectsModel.{state_of};
-ghost use Rattle.histar_rules.specs.Rules.{check, Tells, Decides, IsNextNumber};
+ghost use Rattle.histar_rules.specs.Rules.{check, Tells, Decides, IsNextNumber, AreLabelsOf};
 ghost use Rattle.histar_rules.specs.declared.raw.RawCall.TheVariants as calls;
 
 use crate::ranges::may_clear;
 use histar_label::{Category, Label, LabelStore, Level};
 use histar_object::{Kind, ObjId};
 use histar_rules::{Denied, LabelledObjects, Refusal, in_range, require};
+
+/// The thread's own label and clearance.
+pub fn own_label<S: LabelStore + Drop>(
+    objects: &LabelledObjects<S>,
+    thread: ObjId,
+) -> Result<(Label, Label), Refusal>
+    ensures { Decides objects.now objects.now thread calls.OwnLabel result (AreLabelsOf objects.now thread) }
+{
+    let Some((label, clearance)) = objects.own(thread) else {
+        return Err(Refusal::Denied(Denied::NoThread));
+    };
+    let label = label.copy()?;
+    let clearance = clearance.copy()?;
+    Ok((label, clearance))
+}
 
 /// The checks of the making of a category: where they pass, the thread's label and clearance.
 fn check_make_category<S: LabelStore + Drop>(

@@ -13,7 +13,7 @@ use Rattle.histar_flat.specs.Sessions.{Session}
 use Rattle.histar_flat.specs.FlatState.{Flat}
 use Rattle.histar_flat.specs.FlatCalls.{refused, reply_to}
 use Rattle.histar_label.specs.Levels.{Levels}
-use Rattle.histar_object.specs.Rights.{with_changed, with_label, with_clearance}
+use Rattle.histar_rules.specs.Rights.{with_changed, with_label, with_clearance}
 use Rattle.histar_object.specs.State.{State}
 use Rattle.histar_rules.specs.declared.raw.Denied.{Denied}
 use Rattle.histar_rules.specs.declared.raw.RawCall.{RawCall}

@@ -9,7 +9,7 @@ use Rattle.histar_flat.specs.FlatState.{Flat}
 use Rattle.histar_label.specs.Levels.{Levels}
 use Rattle.histar_object.specs.declared.objects.Kind.TheVariants.{Segment, Container, Thread}
 use Rattle.histar_object.specs.Objects.{Objects, thread_of}
-use Rattle.histar_object.specs.Rights.{with_category}
+use Rattle.histar_rules.specs.Rights.{with_category}
 use Rattle.histar_object.specs.State.{State}
 use Rattle.histar_rules.specs.Rules.{greatest}
 use Rattle.histar_layout.specs.Status.{ProcessStatus}

@@ -10,7 +10,7 @@ use Rattle.histar_label.specs.declared.levels.Level.TheVariants.{Star, L3}
 use Rattle.histar_label.specs.Levels.{Levels, with_level, is_below, is_below_raised, is_made}
 use Rattle.histar_object.specs.declared.objects.Kind.TheVariants.{Thread}
 use Rattle.histar_object.specs.Objects.{Objects}
-use Rattle.histar_object.specs.Rights.{with_category}
+use Rattle.histar_rules.specs.Rights.{with_category}
 use Rattle.histar_object.specs.State.{State}
 use Rattle.histar_refinement.specs.Categories.{CategoryName, Categories, AreDifferent, IsMade, IsServed, IsUsed}
 use Rattle.histar_refinement.specs.Categories.CategoryName.{OfBoot, ReadsProcess, WritesProcess, OfJob}

@@ -15,7 +15,7 @@ use Rattle.histar_layout.specs.Directory.{spelling}
 use Rattle.histar_object.specs.declared.objects.Kind.TheVariants.{Segment, Container, Thread}
 use Rattle.histar_object.specs.declared.objects.Object.{Object}
 use Rattle.histar_object.specs.Objects.{is_thread}
-use Rattle.histar_object.specs.Rights.{with_star_at, with_category}
+use Rattle.histar_rules.specs.Rights.{with_star_at, with_category}
 use Rattle.histar_object.specs.State.{State, with_object, with_bytes}
 use Rattle.histar_container.proofs.TableMoves.{changed_here, changed_other}
 use Rattle.histar_rules.specs.declared.raw.Denied.TheVariants.{TooBig}

@@ -13,7 +13,7 @@ use Rattle.histar_label.specs.declared.levels.Level.TheVariants.{Star, L3}
 use Rattle.histar_label.specs.Levels.{Levels, with_level}
 use Rattle.histar_object.specs.declared.objects.Kind.TheVariants.{Container, Thread}
 use Rattle.histar_object.specs.Objects.{Numbers as Links, is_container}
-use Rattle.histar_object.specs.Rights.{with_star_at, with_label, with_changed, with_category}
+use Rattle.histar_rules.specs.Rights.{with_star_at, with_label, with_changed, with_category}
 use Rattle.histar_object.specs.State.{State, Found, in_range, with_next_category}
 use Rattle.histar_container.specs.Tree.{Naming}
 use Rattle.histar_container.proofs.TableMoves.{changed_here, changed_other}

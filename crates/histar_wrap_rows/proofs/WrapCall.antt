@@ -16,7 +16,7 @@ use Rattle.histar_flat.specs.Files.{get}
 use Rattle.histar_flat.specs.FlatState.{Flat, entries_in, into}
 use Rattle.histar_flat.specs.FlatCalls.{most_entries, no_room, refused}
 use Rattle.histar_label.specs.Levels.{Levels}
-use Rattle.histar_object.specs.Rights.{with_category, with_label, with_changed}
+use Rattle.histar_rules.specs.Rights.{with_category, with_label, with_changed}
 use Rattle.histar_object.specs.State.{State, with_object}
 use Rattle.histar_rules.specs.declared.raw.Denied.{Denied}
 use Rattle.histar_rules.specs.declared.raw.Denied.TheVariants.{Modify, Range, TooBig}
