@@ -4,8 +4,6 @@
 mod comparison;
 mod observation;
 mod replies;
-#[cfg(test)]
-mod tests;
 mod texts;
 
 pub use comparison::compare;
