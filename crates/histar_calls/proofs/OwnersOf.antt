@@ -8,7 +8,7 @@ use Rattle.histar_calls.specs.Categories.{group_owner, owners_among}
 use Rattle.histar_calls.proofs.LabellingLemmas.{take_next}
 
 -- what stands behind a list that may begin with one number more
-behind_choice : (b : Bool) (m : ℕ) (xs ys zs : List ℕ) → xs ≡ ys ++ zs → (if b then m ∷ xs else xs) ≡ (if b then m ∷ ys else ys) ++ zs
+pub behind_choice : (b : Bool) (m : ℕ) (xs ys zs : List ℕ) → xs ≡ ys ++ zs → (if b then m ∷ xs else xs) ≡ (if b then m ∷ ys else ys) ++ zs
 behind_choice true m xs ys zs e = ap (λ (l : List ℕ). m ∷ l) e
 behind_choice false m xs ys zs e = e
 

@@ -55,7 +55,7 @@ fn create_file<S: LabelStore + Drop>(
     let label = label_made(alloc, &own, users, mode)?;
     let empty = Bytes::new(alloc);
     let file = kernel.make_segment(alloc, thread, place.container, label, empty)?;
-    entries.insert(name, Target::File(file))?;
-    write_entries(kernel, alloc, thread, place, &entries)?;
+    entries.insert(alloc, &name, Target::File(file))?;
+    write_entries(kernel, alloc, thread, place, entries)?;
     Ok(Reply::Done)
 }

@@ -9,7 +9,7 @@ use crate::ending::{Ending, written};
 use crate::places::{Place, Places};
 use histar_flat::{Errno, Name};
 use histar_label::LabelStore;
-use histar_layout::{Dir, Target, look_up, read_dir, write_dir};
+use histar_layout::{Dir, Target, look_up, read_dir};
 use histar_object::ObjId;
 use histar_syscall::Kernel;
 use std::alloc::Global;
@@ -53,7 +53,7 @@ impl Directory {
         ensures { RunsPart (read_directory place) kernel.old kernel.new thread result }
     {
         let bytes = kernel.read_copy(alloc, thread, place.container, place.listing)?;
-        let Some(entries) = read_dir(alloc, bytes.as_slice())? else {
+        let Some(entries) = read_dir(bytes) else {
             return Err(Ending::Stopped);
         };
         Ok(Directory { place, entries })
@@ -119,11 +119,11 @@ pub fn write_entries<S: LabelStore + Drop>(
     alloc: Global,
     thread: ObjId,
     place: Place,
-    entries: &Dir,
+    entries: Dir,
 ) -> Result<(), Ending>
-    ensures { RunsPart (write_entries place entries.now) kernel.old kernel.new thread result }
+    ensures { RunsPart (write_entries place entries) kernel.old kernel.new thread result }
 {
-    let bytes = write_dir(alloc, entries)?;
+    let bytes = entries.into_bytes();
     written(kernel.write(alloc, thread, place.container, place.listing, 0, bytes))
 }
 

@@ -8,7 +8,7 @@ use crate::ending::{Ending, Stopped, settle};
 use crate::places::Places;
 use histar_flat::{Listing, Path, Reply};
 use histar_label::LabelStore;
-use histar_layout::{MOST_ENTRIES, list_dir};
+use histar_layout::MOST_ENTRIES;
 use histar_object::ObjId;
 use histar_syscall::Kernel;
 use std::alloc::Global;
@@ -40,6 +40,6 @@ fn list_entries<S: LabelStore + Drop>(
     let mut entries = Vec::new(alloc);
     entries.reserve(MOST_ENTRIES)?;
     let directory = walk(kernel, alloc, places, thread, path.names())?;
-    list_dir(&directory.entries, &mut entries);
+    directory.entries.list(&mut entries);
     Ok(Reply::Entries(Listing::new(entries)))
 }

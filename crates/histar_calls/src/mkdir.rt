@@ -55,7 +55,7 @@ fn make_directory<S: LabelStore + Drop>(
     let container = kernel.make_container(alloc, thread, place.container, label)?;
     let empty = Bytes::new(alloc);
     let listing = kernel.make_segment(alloc, thread, container, same, empty)?;
-    entries.insert(name, Target::Directory(container, listing))?;
-    write_entries(kernel, alloc, thread, place, &entries)?;
+    entries.insert(alloc, &name, Target::Directory(container, listing))?;
+    write_entries(kernel, alloc, thread, place, entries)?;
     Ok(Reply::Done)
 }

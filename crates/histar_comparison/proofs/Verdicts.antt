@@ -1,23 +1,21 @@
 -- What is found in what two runs show is their verdict.
-use Rattle.std.proofs.Common.{◌≡◌, ℕ, Bool, true, false, List, [], ◌∷◌, ◌++◌, map, cond, Option, None, Some, Result, Ok, Err, refl, sym, ap, ◌∙◌, subst, append-nil, append_assoc}
-use Rattle.std.specs.Prelude.{◌||◌, not, filter, IfOk}
+use Rattle.std.proofs.Common.{◌≡◌, ℕ, Bool, true, false, List, [], ◌∷◌, ◌++◌, map, cond, Result, Ok, Err, refl, sym, ap, ◌∙◌, append-nil, append_assoc}
+use Rattle.std.specs.Prelude.{◌||◌, not, filter}
 use Rattle.std.specs.List.{AllByRecursion}
 use Rattle.histar_flat.specs.declared.calls.CallLine.{CallLine}
-use Rattle.histar_flat.specs.Words.{Path, ProcName}
+use Rattle.histar_flat.specs.Words.{ProcName}
 use Rattle.histar_flat.specs.PathOrder.{same, under_process}
 use Rattle.histar_rows.specs.Rows.{IsScriptable}
 use Rattle.histar_shell.specs.Meaning.{last_state}
 use Rattle.histar_shell.proofs.Users.{script_says}
-use Rattle.histar_flat.specs.Texts.{reply_text}
-use Rattle.histar_flat.specs.Meaning.{Answered, boot, flat_end, meaning}
+use Rattle.histar_flat.specs.Meaning.{Answered, meaning}
+use Rattle.histar_refinement.proofs.Members.{or_assoc}
 use Rattle.histar_script.specs.declared.fault.Fault.{Fault}
-use Rattle.histar_script.specs.declared.fault.Fault.TheVariants.{BadScript, TooLong, OutOfMemory, ReadFailed, WriteFailed}
 use Rattle.histar_script.specs.Script.{Reading, without_job}
 use Rattle.histar_script.specs.Reading.{script_of}
-use Rattle.histar_script.specs.Outcome.{Gives}
 use Rattle.histar_isolation.specs.declared.verdict.Verdict.{Verdict}
 use Rattle.histar_isolation.specs.declared.verdict.Verdict.TheVariants.{NoJob, Same}
-use Rattle.histar_isolation.specs.Comparison.{first_line, is_outsider, is_wrap_reply, line_verdict, outsiders, starts, tree_verdict, verdict}
+use Rattle.histar_isolation.specs.Comparison.{is_outsider, is_wrap_reply, line_verdict, outsiders, starts, tree_verdict, verdict}
 use Rattle.histar_isolation.specs.Following.{directory_of}
 use Rattle.histar_isolation.specs.Isolation.{IsolatesJobs}
 use Rattle.histar_isolation.specs.Trees.{FindsFirstPath, first_difference, is_below_either, tree_lines}
@@ -26,11 +24,6 @@ use Rattle.histar_isolation.proofs.ShownReplies.{finds_first_line}
 use Rattle.histar_comparison.specs.Replies.{RepliesModel, no_replies, with_reply, with_replies}
 use Rattle.histar_comparison.specs.Observation.{CanRun, ObservationModel, observation}
 use Rattle.histar_comparison.specs.Compared.{difference, verdict_of, comparison, IsQuietScript}
-
--- two of three
-or_assoc : (a b c : Bool) → ((a || b) || c) ≡ (a || (b || c))
-or_assoc true b c = refl
-or_assoc false b c = refl
 
 -- of calls of which each passes, those that are left pass
 left_pass : {A : Type 0} (P : A → Type 0) (test : A → Bool) (xs : List A) → AllByRecursion P xs → AllByRecursion P (filter test xs)

@@ -50,7 +50,7 @@ module _ {Id : Type 0} (labels : Id → Option Levels) where
   links_by None c = refl
   links_by (Some o) c = ap (λ l. set.contains l c) (kind_links_by o.kind)
 
-  there_by : (o : Option (Object Id)) → is_there (option_map (object_by (label_at labels)) o) ≡ is_there o
+  pub there_by : (o : Option (Object Id)) → is_there (option_map (object_by (label_at labels)) o) ≡ is_there o
   there_by None = refl
   there_by (Some o) = refl
 

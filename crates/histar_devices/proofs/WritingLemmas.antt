@@ -3,7 +3,7 @@ use Rattle.std.proofs.Common.{◌≡◌, ℕ, ◌-◌, List, [], ◌++◌, lengt
 use Rattle.std.proofs.lemmas.List.{take_rest, nil_from_length}
 use Rattle.std.specs.Io.KnownBytes.{Appends, Keeps}
 use Rattle.std.proofs.KnownBytes.{Appends-nil, Appends-trans, Appends-kept}
-use Rattle.histar_devices.specs.Writing.{AppendsUpTo}
+use Rattle.histar_devices.specs.Writing.{AppendsUpTo, AppendsFront}
 
 -- before the first write the whole text is left
 pub sent_none : (a : Option (List ℕ)) (text : List ℕ) → AppendsUpTo a a text text
@@ -25,3 +25,7 @@ sent_kept a b c text rest sent keeps = record { front = sent.front; parts = sent
 pub sent_all : (a b : Option (List ℕ)) (text rest : List ℕ) → AppendsUpTo a b text rest → length rest ≡ 0 → Appends a b text
 sent_all a b text rest sent none =
     subst (Appends a b) (sym (sent.parts ∙ ap (λ (l : List ℕ). sent.front ++ l) (nil_from_length rest none) ∙ append-nil sent.front)) sent.appended
+
+-- a whole text is a beginning of itself
+pub whole_front : (a b : Option (List ℕ)) (text : List ℕ) → Appends a b text → AppendsFront a b text
+whole_front a b text whole = ([], record { front = text; parts = sym (append-nil text); appended = whole })

@@ -1,6 +1,7 @@
 pub mod PaddingLemmas
 pub mod WordLemmas
 pub mod SplitLemmas
+pub mod Options
 pub mod PathLemmas
 pub mod Numbers
 pub mod ProcessLemmas

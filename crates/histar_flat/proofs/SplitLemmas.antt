@@ -1,6 +1,7 @@
--- Where the part of a text before a separator ends.
-use Rattle.std.proofs.Common.{◌≡◌, ℕ, zero, suc, ◌<◌, false, eqb, List, [], ◌∷◌, length, take, drop, Some, None, refl, arith}
-use Rattle.std.proofs.lemmas.Bool.{false_from_ne_true}
+-- Texts that are parted at their first separator: where the part before it ends, and texts that lack it.
+use Rattle.std.proofs.Common.{rules, ◌≡◌, ℕ, zero, suc, ◌<◌, Bool, true, false, not, eqb, List, [], ◌∷◌, ◌++◌, length, take, drop, Some, None, refl, arith}
+use Rattle.std.specs.List.{list_all}
+use Rattle.std.proofs.lemmas.Bool.{false_from_ne_true, and_parts, not-true}
 use Rattle.memchr.specs.Find.{Nowhere, Passes, is_byte}
 use Rattle.histar_flat.specs.Words.{split_at_first}
 
@@ -26,3 +27,26 @@ unfolding split_at_first
 split_whole a [] none = refl
 split_whole a (b ∷ bs) none =
     rw (head_fails a b bs (suc (length bs)) (omega arith) none, split_whole a bs (tail_nowhere a b bs (length bs) none)) refl
+
+-- no byte is the separator
+abbrev pub lacks : ℕ → List ℕ → Bool
+lacks separator text = list_all (λ b. not (eqb b separator)) text
+
+-- bytes that are no separator end at the separator after them
+pub split_before : (a : ℕ) (text rest : List ℕ) → lacks a text ≡ true → split_at_first a (text ++ a ∷ rest) ≡ (text, Some rest)
+unfolding split_at_first
+split_before a [] rest h = rw (same a) refl
+  where
+    same : (s : ℕ) → eqb s s ≡ true
+    same s = search rules
+split_before a (b ∷ bs) rest h =
+    let p = and_parts (not (eqb b a)) (lacks a bs) h in
+    rw (not-true (eqb b a) p.0, split_before a bs rest p.1) refl
+
+-- bytes that are no separator are one part
+pub split_alone : (a : ℕ) (text : List ℕ) → lacks a text ≡ true → split_at_first a text ≡ (text, None)
+unfolding split_at_first
+split_alone a [] h = refl
+split_alone a (b ∷ bs) h =
+    let p = and_parts (not (eqb b a)) (lacks a bs) h in
+    rw (not-true (eqb b a) p.0, split_alone a bs p.1) refl

@@ -15,9 +15,14 @@ use Rattle.histar_flat.specs.Words.{Name}
 use Rattle.histar_layout.specs.declared.entry.Target.{Target}
 use Rattle.histar_layout.specs.declared.entry.Target.TheVariants.{File, Directory}
 use Rattle.histar_layout.specs.Directory.{Entries, entry_bytes, IsTarget, LeadsSomewhere, IsEntry, IsListable, spelling, IsDirectory}
-use Rattle.histar_layout.specs.Reading.{entry_at, comes_after}
+use Rattle.histar_layout.specs.Reading.{entry_at}
 use Rattle.histar_layout.proofs.EntryLemmas.{IsBytes, entry_takes, entry_again}
 use Rattle.histar_layout.proofs.MapLemmas.{by_bytes, entries-empty, listable_empty, listable_insert, put_last, last_below}
+
+-- a name comes after the last one, if there is one
+abbrev pub comes_after : Option Name → Name → Bool
+comes_after None name = true
+comes_after (Some last) name = is_lt (by_bytes last name)
 
 -- an entry with its name and target
 abbrev pub Entry : Type 0

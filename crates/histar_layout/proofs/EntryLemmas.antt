@@ -1,5 +1,5 @@
 -- An entry that is read is the entry that was written, and what was written is read again.
-use Rattle.std.proofs.Common.{◌≡◌, ℕ, suc, ◌+◌, ◌^◌, ◌<◌, ◌≤◌, Bool, true, false, not, cond, eqb, leb, ◌&&◌, ◌⊎◌, List, [], ◌∷◌, ◌++◌, length, get_or, take, drop, Option, Some, None, refl, sym, ap, subst, ◌∙◌, append_assoc, length-append, inl, inr, arith}
+use Rattle.std.proofs.Common.{◌≡◌, ℕ, suc, ◌+◌, ◌^◌, ◌<◌, ◌≤◌, true, false, not, cond, eqb, leb, ◌&&◌, List, [], ◌∷◌, ◌++◌, length, get_or, take, drop, Option, Some, None, refl, sym, ap, subst, ◌∙◌, append_assoc, length-append, inl, inr, arith}
 use Rattle.std.specs.Int.{w64, to_be_bytes, from_be_bytes}
 use Rattle.std.proofs.lemmas.Bool.{cases_lt, leb-true, le-leb, eqb-true, and_parts}
 use Rattle.std.proofs.lemmas.Bool.Decides.{nat_tests}
@@ -7,6 +7,7 @@ use Rattle.std.proofs.lemmas.List.{take_at, drop_at, take-append-drop, length-ta
 use Rattle.std.proofs.lemmas.Nat.{be_bytes_8, from_be_bytes-to_be_bytes_8}
 use Rattle.std.proofs.lemmas.Option.{cond_some, same_Some}
 use Rattle.histar_flat.specs.Words.{Name, is_name, name_of}
+use Rattle.histar_flat.proofs.Options.{bind_some, either_chosen}
 use Rattle.histar_layout.specs.declared.entry.Target.{Target}
 use Rattle.histar_layout.specs.declared.entry.Target.TheVariants.{File, Directory}
 use Rattle.histar_layout.specs.Directory.{target_bytes, entry_bytes, IsTarget, IsEntry}
@@ -14,19 +15,9 @@ use Rattle.histar_layout.specs.Reading.{◌>>=◌, front_at, number_at, target_o
 
 -- ---- steps
 
--- the value of a step that gave one
-pub bind_some : {A B : Type 0} (o : Option A) (f : A → Option B) (y : B) → (o >>= f) ≡ Some y → (x : A) × (o ≡ Some x) × (f x ≡ Some y)
-bind_some None f y e = absurd cc
-bind_some (Some x) f y e = (x, refl, e)
-
 -- a step that gives a value goes on with it
 pub bind_at : {A B : Type 0} (o : Option A) (f : A → Option B) (x : A) → o ≡ Some x → (o >>= f) ≡ f x
 bind_at o f x e = ap (λ p. p >>= f) e
-
--- which way a test went
-chosen : {A : Type 0} (b : Bool) (x y z : A) → cond b x y ≡ z → ((b ≡ true) × (x ≡ z)) ⊎ ((b ≡ false) × (y ≡ z))
-chosen true x y z e = inl (refl, e)
-chosen false x y z e = inr (refl, e)
 
 -- ---- bytes at the front
 
@@ -127,9 +118,9 @@ target_is : (letter object listing : ℕ) (t : Target) → object < 2 ^ 64 → l
 unfolding target_of
 target_is letter object listing t lt1 lt2 e =
     let as_directory = cond (eqb letter 100 && not (eqb listing 0)) (Some (Directory object listing)) None in
-    elim (chosen (eqb object 0) None (cond (eqb letter 102 && eqb listing 0) (Some (File object)) as_directory) (Some t) e) [
+    elim (either_chosen (eqb object 0) None (cond (eqb letter 102 && eqb listing 0) (Some (File object)) as_directory) (Some t) e) [
       | inl h ↦ absurd cc
-      | inr there ↦ elim (chosen (eqb letter 102 && eqb listing 0) (Some (File object)) as_directory (Some t) there.1) [
+      | inr there ↦ elim (either_chosen (eqb letter 102 && eqb listing 0) (Some (File object)) as_directory (Some t) there.1) [
         | inl h ↦
             let p = and_parts (eqb letter 102) (eqb listing 0) h.0 in
             let l : letter ≡ 102 = eqb-true letter 102 p.0 in

@@ -3,7 +3,10 @@ pub mod MapLemmas
 pub mod DirectoryLemmas
 pub mod WritingLemmas
 pub mod LookingUp
-pub mod CheckedLookups
+pub mod CheckedDirectories
+pub mod Spellings
+pub mod Spans
+pub mod EntriesRead
 pub mod Statuses
 pub mod ReadingStatuses
 pub mod WritingStatuses

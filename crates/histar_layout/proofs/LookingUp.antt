@@ -7,12 +7,13 @@ use Rattle.std.proofs.lemmas.List.{length-drop}
 use Rattle.std.proofs.lemmas.Option.{cond_some, same_Some}
 use Rattle.histar_flat.specs.Words.{Name}
 use Rattle.histar_flat.specs.PathOrder.{same}
+use Rattle.histar_flat.proofs.Options.{bind_some}
 use Rattle.histar_layout.specs.declared.entry.Target.{Target}
 use Rattle.histar_layout.specs.declared.entry.Target.TheVariants.{File, Directory}
 use Rattle.histar_layout.specs.Directory.{Entries, target_bytes, entry_bytes, IsTarget, IsEntry, IsDirectory}
 use Rattle.histar_layout.specs.Reading.{◌>>=◌, front_at, target_at}
 use Rattle.histar_layout.specs.Found.{slot_at, told_by, found_among, found_in}
-use Rattle.histar_layout.proofs.EntryLemmas.{bind_some, bind_at, front_again, target_again}
+use Rattle.histar_layout.proofs.EntryLemmas.{bind_at, front_again, target_again}
 use Rattle.histar_layout.proofs.MapLemmas.{by_bytes}
 use Rattle.histar_layout.proofs.DirectoryLemmas.{Entry}
 
@@ -28,7 +29,7 @@ unfolding found_in
 all_left bytes name = record { most = length bytes; enough = omega arith; same_found = refl }
 
 -- no bytes have no entry at the front
-none_at_end : slot_at [] ≡ None
+pub none_at_end : slot_at [] ≡ None
 unfolding slot_at
 none_at_end = refl
 
@@ -101,7 +102,7 @@ told_again t is =
     (ap target_at (sym (append-nil (target_bytes t))) ∙ target_again t [] is)
 
 -- the parts of an entry that was written are found again
-slot_again : (e : Entry) (rest : List ℕ) → slot_at (entry_bytes e ++ rest) ≡ Some ((e.0, target_bytes e.1), rest)
+pub slot_again : (e : Entry) (rest : List ℕ) → slot_at (entry_bytes e ++ rest) ≡ Some ((e.0, target_bytes e.1), rest)
 unfolding slot_at
 slot_again e rest =
     bind_at (front_at (length e.0) ((e.0 ++ target_bytes e.1) ++ rest)) (λ text. front_at 17 text.1 >>= λ told. Some ((text.0, told.0), told.1)) (e.0, target_bytes e.1 ++ rest)

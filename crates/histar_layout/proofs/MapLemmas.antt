@@ -1,20 +1,16 @@
--- Directories as finite maps: what a `BTreeMap` shows, and what one entry more changes.
+-- Directories as finite maps: the entries in their order, and what one entry more or less changes.
 use Rattle.std.proofs.Common.{◌≡◌, ℕ, ◌+◌, ◌-◌, ◌<◌, ◌≤◌, Bool, true, false, cond, List, [], ◌∷◌, ◌++◌, length, Some, refl, sym, ap, subst, ◌∙◌, arith, Option, None}
 use Rattle.std.specs.Prelude.{T, is_some}
 use Rattle.std.specs.List.{AllByRecursion}
-use Rattle.std.specs.List.Sorted.{IsStrictlySortedBy}
 use Rattle.std.specs.Ordering.{nat_cmp, is_lt, ordering_reverse, eq_by_cmp}
 use Rattle.std.specs.declared.cmp.Ordering.{Ordering}
 use Rattle.std.specs.declared.cmp.Ordering.TheVariants.{Less, Equal, Greater}
-use Rattle.std.specs.Cmp.{eq_by_cmp_equiv}
 use Rattle.std.specs.Cmp.Lexicographic.{slice_cmp, nat_list_cmp_total}
-use Rattle.std.specs.BTreeMap.{is_at}
-use Rattle.std.specs.Map.{lookup, keys_of}
-use Rattle.std.specs.FinMap.{IsAntisymmetric, empty, get, insert, len, contains_key, entries, from_entries, from_sorted, find, is_sorted, get-from_entries, get-from_sorted, get-insert, get-entries, get-remove, remove, len-entries, len-insert, len-remove, len-empty, entries-from_sorted, entries-insert, same_map, nat_cmp-IsAntisymmetric, slice_cmp-IsAntisymmetric, entries_sorted}
+use Rattle.std.specs.FinMap.{IsAntisymmetric, empty, get, insert, len, contains_key, entries, from_entries, from_sorted, find, is_sorted, get-from_entries, get-from_sorted, get-entries, get-remove, remove, len-entries, len-insert, len-remove, len-empty, entries-from_sorted, entries-insert, same_map, nat_cmp-IsAntisymmetric, slice_cmp-IsAntisymmetric, entries_sorted}
 use Rattle.std.specs.FinMap.Entries.{below_all, by_order, put}
 use Rattle.std.proofs.lemmas.List.{nil_from_length}
 use Rattle.histar_flat.specs.Words.{Name}
-use Rattle.histar_flat.proofs.Finding.{both, first, second, less, equal, find_first, find_later}
+use Rattle.histar_flat.proofs.Finding.{first, second, less, equal, find_first, find_later}
 use Rattle.histar_layout.specs.declared.entry.Target.{Target}
 use Rattle.histar_layout.specs.Directory.{Entries, IsEntry, IsListable}
 
@@ -26,34 +22,7 @@ by_bytes = slice_cmp nat_cmp
 pub antisymmetric : IsAntisymmetric by_bytes
 antisymmetric = slice_cmp-IsAntisymmetric nat_cmp-IsAntisymmetric
 
--- ---- the entries of a `BTreeMap`
-
--- a search by the order is a search by ties
-find_is : (es : List (Name × Target)) (q : Name) → find by_bytes q es ≡ lookup (is_at (by_bytes q)) es
-find_is [] q = refl
-find_is (e ∷ es) q = ap (cond (is_at (by_bytes q) e.0) (Some e.1)) (find_is es q)
-
--- what the directory that the entries make has at a name
-pub get_made : (es : List (Name × Target)) (q : Name) → get (from_entries {R = by_bytes} es) q ≡ lookup (is_at (by_bytes q)) es
-get_made es q = get-from_entries nat_list_cmp_total es q ∙ find_is es q
-
--- entries that differ at one name make directories that differ there
-pub one_set : (es fs : List (Name × Target)) (k : Name) (v : Target) → ((q : Name) → lookup (is_at (by_bytes q)) fs ≡ cond (is_at (by_bytes k) q) (Some v) (lookup (is_at (by_bytes q)) es))
-    → from_entries {R = by_bytes} fs ≡ insert (from_entries es) k v
-one_set es fs k v h = same_map nat_list_cmp_total antisymmetric _ _ (λ q.
-    get_made fs q ∙ h q ∙ ap (λ b. cond b (Some v) (lookup (is_at (by_bytes q)) es)) ((eq_by_cmp_equiv nat_list_cmp_total).symm k q)
-    ∙ sym (get-insert nat_list_cmp_total (from_entries es) k v q ∙ ap (cond (is_at (by_bytes q) k) (Some v)) (get_made es q)))
-
--- a name below all keys is below all entries
-below : (x : Name) (es : List (Name × Target)) → AllByRecursion (λ y. by_bytes x y ≡ Less) (keys_of es) → T (below_all by_bytes x es)
-below x [] h = tt
-below x (e ∷ es) h = both _ _ (subst (λ o. T (is_lt o)) (sym h.0) tt) (below x es h.1)
-
--- keys that rise make sorted entries
-rising : (es : List (Name × Target)) → IsStrictlySortedBy by_bytes (keys_of es) → T (is_sorted by_bytes es)
-unfolding IsStrictlySortedBy
-rising [] h = tt
-rising (e ∷ es) h = both _ _ (below e.0 es h.0) (rising es h.1)
+-- ---- entries in order
 
 -- entries in order are those of the directory that they make
 pub sorted_made : (es : List (Name × Target)) → T (is_sorted by_bytes es) → entries (from_entries {R = by_bytes} es) ≡ es
@@ -64,13 +33,6 @@ sorted_made es h =
 -- and they are as many
 pub len_sorted : (es : List (Name × Target)) → T (is_sorted by_bytes es) → len (from_entries {R = by_bytes} es) ≡ length es
 len_sorted es h = len-entries (from_entries es) ∙ ap length (sorted_made es h)
-
--- so are entries by rising names
-pub entries_made : (es : List (Name × Target)) → IsStrictlySortedBy by_bytes (keys_of es) → entries (from_entries {R = by_bytes} es) ≡ es
-entries_made es h = sorted_made es (rising es h)
-
-pub len_made : (es : List (Name × Target)) → IsStrictlySortedBy by_bytes (keys_of es) → length es ≡ len (from_entries {R = by_bytes} es)
-len_made es h = sym (len_sorted es (rising es h))
 
 -- ---- what a segment can hold
 
@@ -104,13 +66,6 @@ listable_insert dir k v h room p = record {
 }
 
 -- ---- one entry less
-
--- entries of which one has nothing at a name make a directory without it
-pub one_cleared : (es fs : List (Name × Target)) (k : Name) → ((q : Name) → lookup (is_at (by_bytes q)) fs ≡ cond (is_at (by_bytes k) q) None (lookup (is_at (by_bytes q)) es))
-    → from_entries {R = by_bytes} fs ≡ remove (from_entries es) k
-one_cleared es fs k h = same_map nat_list_cmp_total antisymmetric _ _ (λ q.
-    get_made fs q ∙ h q ∙ ap (λ b. cond b None (lookup (is_at (by_bytes q)) es)) ((eq_by_cmp_equiv nat_list_cmp_total).symm k q)
-    ∙ sym (get-remove nat_list_cmp_total (from_entries es) k q ∙ ap (cond (is_at (by_bytes q) k) None) (get_made es q)))
 
 -- an entry that is found is one
 found_entry : (es : List (Name × Target)) (q : Name) (v : Target) → AllByRecursion IsEntry es → find by_bytes q es ≡ Some v → IsEntry (q, v)
@@ -168,7 +123,7 @@ below_last b [] x h = less _ (first _ _ h)
 below_last b (e ∷ before) x h = below_last b before x (second (is_lt (by_bytes b e.0)) _ h)
 
 -- what is greater than the first entry comes behind it
-put_behind : (e : Name × Target) (es : List (Name × Target)) (k : Name) (v : Target) → by_bytes e.0 k ≡ Less → put by_bytes k v (e ∷ es) ≡ e ∷ put by_bytes k v es
+pub put_behind : (e : Name × Target) (es : List (Name × Target)) (k : Name) (v : Target) → by_bytes e.0 k ≡ Less → put by_bytes k v (e ∷ es) ≡ e ∷ put by_bytes k v es
 put_behind e es k v h = ap (λ o. by_order o ((k, v) ∷ e ∷ es) ((e.0, v) ∷ es) (e ∷ put by_bytes k v es)) (nat_list_cmp_total.antisymm k e.0 ∙ ap ordering_reverse h)
 
 -- an entry with a greater name than the last one comes at the end

@@ -5,13 +5,14 @@ use Rattle.std.specs.Int.{w64, from_be_bytes}
 use Rattle.std.proofs.lemmas.Bool.Decides.{nat_tests}
 use Rattle.std.proofs.lemmas.Option.{cond_some, same_Some}
 use Rattle.histar_flat.specs.Words.{most_children}
+use Rattle.histar_flat.proofs.Options.{bind_some}
 use Rattle.histar_layout.specs.Reading.{◌>>=◌, front_at, number_at}
 use Rattle.histar_layout.specs.Status.{ProcessStatus, child_at, child_in, children_in, head_in, head_of, look_for, status_in}
 use Rattle.histar_layout.specs.StatusParts.{IsSplit}
 use Rattle.histar_layout.specs.declared.status.Child.{Child}
 use Rattle.histar_layout.specs.declared.status.StatusHead.{StatusHead}
 use Rattle.histar_layout.specs.declared.status.NotAStatus.{NotAStatus}
-use Rattle.histar_layout.proofs.EntryLemmas.{IsBytes, bind_some, bind_at}
+use Rattle.histar_layout.proofs.EntryLemmas.{IsBytes, bind_at}
 use Rattle.histar_layout.proofs.Statuses.{told_of, status_split}
 
 -- ---- each child takes bytes

@@ -5,12 +5,13 @@ use Rattle.std.specs.List.{flat_map, AllByRecursion}
 use Rattle.std.proofs.lemmas.Bool.{eqb-true, and_parts}
 use Rattle.std.proofs.lemmas.Option.{cond_some, same_Some}
 use Rattle.histar_flat.specs.Words.{most_children}
+use Rattle.histar_flat.proofs.Options.{bind_some}
 use Rattle.histar_layout.specs.Reading.{◌>>=◌, number_at}
 use Rattle.histar_layout.specs.Status.{ProcessStatus, IsChild, IsStatus, child_bytes, child_in, children_in, head_in, head_of, life_bytes, life_in, status_bytes, status_in}
 use Rattle.histar_layout.specs.StatusParts.{IsSplit, StatusesAreSpelled, head_bytes}
 use Rattle.histar_layout.specs.declared.status.Child.{Child}
 use Rattle.histar_layout.specs.declared.status.StatusHead.{StatusHead}
-use Rattle.histar_layout.proofs.EntryLemmas.{IsBytes, IsBytes-rest, Takes, bind_some, bind_at, number_takes, number_again}
+use Rattle.histar_layout.proofs.EntryLemmas.{IsBytes, IsBytes-rest, Takes, bind_at, number_takes, number_again}
 
 -- ---- the parts of a process segment
 

@@ -1,14 +1,10 @@
 -- What is pushed piece by piece.
-use Rattle.std.proofs.Common.{◌≡◌, ℕ, Bool, List, [], ◌∷◌, ◌++◌, refl, sym, ap, ◌∙◌, append_assoc}
-use Rattle.std.specs.List.{flat_map}
-use Rattle.std.specs.Prelude.{map}
+use Rattle.std.proofs.Common.{◌≡◌, ℕ, List, [], ◌∷◌, ◌++◌, refl, ap, ◌∙◌, append_assoc}
 use Rattle.std.specs.Int.{w64, to_be_bytes}
-use Rattle.histar_flat.specs.Words.{Name}
 use Rattle.histar_layout.specs.declared.entry.Target.{Target}
 use Rattle.histar_layout.specs.declared.entry.Target.TheVariants.{File, Directory}
-use Rattle.histar_layout.specs.Directory.{target_bytes, entry_bytes}
+use Rattle.histar_layout.specs.Directory.{target_bytes}
 use Rattle.histar_layout.specs.Writing.{letter_of, numbers_of}
-use Rattle.histar_layout.specs.Listing.{is_directory, shown_entry}
 
 -- three pieces, one after another
 in_pieces : (old one two three : List ℕ) → ((old ++ one) ++ two) ++ three ≡ old ++ ((one ++ two) ++ three)
@@ -26,17 +22,3 @@ pub target_written : (old first second third a b : List ℕ) (letter : ℕ) (num
 target_written old first second third a b letter numbers t l n p q x y z =
     z ∙ (λ i. (y ∙ ap (λ (w : List ℕ). w ++ a) x) i ++ b) ∙ in_pieces old (letter ∷ []) a b
     ∙ ap (λ (w : List ℕ). old ++ w) ((λ i. (l i ∷ p i) ++ q i) ∙ ap (λ (m : ℕ × ℕ). letter_of t ∷ to_be_bytes w64 m.0 ++ to_be_bytes w64 m.1) n ∙ letter_and_numbers t)
-
--- one entry more is pushed, and the others are left
-pub entry_written : (whole : List ℕ) (old new : List ℕ) (left rest : List (Name × Target)) (e : Name × Target) → old ++ flat_map entry_bytes left ≡ whole → left ≡ e ∷ rest → new ≡ old ++ entry_bytes e
-    → new ++ flat_map entry_bytes rest ≡ whole
-entry_written whole old new left rest e so_far turn grown =
-    ap (λ (w : List ℕ). w ++ flat_map entry_bytes rest) grown ∙ append_assoc old (entry_bytes e) (flat_map entry_bytes rest)
-    ∙ ap (λ (es : List (Name × Target)). old ++ flat_map entry_bytes es) (sym turn) ∙ so_far
-
--- a listing, by one more entry
-pub entry_listed : (whole old new : List (Name × Bool)) (left rest : List (Name × Target)) (e : Name × Target) (shows : Bool) → old ++ map shown_entry left ≡ whole → left ≡ e ∷ rest → new ≡ old ++ (e.0, shows) ∷ [] → shows ≡ is_directory e.1
-    → new ++ map shown_entry rest ≡ whole
-entry_listed whole old new left rest e shows so_far turn grown is =
-    ap (λ (w : List (Name × Bool)). w ++ map shown_entry rest) (grown ∙ ap (λ (b : Bool). old ++ (e.0, b) ∷ []) is) ∙ append_assoc old (shown_entry e ∷ []) (map shown_entry rest)
-    ∙ ap (λ (es : List (Name × Target)). old ++ map shown_entry es) (sym turn) ∙ so_far

@@ -4,6 +4,8 @@ pub mod Reading
 pub mod Writing
 pub mod Listing
 pub mod Found
+pub mod Spelled
+pub mod Span
 pub mod Checked
 pub mod Status
 pub mod StatusParts

@@ -1,8 +1,6 @@
 -- Reading the entry at the front of bytes, from left to right.
-use Rattle.std.specs.Prelude.{◌≡◌, ℕ, Bool, true, not, ◌&&◌, ◌==◌, nat_le, List, [], ◌∷◌, length, take, drop, Option, Some, None, option_and_then, if◌then◌else◌}
+use Rattle.std.specs.Prelude.{◌≡◌, ℕ, not, ◌&&◌, ◌==◌, nat_le, List, [], ◌∷◌, length, take, drop, Option, Some, None, option_and_then, if◌then◌else◌}
 use Rattle.std.specs.Int.{w64, from_be_bytes}
-use Rattle.std.specs.Ordering.{nat_cmp, is_lt}
-use Rattle.std.specs.Cmp.Lexicographic.{slice_cmp}
 use Rattle.histar_flat.specs.Words.{Name, name_of}
 use Rattle.histar_layout.specs.declared.entry.Target.{Target}
 use Rattle.histar_layout.specs.declared.entry.Target.TheVariants.{File, Directory}
@@ -51,8 +49,3 @@ entry_at (len ∷ bytes) = do
   name ← name_of text.0
   target ← target_at text.1
   Some ((name, target.0), target.1)
-
--- a name comes after the last one, if there is one
-abbrev pub comes_after : Option Name → Name → Bool
-comes_after None name = true
-comes_after (Some last) name = is_lt (slice_cmp nat_cmp last name)

@@ -1,11 +1,12 @@
-//! Looking a name up in bytes that may be no directory.
+//! Bytes that may be no directory.
 ghost use Rattle.std.specs.Prelude.{◌≡◌};
 ghost use Rattle.std.specs.Cmp.Lexicographic.{slice_cmp};
 ghost use Rattle.std.specs.Ordering.{is_lt, nat_cmp};
-ghost use Rattle.histar_layout.specs.Checked.{IsLookedUp};
+ghost use Rattle.histar_layout.specs.Checked.{IsChecked, IsLookedUp};
 
 use crate::directory::MOST_ENTRIES;
 use crate::entry::Target;
+use crate::lookup::look_up;
 use crate::reading::read_named;
 use histar_flat::Name;
 use std::cmp::Ordering;
@@ -14,30 +15,34 @@ use std::cmp::Ordering;
 #[derive(Clone, Copy, Debug, PartialEq, Eq)]
 pub struct NotADirectory;
 
-/// Where the entry of this name leads in the directory that the bytes are, if they are one. It goes over
-/// all the bytes once, and takes no memory.
-pub fn look_up_checked(bytes: &[u8], name: &Name) -> Result<Option<Target>, NotADirectory>
-    ensures { IsLookedUp bytes.now name.now result }
+/// Whether the bytes are a directory: entries by rising names, none twice, at most 64, and nothing else. It goes
+/// over the bytes once, and takes no memory.
+pub fn check_directory(bytes: &[u8]) -> Result<(), NotADirectory>
+    ensures { IsChecked bytes.now result }
 {
-    let mut found = None;
     let mut count = 0;
     let mut last: &[u8] = &[];
     let mut rest = bytes;
     'entries: while !rest.is_empty() {
-        let Some((text, target, after)) = read_named(rest) else {
+        let Some((text, _, after)) = read_named(rest) else {
             return Err(NotADirectory);
         };
         if count == MOST_ENTRIES || !precedes(last, text) {
             return Err(NotADirectory);
         }
-        if name.as_bytes() == text {
-            found = Some(target);
-        }
         count += 1;
         last = text;
         rest = after;
     }
-    Ok(found)
+    Ok(())
+}
+
+/// Where the entry of this name leads in the directory that the bytes are, if they are one. It takes no memory.
+pub fn look_up_checked(bytes: &[u8], name: &Name) -> Result<Option<Target>, NotADirectory>
+    ensures { IsLookedUp bytes.now name.now result }
+{
+    check_directory(bytes)?;
+    Ok(look_up(bytes, name))
 }
 
 /// Whether the bytes of one name come before those of another.

@@ -6,11 +6,12 @@ mod directory;
 mod entry;
 mod lookup;
 mod reading;
+mod span;
 mod status;
 mod writing;
 
 pub use checked::{NotADirectory, look_up_checked};
-pub use directory::{Dir, MOST_ENTRIES, list_dir, one_directory, read_dir, write_dir};
+pub use directory::{Dir, MOST_ENTRIES, one_directory, read_dir};
 pub use entry::Target;
 pub use lookup::look_up;
 pub use status::{

@@ -2,7 +2,7 @@
 ghost use Rattle.std.specs.Prelude.{◌≡◌, IfSome, IsTrue};
 ghost use Rattle.histar_flat.specs.Words.{is_name};
 ghost use Rattle.histar_layout.specs.Found.{slot_at, told_by};
-ghost use Rattle.histar_layout.specs.Reading.{Gives, front_at, number_at, target_of, target_at, entry_at, comes_after};
+ghost use Rattle.histar_layout.specs.Reading.{Gives, front_at, number_at, target_of, target_at, entry_at};
 
 use crate::entry::Target;
 use histar_flat::{Name, is_name, read_name};
@@ -68,16 +68,6 @@ pub fn told_by(bytes: &[u8]) -> Option<Target>
         return None;
     };
     Some(target)
-}
-
-/// Whether a name may follow the last one that was read.
-pub fn follows(last: Option<Name>, name: Name) -> bool
-    ensures { result ≡ comes_after last name }
-{
-    match last {
-        None => true,
-        Some(last) => last < name,
-    }
 }
 
 #[tactic(auto, unfolding(crate::specs::Reading::target_at))]

@@ -11,10 +11,11 @@ const ONE_FILE: &[u8] = b"\x01af\0\0\0\0\0\0\0\x0c\0\0\0\0\0\0\0\0";
 #[test]
 fn one_file_is_read_and_written(rt: HostRuntime) -> Result<(), Fail> {
     let name = read_name(b"a".as_slice()).ok_or("`a` is a name")?;
-    let dir = read_dir(rt.alloc(), ONE_FILE)?.ok_or("these bytes are a directory")?;
+    let bytes = Bytes::copy_of(rt.alloc(), ONE_FILE)?;
+    let dir = read_dir(bytes).ok_or("these bytes are a directory")?;
     assert_eq!(rt; dir.len(), 1);
     assert_eq!(rt; dir.get(&name), Some(Target::File(ObjId::new(12))));
-    assert_eq!(rt; write_dir(rt.alloc(), &dir)?.as_slice(), ONE_FILE);
+    assert_eq!(rt; dir.into_bytes().as_slice(), ONE_FILE);
     Ok(())
 }
 
@@ -22,23 +23,27 @@ fn one_file_is_read_and_written(rt: HostRuntime) -> Result<(), Fail> {
 fn a_directory_is_made(rt: HostRuntime) -> Result<(), Fail> {
     let a = read_name(b"a".as_slice()).ok_or("`a` is a name")?;
     let b = read_name(b"b".as_slice()).ok_or("`b` is a name")?;
-    let mut dir = Dir::new(rt.alloc());
-    assert!(rt; write_dir(rt.alloc(), &dir)?.is_empty());
+    let none = Bytes::new(rt.alloc());
+    let mut dir = read_dir(none).ok_or("no bytes are a directory")?;
+    assert_eq!(rt; dir.len(), 0);
     assert!(rt; !dir.is_full());
-    dir.insert(b, Target::Directory(ObjId::new(258), ObjId::new(13)))?;
+    dir.insert(
+        rt.alloc(),
+        &b,
+        Target::Directory(ObjId::new(258), ObjId::new(13)),
+    )?;
     assert!(rt; !dir.is_full());
-    dir.insert(a, Target::File(ObjId::new(12)))?;
-    let bytes = write_dir(rt.alloc(), &dir)?;
-    let directory = b"\x01bd\0\0\0\0\0\0\x01\x02\0\0\0\0\0\0\0\x0d";
-    assert_eq!(rt; bytes.len(), ONE_FILE.len() + directory.len());
-    assert!(rt; bytes.as_slice().starts_with(ONE_FILE));
-    assert!(rt; bytes.as_slice().ends_with(directory.as_slice()));
-    let removed = dir.remove(&b);
-    assert_eq!(rt;
-        removed,
-        Some(Target::Directory(ObjId::new(258), ObjId::new(13)))
-    );
-    assert_eq!(rt; write_dir(rt.alloc(), &dir)?.as_slice(), ONE_FILE);
+    dir.insert(rt.alloc(), &a, Target::File(ObjId::new(12)))?;
+    assert_eq!(rt; dir.len(), 2);
+    let entries = dir.entries(rt.alloc())?;
+    assert_eq!(rt; entries.len(), 2);
+    let mut names = Vec::new(rt.alloc());
+    names.reserve(MOST_ENTRIES)?;
+    dir.list(&mut names);
+    assert!(rt; names.as_slice() == [(a, false), (b, true)].as_slice());
+    dir.remove(&b);
+    dir.remove(&b);
+    assert_eq!(rt; dir.into_bytes().as_slice(), ONE_FILE);
     one_directory();
     Ok(())
 }
@@ -76,7 +81,8 @@ fn other_bytes_are_no_directory(rt: HostRuntime) -> Result<(), Fail> {
         ),
     ];
     for (bytes, why) in none {
-        assert!(rt; read_dir(rt.alloc(), bytes)?.is_none(), "{why}");
+        let bytes = Bytes::copy_of(rt.alloc(), bytes)?;
+        assert!(rt; read_dir(bytes).is_none(), "{why}");
     }
     Ok(())
 }
@@ -96,12 +102,11 @@ fn many_files(alloc: Global, count: u8) -> Result<Vec<u8>, AllocError> {
 #[test]
 fn there_are_64_entries_at_most(rt: HostRuntime) -> Result<(), Fail> {
     let most = many_files(rt.alloc(), 64)?;
-    let dir = read_dir(rt.alloc(), most.as_slice())?.ok_or("64 entries are a directory")?;
+    let dir = read_dir(Bytes::from_vec(most)).ok_or("64 entries are a directory")?;
     assert_eq!(rt; dir.len(), 64);
     assert!(rt; dir.is_full());
-    assert_eq!(rt; write_dir(rt.alloc(), &dir)?.as_slice(), most.as_slice());
     let more = many_files(rt.alloc(), 65)?;
-    assert!(rt; read_dir(rt.alloc(), more.as_slice())?.is_none());
+    assert!(rt; read_dir(Bytes::from_vec(more)).is_none());
     Ok(())
 }
 

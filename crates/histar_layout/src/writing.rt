@@ -1,6 +1,6 @@
 //! Writing the entries of directories.
 ghost use Rattle.std.specs.Prelude.{◌≡◌, ◌++◌, OnOk};
-ghost use Rattle.histar_layout.specs.Directory.{entry_bytes, target_bytes};
+ghost use Rattle.histar_layout.specs.Directory.{IsEntry, IsTarget, LeadsSomewhere, entry_bytes, target_bytes};
 
 use crate::entry::Target;
 use histar_flat::Name;
@@ -8,7 +8,8 @@ use std::alloc::AllocError;
 
 /// Writes an entry at the end.
 pub fn push_entry(out: &mut Vec<u8>, name: &Name, target: Target) -> Result<(), AllocError>
-    ensures { OnOk result (out.new.items ≡ out.old.items ++ entry_bytes (name.now, target)) }
+    ensures written { OnOk result (out.new.items ≡ out.old.items ++ entry_bytes (name.now, target)) }
+    ensures entry { OnOk result (LeadsSomewhere target → IsEntry (name.now, target)) }
 {
     let text = name.as_bytes();
     out.push(text.len() as u8)?;
@@ -18,7 +19,8 @@ pub fn push_entry(out: &mut Vec<u8>, name: &Name, target: Target) -> Result<(), 
 
 /// Writes where an entry leads at the end: a letter and two numbers.
 fn push_target(out: &mut Vec<u8>, target: Target) -> Result<(), AllocError>
-    ensures { OnOk result (out.new.items ≡ out.old.items ++ target_bytes target) }
+    ensures written { OnOk result (out.new.items ≡ out.old.items ++ target_bytes target) }
+    ensures fits { OnOk result (LeadsSomewhere target → IsTarget target) }
 {
     let letter = target.letter();
     let (object, listing) = target.numbers();

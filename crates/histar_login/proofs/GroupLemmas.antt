@@ -12,6 +12,7 @@ use Rattle.histar_label.specs.Levels.{Levels, with_level}
 use Rattle.histar_calls.specs.Categories.{read_category, write_category, group_owner, owners_of}
 use Rattle.histar_calls.specs.Labelling.{with_levels, labelled}
 use Rattle.histar_calls.proofs.LabellingLemmas.{take_next}
+use Rattle.histar_calls.proofs.OwnersOf.{behind_choice}
 use Rattle.histar_login.specs.Start.{numbered, at_both, declared, own_read_category, numbers_among, group_entry, group_part}
 use Rattle.histar_login.proofs.StartLemmas.{numbered_next}
 
@@ -28,11 +29,6 @@ pub both_next : (level default : Level) (owners : List ℕ) (k : ℕ) → k < le
 both_next level default owners k lt =
     ap (λ (l : List ℕ). labelled (at_both level l) default) (take_next owners k (get_or owners k 0) lt (get_or_default owners k 0 (get_or owners k 0) lt))
     ∙ both-more _ level (take k owners) (get_or owners k 0)
-
--- what stands behind a list that may begin with one number more
-behind_choice : (b : Bool) (m : ℕ) (xs ys zs : List ℕ) → xs ≡ ys ++ zs → (if b then m ∷ xs else xs) ≡ (if b then m ∷ ys else ys) ++ zs
-behind_choice true m xs ys zs e = ap (λ (l : List ℕ). m ∷ l) e
-behind_choice false m xs ys zs e = e
 
 -- the numbers of the users with these names, where the last user is one more
 numbers_behind : (i : ℕ) (users : List User) (user : User) (names : List Name)

@@ -57,7 +57,7 @@ impl FoundEntry {
     }
 
     /// The entries with this one under another name.
-    pub fn renamed(self, name: &Name) -> Result<Dir, AllocError>
+    pub fn renamed(self, alloc: Global, name: &Name) -> Result<Dir, AllocError>
         requires { map.get self.entries self.name ≡ Some self.target }
         ensures { IfOk result (λ entries. entries ≡ map.insert (map.remove self.entries self.name) name.now self.target) }
     {
@@ -67,10 +67,8 @@ impl FoundEntry {
             target,
             ..
         } = self;
-        // This read tells the proof that there are at most 64 entries, and that each leads somewhere.
-        let _count = entries.len();
         entries.remove(&old);
-        entries.insert(*name, target)?;
+        entries.insert(alloc, name, target)?;
         Ok(entries)
     }
 }
@@ -130,5 +128,5 @@ pub fn take_away<S: LabelStore + Drop>(
     } = entry;
     kernel.unlink(alloc, thread, place.container, target.object())?;
     entries.remove(&name);
-    write_entries(kernel, alloc, thread, place, &entries)
+    write_entries(kernel, alloc, thread, place, entries)
 }

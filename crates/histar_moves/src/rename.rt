@@ -41,7 +41,7 @@ fn rename_entry<S: LabelStore + Drop>(
     let entry = find_entry(kernel, alloc, places, thread, path)?;
     entry.must_be_free(name)?;
     let place = entry.place;
-    let entries = entry.renamed(name)?;
-    write_entries(kernel, alloc, thread, place, &entries)?;
+    let entries = entry.renamed(alloc, name)?;
+    write_entries(kernel, alloc, thread, place, entries)?;
     Ok(Reply::Done)
 }

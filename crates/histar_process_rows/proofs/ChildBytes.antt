@@ -31,19 +31,11 @@ use Rattle.histar_refinement.specs.LaysOut.{Laid, AreInOrder}
 use Rattle.histar_refinement.specs.Processes.{or_zero, children, listed_by, status_by}
 use Rattle.histar_refinement.proofs.Birth.{at_new_home, at_new_inside, at_new_runner, at_new_status}
 use Rattle.histar_refinement.proofs.Spawning.{after, outer, inner, label, clearance, child_written, own_written, naming, child_not_me, at_child, there_alike, kept_home, kept_status, kept_inside, kept_runner, holder, no_home, no_inside, no_runner, no_status}
+use Rattle.histar_process_rows.proofs.OwnSegment.{children_long}
 
 -- ---- how many bytes there are
 
--- each child has 17
-children_long : (cs : List Listed) → length (flat_map child_bytes cs) ≡ 17 * length cs
-children_long [] = refl
-children_long (c ∷ cs) =
-    let one : length (child_bytes c) ≡ 17 = refl in
-    let joined = length-append (child_bytes c) (flat_map child_bytes cs) in
-    let more = children_long cs in
-    omega (arith, one, joined, more)
-
--- and the head 19
+-- the head has 19
 head_long : (exited : Option ℕ) (born internal thread : ℕ) → length (head_bytes (record { exited = exited; born = born; internal = internal; thread = thread })) ≡ 19
 head_long None born internal thread = refl
 head_long (Some n) born internal thread = refl

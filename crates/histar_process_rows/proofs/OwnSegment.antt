@@ -28,7 +28,7 @@ use Rattle.histar_refinement.proofs.RawChecks.{object, write_check, unlink_check
 -- ---- a process segment has few bytes
 
 -- each child has 17
-children_long : (cs : List Listed) → length (flat_map child_bytes cs) ≡ 17 * length cs
+pub children_long : (cs : List Listed) → length (flat_map child_bytes cs) ≡ 17 * length cs
 children_long [] = refl
 children_long (c ∷ cs) = let later = children_long cs in omega (arith, later)
 

@@ -44,13 +44,8 @@ use Rattle.histar_rows.specs.Rows.{IsReady, AreAmong, AreStatusReads, HasSearch,
 use Rattle.histar_rows.proofs.Chains.{Step, all_granted, entries_of, Chain}
 use Rattle.histar_rows.proofs.Endings.{ReadsAmong}
 use Rattle.histar_rows.proofs.Steps.{Goal, granted_step, refused_step, refused_at_once}
-use Rattle.histar_rows.proofs.Walks.{among_granted_all, among_refused}
+use Rattle.histar_rows.proofs.Walks.{among_granted_all, among_refused, all_joined}
 use Rattle.histar_process_rows.proofs.FoundProcesses.{first_place, led_to, read_said}
-
--- what holds of all elements of two lists holds of those of both together
-all_joined : {A : Type 0} (P : A → Type 0) (xs ys : List A) → AllByRecursion P xs → AllByRecursion P ys → AllByRecursion P (xs ++ ys)
-all_joined P [] ys all more = more
-all_joined P (x ∷ xs) ys all more = (all.0, all_joined P xs ys all.1 more)
 
 -- a process in no job is seen by every process
 seen_if_free : (p other : Process) → other.chain ≡ [] → sees p other ≡ true

@@ -5,6 +5,7 @@ use Rattle.std.proofs.lemmas.List.{drop_more}
 use Rattle.std.proofs.KnownBytes.{Appends-nil, Appends-kept, Appends-trans}
 use Rattle.std.specs.Io.KnownBytes.{Appends}
 use Rattle.histar_devices.specs.Writing.{AppendsFront}
+use Rattle.histar_devices.proofs.WritingLemmas.{whole_front}
 use Rattle.histar_object.specs.State.{State}
 use Rattle.histar_rules.specs.declared.raw.Denied.{Denied}
 use Rattle.histar_syscall.specs.declared.answers.Answer.{Answer}
@@ -29,10 +30,6 @@ denied first old new asked d items (Ok line) same called text =
 denied first old new asked d items (Err e) same called text = tt
 
 -- ---- calls one after another
-
--- a whole text is a beginning of itself
-whole_front : (a b : Option (List ℕ)) (text : List ℕ) → Appends a b text → AppendsFront a b text
-whole_front a b text whole = ([], record { front = text; parts = sym (append-nil text); appended = whole })
 
 -- a whole text, and then a beginning of the next one
 front_after : (a b c : Option (List ℕ)) (text next : List ℕ) → Appends a b text → AppendsFront b c next → AppendsFront a c (text ++ next)

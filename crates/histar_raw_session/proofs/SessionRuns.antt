@@ -123,14 +123,6 @@ input_known left rest old new (Err WriteFailed) h = taken_known left rest old ne
 
 -- ---- a sink that is left alone
 
--- what was not called is as it was
-pub sink_left : {W : Type 0} (w : W) (f : Fault) → LeavesSink w w f
-sink_left w (BadScript n) = refl
-sink_left w TooLong = refl
-sink_left w OutOfMemory = tt
-sink_left w ReadFailed = refl
-sink_left w WriteFailed = tt
-
 -- answering calls has none of the faults at which it is
 pub sink_called : {W : Type 0} (old new : W) (result : Done) → IfErr result IsOutputFault → IfErr result (LeavesSink old new)
 sink_called old new (Ok done) h = tt

@@ -3,11 +3,12 @@ use Rattle.std.proofs.Common.{◌≡◌, ℕ, ◌+◌, true, List, [], ◌∷◌
 use Rattle.std.specs.Fmt.{decimal}
 use Rattle.std.proofs.lemmas.Fmt.{decimal_injective}
 use Rattle.std.proofs.lemmas.List.{append_assoc, append-nil}
+use Rattle.histar_flat.proofs.SplitLemmas.{lacks}
 use Rattle.histar_rules.specs.declared.raw.RawCall.{RawCall}
 use Rattle.histar_rules.specs.declared.raw.RawCall.TheVariants.{MakeCategory, OwnLabel, SetLabel, SetClearance, MakeSegment, MakeContainer, MakeThread, MakeGate, Enter, Read, Write, Unlink, LabelOf}
 use Rattle.histar_rawtext.specs.RawText.{label_text, bytes_text, entry_text, call_name, call_words, call_text, thread_call_text}
 use Rattle.histar_rawtext.specs.RawTextLaws.{IsWritable, TextsTellCalls}
-use Rattle.histar_rawtext.proofs.Parting.{lacks, same_parts, spaced, AreWords, same_words, same_fronts}
+use Rattle.histar_rawtext.proofs.Parting.{same_parts, spaced, AreWords, same_words, same_fronts}
 use Rattle.histar_rawtext.proofs.WordTexts.{lacks-decimal, space_is_no_digit, lacks-bytes, lacks-entry, same_bytes, same_entry}
 use Rattle.histar_rawtext.proofs.LabelTexts.{lacks-label, same_label}
 

@@ -1,13 +1,14 @@
 -- Raw calls are read from their texts, and what is read can be.
 use Rattle.std.proofs.Common.{◌≡◌, ℕ, true, List, [], ◌∷◌, Option, Some, refl, ap, ◌∙◌, arith}
 use Rattle.std.specs.Fmt.{decimal}
+use Rattle.histar_flat.proofs.SplitLemmas.{lacks}
 use Rattle.histar_rules.specs.declared.raw.RawCall.{RawCall}
 use Rattle.histar_rules.specs.declared.raw.RawCall.TheVariants.{MakeCategory, OwnLabel, SetLabel, SetClearance, MakeSegment, MakeContainer, MakeThread, MakeGate, Enter, Read, Write, Unlink, LabelOf}
 use Rattle.histar_rawtext.specs.RawText.{label_text, bytes_text, entry_text, call_name, thread_call_text}
 use Rattle.histar_rawtext.specs.RawTextLaws.{IsNumber, IsWritable}
 use Rattle.histar_rawtext.specs.Readable.{IsReadable}
 use Rattle.histar_rawtext.specs.Reading.{next_word, make_segment_in, make_container_in, make_thread_in, make_gate_in, enter_in, write_in, pair_in, own_label_in, call_named, thread_call_in}
-use Rattle.histar_rawtext.proofs.Parting.{lacks, AreWords}
+use Rattle.histar_rawtext.proofs.Parting.{AreWords}
 use Rattle.histar_rawtext.proofs.WordTexts.{lacks-decimal, space_is_no_digit}
 use Rattle.histar_rawtext.proofs.CallTexts.{words_of, call_spelled, are_words, name_is_word}
 use Rattle.histar_rawtext.proofs.Numbers.{number_again}

@@ -4,13 +4,14 @@ use Rattle.std.specs.List.{flat_map, AllByRecursion}
 use Rattle.std.specs.Fmt.{decimal}
 use Rattle.std.proofs.lemmas.Fmt.{decimal_injective}
 use Rattle.std.proofs.lemmas.List.{append_assoc, append-nil}
+use Rattle.histar_flat.proofs.SplitLemmas.{lacks}
 use Rattle.histar_label.specs.declared.levels.Level.{Level}
 use Rattle.histar_label.specs.declared.levels.Level.TheVariants.{Star, L0, L1, L2, L3}
 use Rattle.histar_label.specs.Levels.{Levels, exceptions_of, default_of}
 use Rattle.histar_label.specs.Same.{same_lists}
 use Rattle.histar_rawtext.specs.RawText.{level_text, exception_text, label_text}
 use Rattle.histar_rawtext.specs.RawTextLaws.{IsNumber, IsWritableLabel}
-use Rattle.histar_rawtext.proofs.Parting.{lacks, same_parts}
+use Rattle.histar_rawtext.proofs.Parting.{same_parts}
 use Rattle.histar_rawtext.proofs.WordTexts.{lacks-append, lacks-decimal, space_is_no_digit, colon_is_no_digit}
 
 -- the level that a text begins with

@@ -1,13 +1,10 @@
 -- How a text is parted at a byte that its words lack.
-use Rattle.std.proofs.Common.{◌≡◌, ◌≢◌, ℕ, Bool, true, not, eqb, List, [], ◌∷◌, ◌++◌, refl, arith}
+use Rattle.std.proofs.Common.{◌≡◌, ◌≢◌, ℕ, true, not, eqb, List, [], ◌∷◌, ◌++◌, refl, arith}
 use Rattle.std.specs.Prelude.{⊤}
-use Rattle.std.specs.List.{list_all, flat_map}
+use Rattle.std.specs.List.{flat_map}
 use Rattle.std.proofs.lemmas.Bool.{and_parts}
 use Rattle.std.proofs.lemmas.Bool.Decides.{nat_tests}
-
--- whether the byte s stands nowhere in the text
-abbrev pub lacks : ℕ → List ℕ → Bool
-lacks s text = list_all (λ b. not (eqb b s)) text
+use Rattle.histar_flat.proofs.SplitLemmas.{lacks}
 
 -- a text is empty, or begins with the byte s
 abbrev pub BeginsWith : ℕ → List ℕ → Type 0

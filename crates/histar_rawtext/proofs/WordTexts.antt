@@ -5,11 +5,11 @@ use Rattle.std.specs.Fmt.{decimal}
 use Rattle.std.proofs.lemmas.Fmt.{decimal_by_steps, decimal_injective}
 use Rattle.std.proofs.lemmas.Bool.Decides.{nat_tests}
 use Rattle.std.proofs.lemmas.List.Folds.{list_all-append}
+use Rattle.histar_flat.proofs.SplitLemmas.{lacks}
 use Rattle.histar_object.specs.declared.objects.Entry.{Entry}
 use Rattle.histar_object.specs.declared.objects.Entry.TheVariants.{Login, Mark}
 use Rattle.histar_rawtext.specs.RawText.{hex_digit, byte_text, bytes_text, entry_text}
 use Rattle.histar_rawtext.specs.RawTextLaws.{IsNumber, IsWritableEntry}
-use Rattle.histar_rawtext.proofs.Parting.{lacks}
 
 -- the byte s is no decimal digit
 abbrev pub IsNoDigit : ℕ → Type 0

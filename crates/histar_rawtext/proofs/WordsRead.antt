@@ -6,6 +6,7 @@ use Rattle.std.specs.Fmt.{decimal}
 use Rattle.std.proofs.lemmas.Bool.{and_parts, le-leb}
 use Rattle.std.proofs.lemmas.Bool.Decides.{nat_tests}
 use Rattle.std.proofs.lemmas.List.{append_assoc}
+use Rattle.histar_flat.proofs.SplitLemmas.{lacks, split_before}
 use Rattle.hex.specs.Hex.{decode_pairs, hex_digit_value}
 use Rattle.hex.proofs.HexLemmas.{decode_of-even}
 use Rattle.histar_label.specs.declared.levels.Level.{Level}
@@ -19,11 +20,10 @@ use Rattle.histar_rawtext.specs.RawText.{hex_digit, byte_text, bytes_text, entry
 use Rattle.histar_rawtext.specs.RawTextLaws.{IsNumber, IsWritableLabel, IsWritableEntry}
 use Rattle.histar_rawtext.specs.Readable.{IsReadableLabel, IsReadableEntry, AreBytes}
 use Rattle.histar_rawtext.specs.Reading.{category_in, short_number_in, user_in, level_in, exception_in, label_of_texts, label_in, bytes_in, entry_in}
-use Rattle.histar_rawtext.proofs.Parting.{lacks}
 use Rattle.histar_rawtext.proofs.WordTexts.{lacks-append, lacks-decimal, colon_is_no_digit, IsNoDigit}
 use Rattle.histar_rawtext.proofs.LabelTexts.{ending, lacks-level_comma}
 use Rattle.histar_rawtext.proofs.Numbers.{number_again}
-use Rattle.histar_rawtext.proofs.Splits.{split_lacking, part_before, part_alone}
+use Rattle.histar_rawtext.proofs.Splits.{part_before, part_alone}
 use Rattle.histar_rawtext.proofs.LabelsRead.{with_exceptions, last_is_default, one_added}
 
 -- ---- labels
@@ -75,7 +75,7 @@ category_again c low small = rw (number_again c small, le-leb 1 c low, le-leb c 
 -- an exception is read from its text
 exception_again : (e : ℕ × Level) → IsRight e → exception_in (part e) ≡ Some e
 unfolding exception_in
-exception_again e p = rw (split_lacking 58 (decimal e.0) (level_text e.1) (lacks-decimal 58 e.0 colon_is_no_digit p.1), category_again e.0 p.0 p.1, level_again e.1) refl
+exception_again e p = rw (split_before 58 (decimal e.0) (level_text e.1) (lacks-decimal 58 e.0 colon_is_no_digit p.1), category_again e.0 p.0 p.1, level_again e.1) refl
 
 -- a comma is no digit
 comma_is_no_digit : IsNoDigit 44
@@ -169,5 +169,5 @@ writable_entry (Mark n) p = omega (arith, p)
 
 -- what a gate gives is read from its text
 pub entry_again : (e : Entry) → IsReadableEntry e → entry_in (entry_text e) ≡ Some e
-entry_again (Login n) p = rw (split_lacking 58 (codes "login") (decimal n) refl, user_again n p.0 p.1) refl
-entry_again (Mark n) p = rw (split_lacking 58 (codes "mark") (decimal n) refl, short_number_again n p) refl
+entry_again (Login n) p = rw (split_before 58 (codes "login") (decimal n) refl, user_again n p.0 p.1) refl
+entry_again (Mark n) p = rw (split_before 58 (codes "mark") (decimal n) refl, short_number_again n p) refl

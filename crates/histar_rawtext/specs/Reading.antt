@@ -13,6 +13,7 @@ use Rattle.histar_object.specs.declared.objects.Entry.{Entry}
 use Rattle.histar_object.specs.declared.objects.Entry.TheVariants.{Login, Mark}
 use Rattle.histar_rules.specs.declared.raw.RawCall.{RawCall}
 use Rattle.histar_rules.specs.declared.raw.RawCall.TheVariants.{MakeCategory, OwnLabel, SetLabel, SetClearance, MakeSegment, MakeContainer, MakeThread, MakeGate, Enter, Read, Write, Unlink, LabelOf}
+use Rattle.histar_rules.specs.Rules.{greatest}
 
 -- with what is there, go on
 infixl 10 ◌>>=◌
@@ -25,11 +26,11 @@ between least most n = if nat_le least n then (if nat_le n most then Some n else
 
 -- the number of 64 bits that a word spells
 abbrev pub number_in : List ℕ → Option ℕ
-number_in = number_of (λ n. nat_le n 18446744073709551615)
+number_in = number_of (λ n. nat_le n greatest)
 
 -- the number of a category that a word spells: 1 or more
 abbrev pub category_in : List ℕ → Option ℕ
-category_in word = number_in word >>= between 1 18446744073709551615
+category_in word = number_in word >>= between 1 greatest
 
 -- the number of 32 bits that a word spells
 abbrev pub short_number_in : List ℕ → Option ℕ

@@ -22,11 +22,6 @@ has_added (j ∷ jobs) child job e = elim (or_either (same job j) (has (jobs ++ 
   | inr k ↦ elim (has_added jobs child job k) [ inl old ↦ inl (or_second (same job j) (has jobs job) old) | inr is ↦ inr is ]
 ]
 
--- the new one is among them
-pub has_last : (jobs : List ProcName) (child : ProcName) → has (jobs ++ child ∷ []) child ≡ true
-has_last [] child = or_first (same child child) false (equal_tested child child refl)
-has_last (j ∷ jobs) child = or_second (same child j) (has (jobs ++ child ∷ []) child) (has_last jobs child)
-
 -- the new one is in neither list
 pub not_added : (jobs : List ProcName) (child job : ProcName) → has jobs job ≡ false → job ≢ child → has (jobs ++ child ∷ []) job ≡ false
 not_added jobs child job e other = by (has (jobs ++ child ∷ []) job) refl

@@ -11,6 +11,7 @@ use Rattle.histar_label.proofs.Orders.{is_below-law, is_below_raised-law}
 use Rattle.histar_label.proofs.Made.{is_made-constant, is_made-with_level}
 use Rattle.histar_label.proofs.Stars.{has_star-none}
 use Rattle.histar_calls.specs.Labelling.{with_levels, each_at, guarded_by, owner_label, cleared_at}
+use Rattle.histar_calls.proofs.LabellingLemmas.{with_levels-append}
 use Rattle.histar_refinement.specs.Categories.{IsMade}
 use Rattle.histar_refinement.proofs.Members.{is_in, same_truth, and_both, first_of, second_of, or_first, all_from, each_of, AreApart, or_second}
 
@@ -26,11 +27,6 @@ pub level_of-each_at : (L : Levels) (cs : List ℕ) (l : Level) (q : ℕ) → le
 level_of-each_at L [] l q = refl
 level_of-each_at L (c ∷ cs) l q =
     level_of-each_at (with_level L c l) cs l q ∙ ap (λ m. if is_in cs q then l else m) (level_of-with_level L c l q) ∙ either_level (q == c) (is_in cs q) l (level_of L q)
-
--- one list of exceptions after another
-pub with_levels-append : (L : Levels) (es fs : List (ℕ × Level)) → with_levels L (es ++ fs) ≡ with_levels (with_levels L es) fs
-with_levels-append L [] fs = refl
-with_levels-append L (e ∷ es) fs = with_levels-append (with_level L e.0 e.1) es fs
 
 -- a label with one level at some categories and another one at others
 two_levels : (L : Levels) (cs ds : List ℕ) (l m : Level) (q : ℕ) → level_of (with_levels L (each_at l cs ++ each_at m ds)) q ≡ (if is_in ds q then m else (if is_in cs q then l else level_of L q))

@@ -3,15 +3,14 @@ use Rattle.std.proofs.Common.{◌≡◌, ◌≢◌, ◌≤◌, ◌⊎◌, inl, i
 use Rattle.std.specs.Prelude.{T, option_map, map}
 use Rattle.std.specs.FinMap.{find, is_sorted}
 use Rattle.std.specs.FinMap.Entries.{below_all}
-use Rattle.std.specs.Ordering.{eq_by_cmp, is_eq}
-use Rattle.std.specs.Cmp.{tied_itself}
+use Rattle.std.specs.Ordering.{eq_by_cmp}
 use mathlib.Core.Bool.{true≢false}
 use Rattle.histar_flat.specs.Words.{Name, Path, ProcName}
 use Rattle.histar_flat.specs.PathOrder.{path_cmp, same as same_name, same_path, under_path}
 use Rattle.histar_flat.specs.PathOrderLaws.{path_cmp_total, path_cmp_exact}
 use Rattle.histar_flat.specs.Files.{Files, get, from_list}
-use Rattle.histar_flat.proofs.FileLemmas.{same_name_found, same_path_found, get-insert}
-use Rattle.histar_flat.proofs.Finding.{first, second, equal, find_first, find_later}
+use Rattle.histar_flat.proofs.FileLemmas.{same_name_found, same_path_found, get-insert, ties}
+use Rattle.histar_flat.proofs.Finding.{first, second, find_first, find_later}
 use Rattle.histar_container.specs.Tree.{Address}
 use Rattle.histar_container.proofs.Addresses.{same_tells, same_itself, same_other}
 use Rattle.histar_flat.specs.FlatState.{moved}
@@ -20,17 +19,6 @@ use Rattle.histar_refinement.specs.Addresses.Step.{Left, Slash, Listing, Named, 
 use Rattle.histar_refinement.proofs.Steps.{step_tells}
 use Rattle.histar_refinement.proofs.Places.{address_path}
 use Rattle.histar_refinement.proofs.FileRows.{same_address_path}
-
--- two paths tie where they are the same
-pub ties : (q r : Path) → eq_by_cmp path_cmp q r ≡ same_path q r
-ties q r = elim (same_path_found q r) [
-  | inl e ↦ ap (λ x. is_eq (path_cmp q x)) (sym e.1) ∙ ap is_eq (tied_itself path_cmp_total q) ∙ sym e.0
-  | inr n ↦ by n.1 (eq_by_cmp path_cmp q r) refl ∙ sym n.0
-]
-  where
-    by : q ≢ r → (b : Bool) → eq_by_cmp path_cmp q r ≡ b → eq_by_cmp path_cmp q r ≡ false
-    by n true h = absurd (n (path_cmp_exact q r (equal (path_cmp q r) h)))
-    by n false h = h
 
 -- ---- lists in which the steps right below one list change
 

@@ -12,6 +12,7 @@ use Rattle.histar_label.specs.Levels.{is_below, is_below_raised, is_below_join_r
 use Rattle.histar_label.proofs.Orders.{is_below-law, is_below_raised-law, is_below_join_raised-law}
 use Rattle.histar_flat.specs.Sessions.{Session, has, user_number}
 use Rattle.histar_flat.specs.Classes.{Class, Process, is_free, may_read, may_write}
+use Rattle.histar_flat.proofs.WrappedJobs.{has_last}
 use Rattle.histar_calls.specs.Labelling.{guarded_by, owner_label}
 use Rattle.histar_refinement.specs.Categories.{CategoryName, Categories, AreDifferent, among}
 use Rattle.histar_refinement.specs.Categories.CategoryName.{ReadsUser, ReadsProcess, WritesProcess, OfJob}
@@ -26,7 +27,7 @@ use Rattle.histar_refinement.proofs.SessionLemmas.{is_number}
 use Rattle.histar_refinement.proofs.ClassTests.{owns_read_of, jobs_apart, observes_class, modifies_class}
 use Rattle.histar_refinement.proofs.AmongNames.{covers, in_first, in_second, at_head, later, each_head, each_append}
 use Rattle.histar_refinement.proofs.Uses.{job_among}
-use Rattle.histar_refinement.proofs.JobLists.{has_added, has_last}
+use Rattle.histar_refinement.proofs.JobLists.{has_added}
 
 -- One category more that is owned changes no test on what isn't guarded by it.
 free_below : (o t s w : Bool) → t ≡ false → s ≡ false → w ≡ false → rank (owning_level o t) ≤ rank (guarded_level s w)

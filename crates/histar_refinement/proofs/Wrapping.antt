@@ -24,6 +24,7 @@ use Rattle.histar_flat.specs.Classes.Class.{Scratch}
 use Rattle.histar_flat.specs.FlatState.{Node, Flat, entries_in, with_node, with_child, is_given}
 use Rattle.histar_flat.specs.FlatCalls.{most_entries}
 use Rattle.histar_flat.specs.FlatState.Content.{Dir}
+use Rattle.histar_flat.proofs.WrappedJobs.{has_last}
 use Rattle.histar_refinement.specs.Categories.{CategoryName, Categories, IsMade, among, naming_next, is_for, IsKnown, IsServed, IsUsed}
 use Rattle.histar_refinement.specs.Categories.CategoryName.{OfJob}
 use Rattle.histar_refinement.specs.Guards.{Guard, guard_label}
@@ -33,7 +34,7 @@ use Rattle.histar_refinement.specs.Addresses.Step.{Listing, Status, Inside, Runn
 use Rattle.histar_refinement.specs.Directories.{directory_of}
 use Rattle.histar_refinement.specs.LaysOut.{AreInOrder, LaysOut, Laid}
 use Rattle.histar_refinement.proofs.Members.{or_first, or_second}
-use Rattle.histar_refinement.proofs.JobLists.{has_added, has_last, in_order_last}
+use Rattle.histar_refinement.proofs.JobLists.{has_added, in_order_last}
 use Rattle.histar_refinement.proofs.Beside.{Beside, beside_added, beside_written, beside_category}
 use Rattle.histar_refinement.proofs.Spawned.{own_label, own_clearance, beside_start}
 use Rattle.histar_refinement.proofs.FileRows.{SameNumbers, ClassFits}

@@ -53,15 +53,11 @@ use Rattle.histar_refinement.proofs.DirectoryLaws.{get_directory}
 use Rattle.histar_refinement.proofs.LinesLaid.{holds_directory, directory_found}
 use Rattle.histar_refinement.proofs.Standing.{root_is_dir}
 use Rattle.histar_refinement.proofs.StatusFound.{thread_back}
+use Rattle.histar_refinement.proofs.CallerFound.{is_or_zero}
 use Rattle.histar_rows.specs.Rows.{IsReady, AreAmong, AreReadsOf, HasWay, HasWalk, tested}
 use Rattle.histar_rows.proofs.Chains.{Step, all_granted, entries_of, Chain}
 use Rattle.histar_rows.proofs.Endings.{ReadsAmong}
 use Rattle.histar_rows.proofs.Steps.{Goal, granted_step, refused_step, listed_step, refused_at_once}
-
--- what is there has the number that it has
-numbered : (o : Option ℕ) → is_some o ≡ true → o ≡ Some (or_zero o)
-numbered None there = cc
-numbered (Some q) there = refl
 
 -- a directory is there
 dir_there : (o : Option Node) → is_some_and o is_dir ≡ true → (class : Class) × (o ≡ Some (record { class = class; content = Dir }))
@@ -73,7 +69,7 @@ dir_there (Some node) is = by node.content is node refl
     by (File bytes) is n e = cc
 
 -- what holds of all elements of two lists holds of those of both together
-all_joined : {A : Type 0} (P : A → Type 0) (xs ys : List A) → AllByRecursion P xs → AllByRecursion P ys → AllByRecursion P (xs ++ ys)
+pub all_joined : {A : Type 0} (P : A → Type 0) (xs ys : List A) → AllByRecursion P xs → AllByRecursion P ys → AllByRecursion P (xs ++ ys)
 all_joined P [] ys all more = more
 all_joined P (x ∷ xs) ys all more = (all.0, all_joined P xs ys all.1 more)
 
@@ -171,10 +167,10 @@ module _ (session : Session) (ok : IsSession session) (s : State) (f : Flat) (me
     stands = dir_there (get f.files d) dir
 
     pub at_container : numbers (address_of d) ≡ Some (place_at d).container
-    at_container = numbered (numbers (address_of d)) (numbered_path session s f ready.lays_out.laid d (record { class = stands.0; content = Dir }) stands.1)
+    at_container = is_or_zero (numbers (address_of d)) (numbered_path session s f ready.lays_out.laid d (record { class = stands.0; content = Dir }) stands.1)
 
     pub at_listing : numbers (Listing ∷ address_of d) ≡ Some (place_at d).listing
-    at_listing = numbered (numbers (Listing ∷ address_of d)) (numbered_listing session s f ready.lays_out.laid d stands.0 stands.1)
+    at_listing = is_or_zero (numbers (Listing ∷ address_of d)) (numbered_listing session s f ready.lays_out.laid d stands.0 stands.1)
 
     pub holds : IsDirectory (bytes_in (s.objects (place_at d).listing)) (directory_of f.files numbers d)
     holds = holds_directory session s f ready.lays_out.laid d (place_at d).listing dir at_listing
@@ -254,7 +250,7 @@ module _ (session : Session) (ok : IsSession session) (s : State) (f : Flat) (me
 
     -- a file does
     pub file_number : (class : Class) (bytes : List ℕ) → get f.files (m ∷ d) ≡ Some (record { class = class; content = File bytes }) → numbers (address_of (m ∷ d)) ≡ Some (or_zero (numbers (address_of (m ∷ d))))
-    file_number class bytes is = numbered (numbers (address_of (m ∷ d))) (numbered_path session s f ready.lays_out.laid (m ∷ d) (record { class = class; content = File bytes }) is)
+    file_number class bytes is = is_or_zero (numbers (address_of (m ∷ d))) (numbered_path session s f ready.lays_out.laid (m ∷ d) (record { class = class; content = File bytes }) is)
 
     pub file_there : (class : Class) (bytes : List ℕ) → get f.files (m ∷ d) ≡ Some (record { class = class; content = File bytes })
         → finite.get (directory_of f.files numbers d) m ≡ Some (targets.File (or_zero (numbers (address_of (m ∷ d)))))

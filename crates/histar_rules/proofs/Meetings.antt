@@ -14,6 +14,7 @@ use Rattle.histar_object.specs.Objects.{Numbers, objects_of, thread_of, links_in
 use Rattle.histar_object.specs.State.{Found, observes, modifies}
 use Rattle.histar_container.specs.Shown.{kind_by, object_by, shown, AllStand}
 use Rattle.histar_container.proofs.Shows.{shows}
+use Rattle.histar_container.proofs.KeepingTrees.{there_by}
 use Rattle.histar_rules.specs.declared.raw.Denied.{Denied}
 use Rattle.histar_rules.specs.declared.raw.Denied.TheVariants.{NoThread, NoEntry, BadKind, Observe, Modify}
 use Rattle.histar_rules.specs.declared.raw.Refusal.{Refusal}
@@ -68,10 +69,6 @@ module _ {Id : Type 0} (labels : Id → Option Levels) (es : List (ℕ × Object
   container_by None = refl
   container_by (Some o) = kind_container o.kind
 
-  there_by : (o : Option (Object Id)) → is_there (option_map (object_by (label_at labels)) o) ≡ is_there o
-  there_by None = refl
-  there_by (Some o) = refl
-
   -- an object that was found is shown with its labels by value
   pub object_shown : (q : ℕ) (o : Object Id) → objects_of es q ≡ Some o → objects_of (shown labels es) q ≡ Some (object_by (label_at labels) o)
   object_shown q o e = shows labels es q ∙ ap (option_map (object_by (label_at labels))) e
@@ -102,7 +99,7 @@ module _ {Id : Type 0} (labels : Id → Option Levels) (es : List (ℕ × Object
   pub container_missing : (t d : ℕ) (own most : Id) (denied : Denied) → objects_of es t ≡ Some (thread_of own most)
       → (unless (is_there (objects_of es d)) NoEntry orelse unless (is_container (objects_of es d)) BadKind) ≡ Some denied → no_container (state_shown labels es) t d ≡ Some denied
   container_missing t d own most denied thread e =
-      let there = ap is_there (shows labels es d) ∙ there_by (objects_of es d) in
+      let there = ap is_there (shows labels es d) ∙ there_by labels (objects_of es d) in
       let container = ap is_container (shows labels es d) ∙ container_by (objects_of es d) in
       let D = objects_of (shown labels es) d in
       ap (λ (T : Found). unless (is_thread T) NoThread orelse unless (is_there D) NoEntry orelse unless (is_container D) BadKind orelse unless (observes T D) Observe) (object_shown t (thread_of own most) thread)

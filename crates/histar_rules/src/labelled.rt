@@ -10,7 +10,7 @@ ghost use Rattle.histar_container.specs.Shown.{objects_shown, kind_by, AllStand,
 ghost use Rattle.histar_container.specs.ObjectsModel.{state_of, CutsOff};
 ghost use Rattle.histar_container.specs.Tree.{AreTree};
 ghost use Rattle.histar_rules.specs.Finds.{LendsThread};
-ghost use Rattle.histar_rules.specs.Rules.{check, no_new, no_new_owner, Tells, TellsUnlessExhausted, Decides, AreBytesOf, IsLabelOf, IsEntryOf};
+ghost use Rattle.histar_rules.specs.Rules.{check, greatest, no_new, no_new_owner, Tells, TellsUnlessExhausted, Decides, AreBytesOf, IsLabelOf, IsEntryOf};
 ghost use Rattle.histar_rules.specs.declared.raw.RawCall.TheVariants as calls;
 
 use crate::limits::Next;
@@ -64,7 +64,7 @@ impl<S: LabelStore + Drop> LabelledObjects<S> {
 
     /// Keeps an object under the next number that no container links: the root container.
     pub fn push(&mut self, label: Label, kind: Kind<Label>) -> Result<(), AllocError>
-        requires { self.old.next_object < 18446744073709551615 }
+        requires { self.old.next_object < greatest }
         ensures ok { OnOk result (state_of self.new ≡ with_next (state_of self.old) (record { label = label; kind = kind })) }
         ensures counted { OnOk result (self.new.next_object ≡ self.old.next_object + 1) }
         ensures err { OnErr result (state_of self.new ≡ state_of self.old) }
@@ -97,7 +97,7 @@ impl<S: LabelStore + Drop> LabelledObjects<S> {
 
     /// Counts the next category as made.
     pub fn count_category(&mut self)
-        requires { self.old.next_category < 18446744073709551615 }
+        requires { self.old.next_category < greatest }
         ensures { state_of self.new ≡ with_next_category (state_of self.old) }
     {
         self.next_category += 1;
@@ -327,7 +327,7 @@ impl<S: LabelStore + Drop> LabelledObjects<S> {
         label: Label,
         kind: Kind<Label>,
     ) -> Result<(), AllocError>
-        requires { self.old.next_object < 18446744073709551615 }
+        requires { self.old.next_object < greatest }
         ensures ok { OnOk result (state_of self.new ≡ with_object (state_of self.old) container (record { label = label; kind = kind })) }
         ensures err { OnErr result (state_of self.new ≡ state_of self.old) }
     {

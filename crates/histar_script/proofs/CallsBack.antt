@@ -13,10 +13,11 @@ use Rattle.histar_flat.specs.Texts.{path_text, mode_text}
 use Rattle.histar_script.specs.Lines.{split_word, ◌space◌}
 use Rattle.histar_script.specs.Reading.{◌>>=◌, user_of, path_mode_of, path_bytes_of, rename_of, login_of, call_on, call_alone, call_named, call_of}
 use Rattle.histar_script.specs.Grammar.{SpellsMode, SpellsBytes, SpellsPath, SpellsProcess, IsCallText}
-use Rattle.histar_script.proofs.Chains.{bind_some, mapped, chosen}
+use Rattle.histar_script.proofs.Chains.{mapped}
 use Rattle.histar_script.proofs.Parting.{parted, split_part}
 use Rattle.histar_script.proofs.PathsBack.{split_path, path_takes, path_again}
 use Rattle.histar_flat.proofs.Numbers.{status_takes, status_again}
+use Rattle.histar_flat.proofs.Options.{bind_some, either_chosen}
 use Rattle.histar_script.proofs.ProcessesBack.{process_takes, process_again}
 use Rattle.histar_script.proofs.WordsBack.{split_name, user_name_is_name, same_bytes, mode_takes, mode_again}
 
@@ -144,7 +145,7 @@ process_part text word process e = let is = process_takes text process e in (ap 
 -- the call has this word, or what the other words make of it
 word_takes : (name word rest : List ℕ) (c : UnixCall) (this others : Option UnixCall) → (this ≡ Some c → IsCallText (name space rest) c) → (others ≡ Some c → IsCallText (word space rest) c) → cond (bytes_eq word name) this others ≡ Some c → IsCallText (word space rest) c
 word_takes name word rest c this others mine theirs e =
-    elim (chosen (bytes_eq word name) this others (Some c) e) [
+    elim (either_chosen (bytes_eq word name) this others (Some c) e) [
       | inl h ↦ subst (λ (w : List ℕ). IsCallText (w space rest) c) (sym (same_bytes word name h.0)) (mine h.1)
       | inr h ↦ theirs h.1
     ]
@@ -226,7 +227,7 @@ named_takes word rest c =
 -- a call whose word stands alone is spelled by its word
 alone_takes : (word : List ℕ) (c : UnixCall) → call_alone word ≡ Some c → IsCallText word c
 alone_takes word c e =
-    elim (chosen (bytes_eq word (codes "spawn")) (Some Spawn) (cond (bytes_eq word (codes "whoami")) (Some Whoami) None) (Some c) e) [
+    elim (either_chosen (bytes_eq word (codes "spawn")) (Some Spawn) (cond (bytes_eq word (codes "whoami")) (Some Whoami) None) (Some c) e) [
       | inl h ↦ subst (IsCallText word) (same_Some Spawn c h.1) (same_bytes word (codes "spawn") h.0)
       | inr h ↦ let g = cond_some (bytes_eq word (codes "whoami")) Whoami c h.1 in subst (IsCallText word) g.1 (same_bytes word (codes "whoami") g.0)
     ]

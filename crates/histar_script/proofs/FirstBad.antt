@@ -1,12 +1,13 @@
 -- Which line is the first bad one.
 use Rattle.std.proofs.Common.{◌≡◌, ℕ, zero, suc, ◌+◌, ◌-◌, ◌<◌, ◌≤◌, eqb, List, [], ◌∷◌, length, take, Option, Some, None, Result, Ok, Err, refl, sym, ap, ◌∙◌, inl, inr, arith}
+use Rattle.histar_flat.proofs.Options.{either_chosen}
 use Rattle.histar_script.specs.declared.fault.Fault.{Fault}
 use Rattle.histar_script.specs.declared.fault.Fault.TheVariants.{BadScript}
 use Rattle.histar_script.specs.Lines.{lines_of}
 use Rattle.histar_script.specs.Script.{Reading, nothing_read}
 use Rattle.histar_script.specs.Reading.{with_line, with_lines, reading}
 use Rattle.histar_script.specs.Grammar.{TakesAll, BeginsNone, IsFirstBad}
-use Rattle.histar_script.proofs.Chains.{chosen, none_left}
+use Rattle.histar_script.proofs.Chains.{none_left}
 use Rattle.histar_script.proofs.ScriptsBack.{line_takes, after, taken, lines_again}
 use Rattle.histar_script.proofs.Beginnings.{begun}
 
@@ -31,7 +32,7 @@ bad_step s k n lines (Some m) e later = omega (arith, later m e)
 later_bad : (s : Reading) (k : ℕ) (lines : List (List ℕ)) (n : ℕ) → with_lines s k lines ≡ failed n → k < n
 unfolding with_lines
 later_bad s k [] n e =
-    elim (chosen (eqb (length s.session.users) 0) (failed (k + 1)) (Ok s) (failed n) e) [ inl h ↦ let same : k + 1 ≡ n = same_line (k + 1) n h.1 in omega arith | inr h ↦ absurd cc ]
+    elim (either_chosen (eqb (length s.session.users) 0) (failed (k + 1)) (Ok s) (failed n) e) [ inl h ↦ let same : k + 1 ≡ n = same_line (k + 1) n h.1 in omega arith | inr h ↦ absurd cc ]
 later_bad s k (line ∷ lines) n e = bad_step s k n lines (with_line s (k + 1) line) e (λ m h. later_bad m (k + 1) lines n h)
 
 -- what begins with the same lines as a text whose line n is bad is no script
@@ -67,9 +68,9 @@ before_step s k line lines n j (Some m) met bad is later =
 before_bad : (s : Reading) (k : ℕ) (lines : List (List ℕ)) (n j : ℕ) → with_lines s k lines ≡ failed n → n ≡ k + suc j → (t : Reading) × TakesAll s k (take j lines) t × (length lines ≤ j → t.session.users ≡ []) × (j ≤ length lines)
 unfolding with_lines
 before_bad s k [] n zero bad is =
-    elim (chosen (eqb (length s.session.users) 0) (failed (k + 1)) (Ok s) (failed n) bad) [ inl h ↦ (s, refl, (λ _. none_left s.session.users h.0), omega arith) | inr h ↦ absurd cc ]
+    elim (either_chosen (eqb (length s.session.users) 0) (failed (k + 1)) (Ok s) (failed n) bad) [ inl h ↦ (s, refl, (λ _. none_left s.session.users h.0), omega arith) | inr h ↦ absurd cc ]
 before_bad s k [] n (suc j) bad is =
-    elim (chosen (eqb (length s.session.users) 0) (failed (k + 1)) (Ok s) (failed n) bad) [ inl h ↦ let same : k + 1 ≡ n = same_line (k + 1) n h.1 in absurd (omega arith) | inr h ↦ absurd cc ]
+    elim (either_chosen (eqb (length s.session.users) 0) (failed (k + 1)) (Ok s) (failed n) bad) [ inl h ↦ let same : k + 1 ≡ n = same_line (k + 1) n h.1 in absurd (omega arith) | inr h ↦ absurd cc ]
 before_bad s k (line ∷ lines) n zero bad is = (s, refl, (λ le. absurd (omega arith)), omega arith)
 before_bad s k (line ∷ lines) n (suc j) bad is = before_step s k line lines n j (with_line s (k + 1) line) refl bad is (λ m h. before_bad m (k + 1) lines n j h (omega arith))
 

@@ -5,12 +5,13 @@ use Rattle.std.proofs.lemmas.Option.{cond_some, same_Some}
 use Rattle.std.proofs.lemmas.Bool.{and_parts}
 use Rattle.histar_flat.specs.Words.{Name, is_user_name, user_name_of}
 use Rattle.histar_flat.specs.Sessions.{Group, most_members}
+use Rattle.histar_flat.proofs.SplitLemmas.{split_alone}
+use Rattle.histar_flat.proofs.Options.{bind_some}
 use Rattle.histar_script.specs.Lines.{split_word, ◌space◌}
 use Rattle.histar_script.specs.Reading.{◌>>=◌, members_from, members_of, group_of}
 use Rattle.histar_script.specs.Grammar.{spaced}
-use Rattle.histar_script.proofs.Chains.{bind_some}
 use Rattle.histar_script.proofs.Members.{members_after}
-use Rattle.histar_script.proofs.Parting.{parted, split_alone, split_part}
+use Rattle.histar_script.proofs.Parting.{parted, split_part}
 use Rattle.histar_script.proofs.WordsBack.{split_name, name_lacks_space, user_name_is_name}
 
 -- ---- what is read is spelled so

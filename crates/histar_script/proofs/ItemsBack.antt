@@ -8,12 +8,12 @@ use Rattle.histar_flat.specs.declared.calls.UnixCall.{UnixCall}
 use Rattle.histar_flat.specs.Words.{ProcName, split_at_first, is_user_name, is_process, process_of}
 use Rattle.histar_flat.specs.Texts.{process_text}
 use Rattle.histar_flat.specs.Sessions.{Group}
+use Rattle.histar_flat.proofs.Options.{bind_some, either_chosen}
 use Rattle.histar_script.specs.declared.items.Item.{Item}
 use Rattle.histar_script.specs.declared.items.Item.TheVariants as items
 use Rattle.histar_script.specs.Lines.{is_plain, split_word, ◌space◌}
 use Rattle.histar_script.specs.Reading.{◌>>=◌, user_of, group_of, call_of, user_item, group_item, call_item, words_item, item_of}
 use Rattle.histar_script.specs.Grammar.{IsUserText, IsGroupText, IsCallText, SaysInWords, Says}
-use Rattle.histar_script.proofs.Chains.{bind_some, chosen}
 use Rattle.histar_script.proofs.Parting.{parted}
 use Rattle.histar_script.proofs.WordsBack.{same_bytes}
 use Rattle.histar_script.proofs.ProcessesBack.{process_begins, process_takes, process_again, split_process}
@@ -67,9 +67,9 @@ unfolding words_item
 words_take line i e =
     let w = split_word line in
     let a = bind_some w.1 (line_by w.0) i e in
-    elim (chosen (bytes_eq w.0 (codes "user")) (user_item a.0) (group_or_call w.0 a.0) (Some i) a.2) [
+    elim (either_chosen (bytes_eq w.0 (codes "user")) (user_item a.0) (group_or_call w.0 a.0) (Some i) a.2) [
       | inl h ↦ user_line_takes line a.0 i (parted line (codes "user") a.0 (same_bytes w.0 (codes "user") h.0) a.1) h.1
-      | inr h ↦ elim (chosen (bytes_eq w.0 (codes "group")) (group_item a.0) (call_item w.0 a.0) (Some i) h.1) [
+      | inr h ↦ elim (either_chosen (bytes_eq w.0 (codes "group")) (group_item a.0) (call_item w.0 a.0) (Some i) h.1) [
         | inl k ↦ group_line_takes line a.0 i (parted line (codes "group") a.0 (same_bytes w.0 (codes "group") k.0) a.1) k.1
         | inr k ↦ call_line_takes line w.0 a.0 i (parted line w.0 a.0 refl a.1) k.1
       ]
@@ -80,10 +80,10 @@ pub item_takes : (line : List ℕ) (i : Item) → item_of line ≡ Some i → Sa
 unfolding item_of
 item_takes [] i e = inl (refl, cc)
 item_takes (b ∷ bs) i e =
-    elim (chosen (is_plain (b ∷ bs)) (cond (eqb b 35) (Some items.Comment) (words_item (b ∷ bs))) None (Some i) e) [
+    elim (either_chosen (is_plain (b ∷ bs)) (cond (eqb b 35) (Some items.Comment) (words_item (b ∷ bs))) None (Some i) e) [
       | inl plain ↦ inr (
         plain.0,
-        elim (chosen (eqb b 35) (Some items.Comment) (words_item (b ∷ bs)) (Some i) plain.1) [
+        elim (either_chosen (eqb b 35) (Some items.Comment) (words_item (b ∷ bs)) (Some i) plain.1) [
           | inl h ↦ let same : items.Comment ≡ i = cc in subst (SaysInWords (b ∷ bs)) same (bs, ap (λ (x : ℕ). x ∷ bs) (eqb-true b 35 h.0))
           | inr h ↦ words_take (b ∷ bs) i h.1
         ],

@@ -17,3 +17,4 @@ pub mod FirstBad
 pub mod Answered
 pub mod BadLines
 pub mod LeftOut
+pub mod Sinks

@@ -1,29 +1,8 @@
 -- Texts that are parted at their first separator.
-use Rattle.std.proofs.Common.{◌≡◌, ℕ, Bool, true, false, not, cond, eqb, List, [], ◌∷◌, ◌++◌, Option, Some, None, refl, ap, ◌∙◌}
-use Rattle.std.specs.List.{list_all}
-use Rattle.std.proofs.lemmas.Bool.{eqb-true, and_parts, not-true}
+use Rattle.std.proofs.Common.{◌≡◌, ℕ, Bool, true, false, cond, eqb, List, [], ◌∷◌, ◌++◌, Option, Some, None, refl, ap, ◌∙◌}
+use Rattle.std.proofs.lemmas.Bool.{eqb-true}
 use Rattle.histar_flat.specs.Words.{split_at_first}
 use Rattle.histar_script.specs.Lines.{split_word, ◌space◌}
-
--- no byte is the separator
-abbrev pub lacks : ℕ → List ℕ → Bool
-lacks separator text = list_all (λ b. not (eqb b separator)) text
-
--- bytes that are no separator end at the separator after them
-pub split_before : (a : ℕ) (text rest : List ℕ) → lacks a text ≡ true → eqb a a ≡ true → split_at_first a (text ++ a ∷ rest) ≡ (text, Some rest)
-unfolding split_at_first
-split_before a [] rest h same = rw same refl
-split_before a (b ∷ bs) rest h same =
-    let p = and_parts (not (eqb b a)) (lacks a bs) h in
-    rw (not-true (eqb b a) p.0, split_before a bs rest p.1 same) refl
-
--- bytes that are no separator are one part
-pub split_alone : (a : ℕ) (text : List ℕ) → lacks a text ≡ true → split_at_first a text ≡ (text, None)
-unfolding split_at_first
-split_alone a [] h = refl
-split_alone a (b ∷ bs) h =
-    let p = and_parts (not (eqb b a)) (lacks a bs) h in
-    rw (not-true (eqb b a) p.0, split_alone a bs p.1) refl
 
 -- a text, parted
 abbrev Parts : Type 0

@@ -5,9 +5,10 @@ use Rattle.std.proofs.lemmas.List.Folds.{list_all-append}
 use Rattle.std.proofs.lemmas.Bool.{eqb-true, and_parts, leb-true, le-leb}
 use Rattle.histar_flat.specs.Words.{Name, Path, is_name, is_path, most_names, slash, split_at_first, path_from, path_from_root, path_of}
 use Rattle.histar_flat.specs.Texts.{names_text, path_text}
+use Rattle.histar_flat.proofs.SplitLemmas.{lacks, split_before, split_alone}
+use Rattle.histar_flat.proofs.Options.{either_chosen}
 use Rattle.histar_script.specs.Lines.{split_word, ◌space◌}
-use Rattle.histar_script.proofs.Chains.{chosen}
-use Rattle.histar_script.proofs.Parting.{lacks, split_before, split_alone, split_parts, split_part}
+use Rattle.histar_script.proofs.Parting.{split_parts, split_part}
 use Rattle.histar_script.proofs.WordsBack.{name_lacks_space, name_lacks_slash, name_has_bytes}
 
 -- ---- what is read is spelled so
@@ -51,7 +52,7 @@ unfolding path_from
 found zero directory bs path right e = absurd cc
 found (suc most) directory bs path right e =
     let after = (split_at_first slash bs).1 in
-    elim (chosen (is_name (first_name bs)) (rest_from most directory (first_name bs) after) None (Some path) e) [
+    elim (either_chosen (is_name (first_name bs)) (rest_from most directory (first_name bs) after) None (Some path) e) [
       | inl h ↦ found_step most directory bs path after right h.0 refl (λ rest. found most (first_name bs ∷ directory) rest path) h.1
       | inr h ↦ absurd cc
     ]
@@ -67,7 +68,7 @@ root_takes (b ∷ bs) path e =
 pub path_takes : (text : List ℕ) (path : Path) → path_of text ≡ Some path → (text ≡ path_text path) × (is_path path ≡ true)
 path_takes [] path e = absurd cc
 path_takes (b ∷ bs) path e =
-    elim (chosen (eqb b slash) (path_from_root bs) None (Some path) e) [
+    elim (either_chosen (eqb b slash) (path_from_root bs) None (Some path) e) [
       | inl h ↦ let is = root_takes bs path h.1 in (ap (λ (x : ℕ). x ∷ bs) (eqb-true b slash h.0) ∙ is.0, is.1)
       | inr h ↦ absurd cc
     ]
@@ -91,7 +92,7 @@ read_on [] most rest right = let all : length {A = Name} [] + most ≡ most = om
 read_on (n ∷ d) most rest right =
     let p = and_parts (is_name n) (list_all is_name d) right in
     let left : length (n ∷ d) + most ≡ length d + suc most = omega arith in
-    let split = split_before slash n rest (name_lacks_slash n p.0) refl in
+    let split = split_before slash n rest (name_lacks_slash n p.0) in
     ap (λ k. path_from k [] (joined d (n ++ slash ∷ rest))) left
     ∙ read_on d (suc most) (n ++ slash ∷ rest) p.1
     ∙ rw (split, p.0, split) refl
@@ -145,4 +146,4 @@ path_lacks_space (n ∷ d) h = names_lack_space (n ∷ d) h
 pub split_path : (path : Path) (rest : List ℕ) → is_path path ≡ true → split_word (path_text path space rest) ≡ (path_text path, Some rest)
 split_path path rest h =
     let names = and_parts (leb (length path) most_names) (list_all is_name path) h in
-    split_before 32 (path_text path) rest (path_lacks_space path names.1) refl
+    split_before 32 (path_text path) rest (path_lacks_space path names.1)

@@ -10,9 +10,10 @@ use Rattle.histar_flat.specs.Digits.{is_digit}
 use Rattle.histar_flat.specs.Texts.{process_text}
 use Rattle.histar_flat.proofs.Numbers.{decimal_digits, number_takes, number_again, child_number_small}
 use Rattle.histar_flat.proofs.ProcessLemmas.{next_from, from_first, next_number, no_more, too_many}
+use Rattle.histar_flat.proofs.SplitLemmas.{lacks, split_before, split_alone}
+use Rattle.histar_flat.proofs.Options.{either_chosen}
 use Rattle.histar_script.specs.Lines.{split_word, ◌space◌}
-use Rattle.histar_script.proofs.Chains.{chosen}
-use Rattle.histar_script.proofs.Parting.{lacks, split_before, split_alone, split_parts, split_part}
+use Rattle.histar_script.proofs.Parting.{split_parts, split_part}
 use Rattle.histar_script.proofs.WordsBack.{bytes_lack, same_bytes}
 
 -- ---- texts of processes
@@ -38,7 +39,7 @@ parts_make bs (Some rest) on = split_parts dot bs rest on
 -- what has no dot ends at the dot after it, if there is one
 split_dot : (word : List ℕ) (after : Option (List ℕ)) → lacks dot word ≡ true → split_at_first dot (word ++ after_dot after) ≡ (word, after)
 split_dot word None h = ap (split_at_first dot) (append-nil word) ∙ split_alone dot word h
-split_dot word (Some rest) h = split_before dot word rest h refl
+split_dot word (Some rest) h = split_before dot word rest h
 
 -- ---- what is read is spelled so
 
@@ -79,7 +80,7 @@ found (suc most) above (Some bs) process right e =
 pub process_takes : (text : List ℕ) (process : ProcName) → process_of text ≡ Some process → (text ≡ process_text process) × (is_process process ≡ true)
 process_takes text process e =
     let w = split_at_first dot text in
-    elim (chosen (bytes_eq w.0 (codes "0")) (process_from most_numbers [] w.1) None (Some process) e) [
+    elim (either_chosen (bytes_eq w.0 (codes "0")) (process_from most_numbers [] w.1) None (Some process) e) [
       | inl h ↦
           let f = found most_numbers [] w.1 process refl h.1 in
           let zero : w.0 ≡ codes "0" = same_bytes w.0 (codes "0") h.0 in
@@ -153,4 +154,4 @@ process_lacks_space (n ∷ p) h =
 pub split_process : (process : ProcName) (rest : List ℕ) → is_process process ≡ true → split_word (process_text process space rest) ≡ (process_text process, Some rest)
 split_process process rest h =
     let numbers = and_parts (leb (length process) most_numbers) (list_all is_child_number process) h in
-    split_before 32 (process_text process) rest (process_lacks_space process numbers.1) refl
+    split_before 32 (process_text process) rest (process_lacks_space process numbers.1)

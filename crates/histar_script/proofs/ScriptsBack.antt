@@ -4,6 +4,7 @@ use Rattle.std.proofs.lemmas.Option.{cond_some}
 use Rattle.std.proofs.lemmas.Bool.{ltb-true, lt-ltb, and_parts, not-true}
 use Rattle.histar_flat.specs.declared.calls.User.{User}
 use Rattle.histar_flat.specs.Sessions.{Group, most_users, most_groups, with_user, with_group, is_group}
+use Rattle.histar_flat.proofs.Options.{bind_some}
 use Rattle.histar_script.specs.declared.fault.Fault.{Fault}
 use Rattle.histar_script.specs.declared.fault.Fault.TheVariants.{BadScript}
 use Rattle.histar_script.specs.declared.items.Item.{Item}
@@ -12,7 +13,7 @@ use Rattle.histar_script.specs.Lines.{lines_of}
 use Rattle.histar_script.specs.Script.{Reading, IsMembership, nothing_read, is_declared_call}
 use Rattle.histar_script.specs.Reading.{item_of, has_user, is_empty, takes_user, are_users, are_distinct, is_new_name, takes_group, takes_call, with_item, with_line, with_lines, reading}
 use Rattle.histar_script.specs.Grammar.{IsGroupText, Says, Adds, Takes, TakesAll, IsScript}
-use Rattle.histar_script.proofs.Chains.{bind_some, none_left, some_left, not_empty}
+use Rattle.histar_script.proofs.Chains.{none_left, some_left, not_empty}
 use Rattle.histar_script.proofs.ItemsBack.{item_takes, item_again, spells_group}
 use Rattle.histar_script.proofs.Naming.{all_others, not_named, all_users, users_again, all_distinct, passes_distinct}
 

@@ -11,10 +11,12 @@ use Rattle.std.specs.Option.{option_map}
 use Rattle.histar_flat.specs.Words.{is_name, is_name_byte, is_dots, is_user_name, begins_with_letter, split_at_first, user_name_of}
 use Rattle.histar_flat.specs.Modes.{colon, group_mode_of, mode_of, is_line_mode}
 use Rattle.histar_flat.specs.Texts.{mode_text}
+use Rattle.histar_flat.proofs.SplitLemmas.{lacks, split_before}
+use Rattle.histar_flat.proofs.Options.{bind_some, either_chosen}
 use Rattle.histar_script.specs.Lines.{split_word, ◌space◌}
 use Rattle.histar_script.specs.Reading.{◌>>=◌}
-use Rattle.histar_script.proofs.Chains.{bind_some, mapped, chosen}
-use Rattle.histar_script.proofs.Parting.{lacks, split_before, split_parts}
+use Rattle.histar_script.proofs.Chains.{mapped}
+use Rattle.histar_script.proofs.Parting.{split_parts}
 
 -- ---- names
 
@@ -50,7 +52,7 @@ name_lacks_slash name h = bytes_lack is_name_byte 47 name refl (name_bytes name 
 
 -- a name ends at the space after it
 pub split_name : (name rest : List ℕ) → is_name name ≡ true → split_word (name space rest) ≡ (name, Some rest)
-split_name name rest h = split_before 32 name rest (name_lacks_space name h) refl
+split_name name rest h = split_before 32 name rest (name_lacks_space name h)
 
 -- a user's name is a name
 pub user_name_is_name : (name : List ℕ) → is_user_name name ≡ true → is_name name ≡ true
@@ -73,7 +75,7 @@ group_mode_takes : (text : List ℕ) (mode : Mode) → group_mode_of text ≡ So
 unfolding group_mode_of
 group_mode_takes text mode e =
     let w = split_at_first colon text in
-    elim (chosen (bytes_eq w.0 (codes "group")) (w.1 >>= λ name. option_map (λ group. Group group) (user_name_of name)) None (Some mode) e) [
+    elim (either_chosen (bytes_eq w.0 (codes "group")) (w.1 >>= λ name. option_map (λ group. Group group) (user_name_of name)) None (Some mode) e) [
       | inl h ↦
           let a = bind_some w.1 (λ name. option_map (λ group. Group group) (user_name_of name)) mode h.1 in
           let m = mapped (user_name_of a.0) (λ group. Group group) mode a.2 in
@@ -87,11 +89,11 @@ group_mode_takes text mode e =
 -- a mode that is read is spelled so, and a line can name it
 pub mode_takes : (text : List ℕ) (mode : Mode) → mode_of text ≡ Some mode → (text ≡ mode_text mode) × (is_line_mode mode ≡ true)
 mode_takes text mode e =
-    elim (chosen (bytes_eq text (codes "private")) (Some Private) (cond (bytes_eq text (codes "readable")) (Some Readable) (cond (bytes_eq text (codes "open")) (Some Open) (group_mode_of text))) (Some mode) e) [
+    elim (either_chosen (bytes_eq text (codes "private")) (Some Private) (cond (bytes_eq text (codes "readable")) (Some Readable) (cond (bytes_eq text (codes "open")) (Some Open) (group_mode_of text))) (Some mode) e) [
       | inl h ↦ let same : Private ≡ mode = cc in subst (IsSpelled text) same (same_bytes text (codes "private") h.0, refl)
-      | inr h ↦ elim (chosen (bytes_eq text (codes "readable")) (Some Readable) (cond (bytes_eq text (codes "open")) (Some Open) (group_mode_of text)) (Some mode) h.1) [
+      | inr h ↦ elim (either_chosen (bytes_eq text (codes "readable")) (Some Readable) (cond (bytes_eq text (codes "open")) (Some Open) (group_mode_of text)) (Some mode) h.1) [
         | inl k ↦ let same : Readable ≡ mode = cc in subst (IsSpelled text) same (same_bytes text (codes "readable") k.0, refl)
-        | inr k ↦ elim (chosen (bytes_eq text (codes "open")) (Some Open) (group_mode_of text) (Some mode) k.1) [
+        | inr k ↦ elim (either_chosen (bytes_eq text (codes "open")) (Some Open) (group_mode_of text) (Some mode) k.1) [
           | inl o ↦ let same : Open ≡ mode = cc in subst (IsSpelled text) same (same_bytes text (codes "open") o.0, refl)
           | inr o ↦ group_mode_takes text mode o.1
         ]

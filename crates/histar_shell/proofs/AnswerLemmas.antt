@@ -9,15 +9,11 @@ use Rattle.histar_calls.specs.declared.ending.Stopped.{Stopped}
 use Rattle.histar_flat.specs.declared.replies.Reply.{Reply}
 use Rattle.histar_flat.specs.declared.calls.CallLine.{CallLine}
 use Rattle.histar_devices.specs.Writing.{AppendsFront}
-use Rattle.histar_devices.proofs.WritingLemmas.{sent_none}
+use Rattle.histar_devices.proofs.WritingLemmas.{sent_none, whole_front}
 use Rattle.histar_flat.specs.Meaning.{Answered}
 use Rattle.histar_shell.specs.Answers.{answer_text, answers_text, calls_of, line_text}
 use Rattle.histar_shell.specs.Machine.{MachineModel, AnswersLine}
 use Rattle.histar_shell.specs.AnsweredCalls.{AnswersInTurn, AnswersCall, AnswersCalls, BeginsAnswer, BeginsAnswers}
-
--- a whole text is a beginning of itself
-pub whole_front : (a b : Option (List ℕ)) (text : List ℕ) → Appends a b text → AppendsFront a b text
-whole_front a b text whole = ([], record { front = text; parts = sym (append-nil text); appended = whole })
 
 -- a whole text, and then a beginning of the next one
 pub front_after : (a b c : Option (List ℕ)) (text next rest : List ℕ) → Appends a b text → AppendsFront b c next → AppendsFront a c (text ++ (next ++ rest))

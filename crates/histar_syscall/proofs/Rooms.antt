@@ -1,13 +1,11 @@
 -- What a raw call leaves in the kernel.
 use Rattle.std.proofs.Common.{◌≡◌, ℕ, refl, sym, subst, Result, Ok, Err, List}
 use Rattle.std.specs.Result.{IsErrAnd}
-use Rattle.histar_container.specs.ObjectsModel.{ObjectsModel, state_of}
+use Rattle.histar_container.specs.ObjectsModel.{ObjectsModel}
 use Rattle.histar_rules.specs.declared.raw.RawCall.{RawCall}
 use Rattle.histar_rules.specs.declared.raw.Refusal.{Refusal}
 use Rattle.histar_rules.specs.declared.raw.Refusal.TheVariants as refusals
 use Rattle.histar_rules.specs.Rules.{Decides}
-use Rattle.histar_rules.specs.Sound.{IsSound}
-use Rattle.histar_rules.proofs.Sound.{sound_decided}
 use Rattle.histar_syscall.specs.declared.trace.TraceEntry.{TraceEntry}
 use Rattle.histar_syscall.specs.KernelModel.{KernelModel, IsUnchanged, Answered, logged}
 
@@ -22,7 +20,3 @@ pub answered : {A : Type 0} (old : KernelModel) (kept : ObjectsModel) (trace : L
 answered old kept trace t call (Ok answer) P decided entry = (record { outcome = decided.0; state = decided.1; trace = entry; line = refl }, decided.2)
 answered old kept trace t call (Err (refusals.Denied denied)) P decided entry = record { outcome = decided.0; state = decided.1; trace = entry; line = refl }
 answered old kept trace t call (Err refusals.OutOfMemory) P decided entry = record { state = decided; trace = entry; line = refl }
-
--- what a call with this answer leaves is sound
-pub stays_sound : {A : Type 0} (old new : ObjectsModel) (t : ℕ) (call : RawCall) (r : Result A Refusal) (P : A → Type 0) → IsSound (state_of old) → Decides old new t call r P → IsSound (state_of new)
-stays_sound old new t call r P sound decided = sound_decided old new t call r P sound decided

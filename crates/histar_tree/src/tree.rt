@@ -6,6 +6,7 @@ ghost use Rattle.histar_tree.specs.declared.tree.TreeError.TheVariants.{NotATree
 ghost use Rattle.histar_tree.specs.TreeLines.{bytes_at};
 ghost use Rattle.histar_tree.specs.Tree.{AddsBelow, AddsTree, FindsTree, node_at};
 
+use histar_base::Bytes;
 use histar_calls::{Places, UserTable, class_of};
 use histar_flat::{Path, Stat};
 use histar_label::LabelStore;
@@ -120,16 +121,18 @@ fn push_below<S: LabelStore + Drop>(
     requires { length path.now ≤ most_names }
     ensures { AddsBelow users.now (state kernel.now) path.now listing tree.old.items tree.new.items result }
 {
-    let Some(directory) = read_dir(alloc, kernel.bytes(listing))? else {
+    let bytes = Bytes::copy_of(alloc, kernel.bytes(listing))?;
+    let Some(directory) = read_dir(bytes) else {
         return Err(TreeError::NotATree);
     };
-    let entries = directory.into_entries();
-    'entries: for (name, target) in &entries {
+    let entries = directory.entries(alloc)?;
+    'entries: for entry in &entries {
+        let (name, target) = *entry;
         if path.depth() == MOST_NAMES {
             return Err(TreeError::NotATree);
         }
-        let inner = path.entry(*name);
-        push_tree(alloc, kernel, users, &inner, *target, tree)?;
+        let inner = path.entry(name);
+        push_tree(alloc, kernel, users, &inner, target, tree)?;
     }
     Ok(())
 }

@@ -41,8 +41,8 @@ pub fn make_scratch<S: LabelStore + Drop>(
     let container = make_or_give_back(kernel, alloc, thread, own, most, above, label)?;
     let empty = Bytes::new(alloc);
     let listing = kernel.make_segment(alloc, thread, container, same, empty)?;
-    entries.insert(name, Target::Directory(container, listing))?;
-    write_entries(kernel, alloc, thread, place, &entries)
+    entries.insert(alloc, &name, Target::Directory(container, listing))?;
+    write_entries(kernel, alloc, thread, place, entries)
 }
 
 // Makes a container with this label. Where the kernel denies it the thread takes its own label and

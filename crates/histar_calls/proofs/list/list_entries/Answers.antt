@@ -33,7 +33,7 @@ returns g c =
     let old = c.args.kernel.now in
     let end = c.walk.new.kernel in
     let nothing_yet = c.in_ok-reserve.ensures.items ∙ c.new-entries.ensures.items in
-    let listing_is = c.new.ensures ∙ c.list_dir.ensures ∙ ap (λ es. es ++ names_in c.in_ok-directory.directory.entries) nothing_yet in
+    let listing_is = c.new.ensures ∙ c.list.ensures ∙ ap (λ es. es ++ names_in c.in_ok-directory.directory.entries) nothing_yet in
     then_call t (walk c.args.places.now c.args.path.now) old end _ end c.in_ok-directory.directory
     (part_as t (walk c.args.places.now c.args.path.now) old end (walk c.args.places.now c.names.result.now) (ap (walk c.args.places.now) (sym c.names.ensures)) _ c.in_ok-directory.ensures) _
     (replies_so t end (Entries (names_in c.in_ok-directory.directory.entries)) (Entries c.new.result) (ap Entries listing_is))

@@ -1,6 +1,7 @@
 use Rattle.std.proofs.lemmas.Result.{err_from_is_err_and}
 use Rattle.histar_script.specs.Outcome.{input_fault}
-use Rattle.histar_raw_session.proofs.SessionRuns.{stops_reading, runs_taken, input_known, sink_left}
+use Rattle.histar_script.proofs.Sinks.{sink_left}
+use Rattle.histar_raw_session.proofs.SessionRuns.{stops_reading, runs_taken, input_known}
 use Rattle.histar_raw_session.proofs.session.run_raw_script.Goals as goal
 
 pub returns-in_err-input-clause-nothing : goal.returns-in_err-input-clause-nothing

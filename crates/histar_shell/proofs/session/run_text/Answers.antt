@@ -1,7 +1,8 @@
 use Rattle.std.proofs.lemmas.Result.{err_from_is_err_and}
+use Rattle.histar_script.proofs.Sinks.{sink_left}
 use Rattle.histar_shell.proofs.CallRows.{lines_are_rows}
 use Rattle.histar_shell.proofs.SessionMeanings.{tree_at_last}
-use Rattle.histar_shell.proofs.RunLemmas.{answered_text, answers_script, begins_ending, begins_script, begun_text, faulty_text, sink_called, sink_left, starts_with, unbooted_text}
+use Rattle.histar_shell.proofs.RunLemmas.{answered_text, answers_script, begins_ending, begins_script, begun_text, faulty_text, sink_called, starts_with, unbooted_text}
 use Rattle.histar_shell.proofs.session.run_text.Goals as goal
 
 pub returns-in_err-script-clause-nothing : goal.returns-in_err-script-clause-nothing

@@ -1,16 +1,26 @@
-use Rattle.std.proofs.Common.{◌∙◌, sym, ap, subst}
+use Rattle.std.proofs.Common.{List, ℕ, sym, ap, subst, ◌∙◌}
 use Rattle.std.specs.FinMap as map
-use Rattle.histar_layout.specs.Directory.{IsListable}
-use Rattle.histar_layout.proofs.MapLemmas.{get_made, one_cleared, listable_remove}
+use Rattle.std.specs.List.{remove_range}
+use Rattle.histar_layout.specs.Directory.{Entries, IsListable, IsDirectory}
+use Rattle.histar_layout.specs.Spelled.{entries_of}
+use Rattle.histar_layout.proofs.Spans.{entry_taken}
+use Rattle.histar_layout.proofs.Spellings.{directory_spelled, is_spelled}
 use Rattle.histar_layout.proofs.directory.Dir.remove.Goals as goal
 
-pub invariant_of-self : goal.invariant_of-self
-invariant_of-self c =
-    let cleared = one_cleared c.self.inside.entries.entries c.remove.new.self.entries c.args.name.now c.remove.ensures.updates.0 in
-    subst IsListable (sym cleared) (listable_remove _ c.args.name.now c.self.invariant)
+-- the bytes are the directory without the entry
+without_entry : (c : goal.After-drop-drain) → IsDirectory c.drop-drain.new.self.0.items (map.remove (entries_of c.self.inside.bytes.items) c.args.name.now)
+without_entry c =
+    let old = c.self.inside.bytes.items in
+    let dir = entries_of old in
+    let seen : IsDirectory c.as_slice.result.now dir = subst (λ (b : List ℕ). IsDirectory b dir) (sym c.as_slice.ensures.value) c.self.invariant in
+    entry_taken c.as_slice.result.now c.drop-drain.new.self.0.items dir c.args.name.now c.span_of-span.result.start c.span_of-span.result.end seen (c.span_of-span.ensures dir seen)
+    (c.drop-drain.ensures.items ∙ c.drain.ensures.kept ∙ ap (λ (b : List ℕ). remove_range b c.span_of-span.result.start c.span_of-span.result.end) (sym c.as_slice.ensures.value))
 
-pub returns-clause-value : goal.returns-clause-value
-returns-clause-value c = c.remove.ensures.value ∙ sym (get_made c.self.inside.entries.entries c.args.name.now) ∙ ap (λ m. map.get m c.args.name.now) c.self.view_is
+pub invariant_of-self : goal.invariant_of-self
+invariant_of-self c = is_spelled _ _ (without_entry c)
 
 pub returns-clause-without : goal.returns-clause-without
-returns-clause-without c = one_cleared c.self.inside.entries.entries c.remove.new.self.entries c.args.name.now c.remove.ensures.updates.0 ∙ ap (λ m. map.remove m c.args.name.now) c.self.view_is
+returns-clause-without c = directory_spelled _ _ (without_entry c) ∙ ap (λ (dir : Entries). map.remove dir c.args.name.now) c.self.view_is
+
+pub returns-clause-listable : goal.returns-clause-listable
+returns-clause-listable c = subst IsListable c.self.view_is c.self.invariant.listable
