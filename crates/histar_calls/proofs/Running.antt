@@ -82,10 +82,6 @@ module _ (t : ℕ) where
   unfolding RunsPart
   lists_none bytes k none = λ rest. (listed bytes (if_there rest) k None none).begins k (same_kernel k)
 
-  pub before_list : (bytes : List ℕ) (k : KernelModel) → RunsPart (list bytes) k k t (Err HasStopped)
-  unfolding RunsPart
-  before_list bytes k = λ rest. inl (same_kernel k)
-
   -- what was decided is handed on, or refuses the call
   pub gives : {A : Type 0} (k : KernelModel) (x : A) → RunsPart (given (Ok x)) k k t (Ok x)
   unfolding RunsPart

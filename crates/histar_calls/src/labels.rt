@@ -21,7 +21,7 @@ pub fn label_of(
 {
     let mut label = Label::new(alloc, default);
     for &(category, level) in exceptions {
-        label = label.with(category, level)?;
+        label.set(category, level)?;
     }
     Ok(label)
 }
@@ -63,7 +63,7 @@ fn with_each(label: Label, level: Level, categories: &[Category]) -> Result<Labe
 {
     let mut label = label;
     for &category in categories {
-        label = label.with(category, level)?;
+        label.set(category, level)?;
     }
     Ok(label)
 }

@@ -1,5 +1,5 @@
 -- What is kept of replies, one after another.
-use Rattle.std.proofs.Common.{◌≡◌, ℕ, Bool, true, false, List, [], ◌∷◌, ◌++◌, Option, None, Some, cond, Ok, refl, sym, ap, ◌∙◌, subst}
+use Rattle.std.proofs.Common.{◌≡◌, Bool, true, false, List, [], ◌∷◌, ◌++◌, Option, None, Some, cond, refl, sym, ap, ◌∙◌}
 use Rattle.std.specs.Prelude.{◌||◌}
 use Rattle.histar_flat.specs.declared.calls.CallLine.{CallLine}
 use Rattle.histar_flat.specs.declared.calls.UnixCall.{UnixCall}
@@ -10,7 +10,7 @@ use Rattle.histar_flat.specs.Words.{Path, ProcName}
 use Rattle.histar_flat.specs.Meaning.{Answered}
 use Rattle.histar_isolation.specs.Comparison.{is_wrap_reply}
 use Rattle.histar_isolation.specs.Following.{is_done, left_without, after_reply}
-use Rattle.histar_shell.specs.Machine.{MachineModel, AnswersLine}
+use Rattle.histar_shell.specs.Machine.{MachineModel}
 use Rattle.histar_shell.proofs.AnswerLemmas.{calls_more, in_turn_more}
 use Rattle.histar_comparison.specs.Replies.{RepliesModel, with_reply, with_replies, shown_by, wrap_path, once_done, is_start, directory_after}
 use Rattle.histar_comparison.specs.Observation.{KeepsReply, KeepsReplies}
@@ -102,10 +102,6 @@ module _ (job : ProcName) where
   replies_more : (old : RepliesModel) (answers : List Answered) (a : Answered) → with_replies job old (answers ++ a ∷ []) ≡ with_reply job (with_replies job old answers) a
   replies_more old [] a = refl
   replies_more old (b ∷ answers) a = replies_more (with_reply job old b) answers a
-
-  -- before the first line nothing is kept
-  pub keeps_none : (m : MachineModel) (replies : RepliesModel) → KeepsReplies job m m replies replies []
-  keeps_none m replies = record { answers = []; each = refl; in_turn = refl; kept = refl }
 
   -- one line more
   pub keeps_more : (first mid last : MachineModel) (old now new : RepliesModel) (calls : List CallLine) (call : CallLine) → KeepsReplies job first mid old now calls → KeepsReply job mid last now new call → KeepsReplies job first last old new (calls ++ call ∷ [])

@@ -2,6 +2,7 @@
 use Rattle.std.proofs.Common.{◌≡◌, ℕ, Bool, true, false, List, [], ◌∷◌, ◌++◌, map, cond, Result, Ok, Err, refl, sym, ap, ◌∙◌, append-nil, append_assoc}
 use Rattle.std.specs.Prelude.{◌||◌, not, filter}
 use Rattle.std.specs.List.{AllByRecursion}
+use Rattle.std.proofs.Math.Bool.{or-false, or_assoc}
 use Rattle.histar_flat.specs.declared.calls.CallLine.{CallLine}
 use Rattle.histar_flat.specs.Words.{ProcName}
 use Rattle.histar_flat.specs.PathOrder.{same, under_process}
@@ -9,7 +10,6 @@ use Rattle.histar_rows.specs.Rows.{IsScriptable}
 use Rattle.histar_shell.specs.Meaning.{last_state}
 use Rattle.histar_shell.proofs.Users.{script_says}
 use Rattle.histar_flat.specs.Meaning.{Answered, meaning}
-use Rattle.histar_refinement.proofs.Members.{or_assoc}
 use Rattle.histar_script.specs.declared.fault.Fault.{Fault}
 use Rattle.histar_script.specs.Script.{Reading, without_job}
 use Rattle.histar_script.specs.Reading.{script_of}
@@ -53,11 +53,7 @@ read_again text a b is again = ok_inner (sym again ∙ is)
 module _ (job : ProcName) where
   -- whether a `wrap` started the job was kept
   started : (r : RepliesModel) (answers : List Answered) → (with_replies job r answers).is_started ≡ (r.is_started || starts job answers)
-  started r [] = sym (or_false r.is_started)
-    where
-      or_false : (b : Bool) → (b || false) ≡ b
-      or_false true = refl
-      or_false false = refl
+  started r [] = sym (or-false r.is_started)
   started r (a ∷ answers) = started (with_reply job r a) answers ∙ or_assoc r.is_started (is_wrap_reply job a.call.call a.reply) (starts job answers)
 
   -- the directory was followed

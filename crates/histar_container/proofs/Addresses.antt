@@ -1,5 +1,7 @@
 -- Addresses: when two are the same, and which lie below which. The test same_step tells whether two steps are equal.
 use Rattle.std.proofs.Common.{◌≡◌, ◌≢◌, ◌≤◌, ◌||◌, ◌⊎◌, inl, inr, Bool, true, false, [], ◌∷◌, length, Some, arith, refl, sym, ap, ◌∙◌}
+use Rattle.std.proofs.lemmas.Bool.{false_from_ne_true}
+use Rattle.std.proofs.Math.Bool.{or-true}
 use mathlib.Core.Bool.{true≢false}
 use Rattle.histar_container.specs.Tree.{Address, same, under}
 
@@ -10,19 +12,6 @@ Tells test = (x y : _) → ((test x y ≡ true) × (x ≡ y)) ⊎ ((test x y ≡
 -- what is in a Some is one value
 pub inner : {X : Type 0} (x y : X) → Some x ≡ Some y → x ≡ y
 inner x y e = cc
-
--- what is not true is false
-pub not_true : (b : Bool) → (b ≡ true → ⊥) → b ≡ false
-not_true true k = absurd (k refl)
-not_true false k = refl
-
-pub or_true : (b : Bool) → (b || true) ≡ true
-or_true true = refl
-or_true false = refl
-
-pub or_false : (b : Bool) → (b || false) ≡ b
-or_false true = refl
-or_false false = refl
 
 module _ {X : Type 0} (same_step : X → X → Bool) (tells : Tells same_step) where
   -- whether two addresses are the same tells whether they are equal
@@ -54,7 +43,7 @@ module _ {X : Type 0} (same_step : X → X → Bool) (tells : Tells same_step) w
 
   -- what is one step below what is below a is below a
   pub under_child : (a b : Address X) (x : X) → under same_step a b ≡ true → under same_step a (x ∷ b) ≡ true
-  under_child a b x h = rw h (or_true (same same_step a (x ∷ b)))
+  under_child a b x h = rw h (or-true (same same_step a (x ∷ b)))
 
   -- what lies below an address has no fewer steps
   pub under_long : (a b : Address X) → under same_step a b ≡ true → length a ≤ length b
@@ -66,7 +55,7 @@ module _ {X : Type 0} (same_step : X → X → Bool) (tells : Tells same_step) w
 
   -- an address does not lie below what is one step below it
   pub above : (a : Address X) (x : X) → under same_step (x ∷ a) a ≡ false
-  above a x = not_true _ (λ h. let l = under_long (x ∷ a) a h in omega arith)
+  above a x = false_from_ne_true _ (λ h. let l = under_long (x ∷ a) a h in omega arith)
 
   -- and is another one than that
   pub longer : (x : X) (a : Address X) → x ∷ a ≢ a

@@ -4,11 +4,12 @@ use Rattle.std.specs.Prelude.{is_some}
 use Rattle.std.specs.FinSet as set
 use mathlib.Core.Bool.{true≢false}
 use Rattle.std.proofs.lemmas.Bool.Decides.{eqb_tells}
+use Rattle.std.proofs.lemmas.Bool.{false_from_ne_true}
 use Rattle.histar_object.specs.declared.objects.Object.{Object}
 use Rattle.histar_object.specs.Objects.{Objects, links_in}
 use Rattle.histar_container.specs.Tree.{Address, Naming, wanted, same, under, is_child, is_under, without_below, set_at, cut, IsLaid, IsCut}
 use Rattle.histar_container.proofs.Links.{unlinked_links}
-use Rattle.histar_container.proofs.Addresses.{Tells, inner, not_true, same_tells, same_itself, same_other, under_itself, under_child, under_other, above}
+use Rattle.histar_container.proofs.Addresses.{Tells, inner, same_tells, same_itself, same_other, under_itself, under_child, under_other, above}
 use Rattle.histar_container.proofs.Reaching.{same_number, not_reached, is_reached}
 
 -- what is left of a value that may be taken away is that value
@@ -72,7 +73,7 @@ module _ {X : Type 0} (same_step : X → X → Bool) (tells : Tells same_step) {
   left_held y b t = by (under same_step (x ∷ a) (y ∷ b)) refl t
     where
       parent : under same_step (x ∷ a) (y ∷ b) ≡ false → under same_step (x ∷ a) b ≡ false
-      parent u = not_true _ (λ v. true≢false (sym (under_child same_step tells (x ∷ a) b y v) ∙ u))
+      parent u = false_from_ne_true _ (λ v. true≢false (sym (under_child same_step tells (x ∷ a) b y v) ∙ u))
 
       by : (c : Bool) → under same_step (x ∷ a) (y ∷ b) ≡ c → is_some (if under same_step (x ∷ a) (y ∷ b) then None else naming.number (y ∷ b)) ≡ true → is_some (if under same_step (x ∷ a) b then None else naming.number b) ≡ true
       by true u i = let k : false ≡ true = sym (ap (λ c. is_some (if c then None else naming.number (y ∷ b))) u) ∙ i in absurd (true≢false (sym k))

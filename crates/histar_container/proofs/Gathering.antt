@@ -7,13 +7,13 @@ use Rattle.std.specs.Ordering.{nat_cmp}
 use Rattle.std.specs.Cmp.{unsigned_tied, nat_eq_equiv}
 use Rattle.std.specs.BTreeMap.{is_at}
 use mathlib.Core.Bool.{true≢false, false≢true}
-use Rattle.std.proofs.lemmas.Bool.{eq-eqb, eqb-true}
+use Rattle.std.proofs.lemmas.Bool.{eq-eqb, eqb-true, or_cases, or_parts}
 use Rattle.std.proofs.lemmas.Bool.Decides.{eqb_tells}
 use Rattle.std.proofs.lemmas.List.Folds.{list_any-append}
+use Rattle.std.proofs.Math.Bool.{or-true, or-false}
 use Rattle.histar_object.specs.declared.objects.Object.{Object}
 use Rattle.histar_object.specs.Objects.{Objects, IsListOf, objects_of, links_in, is_there}
 use Rattle.histar_container.specs.Tree.{Reached, here, there, IsTree}
-use Rattle.histar_container.proofs.Addresses.{or_true, or_false}
 use Rattle.histar_container.proofs.Trees.{not_back, one_link}
 
 -- what is in two lists together is in one of them
@@ -24,30 +24,22 @@ pub member_first : (xs ys : List ℕ) (q : ℕ) → is_member nat_eq xs q ≡ tr
 member_first xs ys q k = member_append xs ys q ∙ ap (λ b. b || is_member nat_eq ys q) k
 
 pub member_second : (xs ys : List ℕ) (q : ℕ) → is_member nat_eq ys q ≡ true → is_member nat_eq (xs ++ ys) q ≡ true
-member_second xs ys q k = member_append xs ys q ∙ ap (λ b. is_member nat_eq xs q || b) k ∙ or_true (is_member nat_eq xs q)
-
-either : (a b : Bool) → (a || b) ≡ true → (a ≡ true) ⊎ (b ≡ true)
-either true b k = inl refl
-either false b k = inr k
+member_second xs ys q k = member_append xs ys q ∙ ap (λ b. is_member nat_eq xs q || b) k ∙ or-true (is_member nat_eq xs q)
 
 pub member_either : (xs ys : List ℕ) (q : ℕ) → is_member nat_eq (xs ++ ys) q ≡ true → (is_member nat_eq xs q ≡ true) ⊎ (is_member nat_eq ys q ≡ true)
-member_either xs ys q k = either _ _ (sym (member_append xs ys q) ∙ k)
+member_either xs ys q k = or_cases _ _ (sym (member_append xs ys q) ∙ k)
 
 -- what a list of one has
 pub member_one : (x q : ℕ) → is_member nat_eq (x ∷ []) q ≡ true → q ≡ x
-member_one x q k = eqb-true q x (sym (or_false (nat_eq q x)) ∙ k)
+member_one x q k = eqb-true q x (sym (or-false (nat_eq q x)) ∙ k)
 
 pub member_itself : (x : ℕ) → is_member nat_eq (x ∷ []) x ≡ true
-member_itself x = or_false (nat_eq x x) ∙ eq-eqb x x refl
-
-neither : (a b : Bool) → (a || b) ≡ false → (a ≡ false) × (b ≡ false)
-neither true b k = absurd (true≢false k)
-neither false b k = (refl, k)
+member_itself x = or-false (nat_eq x x) ∙ eq-eqb x x refl
 
 -- what is in no place of a list differs from each of its numbers
 differs : (x : ℕ) (ys : List ℕ) → is_member nat_eq ys x ≡ false → AllByRecursion (λ y. nat_eq x y ≡ false) ys
 differs x [] k = tt
-differs x (y ∷ ys) k = let n = neither (nat_eq x y) (is_member nat_eq ys x) k in (n.0, differs x ys n.1)
+differs x (y ∷ ys) k = let n = or_parts (nat_eq x y) (is_member nat_eq ys x) k in (n.0, differs x ys n.1)
 
 all_append : (P : ℕ → Type 0) (xs ys : List ℕ) → AllByRecursion P xs → AllByRecursion P ys → AllByRecursion P (xs ++ ys)
 all_append P [] ys a b = b
@@ -64,7 +56,7 @@ unfolding IsDistinct
 distinct_append [] ys a b apart = b
 distinct_append (x ∷ xs) ys a b apart = (
   all_append _ xs ys a.0 (differs x ys (apart x (ap (λ t. t || is_member nat_eq xs x) (eq-eqb x x refl)))),
-  distinct_append xs ys a.1 b (λ q k. apart q (ap (λ t. nat_eq q x || t) k ∙ or_true (nat_eq q x))),
+  distinct_append xs ys a.1 b (λ q k. apart q (ap (λ t. nat_eq q x || t) k ∙ or-true (nat_eq q x))),
 )
 
 -- a number of a distinct list is not among those before it

@@ -183,16 +183,6 @@ pub on_err : {A E : Type 0} (r : Result A E) (P : Type 0) → P → OnErr r P
 on_err (Ok x) P p = tt
 on_err (Err e) P p = p
 
--- what follows from what holds where something is answered
-pub on_ok_from : {A E : Type 0} (r : Result A E) (P Q : Type 0) → (P → Q) → OnOk r P → OnOk r Q
-on_ok_from (Ok x) P Q f p = f p
-on_ok_from (Err e) P Q f p = tt
-
--- and from what holds where an error is
-pub on_err_from : {A E : Type 0} (r : Result A E) (P Q : Type 0) → (P → Q) → OnErr r P → OnErr r Q
-on_err_from (Ok x) P Q f p = tt
-on_err_from (Err e) P Q f p = f p
-
 module _ {Id : Type 0} where
   -- where a new object was linked or nothing was changed, the Ids still stand for labels
   pub linked_stand : {A E : Type 0} (labels : Id → Option Levels) (objects after : Objects Id) (d n : ℕ) (o : Object Id) (r : Result A E)

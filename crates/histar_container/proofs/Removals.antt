@@ -9,10 +9,10 @@ use Rattle.std.specs.List.{IsDistinct}
 use Rattle.std.specs.FinSet as set
 use mathlib.Core.Bool.{true≢false}
 use Rattle.std.proofs.lemmas.Bool.Decides.{eqb_tells}
+use Rattle.std.proofs.lemmas.Bool.{false_from_ne_true}
 use Rattle.histar_object.specs.declared.objects.Object.{Object}
 use Rattle.histar_object.specs.Objects.{Objects, AppendsAll, objects_of, without, changed_at, unlinking, links_in, is_there}
 use Rattle.histar_container.specs.Tree.{Reached, AreTree, IsCut}
-use Rattle.histar_container.proofs.Addresses.{not_true}
 use Rattle.histar_container.proofs.TableMoves.{changed_here, changed_other}
 use Rattle.histar_container.proofs.Trees.{not_back, linked_there, reached_there}
 use Rattle.histar_container.proofs.Gathering.{Gathers, gathers_first, gathers_all, gathers_more, unread, unread_fewer, distinct_before, member_first, member_second, member_either, member_one, member_itself}
@@ -82,7 +82,7 @@ module _ {L : Type 0} where
         where
           by : (b : Bool) → is_member nat_eq (take i list ++ x ∷ []) q ≡ b → is_member nat_eq (take i list) q ≡ b
           by true k = elim (member_either (take i list) (x ∷ []) q k) [ inl e ↦ e | inr e ↦ absurd (other (member_one x q e)) ]
-          by false k = not_true _ (λ e. true≢false (sym (member_first (take i list) (x ∷ []) q e) ∙ k))
+          by false k = false_from_ne_true _ (λ e. true≢false (sym (member_first (take i list) (x ∷ []) q e) ∙ k))
 
   -- when all that is reached is taken out, the tree is cut
   pub cut_done : (objects middle after : Objects L) (trees : AreTree objects) (d o : ℕ) → set.contains (links_in (objects d)) o ≡ true → (list : List ℕ) (n : ℕ) → length list ≤ n
@@ -98,4 +98,4 @@ module _ {L : Type 0} where
       result q = is_after q ∙ ap (λ l. if is_member nat_eq l q then None else middle q) (take_all list n le)
 
       left : (q : ℕ) → ¬ Reached objects o q → after q ≡ middle q
-      left q not_reached = result q ∙ ap (λ b. if b then None else middle q) (not_true _ (λ k. not_reached ((each q).0 k)))
+      left q not_reached = result q ∙ ap (λ b. if b then None else middle q) (false_from_ne_true _ (λ k. not_reached ((each q).0 k)))

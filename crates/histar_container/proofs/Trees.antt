@@ -9,10 +9,10 @@ use Rattle.histar_object.specs.declared.objects.Kind.TheVariants.{Segment, Conta
 use Rattle.histar_object.specs.declared.objects.Object.{Object}
 use Rattle.histar_object.specs.Objects.{Objects, put, changed_at, with_new, linking, unlinking, kind_holding, holding, links_in, kind_links, is_there, is_container}
 use Rattle.histar_object.proofs.Changes.{at_each, put_changed}
-use Rattle.histar_container.specs.Tree.{Address, Naming, wanted, under, is_under, with_number, without_below, objects_at, IsLaid, IsTree, AreTree, Reached, IsCut}
+use Rattle.histar_container.specs.Tree.{Address, Naming, wanted, is_under, with_number, without_below, objects_at, IsLaid, IsTree, AreTree, Reached, IsCut}
 use Rattle.histar_container.proofs.Links.{none_linked}
 use Rattle.histar_container.proofs.Addresses.{inner}
-use Rattle.histar_container.proofs.Reaching.{LinkAt, link_at, reached_under, under_reached, not_reached, reached_or_not, no_way_back, one_holder}
+use Rattle.histar_container.proofs.Reaching.{LinkAt, link_at, reached_under, not_reached, reached_or_not, no_way_back, one_holder}
 use Rattle.histar_container.proofs.Moves.{next_unused}
 use Rattle.histar_container.proofs.Cutting.{some_left}
 use Rattle.histar_container.proofs.TableMoves.{put_here, put_other, new_there, new_holder, new_other, laid_put, laid_new, laid_without}
@@ -102,16 +102,6 @@ module _ {L : Type 0} where
     -- an object is linked by one other at most
     pub one_link : (p q c : ℕ) → set.contains (links_in (objects p)) c ≡ true → set.contains (links_in (objects q)) c ≡ true → p ≡ q
     one_link = one_holder nat_eq eqb_tells objects next (objects_at objects tree.naming) tree.naming tree.laid
-
-    -- each object is reached from the root
-    pub all_reached : (q : ℕ) → is_there (objects q) ≡ true → Reached objects root q
-    all_reached q t =
-        let at_q = address_of q t in
-        under_reached nat_eq eqb_tells objects next (objects_at objects tree.naming) tree.naming tree.laid root [] tree.rooted at_q.0 q at_q.1 (below_root at_q.0)
-      where
-        below_root : (a : Address ℕ) → under nat_eq [] a ≡ true
-        below_root [] = refl
-        below_root (x ∷ a) = below_root a
 
     -- and the root is reached from nothing that is linked
     pub root_not_reached : (d o : ℕ) → set.contains (links_in (objects d)) o ≡ true → Reached objects o root → ⊥

@@ -1,11 +1,11 @@
 //! Links between objects, and the removal of an object with all that hangs below it.
 #![tactic(auto)]
 
-mod linking;
-mod removing;
+mod container;
+mod removal;
 
-pub use linking::{link_new, linked};
-pub use removing::remove_tree;
+pub use container::{link_new, linked};
+pub use removal::remove_tree;
 
 #[cfg(test)]
 mod tests;

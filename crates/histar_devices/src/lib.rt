@@ -4,8 +4,8 @@
 
 mod device;
 mod input;
-mod writing;
+mod output;
 
 pub use device::{Counted, Sink, Source};
 pub use input::{InputError, read_input};
-pub use writing::{WriteFailed, write_bytes};
+pub use output::{WriteFailed, write_bytes};

@@ -1,5 +1,5 @@
 -- What a new entry needs: a name, and that the directory segment may be written once the new object is linked in the directory.
-use Rattle.std.proofs.Common.{◌≡◌, ◌≢◌, ℕ, ◌+◌, ◌<◌, ◌≤◌, ◌&&◌, ◌||◌, Bool, true, false, List, length, None, arith, refl, sym, ap, ◌∙◌}
+use Rattle.std.proofs.Common.{◌≡◌, ◌≢◌, ℕ, ◌+◌, ◌<◌, ◌≤◌, ◌&&◌, ◌||◌, Bool, true, false, List, length, None, arith, sym, ap, ◌∙◌}
 use Rattle.std.specs.Prelude.{IsTrue, ◌∷◌, nat_le, option_map}
 use Rattle.std.specs.List.{list_all}
 use Rattle.std.proofs.lemmas.Bool.{and_parts}
@@ -7,6 +7,7 @@ use Rattle.std.specs.FinSet as set
 use Rattle.std.specs.Ordering.{eq_by_cmp}
 use Rattle.std.specs.Ordering.{nat_cmp}
 use Rattle.std.specs.Cmp.{nat_cmp_total}
+use Rattle.std.proofs.Math.Bool.{or-true}
 use mathlib.Core.Bool.{true≢false}
 use Rattle.histar_base.specs.Refusals.{◌orelse◌, unless}
 use Rattle.histar_flat.specs.Words.{Name, Path, is_name, is_path, most_names}
@@ -25,11 +26,6 @@ use Rattle.histar_refinement.proofs.FileChecks.{fits}
 -- the last name of a path that can be named is a name
 pub last_name : (m : Name) (d : Path) → IsTrue (is_path (m ∷ d)) → IsTrue (is_name m)
 last_name m d right = (and_parts (is_name m) (list_all is_name d) (and_parts (nat_le (length (m ∷ d)) most_names) (list_all is_name (m ∷ d)) right).1).0
-
--- either test passes
-or_true : (a : Bool) → (a || true) ≡ true
-or_true true = refl
-or_true false = refl
 
 -- A thread stands in the state, and a container that links a segment of these bytes, both of the same label.
 pub record HasSegment (s : State) (t d n : ℕ) (label clearance above : Levels) (old : List ℕ) : Type 0 where
@@ -66,7 +62,7 @@ module _ (s : State) (t d n : ℕ) (label clearance above : Levels) (old : List 
         thread = stays t below_thread other_thread ∙ there.thread;
         holder = changed_here (put s.objects s.next_object o) d (linking s.next_object) ∙ ap (option_map (linking s.next_object)) (put_other s.objects s.next_object o d (λ e. absurd (omega (arith, below_holder, e))) ∙ there.holder);
         segment = stays n below_segment other_segment ∙ there.segment;
-        linked = set.contains-insert nat_cmp_total there.links s.next_object n ∙ ap (λ (b : Bool). eq_by_cmp nat_cmp n s.next_object || b) there.linked ∙ or_true (eq_by_cmp nat_cmp n s.next_object);
+        linked = set.contains-insert nat_cmp_total there.links s.next_object n ∙ ap (λ (b : Bool). eq_by_cmp nat_cmp n s.next_object || b) there.linked ∙ or-true (eq_by_cmp nat_cmp n s.next_object);
       }
 
       module _ (inner : Object Levels) where

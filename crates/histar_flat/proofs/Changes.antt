@@ -76,7 +76,7 @@ pub record EachChange (session : Session) (f : Flat) (me : ProcName) (p : Proces
   pub kills : (n : ℕ) → P (without_process f (n ∷ me))
   pub wraps : (n : Name) (d : Path) → call ≡ Wrap (n ∷ d) → into session f p d ≡ None → get f.files (n ∷ d) ≡ None → writes session f p d ≡ true → same p.user nobody ≡ false → P (changed session f me p (Wrap (n ∷ d)))
 
-or_stays : (P : Flat → Type 0) (f g : Flat) (e : Option Errno) → P f → (e ≡ None → P g) → P (flat_or e f g)
+pub or_stays : (P : Flat → Type 0) (f g : Flat) (e : Option Errno) → P f → (e ≡ None → P g) → P (flat_or e f g)
 or_stays P f g None h k = k refl
 or_stays P f g (Some e) h k = h
 

@@ -1,7 +1,7 @@
 -- What removals and renames leave, and who takes private files away.
 use Rattle.std.specs.Prelude.{◌≡◌, ◌≢◌, Bool, true, false, not, cond, ◌∷◌, Some, None, refl}
 use Rattle.std.proofs.Common.{ap, sym, ◌∙◌, subst, inl, inr}
-use Rattle.std.proofs.lemmas.Bool.{true≢false}
+use Rattle.std.proofs.lemmas.Bool.{true≢false, cases_Bool}
 use Rattle.std.proofs.lemmas.Option.{none-some}
 use Rattle.histar_flat.specs.declared.calls.UnixCall.{UnixCall}
 use Rattle.histar_flat.specs.declared.calls.UnixCall.TheVariants.{Unlink, Rmdir, Rmtree, Rename}
@@ -21,7 +21,6 @@ use Rattle.histar_flat.proofs.FileLemmas.{get_other, get-keep}
 use Rattle.histar_flat.proofs.PrivateFiles.{elsewhere, written_elsewhere}
 use Rattle.histar_flat.proofs.Renaming.{stays, get_renamed, leaves, returns_from}
 use Rattle.histar_flat.proofs.Trees.{nothing_below}
-use Rattle.histar_flat.proofs.Under.{true_or_false}
 
 -- a call that is done was not refused
 done : (session : Session) (f : Flat) (me : ProcName) (call : UnixCall) → reply_to session f me call ≡ Done → IsAnswered session f me call Done
@@ -71,7 +70,7 @@ renames_keep_what_stands session f tree me n k d said r node =
     after q = ap (λ (g : Flat). get g.files q) (changed_after session f me (Rename (n ∷ d) k) Done is) ∙ get_renamed n k d apart f.files free q
 
     outside : get f.files r ≡ Some node → under_path (k ∷ d) r ≡ false
-    outside at = elim (true_or_false (under_path (k ∷ d) r)) [
+    outside at = elim (cases_Bool (under_path (k ∷ d) r)) [
       | inl u ↦ absurd (none-some node (sym (free r u) ∙ at))
       | inr u ↦ u
     ]
@@ -90,7 +89,7 @@ writers_take_private_files f tree q owner bytes at session me p call runs other 
 
     -- what may be written does not lead to the file
     not_above : (n : Name) (d : Path) → writes session f p d ≡ true → under_path (n ∷ d) q ≡ false
-    not_above n d w = elim (true_or_false (under_path (n ∷ d) q)) [
+    not_above n d w = elim (cases_Bool (under_path (n ∷ d) q)) [
       | inl u ↦ absurd (true≢false (sym w ∙ none n d u))
       | inr u ↦ u
     ]

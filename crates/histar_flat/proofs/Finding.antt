@@ -33,6 +33,12 @@ less Less p = refl
 less Equal p = absurd p
 less Greater p = absurd p
 
+-- the same of the test's value
+pub is_less : (o : Ordering) → is_lt o ≡ true → o ≡ Less
+is_less Less e = refl
+is_less Equal e = absurd cc
+is_less Greater e = absurd cc
+
 -- a test for ties
 pub equal : (o : Ordering) → is_eq o ≡ true → o ≡ Equal
 equal Less e = absurd cc

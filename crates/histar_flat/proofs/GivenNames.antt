@@ -1,7 +1,8 @@
 -- Names of processes are given once: a name that was given stays so, and all names that are there were given.
 use Rattle.std.specs.Prelude.{◌≡◌, ◌≤◌, ◌+◌, ℕ, Bool, true, false, ◌||◌, ◌&&◌, not, cond, nat_le, List, [], ◌∷◌, ◌++◌, Option, Some, None, refl}
 use Rattle.std.proofs.Common.{ap, ◌⊎◌, inl, inr, sym, ◌∙◌, arith}
-use Rattle.std.proofs.lemmas.Bool.{true≢false, and_parts, leb-true, le-leb}
+use Rattle.std.proofs.lemmas.Bool.{true≢false, and_parts, leb-true, le-leb, or_cases, cases_Bool}
+use Rattle.std.proofs.Math.Bool.{or-true}
 use Rattle.histar_flat.specs.declared.calls.CallLine.{CallLine}
 use Rattle.histar_flat.specs.declared.calls.UnixCall.{UnixCall}
 use Rattle.histar_flat.specs.Words.{Path, ProcName}
@@ -17,7 +18,6 @@ use Rattle.histar_flat.specs.Meaning.{first_user, first_process, boot, flat_end}
 use Rattle.histar_flat.specs.Laws.{NamesAreGiven, NamesAreGivenOnce}
 use Rattle.histar_flat.proofs.FileLemmas.{same_name_found, same_path_found, same_itself, get_other, get_new, get-keep}
 use Rattle.histar_flat.proofs.Choices.{chosen, left, kept}
-use Rattle.histar_flat.proofs.Under.{or_true, true_or_false}
 use Rattle.histar_flat.proofs.Renaming.{get_renamed}
 use Rattle.histar_flat.proofs.Changes.{EachChange, by_line, runs_is_there}
 use Rattle.histar_flat.proofs.Trees.{nothing_below, tree_after, tree_at_start}
@@ -53,7 +53,7 @@ given_without f name = still_given f.processes (without_process f name).processe
 
 -- a number is not past itself
 not_past : (n : ℕ) → nat_le (n + 1) n ≡ false
-not_past n = elim (true_or_false (nat_le (n + 1) n)) [
+not_past n = elim (cases_Bool (nat_le (n + 1) n)) [
   | inl h ↦ let l = leb-true (n + 1) n h in absurd (omega arith)
   | inr h ↦ h
 ]
@@ -115,22 +115,18 @@ pub given_stays : (session : Session) (f : Flat) (me : ProcName) (call : UnixCal
 given_stays session f me call = by_line session f me call (λ g. StillGiven f.processes g.processes) (λ name h. h) (λ p runs. still_changes f me p (runs_is_there (f.processes me) p runs) session call)
 
 -- whoever has a longer list of jobs has the last one, or one of the others
-longer_has : (jobs : List ProcName) (last job : ProcName) → has (jobs ++ last ∷ []) job ≡ true → (has jobs job ≡ true) ⊎ (job ≡ last)
+pub longer_has : (jobs : List ProcName) (last job : ProcName) → has (jobs ++ last ∷ []) job ≡ true → (has jobs job ≡ true) ⊎ (job ≡ last)
 longer_has [] last job h = elim (same_name_found job last) [
   | inl t ↦ inr t.1
   | inr t ↦ absurd (true≢false (sym h ∙ ap (λ b. b || false) t.0))
 ]
-longer_has (first ∷ jobs) last job h = elim (true_or_false (same job first)) [
+longer_has (first ∷ jobs) last job h = elim (cases_Bool (same job first)) [
   | inl t ↦ inl (ap (λ b. b || has jobs job) t)
   | inr t ↦ elim (longer_has jobs last job (sym (ap (λ b. b || has (jobs ++ last ∷ []) job) t) ∙ h)) [
-    | inl u ↦ inl (ap (λ b. same job first || b) u ∙ or_true (same job first))
+    | inl u ↦ inl (ap (λ b. same job first || b) u ∙ or-true (same job first))
     | inr u ↦ inr u
   ]
 ]
-
-either : (a b : Bool) → (a || b) ≡ true → (a ≡ true) ⊎ (b ≡ true)
-either true b h = inl refl
-either false b h = inr h
 
 module _ (f : Flat) (given : NamesAreGiven f) where
   -- something new, or written
@@ -223,7 +219,7 @@ module _ (f : Flat) (given : NamesAreGiven f) (tree : IsTree f) (me : ProcName) 
       still = given_with f me p here q more
 
   in_chain : (jobs : List ProcName) (job : ProcName) → (has jobs job || false) ≡ true → has jobs job ≡ true
-  in_chain jobs job k = elim (either (has jobs job) false k) [ inl i ↦ i | inr i ↦ absurd (true≢false (sym i)) ]
+  in_chain jobs job k = elim (or_cases (has jobs job) false k) [ inl i ↦ i | inr i ↦ absurd (true≢false (sym i)) ]
 
   known_in_chain : (job : ProcName) → has p.chain job ≡ true → knows p job ≡ true
   known_in_chain job h = ap (λ b. b || has p.held job) h
@@ -264,10 +260,10 @@ module _ (f : Flat) (given : NamesAreGiven f) (tree : IsTree f) (me : ProcName) 
       old_class q job (Some x) at c = given.of_carried_jobs q x job at c
 
       holds_more : (job : ProcName) → (has p.chain job || has (p.held ++ next_child me p ∷ []) job) ≡ true → (knows p job ≡ true) ⊎ (job ≡ next_child me p)
-      holds_more job k = elim (either (has p.chain job) (has (p.held ++ next_child me p ∷ []) job) k) [
+      holds_more job k = elim (or_cases (has p.chain job) (has (p.held ++ next_child me p ∷ []) job) k) [
         | inl i ↦ inl (known_in_chain job i)
         | inr i ↦ elim (longer_has p.held (next_child me p) job i) [
-          | inl v ↦ inl (ap (λ b. has p.chain job || b) v ∙ or_true (has p.chain job))
+          | inl v ↦ inl (ap (λ b. has p.chain job || b) v ∙ or-true (has p.chain job))
           | inr v ↦ inr v
         ]
       ]

@@ -3,7 +3,8 @@
 use Rattle.std.specs.Prelude.{◌≡◌, ◌≢◌, ◌⊎◌, ℕ, ◌+◌, Bool, true, false, cond, not, ◌&&◌, ◌||◌, List, [], ◌∷◌, ◌++◌, Option, Some, None, refl, nat_eq}
 use Rattle.std.specs.List.{list_all}
 use Rattle.std.proofs.Common.{ap, inl, inr, sym, ◌∙◌, subst}
-use Rattle.std.proofs.lemmas.Bool.{true≢false, and_parts}
+use Rattle.std.proofs.lemmas.Bool.{true≢false, and_parts, or_parts, cases_Bool}
+use Rattle.std.proofs.Math.Bool.{or-true}
 use Rattle.histar_base.specs.Refusals.{◌orelse◌, unless}
 use Rattle.histar_flat.specs.declared.calls.UnixCall.{UnixCall}
 use Rattle.histar_flat.specs.declared.calls.UnixCall.TheVariants.{Read}
@@ -16,11 +17,11 @@ use Rattle.histar_flat.specs.Files.{get}
 use Rattle.histar_flat.specs.Classes.{Class, Process, carries, is_free, knows, may_read, may_write}
 use Rattle.histar_flat.specs.Classes.Class.{Open, Private, Readable, Scratch, Grouped}
 use Rattle.histar_flat.specs.FlatState.{Flat, IsTree, Node, is_some_and, is_there, is_dir_at, is_file_at, reads, writes, into, moved, with_process}
-use Rattle.histar_flat.specs.FlatCalls.{inner_chain, next_child, refused, reply_or, reply_by, reply_to, flat_after, if_running, running}
+use Rattle.histar_flat.specs.FlatCalls.{inner_chain, next_child, refused, reply_or, reply_by, flat_after, if_running, running}
 use Rattle.histar_flat.specs.FlatCalls as flat
 use Rattle.histar_flat.specs.JobLaws.{lies_in_scratch, runs_in, JobsStayInside, CallsChangeTheirOwnTree, is_scratch, lies_in_some_scratch, out_of_jobs, JobsReadAsTheirUser}
 use Rattle.histar_flat.proofs.FileLemmas.{same_itself, same_name_found, same_path_found, get_other, get-keep}
-use Rattle.histar_flat.proofs.Under.{true_or_false, or_true, under_itself, under_child}
+use Rattle.histar_flat.proofs.Under.{under_itself, under_child}
 use Rattle.histar_flat.proofs.Renaming.{stays, get_renamed}
 use Rattle.histar_flat.proofs.Changes.{EachChange, by_line, runs_is_there}
 use Rattle.histar_flat.proofs.Trees.{nothing_below, tree_after}
@@ -79,13 +80,13 @@ lies_below f job d (n ∷ q) lies under = elim (same_path_found d (n ∷ q)) [
   | inl e ↦ subst (λ r. lies_in_scratch f job r ≡ true) e.1 lies
   | inr e ↦
       ap (λ b. is_some_and (get f.files (n ∷ q)) (λ x. carries job x.class) || b) (lies_below f job d q lies (sym (ap (λ b. b || under_path d q) e.0) ∙ under))
-      ∙ or_true (is_some_and (get f.files (n ∷ q)) (λ x. carries job x.class))
+      ∙ or-true (is_some_and (get f.files (n ∷ q)) (λ x. carries job x.class))
 ]
 
 -- what is in a scratch directory lies there
 lies_in : (f : Flat) (job : ProcName) (n : Name) (d : Path) → lies_in_scratch f job d ≡ true → lies_in_scratch f job (n ∷ d) ≡ true
 lies_in f job n d lies =
-    ap (λ b. is_some_and (get f.files (n ∷ d)) (λ x. carries job x.class) || b) lies ∙ or_true (is_some_and (get f.files (n ∷ d)) (λ x. carries job x.class))
+    ap (λ b. is_some_and (get f.files (n ∷ d)) (λ x. carries job x.class) || b) lies ∙ or-true (is_some_and (get f.files (n ∷ d)) (λ x. carries job x.class))
 
 module _ (session : Session) (f : Flat) (tree : IsTree f) (job : ProcName) (q : Path) (outside : lies_in_scratch f job q ≡ false) where
   -- the path is as it was
@@ -98,7 +99,7 @@ module _ (session : Session) (f : Flat) (tree : IsTree f) (job : ProcName) (q : 
     apart n d w e = true≢false (sym (lies_in f job n d (written_lies session p job inside f d w)) ∙ ap (lies_in_scratch f job) (sym e) ∙ outside)
 
     not_below : (n : Name) (d : Path) → writes session f p d ≡ true → under_path (n ∷ d) q ≡ false
-    not_below n d w = elim (true_or_false (under_path (n ∷ d) q)) [
+    not_below n d w = elim (cases_Bool (under_path (n ∷ d) q)) [
       | inl u ↦ absurd (true≢false (sym (lies_below f job (n ∷ d) q (lies_in f job n d (written_lies session p job inside f d w)) u) ∙ outside))
       | inr u ↦ u
     ]
@@ -193,7 +194,7 @@ module _ (f : Flat) (me : ProcName) (p : Process) (other : ProcName) (apart : un
 
   -- and a kill
   not_killed : (n : ℕ) → cond (under_process (n ∷ me) other) None (f.processes other) ≡ f.processes other
-  not_killed n = elim (true_or_false (under_process (n ∷ me) other)) [
+  not_killed n = elim (cases_Bool (under_process (n ∷ me) other)) [
     | inl under ↦ absurd (true≢false (sym (below_parent n me other under) ∙ apart))
     | inr under ↦ ap (λ b. cond b None (f.processes other)) under
   ]
@@ -244,20 +245,16 @@ module _ (session : Session) (f : Flat) (me : ProcName) (p : Process) where
       by None is = refl
       by (Some n) is = read_alike n.class is
 
-  neither : (a b : Bool) → (a || b) ≡ false → (a ≡ false) × (b ≡ false)
-  neither true b e = absurd (true≢false e)
-  neither false b e = (refl, e)
-
   into_alike : (d : Path) → lies_in_some_scratch f d ≡ false → into session f p d ≡ into session freed (out_of_jobs p) d
   into_alike [] outside = ap (λ b. unless b EACCES) (reads_alike [] outside)
   into_alike (n ∷ d) outside =
-      let parts = neither (is_some_and (get f.files (n ∷ d)) (λ x. is_scratch x.class)) (lies_in_some_scratch f d) outside in
+      let parts = or_parts (is_some_and (get f.files (n ∷ d)) (λ x. is_scratch x.class)) (lies_in_some_scratch f d) outside in
       λ i. into_alike d parts.1 i orelse unless (is_there f (n ∷ d)) ENOENT orelse unless (is_dir_at f (n ∷ d)) ENOTDIR orelse unless (reads_alike (n ∷ d) parts.0 i) EACCES
 
   refused_alike : (q : Path) → lies_in_some_scratch f q ≡ false → refused session f me p (Read q) ≡ refused session freed me (out_of_jobs p) (Read q)
   refused_alike [] outside = refl
   refused_alike (n ∷ d) outside =
-      let parts = neither (is_some_and (get f.files (n ∷ d)) (λ x. is_scratch x.class)) (lies_in_some_scratch f d) outside in
+      let parts = or_parts (is_some_and (get f.files (n ∷ d)) (λ x. is_scratch x.class)) (lies_in_some_scratch f d) outside in
       λ i. (into_alike d parts.1 i orelse unless (is_there f (n ∷ d)) ENOENT orelse unless (is_file_at f (n ∷ d)) EISDIR) orelse unless (reads_alike (n ∷ d) parts.0 i) EACCES
 
 -- Outside all scratch directories a process in jobs is answered what it were answered in none.

@@ -1,5 +1,5 @@
 -- Numbers are read from the texts that they are written as, and from no others.
-use Rattle.std.proofs.Common.{◌≡◌, ℕ, ◌+◌, ◌-◌, ◌*◌, ◌/◌, ◌%◌, ◌<◌, ◌≤◌, Bool, true, false, cond, leb, ◌&&◌, List, [], ◌∷◌, ◌++◌, Option, Some, None, refl, sym, ap, subst, ◌∙◌, inl, inr, arith}
+use Rattle.std.proofs.Common.{◌≡◌, ℕ, ◌+◌, ◌-◌, ◌*◌, ◌/◌, ◌%◌, ◌<◌, ◌≤◌, Bool, true, cond, leb, ◌&&◌, List, [], ◌∷◌, ◌++◌, Option, Some, None, refl, sym, ap, subst, ◌∙◌, inl, inr, arith}
 use Rattle.std.specs.List.{list_all}
 use Rattle.std.specs.Fmt.{decimal}
 use Rattle.std.specs.Str.{bytes_eq}
@@ -9,6 +9,7 @@ use Rattle.std.proofs.lemmas.Fmt.{decimal_is_IsNumeral, decimal_digit, decimal_s
 use Rattle.std.proofs.lemmas.Bool.{cases_lt, and_parts, leb-true, le-leb}
 use Rattle.std.proofs.lemmas.List.Folds.{list_all-append}
 use Rattle.std.proofs.lemmas.Option.{cond_some}
+use Rattle.std.proofs.Math.Bool.{and-true}
 use Rattle.histar_flat.specs.Words.{number_of, greatest_status, status_of, is_child_number}
 use Rattle.histar_flat.specs.Digits.{is_digit, is_first_digit, digit_count, number_by_digits, if_passes}
 
@@ -154,11 +155,7 @@ number_written test n small =
     let same : digits_value 10 (decimal n) ≡ n = (decimal_is_IsNumeral n (omega arith)).1 in
     ap (λ m. cond (test m && bytes_eq (decimal n) (decimal m)) (Some m) None) same
     ∙ ap (λ b. cond (test n && b) (Some n) None) ((bytes_eq-Decides (decimal n) (decimal n)).1 refl)
-    ∙ ap (λ b. cond b (Some n) None) (and_right (test n))
-  where
-    and_right : (b : Bool) → (b && true) ≡ b
-    and_right true = refl
-    and_right false = refl
+    ∙ ap (λ b. cond b (Some n) None) (and-true (test n))
 
 -- and the other way
 pub number_again : (test : ℕ → Bool) (n : ℕ) → n < 1000 → test n ≡ true → number_of test (decimal n) ≡ Some n

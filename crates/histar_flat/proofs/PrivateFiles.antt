@@ -1,7 +1,7 @@
 -- A private file and the processes of others: one call.
 use Rattle.std.specs.Prelude.{◌≡◌, ◌≢◌, ℕ, true, false, not, ◌&&◌, cond, List, ◌∷◌, length, nat_le, Option, Some, None, refl}
 use Rattle.std.proofs.Common.{ap, sym, ◌∙◌, inl, inr}
-use Rattle.std.proofs.lemmas.Bool.{true≢false}
+use Rattle.std.proofs.lemmas.Bool.{true≢false, cases_Bool}
 use Rattle.histar_base.specs.Refusals.{◌orelse◌, unless}
 use Rattle.histar_flat.specs.declared.calls.UnixCall.{UnixCall}
 use Rattle.histar_flat.specs.declared.calls.UnixCall.TheVariants.{Read, Write}
@@ -18,7 +18,6 @@ use Rattle.histar_flat.specs.FlatCalls.{most_bytes, no_file, refused, answer, re
 use Rattle.histar_flat.specs.Laws.{private_file, runs_for, takes_away}
 use Rattle.histar_flat.proofs.FileLemmas.{get_other, get-keep}
 use Rattle.histar_flat.proofs.Refusals.{passes_first, passes_later, passed}
-use Rattle.histar_flat.proofs.Under.{true_or_false}
 use Rattle.histar_flat.proofs.Renaming.{stays, get_renamed}
 use Rattle.histar_flat.proofs.Changes.{EachChange, by_line}
 use Rattle.histar_flat.proofs.Trees.{nothing_below}
@@ -59,7 +58,7 @@ module _ (f : Flat) (q : Path) (owner : Name) (bytes : List ℕ) (h : get f.file
       overwrites = λ n d new file w. get_other f.files (n ∷ d) _ q (written_elsewhere p (n ∷ d) other w) ∙ h;
       cuts = λ n d away w. get-keep f.files (λ t. not (under_path (n ∷ d) t)) q ∙ ap (λ b. cond (not b) (get f.files q) None) (sym (away q) ∙ kept) ∙ h;
       renames = λ n k d away apart free w.
-          let below : under_path (k ∷ d) q ≡ false = elim (true_or_false (under_path (k ∷ d) q)) [
+          let below : under_path (k ∷ d) q ≡ false = elim (cases_Bool (under_path (k ∷ d) q)) [
             | inl u ↦ absurd (elsewhere q (nothing_below f tree (k ∷ d) free q u) refl)
             | inr u ↦ u
           ] in

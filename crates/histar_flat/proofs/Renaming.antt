@@ -2,7 +2,7 @@
 use Rattle.std.specs.Prelude.{◌≡◌, ◌≢◌, Bool, true, false, ◌||◌, ◌&&◌, not, cond, List, [], ◌∷◌, map, Option, Some, None, refl}
 use Rattle.std.specs.List.{list_all}
 use Rattle.std.proofs.Common.{ap, ◌⊎◌, inl, inr, sym, ◌∙◌, subst}
-use Rattle.std.proofs.lemmas.Bool.{true≢false, and_parts, or_parts, not-true}
+use Rattle.std.proofs.lemmas.Bool.{true≢false, and_parts, or_parts, not-true, cases_Bool}
 use Rattle.std.specs.Ordering.{eq_by_cmp}
 use Rattle.std.specs.FinMap.{find}
 use Rattle.std.specs.FinMap.Entries.{where_key}
@@ -11,7 +11,7 @@ use Rattle.histar_flat.specs.PathOrder.{path_cmp, same, same_path, under_path}
 use Rattle.histar_flat.specs.Files.{Files, get, keep, from_list}
 use Rattle.histar_flat.specs.FlatState.{Node, moved}
 use Rattle.histar_flat.proofs.FileLemmas.{same_path_found, get-insert, get-keep, ties, same_lists}
-use Rattle.histar_flat.proofs.Under.{true_or_false, under_itself, under_child, above_is_not_under, apart, same_as_itself}
+use Rattle.histar_flat.proofs.Under.{under_itself, under_child, above_is_not_under, apart, same_as_itself}
 
 -- the map of a list has what the list has
 pub get-from_list : (es : List (Path × Node)) (q : Path) → get (from_list es) q ≡ find path_cmp q es
@@ -69,13 +69,13 @@ module _ (n k : Name) (d : Path) (ne : n ≢ k) where
 
   -- nothing ends below `old`
   pub leaves : (r : Path) → under_path (n ∷ d) (there r) ≡ false
-  leaves r = elim (true_or_false (under_path (n ∷ d) r)) [
+  leaves r = elim (cases_Bool (under_path (n ∷ d) r)) [
     | inl u ↦ disjoint k n d (there r) (λ e. ne (sym e)) (goes r u)
     | inr u ↦ ap (under_path (n ∷ d)) (stays (n ∷ d) (k ∷ d) r u) ∙ u
   ]
 
   pub returns_from : (r : Path) → under_path (k ∷ d) r ≡ false → moved (k ∷ d) (n ∷ d) (there r) ≡ r
-  returns_from r v = elim (true_or_false (under_path (n ∷ d) r)) [
+  returns_from r v = elim (cases_Bool (under_path (n ∷ d) r)) [
     | inl u ↦ back r u
     | inr u ↦ ap (moved (k ∷ d) (n ∷ d)) (stays (n ∷ d) (k ∷ d) r u) ∙ stays (k ∷ d) (n ∷ d) r v
   ]
@@ -91,7 +91,7 @@ module _ (n k : Name) (d : Path) (ne : n ≢ k) where
   ends_at : (q r : Path) → under_path (k ∷ d) r ≡ false → under_path (n ∷ d) q ≡ false → same_path q (to r) ≡ same_path (from q) r
   ends_at q r free out = elim (same_path_found q (to r)) [
     | inl t ↦ t.0 ∙ sym (ap (λ x. same_path x r) (ap from t.1 ∙ returns_from n k d ne r free) ∙ same_as_itself same same_path_found r)
-    | inr t ↦ t.0 ∙ sym (apart same same_path_found (from q) r (λ e. t.1 (by (true_or_false (under_path (k ∷ d) q)) e)))
+    | inr t ↦ t.0 ∙ sym (apart same same_path_found (from q) r (λ e. t.1 (by (cases_Bool (under_path (k ∷ d) q)) e)))
   ]
     where
       by : (under_path (k ∷ d) q ≡ true) ⊎ (under_path (k ∷ d) q ≡ false) → from q ≡ r → q ≡ to r
@@ -103,7 +103,7 @@ module _ (n k : Name) (d : Path) (ne : n ≢ k) where
 
   find_renamed : (es : List (Path × Node)) → list_all (λ e. not (under_path (k ∷ d) e.0)) es ≡ true → (q : Path) → find path_cmp q (renamed_list es) ≡ cond (under_path (n ∷ d) q) None (find path_cmp (from q) es)
   find_renamed [] free q = elim (under_path (n ∷ d) q) as (λ b. ◌≡◌ {A = Option Node} None (cond b None None)) [ true ↦ refl | false ↦ refl ]
-  find_renamed (e ∷ es) free q = step (find_renamed es parts.1 q) (true_or_false (under_path (n ∷ d) q))
+  find_renamed (e ∷ es) free q = step (find_renamed es parts.1 q) (cases_Bool (under_path (n ∷ d) q))
     where
       parts : (not (under_path (k ∷ d) e.0) ≡ true) × (list_all (λ x. not (under_path (k ∷ d) x.0)) es ≡ true)
       parts = and_parts (not (under_path (k ∷ d) e.0)) (list_all (λ x. not (under_path (k ∷ d) x.0)) es) free
@@ -127,7 +127,7 @@ module _ (n k : Name) (d : Path) (ne : n ≢ k) where
   none_below m h = ap (list_all (λ e. not (under_path (k ∷ d) e.0))) (same_lists m (keep m (λ t. not (under_path (k ∷ d) t))) by) ∙ kept m.entries
     where
       by : (q : Path) → get m q ≡ get (keep m (λ t. not (under_path (k ∷ d) t))) q
-      by q = elim (true_or_false (under_path (k ∷ d) q)) [
+      by q = elim (cases_Bool (under_path (k ∷ d) q)) [
         | inl u ↦ h q u ∙ sym (get-keep m (λ t. not (under_path (k ∷ d) t)) q ∙ ap (λ b. cond (not b) (get m q) None) u)
         | inr u ↦ sym (get-keep m (λ t. not (under_path (k ∷ d) t)) q ∙ ap (λ b. cond (not b) (get m q) None) u)
       ]

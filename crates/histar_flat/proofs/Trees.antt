@@ -31,11 +31,6 @@ there_or_nothing : (o : Option Node) → (is_some_and o (λ n. true) ≡ true) �
 there_or_nothing None = inr refl
 there_or_nothing (Some n) = inl refl
 
--- a directory is there
-directory_is_there : (o : Option Node) → is_some_and o is_dir ≡ true → is_some_and o (λ n. true) ≡ true
-directory_is_there None h = h
-directory_is_there (Some n) h = refl
-
 -- a file is there, and is no directory
 file_is_there : (o : Option Node) → is_some_and o (λ n. not (is_dir n)) ≡ true → (is_some_and o (λ n. true) ≡ true) × (is_some_and o is_dir ≡ false)
 file_is_there None h = absurd (true≢false (sym h))

@@ -1,25 +1,11 @@
 -- What lies below what.
 use Rattle.std.specs.Prelude.{ℕ, ◌≡◌, ◌≢◌, ◌≤◌, ◌<◌, ◌-◌, suc, Bool, true, false, ◌||◌, ◌&&◌, List, [], ◌∷◌, length, drop, refl}
-use Rattle.std.proofs.Common.{◌⊎◌, arith, ap, inl, inr, sym, ◌∙◌}
-use Rattle.std.proofs.lemmas.Bool.{true≢false, cases_lt}
+use Rattle.std.proofs.Common.{arith, ap, inl, inr, sym, ◌∙◌}
+use Rattle.std.proofs.lemmas.Bool.{true≢false, cases_lt, cases_Bool}
 use Rattle.std.specs.Cmp.Lexicographic.{pointwise}
+use Rattle.std.proofs.Math.Bool.{or-true, or-false}
 use Rattle.histar_flat.specs.PathOrder.{is_under}
 use Rattle.histar_flat.proofs.FileLemmas.{Found}
-
--- what is or is true is true
-pub or_true : (b : Bool) → (b || true) ≡ true
-or_true true = refl
-or_true false = refl
-
--- what is or is false is what it is
-or_false : (b : Bool) → (b || false) ≡ b
-or_false true = refl
-or_false false = refl
-
--- a test is true or false
-pub true_or_false : (b : Bool) → (b ≡ true) ⊎ (b ≡ false)
-true_or_false true = inl refl
-true_or_false false = inr refl
 
 -- lists of different lengths are not the same
 differ : {A : Type 0} (equal : A → A → Bool) (p q : List A) → length p ≢ length q → pointwise equal p q ≡ false
@@ -44,7 +30,7 @@ under_is_end equal (m ∷ p) [] le = absurd (omega (arith, le))
 under_is_end equal p (n ∷ q) le = elim (cases_lt (length q) (length p)) [
   | inl lt ↦
       let same : suc (length q) - length p ≡ 0 = omega (arith, lt, le) in
-      ap (λ b. pointwise equal p (n ∷ q) || b) (shorter equal p q lt) ∙ or_false (pointwise equal p (n ∷ q)) ∙ ap (λ (i : ℕ). pointwise equal p (drop i (n ∷ q))) (sym same)
+      ap (λ b. pointwise equal p (n ∷ q) || b) (shorter equal p q lt) ∙ or-false (pointwise equal p (n ∷ q)) ∙ ap (λ (i : ℕ). pointwise equal p (drop i (n ∷ q))) (sym same)
   | inr here ↦
       let more : suc (length q) - length p ≡ suc (length q - length p) = omega (arith, here) in
       ap (λ b. b || is_under equal p q) (differ equal p (n ∷ q) (λ e. omega (arith, e, here))) ∙ under_is_end equal p q here ∙ ap (λ (i : ℕ). pointwise equal p (drop i (n ∷ q))) (sym more)
@@ -61,7 +47,7 @@ module _ {A : Type 0} (equal : A → A → Bool) (found : (p q : List A) → Fou
 
   -- what is in something lies below what that lies below
   pub under_child : (p q : List A) (n : A) → is_under equal p q ≡ true → is_under equal p (n ∷ q) ≡ true
-  under_child p q n h = ap (λ b. pointwise equal p (n ∷ q) || b) h ∙ or_true (pointwise equal p (n ∷ q))
+  under_child p q n h = ap (λ b. pointwise equal p (n ∷ q) || b) h ∙ or-true (pointwise equal p (n ∷ q))
 
   -- what lies below another thing, and is not the same, lies in what lies below it
   pub under_inner : (p q : List A) (n : A) → pointwise equal p (n ∷ q) ≡ false → is_under equal p (n ∷ q) ≡ true → is_under equal p q ≡ true
@@ -80,14 +66,10 @@ module _ {A : Type 0} (equal : A → A → Bool) (found : (p q : List A) → Fou
 
   -- so what a thing lies in is not below it
   pub above_is_not_under : (p : List A) (n : A) → is_under equal (n ∷ p) p ≡ false
-  above_is_not_under p n = elim (true_or_false (is_under equal (n ∷ p) p)) [
+  above_is_not_under p n = elim (cases_Bool (is_under equal (n ∷ p) p)) [
     | inl h ↦ let longer = under_is_longer (n ∷ p) p h in absurd (omega arith)
     | inr h ↦ h
   ]
-
-  -- nor the same
-  pub above_is_another : (p : List A) (n : A) → p ≢ n ∷ p
-  above_is_another p n e = true≢false (sym (under_itself (n ∷ p)) ∙ ap (is_under equal (n ∷ p)) (sym e) ∙ above_is_not_under p n)
 
   -- different things are not the same
   pub apart : (p q : List A) → p ≢ q → pointwise equal p q ≡ false

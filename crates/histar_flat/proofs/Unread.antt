@@ -2,9 +2,10 @@
 use Rattle.std.specs.Prelude.{◌≡◌, Bool, true, false, not, ◌||◌, ◌&&◌, ◌==◌, cond, List, [], ◌∷◌, ◌++◌, length, nat_lt, nat_le, ℕ, Option, Some, None, is_some, refl}
 use Rattle.std.specs.List.{filter_map, cons_option}
 use Rattle.std.proofs.Common.{ap, sym, ◌∙◌, inl, inr}
-use Rattle.std.proofs.lemmas.Bool.{true≢false}
+use Rattle.std.proofs.lemmas.Bool.{true≢false, cases_Bool}
 use Rattle.std.proofs.lemmas.Option.{none-some}
 use Rattle.std.specs.FinMap.Entries.{where_key}
+use Rattle.std.proofs.Math.Bool.{and-true}
 use Rattle.histar_base.specs.Refusals.{◌orelse◌, unless}
 use Rattle.histar_flat.specs.declared.calls.UnixCall.{UnixCall}
 use Rattle.histar_flat.specs.declared.calls.UnixCall.TheVariants.{Create, Mkdir, Read, Write, Append, List as ListCall, Stat, Unlink, Rmdir, Rmtree, Rename, Spawn, Exit, Status, Kill, Whoami, Login, Wrap}
@@ -22,7 +23,7 @@ use Rattle.histar_flat.specs.FileLaws.{is_inside, UnreadDirectoriesAreUntold}
 use Rattle.histar_flat.proofs.Alike.{guarded}
 use Rattle.histar_flat.proofs.FileLemmas.{same_path_found, same_lists, get-keep}
 use Rattle.histar_flat.proofs.Refusals.{passes_first, passes_later}
-use Rattle.histar_flat.proofs.Under.{true_or_false, above_is_not_under}
+use Rattle.histar_flat.proofs.Under.{above_is_not_under}
 
 -- ---- what lies inside a directory
 
@@ -38,12 +39,8 @@ root_is_outside d = no_test (same_path d [])
 inside_child : (d : Path) (n : Name) (e : Path) → is_inside d (n ∷ e) ≡ under_path d e
 inside_child d n e = elim (same_path_found d (n ∷ e)) [
   | inl t ↦ ap (λ b. (b || under_path d e) && not b) t.0 ∙ sym (ap (λ (x : Path). under_path x e) t.1 ∙ above_is_not_under same same_path_found e n)
-  | inr t ↦ ap (λ b. (b || under_path d e) && not b) t.0 ∙ and_true (under_path d e)
+  | inr t ↦ ap (λ b. (b || under_path d e) && not b) t.0 ∙ and-true (under_path d e)
 ]
-  where
-    and_true : (b : Bool) → (b && true) ≡ b
-    and_true true = refl
-    and_true false = refl
 
 -- what is not below a directory is outside
 not_under_is_outside : (d e : Path) → under_path d e ≡ false → is_inside d e ≡ false
@@ -122,7 +119,7 @@ module _ (session : Session) (f g : Flat) (d : Path) (processes : f.processes �
 
   -- so an open way leads to what is not below
   open_is_outside : (e : Path) → into session f p e ≡ None → under_path d e ≡ false
-  open_is_outside e open_so_far = elim (true_or_false (under_path d e)) [
+  open_is_outside e open_so_far = elim (cases_Bool (under_path d e)) [
     | inl u ↦ let stops = way_stops e u in absurd (none-some stops.0 (sym open_so_far ∙ stops.1))
     | inr u ↦ u
   ]
@@ -134,7 +131,7 @@ module _ (session : Session) (f g : Flat) (d : Path) (processes : f.processes �
   -- each way is as open
   way_alike : (e : Path) → into session f p e ≡ into session g p e
   way_alike [] = ap (λ (o : Option Node). unless (is_some_and o (λ n. may_read session p n.class)) EACCES) root_alike
-  way_alike (n ∷ e) = elim (true_or_false (under_path d e)) [
+  way_alike (n ∷ e) = elim (cases_Bool (under_path d e)) [
     | inl u ↦
         let stops = way_stops e u in
         ap (λ (o : Option Errno). o orelse way_tests (get f.files (n ∷ e))) stops.1 ∙ sym (ap (λ (o : Option Errno). o orelse way_tests (get g.files (n ∷ e))) (sym (way_alike e) ∙ stops.1))
@@ -143,14 +140,14 @@ module _ (session : Session) (f g : Flat) (d : Path) (processes : f.processes �
 
   -- what comes after a way counts only where that leads outside
   by_way : (e : Path) (x y : Option Errno) → (under_path d e ≡ false → x ≡ y) → (into session f p e orelse x) ≡ (into session g p e orelse y)
-  by_way e x y same_rest = elim (true_or_false (under_path d e)) [
+  by_way e x y same_rest = elim (cases_Bool (under_path d e)) [
     | inl u ↦ let stops = way_stops e u in ap (λ (o : Option Errno). o orelse x) stops.1 ∙ sym (ap (λ (o : Option Errno). o orelse y) (sym (way_alike e) ∙ stops.1))
     | inr u ↦ λ i. way_alike e i orelse same_rest u i
   ]
 
   -- and so does what comes after that
   by_way_then : (e : Path) (a b x y : Option Errno) → (under_path d e ≡ false → a ≡ b) → (under_path d e ≡ false → x ≡ y) → ((into session f p e orelse a) orelse x) ≡ ((into session g p e orelse b) orelse y)
-  by_way_then e a b x y same_first same_rest = elim (true_or_false (under_path d e)) [
+  by_way_then e a b x y same_first same_rest = elim (cases_Bool (under_path d e)) [
     | inl u ↦ let stops = way_stops e u in ap (λ (o : Option Errno). (o orelse a) orelse x) stops.1 ∙ sym (ap (λ (o : Option Errno). (o orelse b) orelse y) (sym (way_alike e) ∙ stops.1))
     | inr u ↦ λ i. (way_alike e i orelse same_first u i) orelse same_rest u i
   ]

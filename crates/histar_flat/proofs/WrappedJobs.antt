@@ -2,7 +2,8 @@
 -- nothing but the directory is of the job.
 use Rattle.std.specs.Prelude.{◌≡◌, ◌⊎◌, ◌+◌, Bool, true, false, cond, ◌||◌, List, [], ◌∷◌, ◌++◌, Option, Some, None, refl}
 use Rattle.std.proofs.Common.{ap, inl, inr, sym, ◌∙◌, subst}
-use Rattle.std.proofs.lemmas.Bool.{true≢false, and_parts}
+use Rattle.std.proofs.lemmas.Bool.{true≢false, and_parts, or_parts}
+use Rattle.std.proofs.Math.Bool.{or-true}
 use Rattle.histar_flat.specs.declared.calls.CallLine.{CallLine}
 use Rattle.histar_flat.specs.declared.calls.UnixCall.{UnixCall}
 use Rattle.histar_flat.specs.declared.calls.UnixCall.TheVariants.{Wrap}
@@ -28,14 +29,14 @@ use Rattle.histar_flat.proofs.JobLaws.{jobs_stay_inside}
 use Rattle.histar_flat.proofs.Laws.{states_go_on}
 use Rattle.histar_flat.proofs.Refusals.{passes_later}
 use Rattle.histar_flat.proofs.Trees.{paths_are_a_tree, tree_after}
-use Rattle.histar_flat.proofs.Under.{or_true, under_itself}
+use Rattle.histar_flat.proofs.Under.{under_itself}
 
 -- ---- lists of jobs
 
 -- what is put last is in the list
 pub has_last : (jobs : List ProcName) (job : ProcName) → has (jobs ++ job ∷ []) job ≡ true
 has_last [] job = ap (λ b. b || false) (same_itself job)
-has_last (k ∷ jobs) job = ap (λ b. same job k || b) (has_last jobs job) ∙ or_true (same job k)
+has_last (k ∷ jobs) job = ap (λ b. same job k || b) (has_last jobs job) ∙ or-true (same job k)
 
 -- and what was in it still is
 has_longer : (jobs : List ProcName) (job last : ProcName) → has jobs job ≡ true → has (jobs ++ last ∷ []) job ≡ true
@@ -172,12 +173,8 @@ module _ (session : Session) (f : Flat) (tree : IsTree f) (names : NamesAreGiven
   outside : (q : Path) → under_path (n ∷ d) q ≡ false → lies_in_scratch wrapped job q ≡ false
   outside [] apart = ap (λ (x : Option Node). is_some_and x (λ y. carries job y.class)) (elsewhere [] apart) ∙ no_one [] (get f.files []) refl
   outside (m ∷ q) apart =
-      let parts = neither (same_path (n ∷ d) (m ∷ q)) (under_path (n ∷ d) q) apart in
+      let parts = or_parts (same_path (n ∷ d) (m ∷ q)) (under_path (n ∷ d) q) apart in
       (λ i. is_some_and (elsewhere (m ∷ q) apart i) (λ y. carries job y.class) || outside q parts.1 i) ∙ ap (λ b. b || false) (no_one (m ∷ q) (get f.files (m ∷ q)) refl)
-    where
-      neither : (a b : Bool) → (a || b) ≡ false → (a ≡ false) × (b ≡ false)
-      neither true b e = absurd (true≢false e)
-      neither false b e = (refl, e)
 
   -- the job's first process is there, so its name was given
   first_there : wrapped.processes job ≡ Some first

@@ -1,7 +1,7 @@
 -- A call of anyone outside the job but `rmdir` and `wrap`: the states stay the same outside the job.
 use Rattle.std.specs.Prelude.{None, Option, Some, [], false, is_some, length, nat_le, not, refl, true, ℕ, ◌++◌, ◌∷◌, ◌≡◌}
 use Rattle.std.proofs.Common.{ap, inl, inr, subst, sym, ◌∙◌}
-use Rattle.std.proofs.lemmas.Bool.{or_parts, true≢false}
+use Rattle.std.proofs.lemmas.Bool.{or_parts, true≢false, cases_Bool}
 use Rattle.histar_base.specs.Refusals.{unless, ◌orelse◌}
 use Rattle.histar_flat.specs.declared.calls.UnixCall.{UnixCall}
 use Rattle.histar_flat.specs.declared.calls.UnixCall.TheVariants.{Append, Create, Exit, Kill, List as ListCall, Login, Mkdir, Read, Rename, Rmdir, Rmtree, Spawn, Stat, Status, Unlink, Whoami, Wrap, Write}
@@ -14,9 +14,8 @@ use Rattle.histar_flat.specs.FlatState.{Content, Flat, bytes_of, entries_in, int
 use Rattle.histar_flat.specs.PathOrder.{same, under_process}
 use Rattle.histar_flat.specs.Sessions.{Session}
 use Rattle.histar_flat.specs.Words.{Name, Path, ProcName}
-use Rattle.histar_flat.proofs.Changes.{rename_tests}
+use Rattle.histar_flat.proofs.Changes.{rename_tests, or_stays}
 use Rattle.histar_flat.proofs.Trees.{nothing_below}
-use Rattle.histar_flat.proofs.Under.{true_or_false}
 use Rattle.histar_isolation.specs.Comparison.{is_dir_of, lies_in_job}
 use Rattle.histar_isolation.specs.Isolation.{is_rmdir_or_wrap}
 use Rattle.histar_isolation.proofs.Both.{both, looked_at}
@@ -28,7 +27,7 @@ use Rattle.histar_isolation.proofs.Processes.{found_alike, job_found_alike}
 use Rattle.histar_isolation.proofs.Relation.{IsStarted, SameOutside}
 use Rattle.histar_isolation.proofs.Renames.{renamed}
 use Rattle.histar_isolation.proofs.Steps.{outside_turned}
-use Rattle.histar_isolation.proofs.TestLemmas.{failed, guarded, is_same, left_holds, or_same, stops_later}
+use Rattle.histar_isolation.proofs.TestLemmas.{failed, guarded, is_same, left_holds, stops_later}
 use Rattle.histar_isolation.proofs.Walks.{entries_alike, into_alike}
 
 -- a refused call changes nothing on either side
@@ -77,12 +76,12 @@ module _ (m : ℕ) (w : ProcName) (session : Session) (f g : Flat) (r : SameOuts
       → (refused session f me p call ≡ None → ChangesFilesBelow d f (changed session f me p call))
       → (refused session g me p call ≡ None → ChangesFilesBelow d g (changed session g me p call))
       → SameOutside (m ∷ w) (flat_by session f me (Some p) call) (flat_by session g me (Some p) call)
-  split call n d e l cf cg = elim (true_or_false (lies_in_job (m ∷ w) f.files (n ∷ d))) [
+  split call n d e l cf cg = elim (cases_Bool (lies_in_job (m ∷ w) f.files (n ∷ d))) [
     | inl h ↦
-        let one = or_same (λ x. SameOutside (m ∷ w) x g) f (changed session f me p call) (refused session f me p call) r
+        let one = or_stays (λ x. SameOutside (m ∷ w) x g) f (changed session f me p call) (refused session f me p call) r
         (λ v. aside (m ∷ w) f g r (changed session f me p call) d h (cf v)) in
         outside_turned (m ∷ w) (flat_by session g me (Some p) call) (flat_by session f me (Some p) call)
-        (or_same (λ x. SameOutside (m ∷ w) x (flat_by session f me (Some p) call)) g (changed session g me p call)
+        (or_stays (λ x. SameOutside (m ∷ w) x (flat_by session f me (Some p) call)) g (changed session g me p call)
         (refused session g me p call)
         (outside_turned (m ∷ w) (flat_by session f me (Some p) call) g one)
         (λ v. aside (m ∷ w) g (flat_by session f me (Some p) call) (outside_turned (m ∷ w) (flat_by session f me (Some p) call) g one)
@@ -97,7 +96,7 @@ module _ (m : ℕ) (w : ProcName) (session : Session) (f g : Flat) (r : SameOuts
   -- a process outside the job has no child in the job but the job itself
   child_found : (q : ProcName) → is_child me q ≡ true → not_found f p q ≡ not_found g p q
   child_found [] c = refl
-  child_found (n ∷ a) c = elim (true_or_false (under_process (m ∷ w) (n ∷ a))) [
+  child_found (n ∷ a) c = elim (cases_Bool (under_process (m ∷ w) (n ∷ a))) [
     | inr u ↦ found_alike m w f g r hf p (n ∷ a) u
     | inl u ↦ subst (λ x. not_found f p x ≡ not_found g p x)
         (is_same (m ∷ w) (n ∷ a) (left_holds (same (m ∷ w) (n ∷ a)) (under_process (m ∷ w) a)
@@ -155,7 +154,7 @@ module _ (m : ℕ) (w : ProcName) (session : Session) (f g : Flat) (r : SameOuts
   anyone Spawn c = both m w session f g r hf hg me p Spawn refl (λ v. refl)
   anyone (Exit n) c = both m w session f g r hf hg me p (Exit n) refl (λ v. refl)
   anyone (Status q) c = still (m ∷ w) f g (refused session f me p (Status q)) (refused session g me p (Status q)) r
-  anyone (Kill q) c = elim (true_or_false (is_child me q)) [
+  anyone (Kill q) c = elim (cases_Bool (is_child me q)) [
     | inl h ↦ both m w session f g r hf hg me p (Kill q) (ap (λ x. x orelse unless (is_child me q) EACCES) (child_found q h)) (λ v. refl)
     | inr h ↦ both_refused (m ∷ w) f g (changed session f me p (Kill q)) (changed session g me p (Kill q)) (refused session f me p (Kill q))
         (refused session g me p (Kill q)) r

@@ -1,13 +1,14 @@
 -- Changes that keep two states the same outside a job.
 use Rattle.std.specs.Prelude.{None, Some, [], cond, false, not, refl, true, ◌||◌, ◌∷◌, ◌≡◌, ◌≢◌}
 use Rattle.std.proofs.Common.{ap, inl, inr, sym, ◌∙◌}
-use Rattle.std.proofs.lemmas.Bool.{or_parts, true≢false}
+use Rattle.std.proofs.lemmas.Bool.{or_parts, true≢false, cases_Bool}
+use Rattle.std.proofs.Math.Bool.{or-true}
 use Rattle.histar_flat.specs.Files.{Files, get, insert, keep}
 use Rattle.histar_flat.specs.FlatState.{Node}
 use Rattle.histar_flat.specs.PathOrder.{same, same_path, under_path}
 use Rattle.histar_flat.specs.Words.{Name, Path, ProcName}
 use Rattle.histar_flat.proofs.FileLemmas.{get-insert, get-keep, get_other, same_path_found}
-use Rattle.histar_flat.proofs.Under.{or_true, true_or_false, under_itself}
+use Rattle.histar_flat.proofs.Under.{under_itself}
 use Rattle.histar_isolation.specs.Comparison.{is_dir_of, lies_in_job}
 use Rattle.histar_isolation.proofs.Outside.{ChangesBelow, is_below}
 use Rattle.histar_isolation.proofs.Relation.{SameFiles}
@@ -18,9 +19,9 @@ module _ (job : ProcName) where
   pub lies_inserted : (m : Files Node) (q : Path) (x : Node) → is_dir_of job (get m q) ≡ false → (r : Path) → lies_in_job job m r ≡ true
       → lies_in_job job (insert m q x) r ≡ true
   lies_inserted m q x plain [] h = h
-  lies_inserted m q x plain (n ∷ d) h = elim (true_or_false (lies_in_job job m d)) [
+  lies_inserted m q x plain (n ∷ d) h = elim (cases_Bool (lies_in_job job m d)) [
     | inl i ↦
-        ap (λ b. is_dir_of job (get (insert m q x) d) || b) (lies_inserted m q x plain d i) ∙ or_true (is_dir_of job (get (insert m q x) d))
+        ap (λ b. is_dir_of job (get (insert m q x) d) || b) (lies_inserted m q x plain d i) ∙ or-true (is_dir_of job (get (insert m q x) d))
     | inr i ↦
         let dir : is_dir_of job (get m d) ≡ true = left_holds (is_dir_of job (get m d)) (lies_in_job job m d) i h in
         elim (same_path_found d q) [
@@ -37,7 +38,7 @@ module _ (job : ProcName) where
   insert_alike m n r q x plain = record { same = by }
     where
       by : (t : Path) → lies_in_job job (insert m q x) t ≡ false → get (insert m q x) t ≡ get (insert n q x) t
-      by t h = elim (true_or_false (lies_in_job job m t)) [
+      by t h = elim (cases_Bool (lies_in_job job m t)) [
         | inl i ↦ absurd (true≢false (sym (lies_inserted m q x plain t i) ∙ h))
         | inr i ↦ get-insert m q x t ∙ ap (cond (same_path t q) (Some x)) (r.same t i) ∙ sym (get-insert n q x t)
       ]
@@ -59,7 +60,7 @@ module _ (job : ProcName) where
     where
       by : (t : Path) → lies_in_job job (keep m (λ t. not (under_path q t))) t ≡ false
           → get (keep m (λ t. not (under_path q t))) t ≡ get (keep n (λ t. not (under_path q t))) t
-      by t h = get-keep m (λ t. not (under_path q t)) t ∙ elim (true_or_false (under_path q t)) [
+      by t h = get-keep m (λ t. not (under_path q t)) t ∙ elim (cases_Bool (under_path q t)) [
         | inl u ↦ ap (λ b. cond (not b) (get m t) None) u ∙ sym (ap (λ b. cond (not b) (get n t) None) u)
         | inr u ↦
             ap (cond (not (under_path q t)) (get m t)) refl
@@ -79,7 +80,7 @@ module _ (job : ProcName) where
     where
       by : (q : Path) → is_below d q ≡ false → under_path (n ∷ d) q ≡ false
       by [] h = refl
-      by (k ∷ q) h = elim (true_or_false (under_path (n ∷ d) (k ∷ q))) [
+      by (k ∷ q) h = elim (cases_Bool (under_path (n ∷ d) (k ∷ q))) [
         | inl u ↦ absurd (true≢false (sym (parent_under same same_path_found d q n k u) ∙ h))
         | inr u ↦ u
       ]

@@ -1,7 +1,8 @@
 -- Two runs, step by step, and what their comparison finds.
 use Rattle.std.specs.Prelude.{Bool, List, None, Some, [], cond, false, map, not, refl, true, ◌&&◌, ◌++◌, ◌||◌, ◌∷◌, ◌≡◌}
 use Rattle.std.proofs.Common.{ap, inl, inr, subst, sym, ◌∙◌}
-use Rattle.std.proofs.lemmas.Bool.{and_parts, true≢false}
+use Rattle.std.proofs.lemmas.Bool.{and_parts, true≢false, cases_Bool}
+use Rattle.std.proofs.Math.Bool.{and-false}
 use Rattle.histar_flat.specs.declared.calls.CallLine.{CallLine}
 use Rattle.histar_flat.specs.declared.calls.UnixCall.{UnixCall}
 use Rattle.histar_flat.specs.Files.{from_list, get}
@@ -13,24 +14,19 @@ use Rattle.histar_flat.specs.Sessions.{Session}
 use Rattle.histar_flat.specs.Texts.{reply_text}
 use Rattle.histar_flat.specs.Words.{Path, ProcName}
 use Rattle.histar_flat.proofs.FileLemmas.{same_itself}
-use Rattle.histar_flat.proofs.Under.{true_or_false}
 use Rattle.histar_isolation.specs.Comparison.{differs, first_line, first_path, first_that, is_left_out, is_outsider, lies_in_job, outsiders, text_at}
 use Rattle.histar_isolation.specs.Isolation.{is_quiet, is_rmdir_or_wrap}
 use Rattle.histar_isolation.proofs.Relation.{IsStarted, SameOutside}
 use Rattle.histar_isolation.proofs.TestLemmas.{is_same}
 
 alike_there : (job : ProcName) (f g : Flat) → SameOutside job f g → (q : Path) → differs job f g q ≡ false
-alike_there job f g r q = elim (true_or_false (lies_in_job job f.files q)) [
+alike_there job f g r q = elim (cases_Bool (lies_in_job job f.files q)) [
   | inl h ↦
       ap (λ b. not b && not (same (text_at q (get f.files q)) (text_at q (get g.files q)))) (ap (λ b. b || lies_in_job job g.files q) h)
   | inr h ↦ ap (λ o. not (is_left_out job f g q) && not (same (text_at q o) (text_at q (get g.files q)))) (r.files.same q h)
       ∙ ap (λ b. not (is_left_out job f g q) && not b) (same_itself (text_at q (get g.files q)))
-      ∙ and_false (not (is_left_out job f g q))
+      ∙ and-false (not (is_left_out job f g q))
 ]
-  where
-    and_false : (b : Bool) → (b && false) ≡ false
-    and_false true = refl
-    and_false false = refl
 
 none_differs : (job : ProcName) (f g : Flat) → SameOutside job f g → (qs : List Path) → first_that (differs job f g) qs ≡ None
 none_differs job f g r [] = refl
@@ -67,11 +63,11 @@ module _ (job : ProcName) (session : Session) (steps : Steps job session) where
   runs_alike (c ∷ calls) f g r hf hg quiet =
       let here = and_parts (not (same (parent job) c.process && is_rmdir_or_wrap c.call))
       (is_quiet job (answered_from session f' calls)) quiet in
-      elim (true_or_false (under_process job c.process)) [
+      elim (cases_Bool (under_process job c.process)) [
         | inl u ↦
             let rest = runs_alike calls f' g (steps.inside f g c.process c.call r hf u) hf' hg here.1 in
             record { lines = rw u rest.lines; ends = rw u rest.ends }
-        | inr u ↦ elim (true_or_false (same (parent job) c.process)) [
+        | inr u ↦ elim (cases_Bool (same (parent job) c.process)) [
           | inl w ↦
               let calm = is_calm (same (parent job) c.process) (is_rmdir_or_wrap c.call) here.0 w in
               let state = subst (λ me. SameOutside job (flat_after session f me c.call) (flat_after session g me c.call))

@@ -1,7 +1,7 @@
 -- Each line leaves the directory of a job where its call and its reply say.
 use Rattle.std.specs.Prelude.{Bool, List, None, Option, Some, [], cond, false, not, refl, true, ◌&&◌, ◌||◌, ◌∷◌, ◌≡◌}
 use Rattle.std.proofs.Common.{ap, inl, inr, sym, ◌∙◌}
-use Rattle.std.proofs.lemmas.Bool.{and_parts, true≢false}
+use Rattle.std.proofs.lemmas.Bool.{and_parts, true≢false, cases_Bool}
 use Rattle.histar_base.specs.Refusals.{unless, ◌orelse◌}
 use Rattle.histar_flat.specs.declared.calls.CallLine.{CallLine}
 use Rattle.histar_flat.specs.declared.calls.UnixCall.{UnixCall}
@@ -27,7 +27,7 @@ use Rattle.histar_flat.proofs.GivenNames.{given_after, names_are_given_once, nex
 use Rattle.histar_flat.proofs.JobLaws.{writes_of_job}
 use Rattle.histar_flat.proofs.Refusals.{passes_first, passes_later}
 use Rattle.histar_flat.proofs.Trees.{paths_are_a_tree, tree_after, walked_into_directory}
-use Rattle.histar_flat.proofs.Under.{true_or_false, under_itself}
+use Rattle.histar_flat.proofs.Under.{under_itself}
 use Rattle.histar_flat.proofs.WrappedJobs.{has_last}
 use Rattle.histar_isolation.specs.Comparison.{is_dir_of, lies_in_job}
 use Rattle.histar_isolation.specs.Following.{FindsLeftOut, after_reply, directory_of, followed, lies_below}
@@ -200,7 +200,7 @@ followed_is_left_out job f directory h (n ∷ d) =
 
     up : (q : Path) → (is_dir_of job (get f.files q) || lies_in_job job f.files q) ≡ true → lies_at directory q ≡ true
     up [] c = h.carried [] (left_holds (is_dir_of job (get f.files [])) false refl c)
-    up (x ∷ e) c = elim (true_or_false (is_dir_of job (get f.files (x ∷ e)))) [
+    up (x ∷ e) c = elim (cases_Bool (is_dir_of job (get f.files (x ∷ e)))) [
       | inl dir ↦ h.carried (x ∷ e) dir
       | inr no_dir ↦ lies_at_entry directory x e (up e (sym (ap (λ b. b || lies_in_job job f.files (x ∷ e)) no_dir) ∙ c))
     ]

@@ -1,7 +1,7 @@
 -- The directory of a job is where calls and replies say: each directory of the job is at the followed path or below it, and one is at it.
 use Rattle.std.specs.Prelude.{Bool, None, Option, Some, [], cond, false, not, option_map, refl, true, ◌∷◌, ◌≡◌, ◌≢◌, ◌⊎◌}
 use Rattle.std.proofs.Common.{ap, inl, inr, sym, ◌∙◌}
-use Rattle.std.proofs.lemmas.Bool.{true≢false}
+use Rattle.std.proofs.lemmas.Bool.{true≢false, cases_Bool}
 use Rattle.histar_flat.specs.Files.{get, insert}
 use Rattle.histar_flat.specs.FlatState.{Flat, IsTree, Node, moved, with_node, with_renamed, without_below}
 use Rattle.histar_flat.specs.PathOrder.{same, under_path}
@@ -9,7 +9,7 @@ use Rattle.histar_flat.specs.Words.{Name, Path, ProcName}
 use Rattle.histar_flat.proofs.FileLemmas.{get-keep, get_new, get_other, same_path_found}
 use Rattle.histar_flat.proofs.Renaming.{leaves, returns_from, stays}
 use Rattle.histar_flat.proofs.Trees.{nothing_below}
-use Rattle.histar_flat.proofs.Under.{above_is_not_under, true_or_false, under_child, under_inner, under_itself}
+use Rattle.histar_flat.proofs.Under.{above_is_not_under, under_child, under_inner, under_itself}
 use Rattle.histar_isolation.specs.Comparison.{is_dir_of}
 use Rattle.histar_isolation.specs.Following.{left_without}
 use Rattle.histar_isolation.proofs.Renames.{gone_renamed, kept_renamed, renamed}
@@ -54,7 +54,7 @@ module _ (job : ProcName) (f : Flat) (directory : Option Path) (h : IsFollowed j
   -- something is taken away with all below it
   pub cut_followed : (q : Path) → IsFollowed job (without_below f q) (left_without q directory)
   cut_followed q = record {
-    carried = λ r is. by r is (true_or_false (under_path q r));
+    carried = λ r is. by r is (cases_Bool (under_path q r));
     there = λ p e. stays_there directory refl p e;
   }
     where
@@ -63,7 +63,7 @@ module _ (job : ProcName) (f : Flat) (directory : Option Path) (h : IsFollowed j
 
       still_lies : (o : Option Path) (r : Path) → under_path q r ≡ false → lies_at o r ≡ true → lies_at (left_without q o) r ≡ true
       still_lies None r u l = l
-      still_lies (Some p) r u l = elim (true_or_false (under_path q p)) [
+      still_lies (Some p) r u l = elim (cases_Bool (under_path q p)) [
         | inl v ↦ absurd (true≢false (sym (under_all same same_path_found q p r v l) ∙ u))
         | inr v ↦ ap (λ b. lies_at (cond b None (Some p)) r) v ∙ l
       ]
@@ -78,7 +78,7 @@ module _ (job : ProcName) (f : Flat) (directory : Option Path) (h : IsFollowed j
       stays_there : (o : Option Path) → directory ≡ o → (p : Path) → left_without q o ≡ Some p
           → is_dir_of job (get (without_below f q).files p) ≡ true
       stays_there None is p e = absurd (none_some p e)
-      stays_there (Some r) is p e = elim (true_or_false (under_path q r)) [
+      stays_there (Some r) is p e = elim (cases_Bool (under_path q r)) [
         | inl u ↦ absurd (none_some p (sym (ap (λ b. cond b None (Some r)) u) ∙ e))
         | inr u ↦
             let same_place : Some r ≡ Some p = sym (ap (λ b. cond b None (Some r)) u) ∙ e in
@@ -111,7 +111,7 @@ moved_under n k d p (x ∷ e) u = elim (same_path_found p (x ∷ e)) [
 ]
   where
     outside : (z : Path) → under_path z d ≡ true → under_path (n ∷ d) z ≡ false
-    outside z over = elim (true_or_false (under_path (n ∷ d) z)) [
+    outside z over = elim (cases_Bool (under_path (n ∷ d) z)) [
       | inl u ↦ absurd (true≢false (sym (under_all same same_path_found (n ∷ d) z d u over) ∙ above_is_not_under same same_path_found d n))
       | inr u ↦ u
     ]
@@ -122,7 +122,7 @@ pub rename_followed : (job : ProcName) (f : Flat) (directory : Option Path) → 
     → IsFollowed job (with_renamed f (n ∷ d) (k ∷ d)) (option_map (moved (n ∷ d) (k ∷ d)) directory)
 unfolding renamed
 rename_followed job f directory h tree n k d ne free = record {
-  carried = λ q is. by q is (true_or_false (under_path (n ∷ d) q));
+  carried = λ q is. by q is (cases_Bool (under_path (n ∷ d) q));
   there = λ p e. moved_there directory refl p e;
 }
   where
@@ -155,7 +155,7 @@ rename_followed job f directory h tree n k d ne free = record {
         ∙ h.there r is
       where
         old_place : (z : Path) → directory ≡ Some z → under_path (k ∷ d) z ≡ false
-        old_place z i = elim (true_or_false (under_path (k ∷ d) z)) [
+        old_place z i = elim (cases_Bool (under_path (k ∷ d) z)) [
           | inl u ↦ absurd (dir_is_there job (get f.files z) (h.there z i) (below z u))
           | inr u ↦ u
         ]

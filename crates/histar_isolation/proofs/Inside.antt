@@ -1,7 +1,7 @@
 -- A job's own calls change nothing outside the job.
 use Rattle.std.specs.Prelude.{None, Some, [], cond, false, nat_eq, refl, true, ◌++◌, ◌+◌, ◌||◌, ◌∷◌, ◌≡◌, ◌≢◌}
 use Rattle.std.proofs.Common.{ap, arith, inl, inr, sym, ◌∙◌}
-use Rattle.std.proofs.lemmas.Bool.{true≢false}
+use Rattle.std.proofs.lemmas.Bool.{true≢false, cases_Bool}
 use Rattle.histar_flat.specs.declared.calls.UnixCall.{UnixCall}
 use Rattle.histar_flat.specs.Classes.{Process}
 use Rattle.histar_flat.specs.Classes.Class.{Scratch}
@@ -16,7 +16,7 @@ use Rattle.histar_flat.proofs.Changes.{EachChange, by_line, runs_is_there}
 use Rattle.histar_flat.proofs.FileLemmas.{same_itself, same_name_found, same_path_found}
 use Rattle.histar_flat.proofs.Renaming.{get_renamed, stays}
 use Rattle.histar_flat.proofs.Trees.{nothing_below}
-use Rattle.histar_flat.proofs.Under.{true_or_false, under_child, under_is_longer}
+use Rattle.histar_flat.proofs.Under.{under_child, under_is_longer}
 use Rattle.histar_isolation.specs.Comparison.{is_dir_of, lies_in_job}
 use Rattle.histar_isolation.proofs.Effects.{cut_below, insert_below}
 use Rattle.histar_isolation.proofs.Kept.{file_is_no_dir, not_next, place}
@@ -32,7 +32,7 @@ pub record ChangesFilesBelow (d : Path) (f f' : Flat) : Type 0 where
 
 not_below : (n : Name) (d q : Path) → is_below d q ≡ false → under_path (n ∷ d) q ≡ false
 not_below n d [] h = refl
-not_below n d (k ∷ q) h = elim (true_or_false (under_path (n ∷ d) (k ∷ q))) [
+not_below n d (k ∷ q) h = elim (cases_Bool (under_path (n ∷ d) (k ∷ q))) [
   | inl u ↦ absurd (true≢false (sym (parent_under same same_path_found d q n k u) ∙ h))
   | inr u ↦ u
 ]
@@ -118,13 +118,13 @@ module _ (job : ProcName) (session : Session) (f g : Flat) (r : SameOutside job 
         (own (record p { user = name; held = [] }) refl);
     kills = λ n. record {
       files = r.files;
-      processes = λ q v. elim (true_or_false (under_process (n ∷ me) q)) [
+      processes = λ q v. elim (cases_Bool (under_process (n ∷ me) q)) [
         | inl u ↦
             absurd (true≢false (sym (under_all nat_eq same_name_found job (n ∷ me) q (under_child nat_eq same_name_found job me n inside) u)
             ∙ v))
         | inr u ↦ ap (λ b. cond b None (f.processes q)) u ∙ r.processes q v
       ];
-      chain = elim (true_or_false (under_process (n ∷ me) job)) [
+      chain = elim (cases_Bool (under_process (n ∷ me) job)) [
         | inl u ↦
             let long = under_is_longer nat_eq same_name_found (n ∷ me) job u in
             let short = under_is_longer nat_eq same_name_found job me inside in

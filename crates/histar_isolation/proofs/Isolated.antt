@@ -1,7 +1,7 @@
 -- Where a `wrap` started a job, and who called it calls no `rmdir` and no `wrap` after that, the job changes nothing outside.
 use Rattle.std.specs.Prelude.{List, None, Option, Some, [], cond, false, nat_eq, refl, true, ℕ, ◌++◌, ◌+◌, ◌||◌, ◌∷◌, ◌≡◌, ◌⊎◌}
 use Rattle.std.proofs.Common.{ap, inl, inr, subst, sym, ◌∙◌}
-use Rattle.std.proofs.lemmas.Bool.{or_parts, true≢false}
+use Rattle.std.proofs.lemmas.Bool.{or_parts, true≢false, cases_Bool}
 use Rattle.histar_base.specs.Refusals.{◌orelse◌}
 use Rattle.histar_flat.specs.declared.calls.CallLine.{CallLine}
 use Rattle.histar_flat.specs.declared.calls.UnixCall.{UnixCall}
@@ -25,7 +25,7 @@ use Rattle.histar_flat.proofs.Changes.{runs_is_there}
 use Rattle.histar_flat.proofs.FileLemmas.{get_new, get_other, same_itself, same_name_found, same_path_found}
 use Rattle.histar_flat.proofs.GivenNames.{given_after, given_stays, names_are_given_once, next_is_new}
 use Rattle.histar_flat.proofs.Trees.{paths_are_a_tree, tree_after}
-use Rattle.histar_flat.proofs.Under.{above_is_not_under, true_or_false, under_itself}
+use Rattle.histar_flat.proofs.Under.{above_is_not_under, under_itself}
 use Rattle.histar_flat.proofs.WrappedJobs.{given_above, has_last}
 use Rattle.histar_isolation.specs.Comparison.{first_line, first_path, is_wrap_reply, outsiders, starts}
 use Rattle.histar_isolation.specs.Isolation.{IsolatesJobs, after_start, is_quiet}
@@ -68,7 +68,7 @@ pub never_again : (session : Session) (job : ProcName) (calls : List CallLine) (
 never_again session job [] f given = refl
 never_again session job (c ∷ calls) f given =
     ap (λ b. b || starts job (answered_from session (flat_after session f c.process c.call) calls))
-    (by (true_or_false (is_wrap_reply job c.call (reply_to session f c.process c.call))))
+    (by (cases_Bool (is_wrap_reply job c.call (reply_to session f c.process c.call))))
     ∙ never_again session job calls (flat_after session f c.process c.call) (given_stays session f c.process c.call job given)
   where
     by : (is_wrap_reply job c.call (reply_to session f c.process c.call) ≡ true) ⊎
@@ -99,14 +99,14 @@ module _ (session : Session) (f : Flat) (names : NamesAreGiven f) (me : ProcName
 
   -- who was there neither is in the job nor holds it
   known_not : (q : ProcName) (y : Process) → f.processes q ≡ Some y → knows y new_job ≡ false
-  known_not q y e = elim (true_or_false (knows y new_job)) [
+  known_not q y e = elim (cases_Bool (knows y new_job)) [
     | inl k ↦ absurd (not_given (names.of_known_jobs q y new_job e k))
     | inr k ↦ k
   ]
 
   in_not : (q : ProcName) (y : Process) → f.processes q ≡ Some y → has y.chain new_job ≡ under_process new_job q
   in_not q y e = (or_parts (has y.chain new_job) (has y.held new_job) (known_not q y e)).0 ∙ sym
-      (elim (true_or_false (under_process new_job q)) [
+      (elim (cases_Bool (under_process new_job q)) [
         | inl u ↦ absurd (not_given (given_above f.processes new_job q u (names.of_processes q y e)))
         | inr u ↦ u
       ])
@@ -158,7 +158,7 @@ module _ (m : ℕ) (w : ProcName) (session : Session) where
       → RunAlike job (answered_from session f calls) (answered_from session f (without job calls)) (flat_end session f calls)
       (flat_end session f (without job calls))
   before [] f tree names st quiet = absurd (true≢false (sym st))
-  before (c ∷ calls) f tree names st quiet = elim (true_or_false (is_wrap_reply job c.call (reply_to session f c.process c.call))) [
+  before (c ∷ calls) f tree names st quiet = elim (cases_Bool (is_wrap_reply job c.call (reply_to session f c.process c.call))) [
     | inl now ↦
         let is_wrapper : w ≡ c.process = wrap_line session f c.process job (λ x. w ≡ c.process) c.call (λ p n d here e. cc) now in
         let outside : under_process job c.process ≡ false = ap (under_process job) (sym is_wrapper)
@@ -176,9 +176,9 @@ module _ (m : ℕ) (w : ProcName) (session : Session) where
         let rest = before calls g tree_now names_now (sym (ap (λ b. b || starts job (answered_from session g calls)) not_now) ∙ st)
         (sym (ap (λ b. is_quiet job (cond b (answered_from session g calls) (after_start job (answered_from session g calls)))) not_now)
         ∙ quiet) in
-        elim (true_or_false (under_process job c.process)) [
+        elim (cases_Bool (under_process job c.process)) [
           | inl u ↦ inside_line u (unmoved u) rest
-          | inr u ↦ elim (true_or_false (same w c.process)) [
+          | inr u ↦ elim (cases_Bool (same w c.process)) [
             | inl v ↦ record { lines = rw (u, u, v) rest.lines; ends = rw u rest.ends }
             | inr v ↦ record {
               lines = rw (u, u, v) (ap (λ b. cond b

@@ -1,7 +1,8 @@
 -- What holds after a job was started is kept by each call.
 use Rattle.std.specs.Prelude.{Bool, None, Option, Some, [], cond, false, nat_eq, not, refl, true, ◌&&◌, ◌++◌, ◌+◌, ◌||◌, ◌∷◌, ◌≡◌, ◌≢◌, ◌⊎◌}
 use Rattle.std.proofs.Common.{ap, inl, inr, sym, ◌∙◌}
-use Rattle.std.proofs.lemmas.Bool.{not-true, true≢false}
+use Rattle.std.proofs.lemmas.Bool.{not-true, true≢false, cases_Bool}
+use Rattle.std.proofs.Math.Bool.{or-true}
 use Rattle.histar_flat.specs.declared.calls.UnixCall.{UnixCall}
 use Rattle.histar_flat.specs.Classes.{Process, carries, may_write}
 use Rattle.histar_flat.specs.Classes.Class.{Scratch}
@@ -18,7 +19,7 @@ use Rattle.histar_flat.proofs.FileLemmas.{get-keep, get_new, get_other, same_nam
 use Rattle.histar_flat.proofs.GivenNames.{given_stays, next_is_new}
 use Rattle.histar_flat.proofs.JobLaws.{writes_of_job}
 use Rattle.histar_flat.proofs.Trees.{nothing_below, tree_after}
-use Rattle.histar_flat.proofs.Under.{apart, or_true, true_or_false}
+use Rattle.histar_flat.proofs.Under.{apart}
 use Rattle.histar_isolation.specs.Comparison.{is_dir_of, lies_in_job}
 use Rattle.histar_isolation.proofs.Effects.{lies_cut, lies_inserted}
 use Rattle.histar_isolation.proofs.Relation.{IsStarted}
@@ -83,7 +84,7 @@ module _ (job : ProcName) (f : Flat) (h : IsStarted job f) where
     files = λ q y e c file.
         let left : cond (not (under_path (n ∷ d) q)) (get f.files q) None ≡ Some y = sym
         (get-keep f.files (λ t. not (under_path (n ∷ d) t)) q) ∙ e in
-        elim (true_or_false (under_path (n ∷ d) q)) [
+        elim (cases_Bool (under_path (n ∷ d) q)) [
           | inl u ↦ absurd (none_some y (sym (ap (λ b. cond (not b) (get f.files q) None) u) ∙ left))
           | inr u ↦ lies_cut job f.files (n ∷ d) q u ∙ h.files q y (sym (ap (λ b. cond (not b) (get f.files q) None) u) ∙ left) c file
         ];
@@ -97,7 +98,7 @@ module _ (job : ProcName) (f : Flat) (h : IsStarted job f) where
   kept_rename n k d ne free tree given = record {
     tree = tree;
     given = given;
-    files = λ q y e c file. elim (true_or_false (under_path (n ∷ d) q)) [
+    files = λ q y e c file. elim (cases_Bool (under_path (n ∷ d) q)) [
       | inl u ↦ absurd (none_some y (sym (gone_renamed job n k d ne f.files below q u) ∙ e))
       | inr u ↦
           lies_renamed job n k d ne f.files below q u
@@ -172,7 +173,7 @@ module _ (job : ProcName) (session : Session) (f : Flat) (h : IsStarted job f) (
       dir : (n : Node) (b : Bool) → is_dir n ≡ b → get f.files q ≡ Some n → carries job n.class ≡ true
           → ((is_dir n && carries job n.class) || lies_in_job job f.files q) ≡ true
       dir n true e at c = ap (λ b. (b && carries job n.class) || lies_in_job job f.files q) e ∙ ap (λ b. b || lies_in_job job f.files q) c
-      dir n false e at c = ap (λ b. (is_dir n && carries job n.class) || b) (h.files q n at c e) ∙ or_true (is_dir n && carries job n.class)
+      dir n false e at c = ap (λ b. (is_dir n && carries job n.class) || b) (h.files q n at c e) ∙ or-true (is_dir n && carries job n.class)
 
       by : (x : Option Node) → get f.files q ≡ x → is_some_and x (λ n. may_write session p n.class) ≡ true
           → (is_dir_of job x || lies_in_job job f.files q) ≡ true

@@ -1,13 +1,13 @@
 -- What lies below a job's directories, what changes there, and that being the same outside a job is a relation like equality.
 use Rattle.std.specs.Prelude.{Bool, [], false, refl, true, ◌||◌, ◌∷◌, ◌≡◌}
 use Rattle.std.proofs.Common.{ap, inl, inr, subst, sym, ◌∙◌}
-use Rattle.std.proofs.lemmas.Bool.{true≢false}
+use Rattle.std.proofs.lemmas.Bool.{true≢false, cases_Bool}
+use Rattle.std.proofs.Math.Bool.{or-true}
 use Rattle.histar_flat.specs.Files.{Files, get}
 use Rattle.histar_flat.specs.FlatState.{Node}
 use Rattle.histar_flat.specs.PathOrder.{under_path}
 use Rattle.histar_flat.specs.Words.{Path, ProcName}
 use Rattle.histar_flat.proofs.FileLemmas.{same_path_found}
-use Rattle.histar_flat.proofs.Under.{or_true, true_or_false}
 use Rattle.histar_isolation.specs.Comparison.{is_dir_of, lies_in_job}
 use Rattle.histar_isolation.proofs.Relation.{SameFiles}
 use Rattle.histar_isolation.proofs.TestLemmas.{is_same_path}
@@ -25,10 +25,10 @@ module _ (job : ProcName) where
   -- in the other tree the same lies in the job
   pub lie_alike : (m n : Files Node) → SameFiles job m n → (q : Path) → lies_in_job job m q ≡ lies_in_job job n q
   lie_alike m n r [] = refl
-  lie_alike m n r (x ∷ d) = elim (true_or_false (lies_in_job job m d)) [
+  lie_alike m n r (x ∷ d) = elim (cases_Bool (lies_in_job job m d)) [
     | inl h ↦
-        ap (λ b. is_dir_of job (get m d) || b) h ∙ or_true (is_dir_of job (get m d))
-        ∙ sym (ap (λ b. is_dir_of job (get n d) || b) (sym (lie_alike m n r d) ∙ h) ∙ or_true (is_dir_of job (get n d)))
+        ap (λ b. is_dir_of job (get m d) || b) h ∙ or-true (is_dir_of job (get m d))
+        ∙ sym (ap (λ b. is_dir_of job (get n d) || b) (sym (lie_alike m n r d) ∙ h) ∙ or-true (is_dir_of job (get n d)))
     | inr h ↦ ap (λ o. is_dir_of job o || lies_in_job job m d) (r.same d h) ∙ ap (λ b. is_dir_of job (get n d) || b) (lie_alike m n r d)
   ]
 
@@ -49,7 +49,7 @@ module _ (job : ProcName) where
     | inl r ↦ subst (λ x. (is_dir_of job (get m x) || lies_in_job job m x) ≡ true) r.1 h
     | inr r ↦
         let below : under_path d q ≡ true = sym (ap (λ b. b || under_path d q) r.0) ∙ u in
-        ap (λ b. is_dir_of job (get m (n ∷ q)) || b) (lies_below_it m d h q below) ∙ or_true (is_dir_of job (get m (n ∷ q)))
+        ap (λ b. is_dir_of job (get m (n ∷ q)) || b) (lies_below_it m d h q below) ∙ or-true (is_dir_of job (get m (n ∷ q)))
   ]
 
   -- a change below a job's directory is no change outside the job
@@ -59,7 +59,7 @@ module _ (job : ProcName) where
     where
       by : (q : Path) → lies_in_job job m q ≡ false → is_below d q ≡ false
       by [] out = refl
-      by (x ∷ q) out = elim (true_or_false (under_path d q)) [
+      by (x ∷ q) out = elim (cases_Bool (under_path d q)) [
         | inl u ↦ absurd (true≢false (sym (lies_below_it m d h q u) ∙ out))
         | inr u ↦ u
       ]

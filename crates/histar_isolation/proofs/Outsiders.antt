@@ -1,7 +1,7 @@
 -- An outsider's calls in two states that are the same outside a job.
 use Rattle.std.specs.Prelude.{List, None, Option, [], false, length, nat_le, nat_lt, not, refl, true, ℕ, ◌++◌, ◌==◌, ◌||◌, ◌∷◌, ◌≡◌}
 use Rattle.std.proofs.Common.{ap, inl, inr, sym, ◌∙◌}
-use Rattle.std.proofs.lemmas.Bool.{or_parts, true≢false}
+use Rattle.std.proofs.lemmas.Bool.{or_parts, true≢false, cases_Bool}
 use Rattle.histar_base.specs.Refusals.{unless, ◌orelse◌}
 use Rattle.histar_flat.specs.declared.calls.Mode.{Mode}
 use Rattle.histar_flat.specs.declared.calls.UnixCall.TheVariants.{Append, Create, List as ListCall, Mkdir, Read, Rename, Rmdir, Rmtree, Stat, Unlink, Write}
@@ -15,7 +15,6 @@ use Rattle.histar_flat.specs.PathOrder.{parent}
 use Rattle.histar_flat.specs.Sessions.{Session}
 use Rattle.histar_flat.specs.Words.{Name, Path, ProcName}
 use Rattle.histar_flat.proofs.Refusals.{passed, passes_first, passes_later}
-use Rattle.histar_flat.proofs.Under.{true_or_false}
 use Rattle.histar_isolation.specs.Comparison.{is_dir_of, lies_in_job}
 use Rattle.histar_isolation.proofs.Relation.{SameFiles}
 use Rattle.histar_isolation.proofs.TestLemmas.{guarded}
@@ -127,7 +126,7 @@ module _ (job : ProcName) (session : Session) (p : Process) (f g : Flat) (r : Sa
       where
         by : lies_in_job job f.files q ≡ false → reads session f p q ≡ true
             → (is_dir_of job (get f.files q) || lies_in_job job f.files q) ≡ false
-        by h i = elim (true_or_false (is_dir_of job (get f.files q))) [
+        by h i = elim (cases_Bool (is_dir_of job (get f.files q))) [
           | inl k ↦ absurd (true≢false (sym i ∙ closed_dir session p job (get f.files q) o k))
           | inr k ↦ ap (λ b. b || lies_in_job job f.files q) k ∙ h
         ]
@@ -179,7 +178,7 @@ module _ (job : ProcName) (session : Session) (p : Process) (f g : Flat) (r : Sa
         orelse unless (is_some_and (at_parent q walked i) (λ n. may_write session p n.class)) EACCES)))
       where
         by : lies_in_job job f.files q ≡ false → reads session f p q ≡ true → entries_in f q ≡ entries_in g q
-        by h i = elim (true_or_false (is_dir_of job (get f.files q))) [
+        by h i = elim (cases_Bool (is_dir_of job (get f.files q))) [
           | inl k ↦ absurd (true≢false (sym i ∙ closed_dir session p job (get f.files q) o k))
           | inr k ↦ entries_alike job f g r q (ap (λ b. b || lies_in_job job f.files q) k ∙ h)
         ]

@@ -1,7 +1,7 @@
 -- Process calls of outsiders, and of who started the job.
 use Rattle.std.specs.Prelude.{Bool, List, None, Option, Some, [], cond, false, is_some, nat_eq, refl, true, ℕ, ◌||◌, ◌∷◌, ◌≡◌, ◌⊎◌}
 use Rattle.std.proofs.Common.{ap, inl, inr, subst, sym, ◌∙◌}
-use Rattle.std.proofs.lemmas.Bool.{or_parts, true≢false}
+use Rattle.std.proofs.lemmas.Bool.{or_parts, true≢false, cases_Bool}
 use Rattle.std.specs.List.{list_all}
 use Rattle.histar_base.specs.Refusals.{unless, ◌orelse◌}
 use Rattle.histar_flat.specs.declared.calls.UnixCall.TheVariants.{Kill, Status}
@@ -14,7 +14,7 @@ use Rattle.histar_flat.specs.PathOrder.{same, under_process}
 use Rattle.histar_flat.specs.Sessions.{Session, has}
 use Rattle.histar_flat.specs.Words.{ProcName}
 use Rattle.histar_flat.proofs.FileLemmas.{same_name_found}
-use Rattle.histar_flat.proofs.Under.{above_is_not_under, true_or_false}
+use Rattle.histar_flat.proofs.Under.{above_is_not_under}
 use Rattle.histar_isolation.proofs.Relation.{IsStarted, SameOutside, chain_of}
 use Rattle.histar_isolation.proofs.TestLemmas.{all_of, failed, guarded, is_same, not_passed, stops_later}
 
@@ -79,9 +79,9 @@ module _ (m : ℕ) (w : ProcName) (f g : Flat) (r : SameOutside (m ∷ w) f g) (
 
   pub outsider_finds : knows p (m ∷ w) ≡ false → (q : ProcName) → not_found f p q ≡ not_found g p q
   outsider_finds o [] = refl
-  outsider_finds o (n ∷ q) = elim (true_or_false (under_process (m ∷ w) (n ∷ q))) [
+  outsider_finds o (n ∷ q) = elim (cases_Bool (under_process (m ∷ w) (n ∷ q))) [
     | inr h ↦ found_alike (n ∷ q) h
-    | inl h ↦ elim (true_or_false (under_process (m ∷ w) q)) [
+    | inl h ↦ elim (cases_Bool (under_process (m ∷ w) q)) [
       | inl up ↦ found_step f p n q
           ∙ guarded (not_found f p q) (not_found g p q) _ _ (outsider_finds o q)
           (λ found. absurd (not_passed (not_found f p q) (job_not_found o q up) found))

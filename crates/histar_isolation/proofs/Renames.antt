@@ -1,14 +1,14 @@
 -- A rename keeps two trees the same outside a job.
 use Rattle.std.specs.Prelude.{None, [], cond, false, map, refl, true, ◌||◌, ◌∷◌, ◌≡◌, ◌≢◌, ◌⊎◌}
 use Rattle.std.proofs.Common.{ap, inl, inr, sym, ◌∙◌}
-use Rattle.std.proofs.lemmas.Bool.{or_parts}
+use Rattle.std.proofs.lemmas.Bool.{or_parts, cases_Bool}
 use Rattle.histar_flat.specs.Files.{Files, from_list, get}
 use Rattle.histar_flat.specs.FlatState.{Node, moved}
 use Rattle.histar_flat.specs.PathOrder.{same, same_path, under_path}
 use Rattle.histar_flat.specs.Words.{Name, Path, ProcName}
 use Rattle.histar_flat.proofs.FileLemmas.{same_path_found}
 use Rattle.histar_flat.proofs.Renaming.{get_renamed, stays}
-use Rattle.histar_flat.proofs.Under.{above_is_not_under, true_or_false}
+use Rattle.histar_flat.proofs.Under.{above_is_not_under}
 use Rattle.histar_isolation.specs.Comparison.{is_dir_of, lies_in_job}
 use Rattle.histar_isolation.proofs.Relation.{SameFiles}
 
@@ -52,7 +52,7 @@ module _ (job : ProcName) (n k : Name) (d : Path) (ne : n ≢ k) where
   pub renamed_alike : (a b : Files Node) → SameFiles job a b
       → ((q : Path) → under_path (k ∷ d) q ≡ true → get a q ≡ None) → ((q : Path) → under_path (k ∷ d) q ≡ true → get b q ≡ None)
       → SameFiles job (renamed a) (renamed b)
-  renamed_alike a b r ha hb = record { same = λ q h. by q h (true_or_false (under_path (n ∷ d) q)) }
+  renamed_alike a b r ha hb = record { same = λ q h. by q h (cases_Bool (under_path (n ∷ d) q)) }
     where
       by : (q : Path) → lies_in_job job (renamed a) q ≡ false → (under_path (n ∷ d) q ≡ true) ⊎ (under_path (n ∷ d) q ≡ false)
           → get (renamed a) q ≡ get (renamed b) q

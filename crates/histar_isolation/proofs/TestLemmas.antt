@@ -5,9 +5,6 @@ use Rattle.std.proofs.lemmas.Bool.{and_parts, true≢false}
 use Rattle.std.specs.Cmp.Lexicographic.{pointwise}
 use Rattle.std.specs.List.{list_all}
 use Rattle.histar_base.specs.Refusals.{unless, ◌orelse◌}
-use Rattle.histar_flat.specs.declared.replies.Errno.{Errno}
-use Rattle.histar_flat.specs.FlatCalls.{flat_or}
-use Rattle.histar_flat.specs.FlatState.{Flat}
 use Rattle.histar_flat.specs.PathOrder.{is_under, same, same_path}
 use Rattle.histar_flat.specs.Sessions.{has}
 use Rattle.histar_flat.specs.Words.{Path, ProcName}
@@ -96,8 +93,3 @@ module _ {E : Type 0} where
   -- what is refused doesn't pass
   pub not_passed : (a : Option E) → is_some a ≡ true → a ≡ None → ⊥
   not_passed a h n = true≢false (sym h ∙ ap is_some n)
-
--- what each change owes holds where it is not refused
-pub or_same : (P : Flat → Type 0) (f g : Flat) (e : Option Errno) → P f → (e ≡ None → P g) → P (flat_or e f g)
-or_same P f g None h k = k refl
-or_same P f g (Some e) h k = h

@@ -1,7 +1,7 @@
 -- An outsider's calls are refused and answered alike; the steps of the two runs.
 use Rattle.std.specs.Prelude.{None, Option, Some, [], false, nat_eq, not, refl, true, ℕ, ◌||◌, ◌∷◌, ◌≡◌, ◌⊎◌}
 use Rattle.std.proofs.Common.{ap, inl, inr, subst, ◌∙◌}
-use Rattle.std.proofs.lemmas.Bool.{and_parts, not-true}
+use Rattle.std.proofs.lemmas.Bool.{and_parts, not-true, cases_Bool}
 use Rattle.histar_base.specs.Refusals.{unless, ◌orelse◌}
 use Rattle.histar_flat.specs.declared.calls.UnixCall.{UnixCall}
 use Rattle.histar_flat.specs.declared.calls.UnixCall.TheVariants.{Append, Create, Exit, Kill, List as ListCall, Login, Mkdir, Read, Rename, Rmdir, Rmtree, Spawn, Stat, Status, Unlink, Whoami, Wrap, Write}
@@ -16,7 +16,7 @@ use Rattle.histar_flat.specs.Words.{Name, Path, ProcName}
 use Rattle.histar_flat.proofs.Changes.{runs_is_there}
 use Rattle.histar_flat.proofs.FileLemmas.{same_name_found}
 use Rattle.histar_flat.proofs.Refusals.{passes_first, two_pass}
-use Rattle.histar_flat.proofs.Under.{above_is_not_under, true_or_false}
+use Rattle.histar_flat.proofs.Under.{above_is_not_under}
 use Rattle.histar_isolation.specs.Comparison.{is_outsider, lies_in_job}
 use Rattle.histar_isolation.proofs.Anyone.{anyone}
 use Rattle.histar_isolation.proofs.Both.{both, looked_at}
@@ -81,7 +81,7 @@ module _ (m : ℕ) (w : ProcName) (session : Session) (f g : Flat) (r : SameOuts
   answers_alike (Read q) v = ap (λ x. replies.Data (bytes_of x)) (r.files.same q (looks_outside (Read q) v))
   answers_alike (ListCall q) v = ap replies.Entries (listed_alike (m ∷ w) session p f g r.files o me q v)
   answers_alike (Stat q) v = ap stat_reply (r.files.same q (looks_outside (Stat q) v))
-  answers_alike (Status q) v = ap life_reply (r.processes q (by (true_or_false (under_process (m ∷ w) q))))
+  answers_alike (Status q) v = ap life_reply (r.processes q (by (cases_Bool (under_process (m ∷ w) q))))
     where
       by : (under_process (m ∷ w) q ≡ true) ⊎ (under_process (m ∷ w) q ≡ false) → under_process (m ∷ w) q ≡ false
       by (inl u) = absurd (not_passed (not_found f p q) (job_not_found m w f g r hf p o q u) v)

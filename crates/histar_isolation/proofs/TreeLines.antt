@@ -7,6 +7,7 @@ use Rattle.std.specs.FinMap.Entries.{below_all, by_order}
 use Rattle.std.specs.Ordering.{is_lt}
 use Rattle.std.specs.declared.cmp.Ordering.{Ordering}
 use Rattle.std.specs.declared.cmp.Ordering.TheVariants.{Equal, Greater, Less}
+use Rattle.std.proofs.Math.Bool.{and-true}
 use Rattle.histar_flat.specs.Files.{from_list, get}
 use Rattle.histar_flat.specs.FlatState.{Flat, Node}
 use Rattle.histar_flat.specs.Meaning.{boot, flat_end, meaning}
@@ -16,11 +17,12 @@ use Rattle.histar_flat.specs.Texts.{path_text}
 use Rattle.histar_flat.specs.Words.{Path}
 use Rattle.histar_flat.proofs.FileLemmas.{same_name_found}
 use Rattle.histar_flat.proofs.Under.{apart}
+use Rattle.histar_flat.proofs.Finding.{is_less}
 use Rattle.histar_isolation.specs.Comparison.{first_that, node_text, text_at}
 use Rattle.histar_isolation.specs.Following.{directory_of}
 use Rattle.histar_isolation.specs.Trees.{FindsFirstPath, PathText, difference_from, first_difference, first_kept, is_below_either, tree_lines}
 use Rattle.histar_isolation.proofs.Followed.{finds_left_out}
-use Rattle.histar_isolation.proofs.Unions.{IsBelow, Nodes, Rises, below_other, below_tied, below_union, entries_of_both, find_below, find_here, find_past, holds, is_less, paths_of, turned_greater, union, union_from}
+use Rattle.histar_isolation.proofs.Unions.{IsBelow, Nodes, Rises, below_other, below_tied, below_union, entries_of_both, find_below, find_here, find_past, holds, paths_of, turned_greater, union, union_from}
 
 abbrev lines_of : Nodes → List PathText
 lines_of es = map (λ e. (e.0, node_text e.0 e.1)) es
@@ -61,24 +63,20 @@ module _ (left_out : Path → Bool) where
       turn true = refl
       turn false = refl
 
-  and_yes : (b : Bool) → (b && true) ≡ b
-  and_yes true = refl
-  and_yes false = refl
-
   -- where something stands in one list alone, the lists differ
   in_first : (as' bs : Nodes) (q : Path) (node : Node) → find path_cmp q as' ≡ Some node → find path_cmp q bs ≡ None
       → differ as' bs q ≡ not (left_out q)
   in_first as' bs q node here there =
       (λ i. not (left_out q) && not (same (text_at q (here i)) (text_at q (there i))))
       ∙ ap (λ b. not (left_out q) && not b) (apart nat_eq same_name_found (node_text q node) [] (node_has_text q node))
-      ∙ and_yes (not (left_out q))
+      ∙ and-true (not (left_out q))
 
   in_second : (as' bs : Nodes) (q : Path) (node : Node) → find path_cmp q as' ≡ None → find path_cmp q bs ≡ Some node
       → differ as' bs q ≡ not (left_out q)
   in_second as' bs q node here there =
       (λ i. not (left_out q) && not (same (text_at q (here i)) (text_at q (there i))))
       ∙ ap (λ b. not (left_out q) && not b) (apart nat_eq same_name_found [] (node_text q node) (λ e. node_has_text q node (sym e)))
-      ∙ and_yes (not (left_out q))
+      ∙ and-true (not (left_out q))
 
   -- where something stands in both, they differ by the texts
   in_both_lists : (as' bs : Nodes) (q : Path) (x y : Node) → find path_cmp q as' ≡ Some x → find path_cmp q bs ≡ Some y

@@ -1,7 +1,7 @@
 -- The union of two lists of entries by rising paths, as a merge makes it, has the entries of the map of both lists.
 use Rattle.std.specs.Prelude.{Bool, List, None, Option, Some, T, [], cond, false, map, refl, true, ◌++◌, ◌∷◌, ◌≡◌}
 use Rattle.std.proofs.Common.{ap, subst, sym, ◌∙◌}
-use Rattle.std.proofs.lemmas.Bool.{and_from, and_parts, true≢false}
+use Rattle.std.proofs.lemmas.Bool.{and_from, and_parts}
 use Rattle.std.specs.Cmp.{tied_itself}
 use Rattle.std.specs.FinMap.{find, is_sorted}
 use Rattle.std.specs.FinMap.Entries.{below_all, by_order, same_entries}
@@ -16,6 +16,7 @@ use Rattle.histar_flat.specs.PathOrderLaws.{path_cmp_exact, path_cmp_total}
 use Rattle.histar_flat.specs.Words.{Path}
 use Rattle.histar_flat.proofs.FileLemmas.{ties}
 use Rattle.histar_flat.proofs.Renaming.{get-from_list}
+use Rattle.histar_flat.proofs.Finding.{is_less}
 use Rattle.histar_isolation.proofs.TestLemmas.{is_same_path}
 
 -- what stands at each path of a tree, by rising paths
@@ -47,11 +48,6 @@ Rises es = is_sorted path_cmp es ≡ true
 pub holds : (b : Bool) → T b → b ≡ true
 holds true h = refl
 holds false h = absurd h
-
-pub is_less : (r : Ordering) → is_lt r ≡ true → r ≡ Less
-is_less Less h = refl
-is_less Equal h = absurd (true≢false (sym h))
-is_less Greater h = absurd (true≢false (sym h))
 
 -- what is above the greater of two paths is above the lesser one
 pub below_less : (q r : Path) (es : Nodes) → path_cmp q r ≡ Less → IsBelow r es → IsBelow q es

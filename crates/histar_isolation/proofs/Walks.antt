@@ -1,7 +1,7 @@
 -- Walks in two trees that are the same outside a job.
 use Rattle.std.specs.Prelude.{Bool, List, None, Option, Some, [], cond, false, is_some, refl, true, ◌||◌, ◌∷◌, ◌≡◌}
 use Rattle.std.proofs.Common.{ap, inl, inr, subst, sym, ◌∙◌}
-use Rattle.std.proofs.lemmas.Bool.{and_parts, or_parts, true≢false}
+use Rattle.std.proofs.lemmas.Bool.{and_parts, or_parts, true≢false, cases_Bool}
 use Rattle.std.specs.FinMap.Entries.{where_key}
 use Rattle.std.specs.List.{filter_map, list_all}
 use Rattle.histar_base.specs.Refusals.{unless, ◌orelse◌}
@@ -15,7 +15,6 @@ use Rattle.histar_flat.specs.PathOrder.{path_cmp, same, same_path}
 use Rattle.histar_flat.specs.Sessions.{Session}
 use Rattle.histar_flat.specs.Words.{Name, Path, ProcName}
 use Rattle.histar_flat.proofs.FileLemmas.{get-keep, same_lists, same_path_found}
-use Rattle.histar_flat.proofs.Under.{true_or_false}
 use Rattle.histar_isolation.specs.Comparison.{is_dir_of, lies_in_job}
 use Rattle.histar_isolation.proofs.Relation.{SameFiles}
 use Rattle.histar_isolation.proofs.TestLemmas.{all_of, failed, guarded, left_holds, not_passed, stops_first, stops_later}
@@ -77,7 +76,7 @@ module _ (job : ProcName) (session : Session) (p : Process) (f g : Flat) (r : Sa
       or_right : (b : Bool) → (b || false) ≡ true → b ≡ true
       or_right true e = refl
       or_right false e = e
-  into_refused o (n ∷ d) h = ap is_some (into_step session f p n d) ∙ elim (true_or_false (lies_in_job job f.files (n ∷ d))) [
+  into_refused o (n ∷ d) h = ap is_some (into_step session f p n d) ∙ elim (cases_Bool (lies_in_job job f.files (n ∷ d))) [
     | inl i ↦ stops_first (into session f p d) (at_dir session p (get f.files (n ∷ d))) (into_refused o d i)
     | inr i ↦
         stops_later (into session f p d) (at_dir session p (get f.files (n ∷ d)))
@@ -95,7 +94,7 @@ module _ (job : ProcName) (session : Session) (p : Process) (f g : Flat) (r : Sa
       ∙ sym (into_step session g p n d)
     where
       by : (e : Path) → into session f p e ≡ None → (is_dir_of job (get f.files e) || lies_in_job job f.files e) ≡ false
-      by e w = elim (true_or_false (is_dir_of job (get f.files e) || lies_in_job job f.files e)) [
+      by e w = elim (cases_Bool (is_dir_of job (get f.files e) || lies_in_job job f.files e)) [
         | inl i ↦ absurd (not_passed (into session f p e) (into_refused o e i) w)
         | inr i ↦ i
       ]
@@ -107,7 +106,7 @@ module _ (job : ProcName) (session : Session) (p : Process) (f g : Flat) (r : Sa
   -- what an outsider's walk reaches doesn't lie in the job
   pub reached : knows p job ≡ false → (q : Path) → walk session f p q ≡ None → lies_in_job job f.files q ≡ false
   reached o [] w = refl
-  reached o (n ∷ d) w = elim (true_or_false (lies_in_job job f.files (n ∷ d))) [
+  reached o (n ∷ d) w = elim (cases_Bool (lies_in_job job f.files (n ∷ d))) [
     | inl i ↦ absurd (not_passed (into session f p d) (into_refused o d i) w)
     | inr i ↦ i
   ]
@@ -123,7 +122,7 @@ only_children d (e ∷ es) = one e.0 e.1 (only_children d es)
     one : (q : Path) (n : Node) → filter_map (entry_in d) es ≡ filter_map (entry_in d) (where_key path_cmp (is_child d) es)
         → filter_map (entry_in d) ((q, n) ∷ es) ≡ filter_map (entry_in d) (where_key path_cmp (is_child d) ((q, n) ∷ es))
     one [] n rest = rest
-    one (x ∷ above) n rest = elim (true_or_false (same_path d above)) [
+    one (x ∷ above) n rest = elim (cases_Bool (same_path d above)) [
       | inl t ↦ simp t (ap (λ (l : List Entry). (x, is_dir n) ∷ l) rest)
       | inr t ↦ simp t rest
     ]

@@ -1,5 +1,5 @@
 -- What a label lists: in rising order each category that has another level than the default.
-use Rattle.std.proofs.Common.{◌≡◌, ◌≢◌, ℕ, zero, suc, ◌<◌, [], ◌∷◌, length, get_or, max, Bool, true, false, ◌&&◌, if◌then◌else◌, Contains, Option, Some, None, unwrap_or, refl, sym, ap, ◌∙◌, arith}
+use Rattle.std.proofs.Common.{◌≡◌, ◌≢◌, ℕ, zero, suc, ◌<◌, [], ◌∷◌, length, get_or, Bool, true, false, ◌&&◌, if◌then◌else◌, Contains, Option, Some, None, unwrap_or, refl, sym, ap, ◌∙◌, arith}
 use Rattle.std.specs.Prelude.{T}
 use Rattle.std.specs.Ordering.{nat_cmp, eq_by_cmp, is_lt}
 use Rattle.std.specs.FinMap.{find, is_sorted, entries, entries_sorted, get-entries}
@@ -86,7 +86,3 @@ ListsExceptions-exceptions_of L c l = (
 -- the default of a label is the level of every category from one on
 pub IsDefault-default_of : (L : Levels) → IsDefault L (default_of L)
 IsDefault-default_of L = (beyond L, level_of-beyond L)
-
--- a level that every category has from one on is the default
-pub default_from_IsDefault : (L : Levels) (d : Level) → IsDefault L d → default_of L ≡ d
-default_from_IsDefault L d is = sym (level_of-beyond L (max is.0 (beyond L)) (omega arith)) ∙ is.1 (max is.0 (beyond L)) (omega arith)

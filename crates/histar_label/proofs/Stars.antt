@@ -3,15 +3,11 @@ use Rattle.std.proofs.Common.{◌≡◌, ◌≢◌, ◌↔◌, ℕ, Bool, true, 
 use mathlib.Core.Bool.{false≢true}
 use Rattle.std.specs.List.{list_any}
 use Rattle.std.proofs.lemmas.List.Folds.{Any-from_list_any, list_any-from_Any}
+use Rattle.std.proofs.lemmas.Bool.{false_from_ne_true}
 use Rattle.histar_label.specs.declared.levels.Level.TheVariants.{Star}
 use Rattle.histar_label.specs.Level.{is_star, star_from_is_star, is_star_from_star}
 use Rattle.histar_label.specs.Levels.{Levels, level_of, default_of, exceptions_of, beyond, level_of-beyond, HasStar, has_star}
 use Rattle.histar_label.proofs.Listed.{ListsExceptions-exceptions_of}
-
--- where one of two tests holds, so does either
-either : (a b : Bool) → b ≡ true → (a || b) ≡ true
-either true b h = refl
-either false b h = h
 
 -- a default of star is the level of a category beyond all exceptions
 star_of_default : (L : Levels) → is_star (default_of L) ≡ true → HasStar L
@@ -45,14 +41,6 @@ has_star-law L = (star_there L (is_star (default_of L)) refl, λ star. star_pass
 pub star_answer : (L : Levels) (r : Bool) → r ≡ has_star L → IsTrue r ↔ HasStar L
 star_answer L r is = rw is (has_star-law L)
 
--- a test that fails says that no category has star
-pub has_star-never : (L : Levels) → has_star L ≡ false → (c : ℕ) → level_of L c ≢ Star
-has_star-never L none c star = false≢true (sym none ∙ (has_star-law L).1 (c, star))
-
 -- where no category has star the test fails
 pub has_star-none : (L : Levels) → ((c : ℕ) → level_of L c ≢ Star) → has_star L ≡ false
-has_star-none L never = failed (has_star L) (λ passed. let star = (has_star-law L).0 passed in never star.0 star.1)
-  where
-    failed : (b : Bool) → (b ≡ true → ⊥) → b ≡ false
-    failed true h = absurd (h refl)
-    failed false h = refl
+has_star-none L never = false_from_ne_true (has_star L) (λ passed. let star = (has_star-law L).0 passed in never star.0 star.1)

@@ -3,8 +3,6 @@ use Rattle.std.proofs.Common.{◌≡◌, ℕ, ◌<◌, Bool, true, false, List, 
 use Rattle.std.specs.Prelude.{T, MatchOption}
 use Rattle.std.specs.List.{flat_map, AllByRecursion}
 use Rattle.std.specs.Ordering.{is_lt}
-use Rattle.std.specs.declared.cmp.Ordering.{Ordering}
-use Rattle.std.specs.declared.cmp.Ordering.TheVariants.{Less, Equal, Greater}
 use Rattle.std.specs.Cmp.Lexicographic.{nat_list_cmp_total}
 use Rattle.std.specs.FinMap as map
 use Rattle.std.specs.FinMap.Entries.{put, is_sorted}
@@ -12,6 +10,7 @@ use Rattle.std.proofs.lemmas.Bool.{false≢true}
 use Rattle.std.proofs.lemmas.List.{flat_map_more}
 use Rattle.std.proofs.lemmas.Option.{same_Some}
 use Rattle.histar_flat.specs.Words.{Name}
+use Rattle.histar_flat.proofs.Finding.{is_less}
 use Rattle.histar_layout.specs.declared.entry.Target.{Target}
 use Rattle.histar_layout.specs.declared.entry.Target.TheVariants.{File, Directory}
 use Rattle.histar_layout.specs.Directory.{Entries, entry_bytes, IsTarget, LeadsSomewhere, IsEntry, IsListable, spelling, IsDirectory}
@@ -94,19 +93,13 @@ starts bytes fits = record {
   rest_fits = fits;
 }
 
--- a test for less
-lesser : (o : Ordering) → is_lt o ≡ true → o ≡ Less
-lesser Less e = refl
-lesser Equal e = absurd cc
-lesser Greater e = absurd cc
-
 -- an entry behind the last one comes at the end
 pub entry_added : (last : Option Name) (dir : Entries) (name : Name) (target : Target) → IsLast last (map.entries dir) → comes_after last name ≡ true → map.entries (map.insert dir name target) ≡ map.entries dir ++ (name, target) ∷ []
 entry_added None dir name target h after =
     map.entries-insert nat_list_cmp_total dir name target ∙ ap (put by_bytes name target) h ∙ ap (λ (es : List Entry). es ++ (name, target) ∷ []) (sym h)
 entry_added (Some last) dir name target h after =
     map.entries-insert nat_list_cmp_total dir name target ∙ ap (put by_bytes name target) h.2
-    ∙ put_last h.0 (last, h.1) name target (subst (λ (es : List Entry). T (is_sorted by_bytes es)) h.2 (map.entries_sorted dir)) (lesser _ after)
+    ∙ put_last h.0 (last, h.1) name target (subst (λ (es : List Entry). T (is_sorted by_bytes es)) h.2 (map.entries_sorted dir)) (is_less _ after)
     ∙ ap (λ (es : List Entry). es ++ (name, target) ∷ []) (sym h.2)
 
 -- one more entry is read
@@ -130,13 +123,9 @@ shorter rest after name target fits read =
     omega (arith, ap length e.parts, length-append (entry_bytes (name, target)) after)
 
 -- a target that names objects leads somewhere
-leads : (t : Target) → IsTarget t → LeadsSomewhere t
-leads (File file) h = h.0
-leads (Directory container listing) h = (h.0.0, h.1.0)
-
--- an entry that is read leads somewhere
-pub read_leads : (rest after : List ℕ) (name : Name) (target : Target) → IsBytes rest → entry_at rest ≡ Some ((name, target), after) → LeadsSomewhere target
-read_leads rest after name target fits read = leads target (entry_takes rest ((name, target), after) fits read).entry.1
+pub target_leads : (t : Target) → IsTarget t → LeadsSomewhere t
+target_leads (File file) h = h.0
+target_leads (Directory container listing) h = (h.0.0, h.1.0)
 
 -- a directory that is not full has room
 pub room_left : (dir : Entries) (full : Bool) → IsListable dir → (map.len dir ≡ 64 → full ≡ true) → full ≡ false → map.len dir < 64

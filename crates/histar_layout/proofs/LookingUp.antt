@@ -90,7 +90,7 @@ module _ (rest : List ℕ) (name : Name) (x : (List ℕ × List ℕ) × List ℕ
 -- ---- the bytes of a directory
 
 -- a target has 17 bytes
-target_len : (t : Target) → length (target_bytes t) ≡ 17
+pub target_len : (t : Target) → length (target_bytes t) ≡ 17
 target_len (File file) = refl
 target_len (Directory container listing) = refl
 

@@ -7,7 +7,7 @@ ghost use Rattle.histar_layout.specs.Checked.{IsChecked, IsLookedUp};
 use crate::directory::MOST_ENTRIES;
 use crate::entry::Target;
 use crate::lookup::look_up;
-use crate::reading::read_named;
+use crate::read_entry::read_named;
 use histar_flat::Name;
 use std::cmp::Ordering;
 

@@ -8,9 +8,9 @@ ghost use Rattle.histar_layout.specs.Directory.{Entries, LeadsSomewhere, IsLista
 use crate::checked::check_directory;
 use crate::entry::Target;
 use crate::lookup::look_up;
-use crate::reading::read_entry;
+use crate::push_entry::push_entry;
+use crate::read_entry::read_entry;
 use crate::span::{count_entries, span_of};
-use crate::writing::push_entry;
 use histar_base::Bytes;
 use histar_flat::Name;
 use std::alloc::{AllocError, Global};

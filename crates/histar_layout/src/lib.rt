@@ -5,10 +5,10 @@ mod checked;
 mod directory;
 mod entry;
 mod lookup;
-mod reading;
+mod push_entry;
+mod read_entry;
 mod span;
 mod status;
-mod writing;
 
 pub use checked::{NotADirectory, look_up_checked};
 pub use directory::{Dir, MOST_ENTRIES, one_directory, read_dir};

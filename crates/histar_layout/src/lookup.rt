@@ -5,7 +5,7 @@ ghost use Rattle.histar_layout.specs.Directory.{Entries, IsDirectory};
 ghost use Rattle.histar_layout.specs.Found.{found_in};
 
 use crate::entry::Target;
-use crate::reading::{read_slot, told_by};
+use crate::read_entry::{read_slot, told_by};
 use histar_flat::Name;
 
 /// Where the entry of this name leads. It goes from entry to entry, up to the one that has the name and no

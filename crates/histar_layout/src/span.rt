@@ -4,7 +4,7 @@ ghost use Rattle.std.specs.FinMap as map;
 ghost use Rattle.histar_layout.specs.Directory.{Entries, IsDirectory};
 ghost use Rattle.histar_layout.specs.Span.{IsSpan};
 
-use crate::reading::read_slot;
+use crate::read_entry::read_slot;
 use histar_flat::Name;
 use std::cmp::Ordering;
 use std::ops::Range;

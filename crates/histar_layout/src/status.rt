@@ -5,7 +5,7 @@ ghost use Rattle.histar_layout.specs.Reading.{Gives};
 ghost use Rattle.histar_layout.specs.Status.{ProcessStatus, IsChanged, child_bytes, child_in, children_in, head_in, head_of, life_in, look_for, once_exited, started, status_bytes, status_in, with_child, without_child};
 ghost use Rattle.histar_layout.specs.StatusParts.{AppendsOthers, HasRoomForChild, IsSplit, StatusesAreSpelled, head_bytes};
 
-use crate::reading::read_number;
+use crate::read_entry::read_number;
 use histar_base::Bytes;
 use histar_object::ObjId;
 use std::alloc::{AllocError, Global};

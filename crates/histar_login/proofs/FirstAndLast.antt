@@ -1,6 +1,6 @@
 -- The table of the empty kernel, and what is left once the boot thread took itself away.
 use Rattle.std.proofs.Common.{◌≡◌, ℕ, zero, suc, ◌+◌, ◌<◌, ◌==◌, Bool, true, false, not, ◌&&◌, ◌||◌, List, [], ◌∷◌, ◌++◌, None, Some, if◌then◌else◌, refl, sym, ap, ◌∙◌, arith}
-use Rattle.std.proofs.lemmas.Bool.{eqb-true}
+use Rattle.std.proofs.lemmas.Bool.{eqb-true, or_from}
 use Rattle.std.proofs.lemmas.Bool.Decides.{nat_tests}
 use Rattle.std.specs.FinSet as set
 use Rattle.std.specs.List.{list_any, range_with_len}
@@ -59,15 +59,10 @@ removed_again numbers n none =
 differs : (a : ℕ) → 2 < a → eq_by_cmp nat_cmp 2 a ≡ false
 differs a lt = unsigned_tied 2 a ∙ grind (arith, nat_tests)
 
--- neither of two
-none_in : (a b : Bool) → a ≡ false → b ≡ false → (a || b) ≡ false
-none_in true b e f = cc
-none_in false b e f = f
-
 -- 2 is none of the numbers in a row of greater ones
 not_in_row : (a n k : ℕ) → 2 < a → 2 < k → list_any (eq_by_cmp nat_cmp 2) (range_with_len a n ++ k ∷ []) ≡ false
-not_in_row a zero k lt last = none_in (eq_by_cmp nat_cmp 2 k) false (differs k last) refl
-not_in_row a (suc n) k lt last = none_in (eq_by_cmp nat_cmp 2 a) _ (differs a lt) (not_in_row (a + 1) n k (omega arith) last)
+not_in_row a zero k lt last = or_from (eq_by_cmp nat_cmp 2 k) false (differs k last) refl
+not_in_row a (suc n) k lt last = or_from (eq_by_cmp nat_cmp 2 a) _ (differs a lt) (not_in_row (a + 1) n k (omega arith) last)
 
 -- 2 is not in a row of greater numbers with one more
 pub two_not_in_row : (a n k : ℕ) → 2 < a → 2 < k → set.contains (set.from_list {R = nat_cmp} (range_with_len a n ++ k ∷ [])) 2 ≡ false

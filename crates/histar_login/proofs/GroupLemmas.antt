@@ -87,11 +87,6 @@ pub groups_all : (users : List User) (groups : List Group) (front after : List �
 groups_all users [] front after some e = absurd (omega (arith, some))
 groups_all users (g ∷ groups) front after some e = e ∙ append_assoc front (0 ∷ []) (numbered (group_entry users) 1 (g ∷ groups))
 
--- and the groups of the user table, where none is
-pub groups_none : (users : List User) (groups : List Group) (front : List ℕ) → length groups ≡ 0 → front ≡ front ++ group_part users groups
-groups_none users [] front none = sym (append-nil front)
-groups_none users (g ∷ groups) front none = absurd (omega (arith, none))
-
 -- by whether a group has the member: what holds of the group's number and of all others holds of all that the member owns
 choice_within : (b : Bool) (P : ℕ → Type 0) (n k : ℕ) (ks : List ℕ) → P (group_owner n k) → All P (map (group_owner n) ks) → All P (map (group_owner n) (if b then k ∷ ks else ks))
 choice_within true P n k ks here rest = All-cons P (group_owner n k) (map (group_owner n) ks) here rest

@@ -169,7 +169,3 @@ places_of users = record {
   slash = record { container = 4 + 2 * users; listing = 5 + 2 * users };
   home = record { container = 6 + 2 * users; segment = 9 + 2 * users };
 }
-
--- the thread of process 0
-abbrev pub thread_number : ℕ → ℕ
-thread_number users = 8 + 2 * users

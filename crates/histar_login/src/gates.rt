@@ -28,8 +28,8 @@ fn label_at_both(
 {
     let mut label = Label::new(alloc, default);
     for &owner in owners {
-        label = label.with(read_category(owner), level)?;
-        label = label.with(write_category(owner), level)?;
+        label.set(read_category(owner), level)?;
+        label.set(write_category(owner), level)?;
     }
     Ok(label)
 }

@@ -1,10 +1,10 @@
 //! Where a machine starts, and logging in.
 #![tactic(auto)]
 
-mod booting;
+mod boot_calls;
 mod gates;
 pub mod login;
 pub mod program_laws;
 mod table;
 
-pub use booting::boot;
+pub use boot_calls::boot;

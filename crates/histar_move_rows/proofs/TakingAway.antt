@@ -1,9 +1,9 @@
 -- An entry is taken away: its object is unlinked with all below it, and then the directory is written without it.
-use Rattle.std.proofs.Common.{◌≡◌, ◌≢◌, ℕ, ◌&&◌, Bool, true, false, List, [], ◌∷◌, ◌++◌, Option, None, Some, Result, inl, inr, refl, sym, ap, ◌∙◌, subst}
+use Rattle.std.proofs.Common.{◌≡◌, ◌≢◌, ℕ, ◌&&◌, Bool, true, false, List, [], ◌∷◌, ◌++◌, Option, None, Some, Result, refl, sym, ap, ◌∙◌, subst}
 use Rattle.std.specs.FinMap as map
 use Rattle.std.specs.FinSet as set
-use Rattle.std.specs.Prelude.{nat_eq, not, option_map}
-use Rattle.std.proofs.lemmas.Bool.Decides.{eqb_tells}
+use Rattle.std.specs.Prelude.{not, option_map}
+use Rattle.std.proofs.lemmas.Bool.{ne_eqb}
 use mathlib.Core.Bool.{true≢false}
 use Rattle.histar_base.specs.Refusals.{◌orelse◌, unless}
 use Rattle.histar_flat.specs.declared.calls.UnixCall.{UnixCall}
@@ -62,10 +62,6 @@ use Rattle.histar_rows.proofs.Endings.{IsBacked, ReadsAmong}
 use Rattle.histar_rows.proofs.Steps.{Goal, granted_step, refused_step, answered_step}
 use Rattle.histar_rows.proofs.Walks.{runs, place_at, stands, at_container, at_listing, dir, seen, among_granted_all, among_then, among_also}
 use Rattle.histar_move_rows.proofs.Entries.{object_at, entry_of, object_led_to, object_numbered}
-
--- two numbers are told apart
-told_apart : (q r : ℕ) → q ≢ r → nat_eq q r ≡ false
-told_apart q r other = elim (eqb_tells q r) [ inl e ↦ absurd (other e.1) | inr e ↦ e.0 ]
 
 -- ---- the state between the two raw calls
 
@@ -129,7 +125,7 @@ module _ (session : Session) (s : State) (f : Flat) (l : Laid session s f) (ok :
   linked_then : set.contains (set.remove links O) N ≡ true
   linked_then =
       unlinked_links (Some (record { label = due; kind = Container links })) O N
-      ∙ (λ i. not (told_apart N O other_object i) && sym (ap (λ (o : Found). set.contains (links_in o) N) holder) i)
+      ∙ (λ i. not (ne_eqb N O other_object i) && sym (ap (λ (o : Found). set.contains (links_in o) N) holder) i)
       ∙ step_linked session s f l Listing (address_of d) D N at_directory at_listing
 
   -- where the directory may be read and written, its segment is written with any directory that can be listed

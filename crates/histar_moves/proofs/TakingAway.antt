@@ -5,7 +5,7 @@ use Rattle.histar_flat.specs.Words.{Name}
 use Rattle.histar_flat.specs.declared.replies.Reply.TheVariants.{Done}
 use Rattle.histar_rules.specs.declared.raw.RawCall.TheVariants.{Unlink}
 use Rattle.histar_syscall.specs.KernelModel.{KernelModel}
-use Rattle.histar_layout.specs.Directory.{Entries, LeadsSomewhere, IsTarget, IsListable}
+use Rattle.histar_layout.specs.Directory.{Entries, LeadsSomewhere, IsListable}
 use Rattle.histar_layout.specs.Listing.{object_of}
 use Rattle.histar_layout.specs.declared.entry.Target.{Target}
 use Rattle.histar_layout.specs.declared.entry.Target.TheVariants as targets
@@ -16,18 +16,14 @@ use Rattle.histar_calls.specs.Parts.{ask, given, entry_at, target_of, read_direc
 use Rattle.histar_calls.specs.Programs.{Program, Part, RunsPart}
 use Rattle.histar_calls.specs.Programs.Program.{Answers}
 use Rattle.histar_layout.proofs.MapLemmas.{entry_found}
+use Rattle.histar_layout.proofs.DirectoryLemmas.{target_leads}
 use Rattle.histar_calls.proofs.Running.{then_part, part_fails}
 use Rattle.histar_moves.specs.declared.entry.FoundEntry.{FoundEntry}
 use Rattle.histar_moves.specs.Parts.{must_be_empty, take_away}
 
--- what is a target leads somewhere
-of_target : (target : Target) → IsTarget target → LeadsSomewhere target
-of_target (targets.File file) is = is.0
-of_target (targets.Directory container listing) is = (is.0.0, is.1.0)
-
 -- an entry of a directory that can be listed leads somewhere
 pub leads_somewhere : (entries : Entries) (name : Name) (target : Target) → IsListable entries → map.get entries name ≡ Some target → LeadsSomewhere target
-leads_somewhere entries name target listable at = of_target target (entry_found entries name target listable at).1
+leads_somewhere entries name target listable at = target_leads target (entry_found entries name target listable at).1
 
 -- the entry of a directory that was read
 abbrev pub entry_of : Directory → Name → Target → FoundEntry

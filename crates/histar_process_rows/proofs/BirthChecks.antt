@@ -2,6 +2,7 @@
 use Rattle.std.proofs.Common.{◌≡◌, ℕ, ◌+◌, ◌&&◌, true, false, List, length, None, arith, ap, ◌∙◌}
 use Rattle.std.specs.Prelude.{not, min, nat_lt}
 use Rattle.std.specs.FinSet as set
+use Rattle.std.proofs.lemmas.Bool.{and_from}
 use Rattle.histar_base.specs.Refusals.{◌orelse◌, unless}
 use Rattle.histar_label.specs.Levels.{Levels, is_below, is_below_raised, is_below_join_raised, is_made, has_star}
 use Rattle.histar_object.specs.declared.objects.Kind.TheVariants.{Segment, Container, Thread}
@@ -12,7 +13,6 @@ use Rattle.histar_object.specs.State.{State, Found, in_range, with_object, with_
 use Rattle.histar_rules.specs.declared.raw.Denied.TheVariants.{Modify, NoThread, Range, TooBig}
 use Rattle.histar_rules.specs.declared.raw.RawCall.TheVariants.{MakeCategory, SetLabel, SetClearance, MakeSegment, MakeContainer, MakeThread, Write}
 use Rattle.histar_rules.specs.Rules.{no_making, fits_segment, has_number, greatest, check}
-use Rattle.histar_refinement.proofs.Members.{and_both}
 use Rattle.histar_refinement.proofs.RawChecks.{object, caller_passes, making_check, write_check}
 use Rattle.histar_process_rows.proofs.BirthObjects.{IsHolder, holder_stays, holder_made, Around, around_added, thread_written, thread_relabelled}
 
@@ -52,7 +52,7 @@ module _ (s : State) (T : ℕ) (own most : Levels) (thread : s.objects T ≡ obj
     making_passes = making_check s T own most thread d above holder.0 holder.1 seen ∙ (λ i. unless (under i && seen i) Modify)
 
     ranged : (label : Levels) → IsModified own most label s.next_category → in_range (s.objects T) label ≡ true
-    ranged label is = ap (λ (x : Found). in_range x label) thread ∙ and_both is.above is.below
+    ranged label is = ap (λ (x : Found). in_range x label) thread ∙ and_from _ _ is.above is.below
 
     pub container_said : (label : Levels) → IsModified own most label s.next_category → check s T (MakeContainer d label) ≡ unless (has_number s) TooBig
     container_said label is = λ i. making_passes i
@@ -79,13 +79,13 @@ module _ (s : State) (T : ℕ) (own most : Levels) (thread : s.objects T ≡ obj
   -- labels are taken
   pub label_said : (label clearance : Levels) → IsTaken own most label clearance s.next_category → check s T (SetLabel label) ≡ unless true Range
   label_said label clearance is = λ i. unless (is_thread (thread i)) NoThread
-      orelse unless ((ap (λ (x : Found). in_range x label) thread ∙ and_both is.above is.below) i) Range
+      orelse unless ((ap (λ (x : Found). in_range x label) thread ∙ and_from _ _ is.above is.below) i) Range
       orelse unless (is.made i) Range
 
 -- and then the clearance
 pub clearance_said : (s : State) (T : ℕ) (own most label clearance : Levels) → s.objects T ≡ object label (Thread most) → IsTaken own most label clearance s.next_category → check s T (SetClearance clearance) ≡ unless true Range
 clearance_said s T own most label clearance thread is = λ i. unless (is_thread (thread i)) NoThread
-    orelse unless ((ap (λ (x : Found). may_clear x clearance) thread ∙ and_both is.capped is.within) i) Range
+    orelse unless ((ap (λ (x : Found). may_clear x clearance) thread ∙ and_from _ _ is.capped is.within) i) Range
     orelse unless (is.cleared i) Range
 
 -- The raw calls of a birth from the state u on, in which the thread has made the child's two categories: by the labels of the thread, of

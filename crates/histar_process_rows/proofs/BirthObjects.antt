@@ -4,6 +4,7 @@ use Rattle.std.specs.Prelude.{option_map}
 use Rattle.std.specs.FinSet as set
 use Rattle.std.specs.Cmp.{nat_cmp_total}
 use Rattle.std.specs.Ordering.{nat_cmp, eq_by_cmp}
+use Rattle.std.proofs.lemmas.Bool.{or_right}
 use mathlib.Core.Bool.{true≢false}
 use Rattle.histar_label.specs.declared.levels.Level.TheVariants.{Star, L3}
 use Rattle.histar_label.specs.Levels.{Levels, with_level}
@@ -13,7 +14,6 @@ use Rattle.histar_object.specs.Objects.{Numbers as Links, put, linking, holding,
 use Rattle.histar_rules.specs.Rights.{with_star_at, with_label, with_changed, with_category}
 use Rattle.histar_object.specs.State.{State, Found, with_object, with_bytes}
 use Rattle.histar_container.proofs.TableMoves.{put_here, put_other, changed_here, changed_other}
-use Rattle.histar_refinement.proofs.Members.{or_second}
 use Rattle.histar_refinement.proofs.RawChecks.{object}
 
 -- a container with this label
@@ -38,7 +38,7 @@ linked_holder true n x label is = (set.insert is.0 n, ap (option_map (linking n)
 linked_holder false n x label is = is
 
 linked_links : (b : Bool) (n : ℕ) (x : Found) (label : Levels) (q : ℕ) → LinksTo label q x → LinksTo label q (if b then option_map (linking n) x else x)
-linked_links true n x label q is = (set.insert is.0 n, ap (option_map (linking n)) is.1, set.contains-insert nat_cmp_total is.0 n q ∙ or_second (eq_by_cmp nat_cmp q n) (set.contains is.0 q) is.2)
+linked_links true n x label q is = (set.insert is.0 n, ap (option_map (linking n)) is.1, set.contains-insert nat_cmp_total is.0 n q ∙ or_right (eq_by_cmp nat_cmp q n) (set.contains is.0 q) is.2)
 linked_links false n x label q is = is
 
 -- other bytes change no thread

@@ -2,6 +2,7 @@
 use Rattle.std.proofs.Common.{◌≡◌, ◌≢◌, ℕ, ◌+◌, ◌<◌, true, false, List, [], ◌∷◌, ◌++◌, None, Some, arith, refl, sym, ap, ◌∙◌, subst, inl}
 use Rattle.std.specs.Prelude.{is_some}
 use Rattle.std.specs.FinSet as set
+use Rattle.std.proofs.lemmas.Bool.{or_left}
 use mathlib.Core.Bool.{true≢false}
 use Rattle.histar_flat.specs.Words.{ProcName}
 use Rattle.histar_flat.specs.Sessions.{Session, has, user_number}
@@ -24,7 +25,6 @@ use Rattle.histar_refinement.specs.LaysOut.{Laid}
 use Rattle.histar_refinement.specs.Processes.{process_bytes}
 use Rattle.histar_refinement.proofs.AmongNames.{each_head, each_append}
 use Rattle.histar_refinement.proofs.Growing.{RightsHave, IsOld, new_number, made_label, made_clearance, same_rights_label, same_rights_clearance}
-use Rattle.histar_refinement.proofs.Members.{or_first}
 use Rattle.histar_refinement.proofs.Moving.{number_below, at_number, bare_is}
 use Rattle.histar_refinement.proofs.Places.{asked_home, asked_status}
 use Rattle.histar_refinement.proofs.Ranges.{grown, own_modified, outer_above, outer_below, outer_seen, inner_above, inner_below, inner_seen, thread_above, thread_below, clearance_below, label_again, clearance_again}
@@ -67,7 +67,7 @@ module _ (session : Session) (s : State) (f : Flat) (l : Laid session s f) (me :
     (C S : ℕ) (at_home : l.naming.number (home_of me) ≡ Some C) (at_status : l.naming.number (Status ∷ home_of me) ≡ Some S) where
   -- the child is in the jobs of its parent
   pub chain_used : (job : ProcName) → has p.chain job ≡ true → IsUsed session f (OfJob job)
-  chain_used job e = inl (me, p, here, or_first (has p.chain job) (has p.held job) e)
+  chain_used job e = inl (me, p, here, or_left (has p.chain job) (has p.held job) e)
 
   pub chain_free : is_some (user_number session p.user) ≡ false → p.chain ≡ []
   chain_free e = ((l.processes me p here).free runs e).0

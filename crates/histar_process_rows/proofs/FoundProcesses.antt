@@ -4,6 +4,7 @@ use Rattle.std.specs.Prelude.{is_some}
 use Rattle.std.specs.List.{list_all}
 use Rattle.std.specs.FinSet as set
 use Rattle.std.proofs.lemmas.Option.{same_Some}
+use Rattle.std.proofs.Math.Bool.{and-true, and-false}
 use Rattle.histar_base.specs.Refusals.{unless}
 use Rattle.histar_flat.specs.PathOrder.{same}
 use Rattle.histar_flat.specs.Words.{ProcName}
@@ -30,7 +31,6 @@ use Rattle.histar_refinement.specs.Processes.{or_zero, process_bytes}
 use Rattle.histar_refinement.proofs.CallerFound.{where_is}
 use Rattle.histar_refinement.proofs.Steps.{step_tells}
 use Rattle.histar_refinement.proofs.ClassTests.{sees_process, below_process}
-use Rattle.histar_refinement.proofs.Members.{and_true, and_false}
 use Rattle.histar_refinement.proofs.MakingRanges.{all_had}
 use Rattle.histar_refinement.proofs.Moving.{bare_is, at_number}
 use Rattle.histar_refinement.proofs.Places.{asked_home, asked_status}
@@ -97,15 +97,15 @@ module _ (session : Session) (s : State) (f : Flat) (l : Laid session s f) where
       own_secret : f.processes me ≡ Some p → (b : Bool) → same name me ≡ b → (list_all (has other.chain) p.chain && b) ≡ b
       own_secret stands true is =
           let one : other ≡ p = same_Some other p (sym here ∙ ap f.processes (equal_names name me is) ∙ stands) in
-          and_true (list_all (has other.chain) p.chain) ∙ ap (λ (q : Process). list_all (has q.chain) p.chain) one ∙ all_had p.chain
-      own_secret stands false is = and_false (list_all (has other.chain) p.chain)
+          and-true (list_all (has other.chain) p.chain) ∙ ap (λ (q : Process). list_all (has q.chain) p.chain) one ∙ all_had p.chain
+      own_secret stands false is = and-false (list_all (has other.chain) p.chain)
 
       -- and a process that sees it modifies it where it is its own
       pub modified : f.processes me ≡ Some p → sees p other ≡ true
           → (is_below (rights_label l.category (thread_rights session me p)) (guard_label l.category (process_guard name other)) && is_below_raised (guard_label l.category (process_guard name other)) (rights_label l.category (thread_rights session me p))) ≡ same name me
       modified stands seen =
           (λ i. below_process session me p l.category l.different name other i && (observed ∙ seen) i)
-          ∙ and_true (list_all (has other.chain) p.chain && same name me) ∙ own_secret stands (same name me) refl
+          ∙ and-true (list_all (has other.chain) p.chain && same name me) ∙ own_secret stands (same name me) refl
 
       module _ (t : ℕ) (runs : RunsAs session s f l me p t) where
         pub thread : s.objects t ≡ object (rights_label l.category (thread_rights session me p)) (Thread (rights_clearance l.category (thread_rights session me p)))

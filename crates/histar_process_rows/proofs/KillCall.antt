@@ -3,6 +3,7 @@ use Rattle.std.proofs.Common.{◌≡◌, ℕ, ◌&&◌, ◌||◌, Bool, true, fa
 use Rattle.std.specs.FinSet as set
 use Rattle.std.specs.List.{list_all}
 use Rattle.std.specs.Prelude.{map}
+use Rattle.std.proofs.Math.Bool.{and-false}
 use Rattle.histar_base.specs.Refusals.{◌orelse◌, unless}
 use Rattle.histar_flat.specs.declared.calls.UnixCall.{UnixCall}
 use Rattle.histar_flat.specs.declared.calls.UnixCall.TheVariants as calls
@@ -53,7 +54,6 @@ use Rattle.histar_refinement.proofs.CategoryTests.{among-append, among_none}
 use Rattle.histar_refinement.proofs.ClassTests.{sees_unguarded, jobs_apart}
 use Rattle.histar_refinement.proofs.Killing.{lays_out_left}
 use Rattle.histar_refinement.proofs.LeftObjects.{root_found, root_label}
-use Rattle.histar_refinement.proofs.Members.{and_false}
 use Rattle.histar_refinement.proofs.RawChecks.{object, unlink_check}
 use Rattle.histar_refinement.proofs.SessionLemmas.{equal_names}
 use Rattle.histar_refinement.proofs.Standing.{thread_found, step_linked}
@@ -115,7 +115,7 @@ module _ (session : Session) (s : State) (f : Flat) (l : Laid session s f) (me :
   root_unwritten =
       ap (is_below own_label) (root_label session s f l)
       ∙ below_by_names l.category l.different boot_guard (thread_rights session me p) (jobs_apart session me p p.chain (OfBoot ∷ []) (λ job. refl))
-      ∙ (λ i. list_all (among []) (map OfJob p.chain) && (owns_no_boot session me p i && true)) ∙ and_false (list_all (among []) (map OfJob p.chain))
+      ∙ (λ i. list_all (among []) (map OfJob p.chain) && (owns_no_boot session me p i && true)) ∙ and-false (list_all (among []) (map OfJob p.chain))
 
   home_linked : set.contains root.0 home ≡ true
   home_linked = sym (ap (λ (found : Found). set.contains (links_in found) home) root.1) ∙ step_linked session s f l Home [] root_number home (l.as_booted [] root_number refl) (l.as_booted (Home ∷ []) home refl)

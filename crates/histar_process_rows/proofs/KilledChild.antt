@@ -4,6 +4,7 @@ use Rattle.std.specs.FinSet as set
 use Rattle.std.specs.Prelude.{nat_eq, not, is_some, option_map}
 use Rattle.std.specs.List.{filter, range_with_len}
 use Rattle.std.proofs.lemmas.Bool.Decides.{eqb_tells}
+use Rattle.std.proofs.lemmas.Bool.{ne_eqb}
 use Rattle.histar_flat.specs.Words.{ProcName}
 use Rattle.histar_flat.specs.Sessions.{Session}
 use Rattle.histar_flat.specs.Classes.{Process}
@@ -72,10 +73,6 @@ module _ (me : ProcName) (n : ℕ) (number numbers : Numbers) (test later : ℕ 
     | inl e ↦ drops k ks e.0 (test k) ∙ others_left ks ∙ sym (ap (left_by k ks) (ap later e.1 ∙ gone))
     | inr e ↦ keeps k ks e.0 e.1 (others_left ks) (test k) ∙ ap (left_by k ks) (sym (stays k e.1))
   ]
-
--- two numbers are told apart
-told_apart : (q r : ℕ) → q ≢ r → nat_eq q r ≡ false
-told_apart q r other = elim (eqb_tells q r) [ inl e ↦ absurd (other e.1) | inr e ↦ e.0 ]
 
 -- ---- in a state that is laid out
 
@@ -187,4 +184,4 @@ module _ (session : Session) (s : State) (f : Flat) (l : Laid session s f) (me :
     pub linked_then : set.contains (set.remove (container_found session s f l me p here).0 (where_is session s f l (n ∷ me)).container) (where_is session s f l me).segment ≡ true
     linked_then =
         unlinked_links (Some (record { label = due; kind = Container links })) o S
-        ∙ (λ i. not (told_apart S o segment_other i) && step_below session s f l me p here Status S (at_segment session s f l me p here) i)
+        ∙ (λ i. not (ne_eqb S o segment_other i) && step_below session s f l me p here Status S (at_segment session s f l me p here) i)

@@ -11,7 +11,7 @@ use Rattle.histar_rules.specs.declared.raw.Denied.{Denied}
 use Rattle.histar_syscall.specs.declared.answers.Answer.{Answer}
 use Rattle.histar_syscall.specs.Answers.{answer}
 use Rattle.histar_syscall.specs.KernelModel.{KernelModel, state, Called}
-use Rattle.histar_raw_session.specs.declared.reading.RawLine.{RawLine}
+use Rattle.histar_raw_session.specs.declared.read_session.RawLine.{RawLine}
 use Rattle.histar_raw_session.specs.Answers.{line_text, TellsCall, TellsCalls, AnswersCall, BeginsAnswer, AnswersCalls, BeginsAnswers}
 
 -- ---- one call

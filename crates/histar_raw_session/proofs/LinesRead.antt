@@ -3,7 +3,7 @@ use Rattle.std.proofs.Common.{◌≡◌, ℕ, ◌+◌, true, List, [], ◌∷◌
 use Rattle.histar_script.specs.declared.fault.Fault.{Fault}
 use Rattle.histar_script.specs.declared.fault.Fault.TheVariants.{BadScript, TooLong, OutOfMemory, ReadFailed, WriteFailed}
 use Rattle.histar_script.specs.Lines.{lines_of}
-use Rattle.histar_raw_session.specs.declared.reading.RawLine.{RawLine}
+use Rattle.histar_raw_session.specs.declared.read_session.RawLine.{RawLine}
 use Rattle.histar_raw_session.specs.Session.{is_comment, SaysCall, IsBadLine, SayCalls, IsFirstBadLine, IsBadLineOf}
 
 -- so many lines of the text were read, which say these calls, and the rest was not

@@ -14,7 +14,7 @@ use Rattle.histar_script.specs.declared.fault.Fault.TheVariants.{BadScript, TooL
 use Rattle.histar_script.specs.Lines.{most_script_bytes, is_too_long}
 use Rattle.histar_script.specs.Outcome.{input_fault}
 use Rattle.histar_script.specs.Runs.{IsOutputFault, LeavesSink, StopsReading, RunsTaken, RunsInput, is_read_failed}
-use Rattle.histar_raw_session.specs.declared.reading.RawLine.{RawLine}
+use Rattle.histar_raw_session.specs.declared.read_session.RawLine.{RawLine}
 use Rattle.histar_raw_session.specs.Session.{IsSession, IsFaultOf}
 use Rattle.histar_raw_session.specs.Answers.{AnswersCalls, BeginsAnswers}
 use Rattle.histar_raw_session.specs.Run.{BeginsSession, RunsSession}
@@ -32,14 +32,6 @@ faulty_text text w TooLong is = (is, Keeps-refl w)
 faulty_text text w OutOfMemory is = inl (Keeps-refl w)
 faulty_text text w ReadFailed is = absurd is.1
 faulty_text text w WriteFailed is = absurd is.1
-
--- such a fault is no failed read
-pub no_failed_read : (text : List ℕ) (f : Fault) → IsFaultOf text f → is_read_failed {A = Unit {0}} (Err f) ≡ false
-no_failed_read text (BadScript n) is = refl
-no_failed_read text TooLong is = refl
-no_failed_read text OutOfMemory is = refl
-no_failed_read text ReadFailed is = absurd is.1
-no_failed_read text WriteFailed is = refl
 
 -- a text of which a beginning of the calls was answered
 begun_text : (text : List ℕ) (old new : Option (List ℕ)) (f : Fault) → IsOutputFault f → BeginsSession text old new → RunsSession text old new (Err f)

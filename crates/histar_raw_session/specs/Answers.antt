@@ -9,7 +9,7 @@ use Rattle.histar_rules.specs.Rules.{check, Changes}
 use Rattle.histar_syscall.specs.declared.answers.Answer.{Answer}
 use Rattle.histar_syscall.specs.Answers.{answer}
 use Rattle.histar_rawtext.specs.RawText.{answer_text, denied_text}
-use Rattle.histar_raw_session.specs.declared.reading.RawLine.{RawLine}
+use Rattle.histar_raw_session.specs.declared.read_session.RawLine.{RawLine}
 
 -- By the rules a call of a thread has this outcome and leaves this state: where no check fails, the answer that the state gives and
 -- what the call changes; and else the first failing check and the state before.

@@ -4,7 +4,7 @@ use Rattle.std.specs.Io.KnownBytes.{Keeps}
 use Rattle.histar_object.specs.State.{State, empty_state}
 use Rattle.histar_script.specs.declared.fault.Fault.{Fault}
 use Rattle.histar_script.specs.declared.fault.Fault.TheVariants.{BadScript, TooLong, OutOfMemory, ReadFailed, WriteFailed}
-use Rattle.histar_raw_session.specs.declared.reading.RawLine.{RawLine}
+use Rattle.histar_raw_session.specs.declared.read_session.RawLine.{RawLine}
 use Rattle.histar_raw_session.specs.Session.{IsSession, IsFaultOf}
 use Rattle.histar_raw_session.specs.Answers.{AnswersCalls, BeginsAnswers}
 

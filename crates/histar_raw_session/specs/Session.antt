@@ -5,7 +5,7 @@ use Rattle.histar_script.specs.declared.fault.Fault.{Fault}
 use Rattle.histar_script.specs.declared.fault.Fault.TheVariants.{BadScript, TooLong, OutOfMemory, ReadFailed, WriteFailed}
 use Rattle.histar_script.specs.Lines.{lines_of, is_plain, is_too_long}
 use Rattle.histar_rawtext.specs.Readable.{IsCallLine}
-use Rattle.histar_raw_session.specs.declared.reading.RawLine.{RawLine}
+use Rattle.histar_raw_session.specs.declared.read_session.RawLine.{RawLine}
 
 -- a comment: an empty line, or one of printable bytes that begins with `#`
 abbrev pub is_comment : List ℕ → Bool

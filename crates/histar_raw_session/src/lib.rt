@@ -3,10 +3,10 @@
 #![tactic(auto)]
 
 mod lines;
-mod reading;
+mod read_session;
 mod session;
 
-pub use reading::RawLine;
+pub use read_session::RawLine;
 pub use session::run_raw_script;
 
 #[cfg(test)]

@@ -7,7 +7,7 @@ ghost use Rattle.histar_raw_session.specs.Answers.{AnswersCall, AnswersCalls, Be
 ghost use Rattle.histar_raw_session.specs.Run.{RunsSession};
 
 use crate::lines::{answer_line, denial_line};
-use crate::reading::{RawLine, read_session};
+use crate::read_session::{RawLine, read_session};
 use histar_devices::{Sink, Source, read_input, write_bytes};
 use histar_label::{LabelStore, OutOfMemory, PlainStore};
 use histar_script::Fault;

@@ -1,5 +1,5 @@
 -- Raw calls are read from their texts, and what is read can be.
-use Rattle.std.proofs.Common.{◌≡◌, ℕ, true, List, [], ◌∷◌, Option, Some, refl, ap, ◌∙◌, arith}
+use Rattle.std.proofs.Common.{◌≡◌, ℕ, [], ◌∷◌, Some, refl, ap, ◌∙◌, arith}
 use Rattle.std.specs.Fmt.{decimal}
 use Rattle.histar_flat.proofs.SplitLemmas.{lacks}
 use Rattle.histar_rules.specs.declared.raw.RawCall.{RawCall}
@@ -7,7 +7,7 @@ use Rattle.histar_rules.specs.declared.raw.RawCall.TheVariants.{MakeCategory, Ow
 use Rattle.histar_rawtext.specs.RawText.{label_text, bytes_text, entry_text, call_name, thread_call_text}
 use Rattle.histar_rawtext.specs.RawTextLaws.{IsNumber, IsWritable}
 use Rattle.histar_rawtext.specs.Readable.{IsReadable}
-use Rattle.histar_rawtext.specs.Reading.{next_word, make_segment_in, make_container_in, make_thread_in, make_gate_in, enter_in, write_in, pair_in, own_label_in, call_named, thread_call_in}
+use Rattle.histar_rawtext.specs.Reading.{make_segment_in, make_container_in, make_thread_in, make_gate_in, enter_in, write_in, pair_in, own_label_in, call_named, thread_call_in}
 use Rattle.histar_rawtext.proofs.Parting.{AreWords}
 use Rattle.histar_rawtext.proofs.WordTexts.{lacks-decimal, space_is_no_digit}
 use Rattle.histar_rawtext.proofs.CallTexts.{words_of, call_spelled, are_words, name_is_word}
@@ -30,10 +30,6 @@ writable (Read container segment) p = p
 writable (Write container segment keep bytes) p = (p.0, p.1, omega (arith, p.2))
 writable (Unlink container object) p = p
 writable (LabelOf container object) p = p
-
--- the first of words that lack spaces, and those after it
-next_again : (w : List ℕ) (ws : List (List ℕ)) → lacks 32 w ≡ true → next_word (joined (w ∷ ws)) ≡ Some (w, joined ws)
-next_again w ws h = ap (λ (p : List ℕ × Option (List ℕ)). Some p) (split_spaced w ws h)
 
 -- a call is read from its name and its words
 call_again : (a : RawCall) → IsReadable a → AreWords (words_of a) → call_named (call_name a) (joined (words_of a)) ≡ Some a

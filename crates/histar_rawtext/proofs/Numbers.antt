@@ -1,5 +1,5 @@
 -- Numbers of 64 bits are read from their texts, and from no others.
-use Rattle.std.proofs.Common.{◌≡◌, ℕ, Bool, true, false, not, cond, leb, ◌&&◌, List, Option, Some, None, refl, ap, ◌∙◌, arith}
+use Rattle.std.proofs.Common.{◌≡◌, ℕ, cond, leb, ◌&&◌, List, Option, Some, None, refl, ap, ◌∙◌, arith}
 use Rattle.std.specs.Fmt.{decimal}
 use Rattle.std.specs.Str.{bytes_eq, IsUtf8}
 use Rattle.std.specs.Str.Parse.{digits_value}
@@ -38,8 +38,3 @@ no_number word none = by (number_in word) refl
 -- the text of a number is in UTF-8
 pub utf8_number : (n : ℕ) → IsNumber n → IsUtf8 (decimal n)
 utf8_number n small = IsUtf8-from_ascii (decimal n) (IsAscii-decimal n small)
-
--- a test whose negation fails holds
-pub not_false : (b : Bool) → not b ≡ false → b ≡ true
-not_false true e = refl
-not_false false e = absurd cc

@@ -69,7 +69,7 @@ fn read_label(alloc: Global, word: &[u8]) -> Result<Label, Unread>
     let mut label = Label::new(alloc, read_level(default)?);
     while let Some(part) = parts.pop() {
         let (category, level) = read_exception(part)?;
-        label = label.with(category, level)?;
+        label.set(category, level)?;
     }
     Ok(label)
 }

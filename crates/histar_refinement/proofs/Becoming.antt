@@ -3,6 +3,7 @@ use Rattle.std.proofs.Common.{◌≡◌, ◌≢◌, ℕ, ◌≤◌, ◌⊎◌, i
 use Rattle.std.specs.Prelude.{is_some, option_map}
 use Rattle.std.proofs.lemmas.Bool.Decides.{eqb_tells}
 use Rattle.std.proofs.lemmas.Option.{none-some, same_Some}
+use Rattle.std.proofs.lemmas.Bool.{or_left, or_cases}
 use Rattle.histar_flat.specs.Words.{Name, ProcName}
 use Rattle.histar_flat.proofs.FileLemmas.{same_name_found}
 use Rattle.histar_label.specs.Levels.{Levels}
@@ -31,7 +32,6 @@ use Rattle.histar_refinement.specs.Stands.{kind_bare, bare}
 use Rattle.histar_refinement.specs.Expected.{segment, home_object, status_object, inside_object, thread_object, bytes_for, status_at, expected}
 use Rattle.histar_refinement.specs.LaysOut.{AreInOrder, IsProcess, Laid}
 use Rattle.histar_refinement.proofs.ProcessBytes.{alike_bytes}
-use Rattle.histar_refinement.proofs.Members.{or_first, or_either}
 use Rattle.histar_refinement.proofs.Places.{AsksAlike, asked_alike, asked_runner}
 use Rattle.histar_refinement.proofs.Steps.{step_tells}
 use Rattle.histar_refinement.proofs.Moving.{at_number, bare_is, stands_changed, stands_same}
@@ -164,7 +164,7 @@ module _ (session : Session) (s : State) (f : Flat) (l : Laid session s f) (me :
     | inl e ↦
         let is : changed ≡ px = same_Some changed px (sym at_me ∙ ap after.processes (sym e) ∙ at) in
         let known_here : (has p.chain job || has held job) ≡ true = subst (λ (y : Process). knows y job ≡ true) (sym is) known in
-        elim (or_either (has p.chain job) (has held job) known_here) [ inl k ↦ inl (me, p, here, or_first (has p.chain job) (has p.held job) k) | inr k ↦ held_used job k ]
+        elim (or_cases (has p.chain job) (has held job) known_here) [ inl k ↦ inl (me, p, here, or_left (has p.chain job) (has p.held job) k) | inr k ↦ held_used job k ]
     | inr other ↦ inl (x, px, sym (at_other x other) ∙ at, known)
   ]
 

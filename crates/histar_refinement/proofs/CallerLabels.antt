@@ -2,6 +2,7 @@
 use Rattle.std.proofs.Common.{◌≡◌, ◌≢◌, ℕ, ◌==◌, Bool, true, false, ◌&&◌, ◌||◌, List, [], ◌∷◌, ◌++◌, Some, arith, refl, sym, ap, ◌∙◌}
 use Rattle.std.specs.Prelude.{map, not}
 use Rattle.std.proofs.lemmas.Bool.Decides.{nat_tests}
+use Rattle.std.proofs.Math.Bool.{or-false}
 use mathlib.Core.Bool.{true≢false}
 use Rattle.histar_flat.specs.Words.{ProcName}
 use Rattle.histar_flat.specs.Classes.{Process}
@@ -15,7 +16,7 @@ use Rattle.histar_refinement.specs.Categories.{Categories, AreDifferent}
 use Rattle.histar_refinement.specs.Categories.CategoryName.{ReadsProcess, WritesProcess, OfJob}
 use Rattle.histar_refinement.specs.Guards.{guard_label}
 use Rattle.histar_refinement.specs.Labels.{process_guard, inside_guard}
-use Rattle.histar_refinement.proofs.Members.{is_in, or_false, first_of, second_of}
+use Rattle.histar_refinement.proofs.Members.{is_in, first_of, second_of}
 use Rattle.histar_refinement.proofs.Levelled.{guarded_level, at_guarded}
 use Rattle.histar_refinement.proofs.CategoryTests.{among_none, is_in_names}
 use Rattle.histar_refinement.proofs.FoundCategories.{found_in_label}
@@ -55,14 +56,14 @@ not_three false e = refl
 
 -- the one number in a list
 only_one : (w d : ℕ) → is_in (w ∷ []) d ≡ true → d ≡ w
-only_one w d e = grind (arith, nat_tests, or_false (d == w), e)
+only_one w d e = grind (arith, nat_tests, or-false (d == w), e)
 
 one_in : (w : ℕ) → is_in (w ∷ []) w ≡ true
-one_in w = grind (arith, nat_tests, or_false (w == w))
+one_in w = grind (arith, nat_tests, or-false (w == w))
 
 first_or : (r d : ℕ) (b : Bool) → ((d == r) || b) ≡ true → b ≡ false → d ≡ r
 first_or r d true e no_more = absurd (true≢false no_more)
-first_or r d false e no_more = grind (arith, nat_tests, or_false (d == r), e)
+first_or r d false e no_more = grind (arith, nat_tests, or-false (d == r), e)
 
 module _ (category : Categories) (different : AreDifferent category) (me : ProcName) (p : Process) where
   abbrev outer : Levels
@@ -79,10 +80,6 @@ module _ (category : Categories) (different : AreDifferent category) (me : ProcN
 
   abbrev r : ℕ
   r = category (ReadsProcess me)
-
-  -- neither is a job's, and they are two
-  write_in_jobs : is_in jobs w ≡ false
-  write_in_jobs = is_in_names category different (map OfJob p.chain) (WritesProcess me) ∙ among_none OfJob (WritesProcess me) (λ job. refl) p.chain
 
   read_in_jobs : is_in jobs r ≡ false
   read_in_jobs = is_in_names category different (map OfJob p.chain) (ReadsProcess me) ∙ among_none OfJob (ReadsProcess me) (λ job. refl) p.chain
@@ -112,7 +109,7 @@ module _ (category : Categories) (different : AreDifferent category) (me : ProcN
       only
     where
       here : is_in (r ∷ jobs) r ≡ true
-      here = grind (arith, nat_tests, read_in_jobs, or_false (r == r))
+      here = grind (arith, nat_tests, read_in_jobs, or-false (r == r))
 
       only : (d : ℕ) (m : Level) → level_of inner d ≡ m → (is_three m && not (is_three (level_of outer d))) ≡ true → d ≡ r
       only d m at passes =

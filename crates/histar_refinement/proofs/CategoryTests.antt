@@ -2,8 +2,9 @@
 use Rattle.std.proofs.Common.{◌≡◌, ◌≢◌, ℕ, zero, suc, ◌==◌, ◌⊎◌, inl, inr, Bool, true, false, ◌||◌, List, [], ◌∷◌, ◌++◌, refl, sym, ap, ◌∙◌}
 use Rattle.std.specs.Prelude.{map}
 use Rattle.std.specs.List.{list_all}
-use Rattle.std.proofs.lemmas.Bool.{and_from, and_left, and_right}
+use Rattle.std.proofs.lemmas.Bool.{and_from, and_left, and_right, or_left, or_right}
 use Rattle.std.proofs.lemmas.Bool.Decides.{eqb_tells}
+use Rattle.std.proofs.Math.Bool.{or_assoc}
 use mathlib.Core.Bool.{true≢false}
 use Rattle.histar_flat.specs.Words.{ProcName}
 use Rattle.histar_flat.specs.PathOrder.{same}
@@ -12,7 +13,7 @@ use Rattle.histar_container.proofs.Addresses.{Tells}
 use Rattle.histar_flat.specs.Sessions.{has}
 use Rattle.histar_refinement.specs.Categories.{CategoryName, Categories, AreDifferent, split_category, same_category, among}
 use Rattle.histar_refinement.specs.Categories.CategoryName.{OfBoot, ReadsUser, WritesUser, ReadsGroup, WritesGroup, ReadsProcess, WritesProcess, OfJob}
-use Rattle.histar_refinement.proofs.Members.{is_in, or_assoc, or_first, all_mapped, all_same, or_second, equal_itself}
+use Rattle.histar_refinement.proofs.Members.{is_in, all_mapped, all_same, equal_itself}
 
 -- the name of a kind, with its number or its name
 join_category : ℕ → List ℕ → CategoryName
@@ -102,6 +103,6 @@ module _ (category : Categories) (different : AreDifferent category) where
 pub named_in : (category : Categories) (names : List CategoryName) (q : ℕ) → is_in (map category names) q ≡ true → (c : CategoryName) × (q ≡ category c) × (among names c ≡ true)
 named_in category [] q e = absurd (true≢false (sym e))
 named_in category (x ∷ names) q e = elim (eqb_tells q (category x)) [
-  | inl k ↦ (x, k.1, or_first (same_category x x) (among names x) (same_itself x))
-  | inr k ↦ let later = named_in category names q (sym (ap (λ b. b || is_in (map category names) q) k.0) ∙ e) in (later.0, later.1, or_second (same_category later.0 x) (among names later.0) later.2)
+  | inl k ↦ (x, k.1, or_left (same_category x x) (among names x) (same_itself x))
+  | inr k ↦ let later = named_in category names q (sym (ap (λ b. b || is_in (map category names) q) k.0) ∙ e) in (later.0, later.1, or_right (same_category later.0 x) (among names later.0) later.2)
 ]

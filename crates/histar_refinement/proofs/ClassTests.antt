@@ -3,6 +3,7 @@ use Rattle.std.proofs.Common.{◌≡◌, ℕ, Bool, true, false, ◌&&◌, ◌||
 use Rattle.std.specs.Prelude.{map, nat_eq, is_some}
 use Rattle.std.specs.List.{list_all}
 use Rattle.std.proofs.lemmas.Option.{same_Some}
+use Rattle.std.proofs.Math.Bool.{or_comm, or-false, and-true, and-false}
 use mathlib.Core.Bool.{true≢false}
 use Rattle.histar_flat.specs.Words.{Name, ProcName}
 use Rattle.histar_flat.specs.PathOrder.{same}
@@ -14,7 +15,7 @@ use Rattle.histar_refinement.specs.Categories.{CategoryName, Categories, AreDiff
 use Rattle.histar_refinement.specs.Categories.CategoryName.{OfBoot, ReadsUser, WritesUser, ReadsGroup, WritesGroup, ReadsProcess, WritesProcess, OfJob}
 use Rattle.histar_refinement.specs.Guards.{Guard, Rights, guard_label, rights_label}
 use Rattle.histar_refinement.specs.Labels.{class_guard, private_guard, readable_guard, scratch_guard, group_guard, open_guard, process_guard, reading, writing, owned_as, thread_rights}
-use Rattle.histar_refinement.proofs.Members.{or_false, and_true, and_false, mapped_from}
+use Rattle.histar_refinement.proofs.Members.{mapped_from}
 use Rattle.histar_refinement.proofs.CategoryTests.{among-append, among_none, among_jobs}
 use Rattle.histar_refinement.proofs.Tested.{NamesApart, observes_by_names, below_by_names}
 use Rattle.histar_refinement.specs.Sessions.{IsSession}
@@ -67,7 +68,7 @@ module _ (session : Session) (me : ProcName) (p : Process) where
   owned_by_user : (c : CategoryName) → ((job : ProcName) → same_category c (OfJob job) ≡ false) → same_category c (ReadsProcess me) ≡ false → same_category c (WritesProcess me) ≡ false
       → among owned c ≡ among (as_user (user_number session p.user)) c
   owned_by_user c no_job no_read no_write =
-      owned_parts c ∙ (λ i. no_read i || (no_write i || (among (as_user (user_number session p.user)) c || among_none OfJob c no_job p.held i))) ∙ or_false _
+      owned_parts c ∙ (λ i. no_read i || (no_write i || (among (as_user (user_number session p.user)) c || among_none OfJob c no_job p.held i))) ∙ or-false _
 
   -- what a user owns, by whether the user is a declared one
   user_parts : (i : ℕ) (c : CategoryName) → among (as_user (Some i)) c ≡ (among (reading session p.user i) c || (is_free p && among (writing session p.user i) c))
@@ -80,8 +81,8 @@ module _ (session : Session) (me : ProcName) (p : Process) where
       by None = refl
       by (Some j) =
           user_parts j (ReadsUser i)
-          ∙ (λ k. (and_true (nat_eq i j) k || among_none ReadsGroup (ReadsUser i) (λ g. refl) (groups_of session p.user) k) || (is_free p && among_none WritesGroup (ReadsUser i) (λ g. refl) (groups_of session p.user) k))
-          ∙ (λ k. or_false (nat_eq i j) k || and_false (is_free p) k) ∙ or_false (nat_eq i j)
+          ∙ (λ k. (and-true (nat_eq i j) k || among_none ReadsGroup (ReadsUser i) (λ g. refl) (groups_of session p.user) k) || (is_free p && among_none WritesGroup (ReadsUser i) (λ g. refl) (groups_of session p.user) k))
+          ∙ (λ k. or-false (nat_eq i j) k || and-false (is_free p) k) ∙ or-false (nat_eq i j)
 
   pub owns_write_of : (i : ℕ) → among owned (WritesUser i) ≡ (is_number (user_number session p.user) i && is_free p)
   owns_write_of i = owned_by_user (WritesUser i) (λ job. refl) refl refl ∙ by (user_number session p.user)
@@ -96,8 +97,8 @@ module _ (session : Session) (me : ProcName) (p : Process) where
       by None = refl
       by (Some j) =
           user_parts j (WritesUser i)
-          ∙ (λ k. among_none ReadsGroup (WritesUser i) (λ g. refl) (groups_of session p.user) k || (is_free p && (and_true (nat_eq i j) k || among_none WritesGroup (WritesUser i) (λ g. refl) (groups_of session p.user) k)))
-          ∙ (λ k. is_free p && or_false (nat_eq i j) k) ∙ turned (nat_eq i j) (is_free p)
+          ∙ (λ k. among_none ReadsGroup (WritesUser i) (λ g. refl) (groups_of session p.user) k || (is_free p && (and-true (nat_eq i j) k || among_none WritesGroup (WritesUser i) (λ g. refl) (groups_of session p.user) k)))
+          ∙ (λ k. is_free p && or-false (nat_eq i j) k) ∙ turned (nat_eq i j) (is_free p)
 
   pub owns_read_of_group : (g : ℕ) → among owned (ReadsGroup g) ≡ (is_some (user_number session p.user) && has_number (groups_of session p.user) g)
   owns_read_of_group g = owned_by_user (ReadsGroup g) (λ job. refl) refl refl ∙ by (user_number session p.user)
@@ -106,8 +107,8 @@ module _ (session : Session) (me : ProcName) (p : Process) where
       by None = refl
       by (Some j) =
           user_parts j (ReadsGroup g)
-          ∙ (λ k. among_groups ReadsGroup (λ a b. and_true (nat_eq a b)) (groups_of session p.user) g k || (is_free p && among_none WritesGroup (ReadsGroup g) (λ h. refl) (groups_of session p.user) k))
-          ∙ (λ k. has_number (groups_of session p.user) g || and_false (is_free p) k) ∙ or_false _
+          ∙ (λ k. among_groups ReadsGroup (λ a b. and-true (nat_eq a b)) (groups_of session p.user) g k || (is_free p && among_none WritesGroup (ReadsGroup g) (λ h. refl) (groups_of session p.user) k))
+          ∙ (λ k. has_number (groups_of session p.user) g || and-false (is_free p) k) ∙ or-false _
 
   pub owns_write_of_group : (g : ℕ) → among owned (WritesGroup g) ≡ ((is_some (user_number session p.user) && has_number (groups_of session p.user) g) && is_free p)
   owns_write_of_group g = owned_by_user (WritesGroup g) (λ job. refl) refl refl ∙ by (user_number session p.user)
@@ -122,7 +123,7 @@ module _ (session : Session) (me : ProcName) (p : Process) where
       by None = refl
       by (Some j) =
           user_parts j (WritesGroup g)
-          ∙ (λ k. among_none ReadsGroup (WritesGroup g) (λ h. refl) (groups_of session p.user) k || (is_free p && among_groups WritesGroup (λ a b. and_true (nat_eq a b)) (groups_of session p.user) g k))
+          ∙ (λ k. among_none ReadsGroup (WritesGroup g) (λ h. refl) (groups_of session p.user) k || (is_free p && among_groups WritesGroup (λ a b. and-true (nat_eq a b)) (groups_of session p.user) g k))
           ∙ turned (has_number (groups_of session p.user) g) (is_free p)
 
   -- of jobs the held ones are owned, and no other
@@ -131,7 +132,7 @@ module _ (session : Session) (me : ProcName) (p : Process) where
   none_as_user job (Some j) =
       user_parts j (OfJob job)
       ∙ (λ k. among_none ReadsGroup (OfJob job) (λ g. refl) (groups_of session p.user) k || (is_free p && among_none WritesGroup (OfJob job) (λ g. refl) (groups_of session p.user) k))
-      ∙ and_false (is_free p)
+      ∙ and-false (is_free p)
 
   pub owns_job : (job : ProcName) → among owned (OfJob job) ≡ has p.held job
   owns_job job = owned_parts (OfJob job) ∙ (λ i. none_as_user job (user_number session p.user) i || among_jobs p.held job i)
@@ -142,32 +143,22 @@ module _ (session : Session) (me : ProcName) (p : Process) where
   own_as_user q (Some j) = (
     user_parts j (ReadsProcess q)
         ∙ (λ k. among_none ReadsGroup (ReadsProcess q) (λ g. refl) (groups_of session p.user) k || (is_free p && among_none WritesGroup (ReadsProcess q) (λ g. refl) (groups_of session p.user) k))
-        ∙ and_false (is_free p),
+        ∙ and-false (is_free p),
     user_parts j (WritesProcess q)
         ∙ (λ k. among_none ReadsGroup (WritesProcess q) (λ g. refl) (groups_of session p.user) k || (is_free p && among_none WritesGroup (WritesProcess q) (λ g. refl) (groups_of session p.user) k))
-        ∙ and_false (is_free p),
+        ∙ and-false (is_free p),
   )
-
-  pub owns_read_own : (q : ProcName) → among owned (ReadsProcess q) ≡ same q me
-  owns_read_own q =
-      owned_parts (ReadsProcess q) ∙ (λ i. same q me || ((own_as_user q (user_number session p.user)).0 i || among_none OfJob (ReadsProcess q) (λ job. refl) p.held i)) ∙ or_false (same q me)
 
   pub owns_write_own : (q : ProcName) → among owned (WritesProcess q) ≡ same q me
   owns_write_own q =
-      owned_parts (WritesProcess q) ∙ (λ i. same q me || ((own_as_user q (user_number session p.user)).1 i || among_none OfJob (WritesProcess q) (λ job. refl) p.held i)) ∙ or_false (same q me)
+      owned_parts (WritesProcess q) ∙ (λ i. same q me || ((own_as_user q (user_number session p.user)).1 i || among_none OfJob (WritesProcess q) (λ job. refl) p.held i)) ∙ or-false (same q me)
 
   -- a job is owned or at 3 where the process knows it
   abbrev passes : CategoryName → Bool
   passes c = among owned c || among (map OfJob p.chain) c
 
-  turned_or : (a b : Bool) → (a || b) ≡ (b || a)
-  turned_or true true = refl
-  turned_or true false = refl
-  turned_or false true = refl
-  turned_or false false = refl
-
   pub passes_job : (job : ProcName) → passes (OfJob job) ≡ knows p job
-  passes_job job = (λ i. owns_job job i || among_jobs p.chain job i) ∙ turned_or (has p.held job) (has p.chain job)
+  passes_job job = (λ i. owns_job job i || among_jobs p.chain job i) ∙ or_comm (has p.held job) (has p.chain job)
 
   pub passes_jobs : (jobs : List ProcName) → list_all passes (map OfJob jobs) ≡ list_all (knows p) jobs
   passes_jobs [] = refl
@@ -175,7 +166,7 @@ module _ (session : Session) (me : ProcName) (p : Process) where
 
   -- and any other category where it is owned
   pub passes_other : (c : CategoryName) → ((job : ProcName) → same_category c (OfJob job) ≡ false) → passes c ≡ among owned c
-  passes_other c no_job = ap (λ b. among owned c || b) (among_none OfJob c no_job p.chain) ∙ or_false (among owned c)
+  passes_other c no_job = ap (λ b. among owned c || b) (among_none OfJob c no_job p.chain) ∙ or-false (among owned c)
 
   -- the jobs of the process are all secret where nothing but jobs are
   tainted_by : (names : List CategoryName) (jobs : List ProcName) → ((job : ProcName) → among names (OfJob job) ≡ has jobs job) → (chain : List ProcName) → list_all (among names) (map OfJob chain) ≡ list_all (has jobs) chain
@@ -207,7 +198,7 @@ module _ (session : Session) (me : ProcName) (p : Process) where
 
     -- what is private to user i, readable, for all, scratch, and a group's
     sees_private : (i : ℕ) → is_below_raised (guard_label category (private_guard i)) (rights_label category own) ≡ is_number (user_number session p.user) i
-    sees_private i = observes_by_names category different (private_guard i) own (user_apart i) ∙ and_true _ ∙ passes_other (ReadsUser i) (λ job. refl) ∙ owns_read_of i
+    sees_private i = observes_by_names category different (private_guard i) own (user_apart i) ∙ and-true _ ∙ passes_other (ReadsUser i) (λ job. refl) ∙ owns_read_of i
 
     pub sees_unguarded : (g : Guard) → g.secret ≡ [] → is_below_raised (guard_label category g) (rights_label category own) ≡ true
     sees_unguarded g e = observes_by_names category different g own (λ c k. absurd (true≢false (sym k ∙ ap (λ names. among names c) e))) ∙ ap (list_all passes) e
@@ -216,7 +207,7 @@ module _ (session : Session) (me : ProcName) (p : Process) where
     sees_scratch jobs i = observes_by_names category different (scratch_guard jobs i) own (λ c e. refl) ∙ (λ k. (passes_other (ReadsUser i) (λ job. refl) ∙ owns_read_of i) k && passes_jobs jobs k)
 
     sees_group : (g : ℕ) → is_below_raised (guard_label category (group_guard g)) (rights_label category own) ≡ (is_some (user_number session p.user) && has_number (groups_of session p.user) g)
-    sees_group g = observes_by_names category different (group_guard g) own (group_apart g) ∙ and_true _ ∙ passes_other (ReadsGroup g) (λ job. refl) ∙ owns_read_of_group g
+    sees_group g = observes_by_names category different (group_guard g) own (group_apart g) ∙ and-true _ ∙ passes_other (ReadsGroup g) (λ job. refl) ∙ owns_read_of_group g
 
     -- a process is seen where each of its jobs is known
     pub sees_process : (other : ProcName) (q : Process) → is_below_raised (guard_label category (process_guard other q)) (rights_label category own) ≡ sees p q
@@ -226,29 +217,29 @@ module _ (session : Session) (me : ProcName) (p : Process) where
     pub below_process : (other : ProcName) (q : Process) → is_below (rights_label category own) (guard_label category (process_guard other q)) ≡ (list_all (has q.chain) p.chain && same other me)
     below_process other q =
         below_by_names category different (process_guard other q) own (jobs_apart p.chain (WritesProcess other ∷ []) (λ job. refl))
-        ∙ (λ i. tainted_in q.chain p.chain i && (ap (λ b. b && true) (owns_write_own other) ∙ and_true (same other me)) i)
+        ∙ (λ i. tainted_in q.chain p.chain i && (ap (λ b. b && true) (owns_write_own other) ∙ and-true (same other me)) i)
 
     -- below what is guarded by a written category alone, and the others
     pub below_private : (i : ℕ) → is_below (rights_label category own) (guard_label category (private_guard i)) ≡ (is_free p && (is_number (user_number session p.user) i && is_free p))
     below_private i =
         below_by_names category different (private_guard i) own (jobs_apart p.chain (WritesUser i ∷ []) (λ job. refl))
-        ∙ (λ k. tainted_in_none (ReadsUser i ∷ []) (λ job. refl) p.chain k && (ap (λ b. b && true) (owns_write_of i) ∙ and_true _) k)
+        ∙ (λ k. tainted_in_none (ReadsUser i ∷ []) (λ job. refl) p.chain k && (ap (λ b. b && true) (owns_write_of i) ∙ and-true _) k)
 
     pub below_readable : (i : ℕ) → is_below (rights_label category own) (guard_label category (readable_guard i)) ≡ (is_free p && (is_number (user_number session p.user) i && is_free p))
     below_readable i =
         below_by_names category different (readable_guard i) own (jobs_apart p.chain (WritesUser i ∷ []) (λ job. refl))
-        ∙ (λ k. tainted_in_none [] (λ job. refl) p.chain k && (ap (λ b. b && true) (owns_write_of i) ∙ and_true _) k)
+        ∙ (λ k. tainted_in_none [] (λ job. refl) p.chain k && (ap (λ b. b && true) (owns_write_of i) ∙ and-true _) k)
 
     pub below_open : is_below (rights_label category own) (guard_label category open_guard) ≡ is_free p
-    below_open = below_by_names category different open_guard own (λ c e. refl) ∙ and_true _ ∙ tainted_in_none [] (λ job. refl) p.chain
+    below_open = below_by_names category different open_guard own (λ c e. refl) ∙ and-true _ ∙ tainted_in_none [] (λ job. refl) p.chain
 
     pub below_scratch : (jobs : List ProcName) (i : ℕ) → is_below (rights_label category own) (guard_label category (scratch_guard jobs i)) ≡ list_all (has jobs) p.chain
-    below_scratch jobs i = below_by_names category different (scratch_guard jobs i) own (λ c e. refl) ∙ and_true _ ∙ tainted_by (scratch_guard jobs i).secret jobs (among_jobs jobs) p.chain
+    below_scratch jobs i = below_by_names category different (scratch_guard jobs i) own (λ c e. refl) ∙ and-true _ ∙ tainted_by (scratch_guard jobs i).secret jobs (among_jobs jobs) p.chain
 
     pub below_group : (g : ℕ) → is_below (rights_label category own) (guard_label category (group_guard g)) ≡ (is_free p && ((is_some (user_number session p.user) && has_number (groups_of session p.user) g) && is_free p))
     below_group g =
         below_by_names category different (group_guard g) own (jobs_apart p.chain (WritesGroup g ∷ []) (λ job. refl))
-        ∙ (λ k. tainted_in_none (ReadsGroup g ∷ []) (λ job. refl) p.chain k && (ap (λ b. b && true) (owns_write_of_group g) ∙ and_true _) k)
+        ∙ (λ k. tainted_in_none (ReadsGroup g ∷ []) (λ job. refl) p.chain k && (ap (λ b. b && true) (owns_write_of_group g) ∙ and-true _) k)
 
     module _ (ok : IsSession session) where
       -- a declared member of a group
@@ -256,8 +247,8 @@ module _ (session : Session) (me : ProcName) (p : Process) where
       member group g numbered = ap (λ b. is_some (user_number session p.user) && b) (is_member_number session ok p.user group g numbered) ∙ by (is_member session p.user group) refl
         where
           by : (b : Bool) → is_member session p.user group ≡ b → (is_some (user_number session p.user) && b) ≡ b
-          by true e = and_true _ ∙ ok.declared p.user group e
-          by false e = and_false _
+          by true e = and-true _ ∙ ok.declared p.user group e
+          by false e = and-false _
 
       owner : (name : Name) (i : ℕ) → user_number session name ≡ Some i → is_number (user_number session p.user) i ≡ same p.user name
       owner name i numbered = is_owner session p.user name i numbered
@@ -312,7 +303,7 @@ module _ (session : Session) (me : ProcName) (p : Process) where
           ∙ (λ i. (below_readable at.0 ∙ ap (λ b. is_free p && (b && is_free p)) (owner name at.0 at.1)) i && true)
           ∙ alike_readable (is_free p) (same p.user name)
       modifies_class Open g e =
-          (λ i. is_below (rights_label category own) (guard_label category (sym (same_Some open_guard g e) i)) && observes_class Open g e i) ∙ and_true _ ∙ below_open
+          (λ i. is_below (rights_label category own) (guard_label category (sym (same_Some open_guard g e) i)) && observes_class Open g e i) ∙ and-true _ ∙ below_open
       modifies_class (Scratch name jobs) g e =
           let at = mapped_from (scratch_guard jobs) (user_number session name) g e in
           (λ i. is_below (rights_label category own) (guard_label category (sym at.2 i)) && observes_class (Scratch name jobs) g e i)

@@ -3,6 +3,7 @@ use Rattle.std.proofs.Common.{◌≡◌, ℕ, ◌≤◌, inl, inr, Bool, true, f
 use Rattle.std.specs.Prelude.{is_some, nat_le}
 use Rattle.std.proofs.lemmas.Bool.Decides.{nat_tests}
 use Rattle.std.proofs.lemmas.Option.{none-some}
+use Rattle.std.proofs.lemmas.Bool.{or_left, or_right}
 use Rattle.histar_flat.specs.Words.{Path, ProcName}
 use Rattle.histar_flat.specs.Files.{get}
 use Rattle.histar_layout.specs.Directory.{spelling}
@@ -21,7 +22,7 @@ use Rattle.histar_refinement.specs.Directories.{directory_of}
 use Rattle.histar_refinement.specs.Processes.{process_bytes}
 use Rattle.histar_refinement.specs.Expected.{segment, status_object, bytes_for, expected}
 use Rattle.histar_refinement.specs.LaysOut.{IsInOrder, IsProcess, Laid}
-use Rattle.histar_refinement.proofs.Members.{first_of, second_of, or_first, or_second}
+use Rattle.histar_refinement.proofs.Members.{first_of, second_of}
 use Rattle.histar_refinement.proofs.Growing.{new_number, old_number, still_different}
 use Rattle.histar_refinement.proofs.Places.{asked_alike}
 use Rattle.histar_refinement.proofs.Moving.{stands_same}
@@ -70,8 +71,8 @@ module _ (session : Session) (f : Flat) (category other : Categories) (keeps : (
     someone = o.someone;
     free = o.free;
     apart = o.apart;
-    chain = keep_order session f category other keeps px.chain (λ job e. inl (x, px, at, or_first (has px.chain job) (has px.held job) e)) o.chain;
-    held = λ r. keep_order session f category other keeps px.held (λ job e. inl (x, px, at, or_second (has px.chain job) (has px.held job) e)) (o.held r);
+    chain = keep_order session f category other keeps px.chain (λ job e. inl (x, px, at, or_left (has px.chain job) (has px.held job) e)) o.chain;
+    held = λ r. keep_order session f category other keeps px.held (λ job e. inl (x, px, at, or_right (has px.chain job) (has px.held job) e)) (o.held r);
     few = o.few;
     status = o.status;
   }

@@ -31,12 +31,12 @@ use Rattle.histar_refinement.specs.Addresses.Step.{Listing, Named}
 use Rattle.histar_refinement.specs.Directories.{both_numbers, directory_of}
 use Rattle.histar_refinement.specs.Stands.{Stands}
 use Rattle.histar_refinement.specs.Expected.{container, segment, guarded_object, node_object, listing_object, expected}
-use Rattle.histar_refinement.specs.LaysOut.{AreJobsGiven, Laid, LaysOut}
+use Rattle.histar_refinement.specs.LaysOut.{Laid}
 use Rattle.histar_refinement.proofs.Steps.{step_tells}
 use Rattle.histar_refinement.proofs.Moving.{number_below, stands_added, number_new, number_old}
 use Rattle.histar_refinement.proofs.Places.{asked_path, asked_listing}
-use Rattle.histar_refinement.proofs.FileRows.{SameNumbers, ClassFits, AreKnown}
-use Rattle.histar_refinement.proofs.Making.{boot_thread_below, Standing, same_numbers, jobs_made, laid_made}
+use Rattle.histar_refinement.proofs.FileRows.{SameNumbers, ClassFits}
+use Rattle.histar_refinement.proofs.Making.{boot_thread_below, Standing, same_numbers, laid_made}
 
 -- what was nothing and is not the next number stays nothing
 gone_added : (s : State) (d b : ℕ) (o : Object Levels) → s.objects b ≡ None → b ≢ s.next_object → (with_object s d o).objects b ≡ None
@@ -123,11 +123,6 @@ module _ (session : Session) (s : State) (f : Flat) (l : Laid session s f) (d : 
       (ap (option_map targets.File) (number_new same_step step_tells s l.naming old_asked l.stands D (address_of d) (Named m) empty_segment at_directory holder free (λ c. sym (none_linked c))))
       name (omega (arith, below), omega (arith, few)) parent_is_dir room
 
-  -- and so the kernel lays out the flat state with the file
-  pub lays_out_created : AreKnown session s f l class → AreJobsGiven f → IsTrue (is_name m) → length (entries_in f d) < most_entries → s.next_object < greatest
-      → LaysOut session (with_bytes with_file N (spelling (map.insert (directory_of f.files l.naming.number d) m (targets.File s.next_object)))) (with_node f (m ∷ d) class (File []))
-  lays_out_created known given name room few = record { laid = (laid_created name room few).0; jobs_given = jobs_made session s f l d m class (File []) absent fits known given }
-
   -- ---- a directory
 
   abbrev empty_container : Object Levels
@@ -198,8 +193,3 @@ module _ (session : Session) (s : State) (f : Flat) (l : Laid session s f) (d : 
 
       inner_then : directory_naming.number (Listing ∷ here) ≡ Some (s.next_object + 1)
       inner_then = number_new same_step step_tells with_container container_naming container_asked container_stands s.next_object here Listing empty_segment number_here holder_here free_here (λ c. sym (none_linked c))
-
-  -- and so the kernel lays out the flat state with the directory
-  pub lays_out_directory_created : AreKnown session s f l class → AreJobsGiven f → IsTrue (is_name m) → length (entries_in f d) < most_entries → s.next_object + 1 < greatest
-      → LaysOut session (with_bytes with_directory N (spelling (map.insert (directory_of f.files l.naming.number d) m (targets.Directory s.next_object (s.next_object + 1))))) (with_node f (m ∷ d) class Dir)
-  lays_out_directory_created known given name room few = record { laid = (laid_directory_created name room few).0; jobs_given = jobs_made session s f l d m class Dir absent fits known given }

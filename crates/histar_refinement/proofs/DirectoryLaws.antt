@@ -19,6 +19,7 @@ use Rattle.histar_layout.specs.declared.entry.Target.{Target}
 use Rattle.histar_layout.specs.declared.entry.Target.TheVariants as targets
 use Rattle.histar_layout.specs.Directory.{Entries, IsEntry, IsListable, entry_bytes, target_bytes, spelling}
 use Rattle.histar_layout.proofs.MapLemmas.{by_bytes, antisymmetric, len_sorted}
+use Rattle.histar_layout.proofs.LookingUp.{target_len}
 use Rattle.histar_refinement.specs.Addresses.{Numbers}
 use Rattle.histar_refinement.specs.Directories.{target_for, target_in, directory_of}
 use Rattle.histar_flat.proofs.Finding.{first, second, both, find_first, find_behind, find_below, find_later, names_decide}
@@ -170,16 +171,11 @@ len_directory f number d lead = len_sorted (filter_map (target_in number d) f.fi
 
 -- ---- the bytes of a directory
 
--- a target takes 17 bytes
-length_target : (t : Target) → length (target_bytes t) ≡ 17
-length_target (targets.File file) = refl
-length_target (targets.Directory container listing) = refl
-
 -- an entry takes at most 50
 length_entries : (es : List (Name × Target)) → AllByRecursion IsEntry es → length (flat_map entry_bytes es) ≤ 50 * length es
 length_entries [] h = omega arith
 length_entries (e ∷ es) h =
-    omega (arith, length_entries es h.1, short_name e.0 h.0.0, length_target e.1, length-append (entry_bytes e) (flat_map entry_bytes es), length-append e.0 (target_bytes e.1))
+    omega (arith, length_entries es h.1, short_name e.0 h.0.0, target_len e.1, length-append (entry_bytes e) (flat_map entry_bytes es), length-append e.0 (target_bytes e.1))
 
 -- the bytes of a directory are not too many for a segment
 pub spelling_fits : (dir : Entries) → IsListable dir → length (spelling dir) ≤ 4096

@@ -85,10 +85,6 @@ module _ (session : Session) (s : State) (f : Flat) (l : Laid session s f) (ok :
       by true may = read_check s t label clearance thread D above links holder (sees ∙ may) N listing_inside above (spelling (directory_of f.files l.naming.number d)) listing ∙ ap (λ b. unless b Observe) sees
       by false may = read_blocked s t label clearance thread D above links holder (sees ∙ may) N ∙ sym (ap (λ b. unless b Observe) may)
 
-  -- a read of anything in a directory that may not be read
-  pub read_refused : may_read session p class ≡ false → (o : ℕ) → check s t (Read D o) ≡ Some Observe
-  read_refused unseen o = read_blocked s t label clearance thread D above links holder (sees ∙ unseen) o
-
   module _ (may : may_read session p class ≡ true) where
     observed : is_below_raised above label ≡ true
     observed = sees ∙ may

@@ -4,6 +4,7 @@ use Rattle.std.specs.Prelude.{is_some, option_map, option_and_then, nat_eq}
 use Rattle.std.specs.FinMap as finmap
 use Rattle.std.specs.Cmp.Lexicographic.{nat_list_cmp_total}
 use Rattle.std.proofs.lemmas.Option.{none-some, same_Some}
+use Rattle.std.proofs.lemmas.Bool.{or_left}
 use mathlib.Core.Bool.{true≢false}
 use Rattle.histar_flat.specs.Words.{Name, Path, ProcName}
 use Rattle.histar_flat.specs.Files.{Files, get}
@@ -39,7 +40,6 @@ use Rattle.histar_refinement.specs.Stands.{Stands}
 use Rattle.histar_refinement.specs.Expected.{segment, guarded_object, content_kind, node_object, listing_object, status_object, bytes_for, status_at, expected}
 use Rattle.histar_refinement.specs.LaysOut.{IsInOrder, AreJobsGiven, Laid}
 use Rattle.histar_refinement.proofs.ProcessBytes.{alike_status}
-use Rattle.histar_refinement.proofs.Members.{or_first}
 use Rattle.histar_refinement.proofs.Places.{path_address, AsksAlikeAt, asked_alike_at, asked_path, asked_listing}
 use Rattle.histar_refinement.proofs.Steps.{step_tells}
 use Rattle.histar_refinement.proofs.Moving.{bare_held, stands_changed, stands_same}
@@ -205,7 +205,7 @@ module _ (session : Session) (s : State) (f : Flat) (l : Laid session s f) where
   made_known me p here (Readable owner) own job is = absurd (true≢false (sym is))
   made_known me p here Open own job is = absurd (true≢false (sym is))
   made_known me p here (Grouped group) own job is = absurd (true≢false (sym is))
-  made_known me p here (Scratch owner jobs) own job is = inl (me, p, here, or_first (has p.chain job) (has p.held job) (ap (λ (js : List ProcName). has js job) (sym (own owner jobs refl)) ∙ is))
+  made_known me p here (Scratch owner jobs) own job is = inl (me, p, here, or_left (has p.chain job) (has p.held job) (ap (λ (js : List ProcName). has js job) (sym (own owner jobs refl)) ∙ is))
 
   made_order : (me : ProcName) (p : Process) → f.processes me ≡ Some p → (class : Class) → ((owner : Name) (jobs : List ProcName) → class ≡ Scratch owner jobs → jobs ≡ p.chain) → IsInOrder l.category class
   made_order me p here (Private owner) own = tt

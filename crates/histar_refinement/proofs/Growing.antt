@@ -2,14 +2,15 @@
 use Rattle.std.proofs.Common.{◌≡◌, ◌≢◌, ℕ, ◌<◌, ◌==◌, ◌⊎◌, inl, inr, Bool, true, false, ◌||◌, List, [], ◌∷◌, ◌++◌, if◌then◌else◌, arith, refl, sym, ap, ◌∙◌}
 use Rattle.std.specs.Prelude.{map}
 use Rattle.std.proofs.lemmas.Bool.Decides.{eqb_tells, nat_tests}
+use Rattle.std.proofs.lemmas.Bool.{or_left, or_right}
 use mathlib.Core.Bool.{true≢false}
 use Rattle.histar_label.specs.declared.levels.Level.TheVariants.{Star, L3}
 use Rattle.histar_label.specs.Levels.{with_level, level_of-with_level, same_levels}
-use Rattle.histar_calls.specs.Labelling.{written_by, secret_of, owner_of, cleared_of, guarded_by, owner_label, cleared_at}
+use Rattle.histar_calls.specs.Labelling.{written_by, secret_of, owner_of, guarded_by, owner_label, cleared_at}
 use Rattle.histar_refinement.specs.Categories.{CategoryName, Categories, AreDifferent, IsMade, same_category, among, swapped, naming_next}
 use Rattle.histar_refinement.specs.Guards.{Guard, Rights, guard_label, rights_label, rights_clearance}
 use Rattle.histar_refinement.proofs.AmongNames.{each_append}
-use Rattle.histar_refinement.proofs.Members.{is_in, or_first, or_second}
+use Rattle.histar_refinement.proofs.Members.{is_in}
 use Rattle.histar_refinement.proofs.Levelled.{owning_level, cleared_level, at_owning, at_cleared}
 use Rattle.histar_refinement.proofs.CategoryTests.{named_in, same_itself}
 
@@ -23,14 +24,11 @@ secret_is r w = refl
 pub owner_is : (r w : ℕ) → owner_of r w ≡ owner_label (r ∷ w ∷ []) []
 owner_is r w = refl
 
-pub cleared_is : (r w : ℕ) → cleared_of r w ≡ cleared_at (r ∷ w ∷ [])
-cleared_is r w = refl
-
 -- names that keep their numbers
 pub same_numbers : (category other : Categories) (names : List CategoryName) → ((c : CategoryName) → among names c ≡ true → other c ≡ category c) → map other names ≡ map category names
 same_numbers category other [] same = refl
 same_numbers category other (x ∷ names) same =
-    λ i. same x (or_first (same_category x x) (among names x) (same_itself x)) i ∷ same_numbers category other names (λ c e. same c (or_second (same_category c x) (among names c) e)) i
+    λ i. same x (or_left (same_category x x) (among names x) (same_itself x)) i ∷ same_numbers category other names (λ c e. same c (or_right (same_category c x) (among names c) e)) i
 
 -- all names of a guard, and of rights
 abbrev pub GuardHas : (CategoryName → Type 0) → Guard → Type 0
@@ -83,12 +81,6 @@ module _ (category : Categories) (different : AreDifferent category) (next : ℕ
 
   pub old_keeps : (d : CategoryName) → IsOld d → KeepsNumber category grown d
   old_keeps d old = old_number d old.0 old.1.1
-
-  pub old_guard : (g : Guard) → GuardHas IsOld g → guard_label grown g ≡ guard_label category g
-  old_guard g old = same_guard_label category grown g (λ d e. old_keeps d (old.0 d e), λ d e. old_keeps d (old.1 d e))
-
-  pub old_rights : (r : Rights) → RightsHave IsOld r → rights_label grown r ≡ rights_label category r
-  old_rights r old = same_rights_label category grown r (λ d e. old_keeps d (old.0 d e), λ d e. old_keeps d (old.1 d e))
 
   -- who makes a category owns it: the label has star there, and the clearance level 3
   abbrev pub with_owned : Rights → Rights

@@ -3,6 +3,7 @@
 use Rattle.std.proofs.Common.{◌≡◌, ℕ, ◌+◌, ◌<◌, ◌≤◌, ◌⊎◌, inl, inr, true, false, List, [], ◌∷◌, ◌++◌, None, Some, arith, refl, sym, ap, ◌∙◌, subst}
 use Rattle.std.specs.Prelude.{is_some}
 use Rattle.std.specs.FinSet as set
+use Rattle.std.proofs.lemmas.Bool.{or_left, or_right}
 use mathlib.Core.Bool.{true≢false}
 use Rattle.histar_flat.specs.Words.{ProcName}
 use Rattle.histar_label.specs.Levels.{Levels}
@@ -13,6 +14,7 @@ use Rattle.histar_object.specs.State.{State, with_own, with_next_category}
 use Rattle.histar_flat.specs.Sessions.{Session, has, user_number}
 use Rattle.histar_flat.specs.Classes.{Process}
 use Rattle.histar_flat.specs.FlatState.{Flat, with_child, with_process, is_given}
+use Rattle.histar_flat.proofs.GivenNames.{longer_has}
 use Rattle.histar_refinement.specs.Categories.{Categories, IsKnown, IsServed, IsUsed}
 use Rattle.histar_refinement.specs.Categories.CategoryName.{OfJob}
 use Rattle.histar_refinement.specs.Guards.{rights_label, rights_clearance}
@@ -21,8 +23,7 @@ use Rattle.histar_refinement.specs.Addresses.{home_of}
 use Rattle.histar_refinement.specs.Addresses.Step.{Status, Inside, Runner}
 use Rattle.histar_refinement.specs.LaysOut.{AreInOrder, Laid}
 use Rattle.histar_rules.specs.Rules.{greatest}
-use Rattle.histar_refinement.proofs.Members.{or_first, or_second}
-use Rattle.histar_refinement.proofs.JobLists.{has_added, not_added}
+use Rattle.histar_refinement.proofs.JobLists.{not_added}
 use Rattle.histar_refinement.proofs.Uses.{keep_order}
 use Rattle.histar_refinement.proofs.Beside.{Beside, beside_uncounted, own_set, own_taken}
 use Rattle.histar_refinement.proofs.Spawned.{births, beside_births}
@@ -44,8 +45,8 @@ module _ (session : Session) (s : State) (f : Flat) (l : Laid session s f) (me :
   held = p.held ++ child ∷ []
 
   pub jobs_used : (job : ProcName) → has jobs job ≡ true → IsUsed session f (OfJob job)
-  jobs_used job e = elim (has_added p.chain child job e) [
-    | inl k ↦ inl (me, p, here, or_first (has p.chain job) (has p.held job) k)
+  jobs_used job e = elim (longer_has p.chain child job e) [
+    | inl k ↦ inl (me, p, here, or_left (has p.chain job) (has p.held job) k)
     | inr is ↦ inr (subst (IsServed f) (sym is) served)
   ]
 
@@ -87,14 +88,14 @@ module _ (session : Session) (s : State) (f : Flat) (l : Laid session s f) (me :
   thread_there = ap (λ nm. nm.number (Runner ∷ Inside ∷ home_of me)) laid_born.1 ∙ sym (kept_runner session s f l me p here runs room jobs jobs_used jobs_ordered jobs_free C S at_home at_status me (λ e. child_not_me session s f l me p here runs room jobs jobs_used jobs_ordered jobs_free C S at_home at_status (sym e))) ∙ at_thread
 
   held_used : (job : ProcName) → has held job ≡ true → IsUsed session born (OfJob job)
-  held_used job e = elim (has_added p.held child job e) [
-    | inl k ↦ inl (me, parent, parent_there, or_second (has p.chain job) (has p.held job) k)
+  held_used job e = elim (longer_has p.held child job e) [
+    | inl k ↦ inl (me, parent, parent_there, or_right (has p.chain job) (has p.held job) k)
     | inr is ↦ inr (subst (IsServed born) (sym is) served)
   ]
 
   held_before : (job : ProcName) → has held job ≡ true → IsUsed session f (OfJob job)
-  held_before job e = elim (has_added p.held child job e) [
-    | inl k ↦ inl (me, p, here, or_second (has p.chain job) (has p.held job) k)
+  held_before job e = elim (longer_has p.held child job e) [
+    | inl k ↦ inl (me, p, here, or_right (has p.chain job) (has p.held job) k)
     | inr is ↦ inr (subst (IsServed f) (sym is) served)
   ]
 

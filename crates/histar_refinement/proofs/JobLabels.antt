@@ -4,6 +4,7 @@ use Rattle.std.specs.Prelude.{map}
 use Rattle.std.specs.List.{filter}
 use Rattle.std.proofs.lemmas.Bool.Decides.{eqb_tells}
 use Rattle.std.proofs.lemmas.List.{get_or_default}
+use Rattle.std.proofs.lemmas.Bool.{or_left, or_right}
 use mathlib.Core.Bool.{true≢false}
 use Rattle.histar_flat.specs.Words.{ProcName}
 use Rattle.histar_flat.specs.Sessions.{Session}
@@ -20,7 +21,7 @@ use Rattle.histar_refinement.specs.Guards.{rights_label}
 use Rattle.histar_refinement.specs.Labels.{thread_rights}
 use Rattle.histar_refinement.proofs.CallerLabels.{default_kept}
 use Rattle.histar_refinement.proofs.Levelled.{owning_level, at_owning}
-use Rattle.histar_refinement.proofs.Members.{is_in, same_truth, or_first, or_second, equal_itself}
+use Rattle.histar_refinement.proofs.Members.{is_in, same_truth, equal_itself}
 
 -- the categories that have level 3
 abbrev picked : List (ℕ × Level) → List ℕ
@@ -49,7 +50,7 @@ picked_there (x ∷ es) c e = picked_by x es (filter (λ e. is_three e.1) es) c 
 
 -- what is picked later is picked
 picked_later : (x : ℕ × Level) (more : List (ℕ × Level)) (c : ℕ) → is_in (map (λ (e : ℕ × Level). e.0) more) c ≡ true → (b : Bool) → is_in (map (λ (e : ℕ × Level). e.0) (cond b (x ∷ more) more)) c ≡ true
-picked_later x more c found true = or_second (c == x.0) _ found
+picked_later x more c found true = or_right (c == x.0) _ found
 picked_later x more c found false = found
 
 -- and a category that is listed with level 3 is picked
@@ -57,7 +58,7 @@ picked_if_there : (es : List (ℕ × Level)) (c : ℕ) (l : Level) → is_three 
 picked_if_there [] c l three j low at = absurd (omega (arith, low))
 picked_if_there (x ∷ es) c l three zero low at =
     ap (λ b. is_in (map (λ (e : ℕ × Level). e.0) (cond b (x ∷ filter (λ e. is_three e.1) es) (filter (λ e. is_three e.1) es))) c) (ap (λ (e : ℕ × Level). is_three e.1) at ∙ three)
-    ∙ or_first (c == x.0) _ (ap (λ (e : ℕ × Level). c == e.0) at ∙ equal_itself c)
+    ∙ or_left (c == x.0) _ (ap (λ (e : ℕ × Level). c == e.0) at ∙ equal_itself c)
 picked_if_there (x ∷ es) c l three (suc j) low at = picked_later x (filter (λ e. is_three e.1) es) c (picked_if_there es c l three j (omega (arith, low)) at) (is_three x.1)
 
 -- level 3 is the level of what is at 3
@@ -86,8 +87,8 @@ in_jobs owned tainted c = same_truth (is_in (jobs_in own) c) (is_in tainted c)
 -- a list with the same numbers as an empty one is empty, and so the other way round
 empty_alike : (cs ds : List ℕ) → ((c : ℕ) → is_in cs c ≡ is_in ds c) → is_empty cs ≡ is_empty ds
 empty_alike [] [] same = refl
-empty_alike [] (d ∷ ds) same = absurd (true≢false (sym (same d ∙ or_first (d == d) (is_in ds d) (equal_itself d))))
-empty_alike (c ∷ cs) [] same = absurd (true≢false (sym (or_first (c == c) (is_in cs c) (equal_itself c)) ∙ same c))
+empty_alike [] (d ∷ ds) same = absurd (true≢false (sym (same d ∙ or_left (d == d) (is_in ds d) (equal_itself d))))
+empty_alike (c ∷ cs) [] same = absurd (true≢false (sym (or_left (c == c) (is_in cs c) (equal_itself c)) ∙ same c))
 empty_alike (c ∷ cs) (d ∷ ds) same = refl
 
 -- The own label of the thread of a process tells the jobs that the process is in.

@@ -1,33 +1,27 @@
 -- Lists of jobs with one job more at the end.
-use Rattle.std.proofs.Common.{◌≡◌, ◌≢◌, ℕ, ◌+◌, ◌<◌, ◌≤◌, ◌⊎◌, inl, inr, Bool, true, false, ◌&&◌, List, [], ◌∷◌, ◌++◌, Option, Some, arith, refl, sym, ap, ◌∙◌}
+use Rattle.std.proofs.Common.{◌≡◌, ◌≢◌, ℕ, ◌+◌, ◌<◌, ◌≤◌, inl, inr, Bool, true, false, ◌&&◌, List, [], ◌∷◌, ◌++◌, Option, Some, arith, refl, sym, ap, ◌∙◌}
 use Rattle.std.specs.Prelude.{map, nat_le}
 use Rattle.std.proofs.lemmas.Bool.Decides.{nat_tests}
+use Rattle.std.proofs.lemmas.Bool.{or_left, or_right}
 use mathlib.Core.Bool.{true≢false}
 use Rattle.histar_flat.specs.Words.{ProcName}
 use Rattle.histar_flat.specs.PathOrder.{same}
 use Rattle.histar_flat.specs.Sessions.{has}
 use Rattle.histar_flat.specs.Classes.{Process}
 use Rattle.histar_flat.specs.FlatState.{Flat, was_given, is_given}
+use Rattle.histar_flat.proofs.GivenNames.{longer_has}
 use Rattle.histar_refinement.specs.Categories.{Categories}
 use Rattle.histar_refinement.specs.Categories.CategoryName.{OfJob}
 use Rattle.histar_refinement.specs.LaysOut.{IsRisingFrom, AreInOrder}
-use Rattle.histar_refinement.proofs.Members.{first_of, second_of, or_first, or_second, or_either}
-use Rattle.histar_refinement.proofs.SessionLemmas.{equal_names, equal_tested}
-
--- what is among them is among the old ones, or is the new one
-pub has_added : (jobs : List ProcName) (child job : ProcName) → has (jobs ++ child ∷ []) job ≡ true → (has jobs job ≡ true) ⊎ (job ≡ child)
-has_added [] child job e = elim (or_either (same job child) false e) [ inl k ↦ inr (equal_names job child k) | inr k ↦ absurd (true≢false (sym k)) ]
-has_added (j ∷ jobs) child job e = elim (or_either (same job j) (has (jobs ++ child ∷ []) job) e) [
-  | inl k ↦ inl (or_first (same job j) (has jobs job) k)
-  | inr k ↦ elim (has_added jobs child job k) [ inl old ↦ inl (or_second (same job j) (has jobs job) old) | inr is ↦ inr is ]
-]
+use Rattle.histar_refinement.proofs.Members.{first_of, second_of}
+use Rattle.histar_refinement.proofs.SessionLemmas.{equal_tested}
 
 -- the new one is in neither list
 pub not_added : (jobs : List ProcName) (child job : ProcName) → has jobs job ≡ false → job ≢ child → has (jobs ++ child ∷ []) job ≡ false
 not_added jobs child job e other = by (has (jobs ++ child ∷ []) job) refl
   where
     by : (b : Bool) → has (jobs ++ child ∷ []) job ≡ b → b ≡ false
-    by true k = elim (has_added jobs child job k) [ inl old ↦ absurd (true≢false (sym old ∙ e)) | inr is ↦ absurd (other is) ]
+    by true k = elim (longer_has jobs child job k) [ inl old ↦ absurd (true≢false (sym old ∙ e)) | inr is ↦ absurd (other is) ]
     by false k = refl
 
 -- jobs in order stay so where the new one's number is above all others
@@ -35,8 +29,8 @@ rising_last : (category : Categories) (child : ProcName) (n : ℕ) (jobs : List 
     → IsRisingFrom n (map (λ job. category (OfJob job)) jobs) → IsRisingFrom n (map (λ job. category (OfJob job)) (jobs ++ child ∷ []))
 rising_last category child n [] low below rising = (low, tt)
 rising_last category child n (j ∷ jobs) low below rising =
-    let here = below j (or_first (same j j) (has jobs j) (equal_tested j j refl)) in
-    (rising.0, rising_last category child (category (OfJob j) + 1) jobs (omega (arith, here)) (λ job e. below job (or_second (same job j) (has jobs job) e)) rising.1)
+    let here = below j (or_left (same j j) (has jobs j) (equal_tested j j refl)) in
+    (rising.0, rising_last category child (category (OfJob j) + 1) jobs (omega (arith, here)) (λ job e. below job (or_right (same job j) (has jobs job) e)) rising.1)
 
 pub in_order_last : (category : Categories) (child : ProcName) (jobs : List ProcName) → ((job : ProcName) → has jobs job ≡ true → category (OfJob job) < category (OfJob child)) → AreInOrder category jobs → AreInOrder category (jobs ++ child ∷ [])
 in_order_last category child jobs below = rising_last category child 0 jobs (omega arith) below

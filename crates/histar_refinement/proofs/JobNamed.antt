@@ -1,18 +1,19 @@
 -- A category is made for a new job, which is named by the next child of its wrapper: the name was not used, and no class names the job yet.
 use Rattle.std.proofs.Common.{◌≡◌, ◌+◌, inl, inr, Bool, true, false, [], ◌∷◌, ◌++◌, Some, arith, refl, ap, ◌∙◌}
+use Rattle.std.proofs.lemmas.Bool.{or_left}
 use Rattle.histar_flat.specs.Words.{Path, ProcName}
 use Rattle.histar_flat.specs.Files.{get}
 use Rattle.histar_object.specs.State.{State, with_next_category}
 use Rattle.histar_flat.specs.Sessions.{Session, has}
 use Rattle.histar_flat.specs.Classes.{Process}
 use Rattle.histar_flat.specs.FlatState.{Node, Flat}
+use Rattle.histar_flat.proofs.GivenNames.{longer_has}
 use Rattle.histar_refinement.specs.Categories.{CategoryName, Categories, IsMade, among, naming_next, IsUsed}
 use Rattle.histar_refinement.specs.Categories.CategoryName.{OfJob}
 use Rattle.histar_refinement.specs.Guards.{Guard}
 use Rattle.histar_refinement.specs.Labels.{class_guard}
 use Rattle.histar_refinement.specs.LaysOut.{LaysOut, Laid}
-use Rattle.histar_refinement.proofs.Members.{or_first}
-use Rattle.histar_refinement.proofs.JobLists.{has_added, never_given}
+use Rattle.histar_refinement.proofs.JobLists.{never_given}
 use Rattle.histar_refinement.proofs.Uses.{class_used}
 use Rattle.histar_refinement.proofs.Counting.{number_named, keeps_named, laid_named}
 
@@ -29,7 +30,7 @@ module _ (session : Session) (s : State) (f : Flat) (l : LaysOut session s f) (m
   stranger = by (has p.chain child) refl
     where
       by : (b : Bool) → has p.chain child ≡ b → b ≡ false
-      by true e = absurd (unused (inl (me, p, here, or_first (has p.chain child) (has p.held child) e)))
+      by true e = absurd (unused (inl (me, p, here, or_left (has p.chain child) (has p.held child) e)))
       by false e = refl
 
   -- no class names the job yet
@@ -58,8 +59,8 @@ module _ (session : Session) (s : State) (f : Flat) (l : LaysOut session s f) (m
 
   -- the categories of the jobs of the process and of the new one are made
   pub chain_made : (job : ProcName) → has (p.chain ++ ((p.born + 1) ∷ me) ∷ []) job ≡ true → IsMade (s.next_category + 1) (m.category (OfJob job))
-  chain_made job e = elim (has_added p.chain child job e) [
-    | inl k ↦ m.made (OfJob job) (inl (me, p, here, or_first (has p.chain job) (has p.held job) k))
+  chain_made job e = elim (longer_has p.chain child job e) [
+    | inl k ↦ m.made (OfJob job) (inl (me, p, here, or_left (has p.chain job) (has p.held job) k))
     | inr is ↦
         let first = l.laid.made CategoryName.OfBoot tt in
         let new : m.category (OfJob job) ≡ s.next_category = ap (λ (j : ProcName). m.category (OfJob j)) is ∙ job_number in

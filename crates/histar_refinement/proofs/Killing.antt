@@ -2,6 +2,7 @@
 use Rattle.std.proofs.Common.{◌≡◌, ◌≢◌, ℕ, ◌+◌, ◌*◌, ◌⊎◌, inl, inr, Bool, true, false, ◌||◌, cond, if◌then◌else◌, List, [], ◌∷◌, length, Option, None, Some, refl, sym, ap, ◌∙◌, subst, ◌≤◌}
 use Rattle.std.specs.Prelude.{is_some, option_map, nat_eq}
 use Rattle.std.proofs.lemmas.Option.{none-some}
+use Rattle.std.proofs.lemmas.Bool.{and_from}
 use mathlib.Core.Bool.{true≢false}
 use Rattle.histar_flat.specs.Words.{Path, ProcName}
 use Rattle.histar_flat.specs.PathOrder.{same as same_name}
@@ -32,7 +33,7 @@ use Rattle.histar_refinement.specs.Stands.{Stands}
 use Rattle.histar_refinement.specs.Expected.{segment, listing_object, home_object, status_object, inside_object, thread_object, node_at, listing_at, home_at, bytes_for, status_at, container_inside, thread_at, expected}
 use Rattle.histar_refinement.specs.LaysOut.{AreJobsGiven, Laid, LaysOut}
 use Rattle.histar_refinement.proofs.ProcessBytes.{alike_bytes}
-use Rattle.histar_refinement.proofs.Members.{first_of, second_of, and_both}
+use Rattle.histar_refinement.proofs.Members.{first_of, second_of}
 use Rattle.histar_refinement.proofs.Places.{address_path, address_process, address_inside, same_home, same_directory, AsksAlike, asked_alike, asked_status}
 use Rattle.histar_refinement.proofs.Steps.{step_tells}
 use Rattle.histar_refinement.proofs.Moving.{bare_held, stands_changed, stands_cut, stands_same, no_address}
@@ -237,7 +238,7 @@ module _ (session : Session) (s : State) (f : Flat) (l : Laid session s f) (me :
 
   given_then : (x : ProcName) → is_given f.processes x ≡ true → is_given after.processes x ≡ true
   given_then [] e = refl
-  given_then (k ∷ y) e = and_both (by (under_process top y) refl (first_of (was_given (f.processes y) k) (is_given f.processes y) e)) (given_then y (second_of (was_given (f.processes y) k) (is_given f.processes y) e))
+  given_then (k ∷ y) e = and_from _ _ (by (under_process top y) refl (first_of (was_given (f.processes y) k) (is_given f.processes y) e)) (given_then y (second_of (was_given (f.processes y) k) (is_given f.processes y) e))
     where
       by : (t : Bool) → under_process top y ≡ t → was_given (f.processes y) k ≡ true → was_given (after.processes y) k ≡ true
       by true i given = ap (λ (x : Option Process). was_given x k) (gone y i)

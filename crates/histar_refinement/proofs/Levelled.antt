@@ -2,6 +2,7 @@
 use Rattle.std.proofs.Common.{◌≡◌, ◌≢◌, ℕ, ◌≤◌, ◌==◌, Bool, true, false, ◌&&◌, ◌||◌, List, [], ◌∷◌, ◌++◌, if◌then◌else◌, arith, refl, sym, ap, ◌∙◌}
 use Rattle.std.specs.List.{list_all}
 use Rattle.std.proofs.lemmas.Bool.Decides.{nat_tests}
+use Rattle.std.proofs.lemmas.Bool.{and_from, or_left, or_right}
 use mathlib.Core.Bool.{true≢false}
 use Rattle.histar_label.specs.declared.levels.Level.{Level}
 use Rattle.histar_label.specs.declared.levels.Level.TheVariants.{Star, L0, L1, L2, L3}
@@ -13,7 +14,7 @@ use Rattle.histar_label.proofs.Stars.{has_star-none}
 use Rattle.histar_calls.specs.Labelling.{with_levels, each_at, guarded_by, owner_label, cleared_at}
 use Rattle.histar_calls.proofs.LabellingLemmas.{with_levels-append}
 use Rattle.histar_refinement.specs.Categories.{IsMade}
-use Rattle.histar_refinement.proofs.Members.{is_in, same_truth, and_both, first_of, second_of, or_first, all_from, each_of, AreApart, or_second}
+use Rattle.histar_refinement.proofs.Members.{is_in, same_truth, first_of, second_of, all_from, each_of, AreApart}
 
 -- by the test of the first category and that of the others
 either_level : (a b : Bool) (l m : Level) → (if b then l else (if a then l else m)) ≡ (if a || b then l else m)
@@ -148,7 +149,7 @@ observes_guarded S W O T apart = same_truth (is_below_raised (guarded_by S W) (o
 -- written one.
 pub below_guarded : (S W O T : List ℕ) → AreApart T W → is_below (owner_label O T) (guarded_by S W) ≡ (list_all (is_in S) T && list_all (is_in O) W)
 below_guarded S W O T apart = same_truth (is_below (owner_label O T) (guarded_by S W)) (list_all (is_in S) T && list_all (is_in O) W)
-    (λ below. and_both
+    (λ below. and_from _ _
     (all_from (is_in S) T (λ q e. under_secret (is_in S q) (is_in W q) (is_in O q) (is_in T q) e (at_each below q)))
     (all_from (is_in O) W (λ q e. under_written (is_in S q) (is_in W q) (is_in O q) (is_in T q) e (at_each below q))))
     (λ both. (is_below-law (owner_label O T) (guarded_by S W)).1 (λ q.
@@ -205,8 +206,8 @@ guarded_owns_nothing S W = has_star-none (guarded_by S W) (λ q e. no_star (is_i
 made_at : (next : ℕ) (L : Levels) (cs : List ℕ) (l : Level) → is_made next L ≡ true → ((q : ℕ) → is_in cs q ≡ true → IsMade next q) → is_made next (with_levels L (each_at l cs)) ≡ true
 made_at next L [] l made each = made
 made_at next L (c ∷ cs) l made each =
-    let here : IsMade next c = each c (or_first (c == c) (is_in cs c) (grind (arith, nat_tests))) in
-    made_at next (with_level L c l) cs l (is_made-with_level next L c l here.0 here.1 made) (λ q e. each q (or_second (q == c) (is_in cs q) e))
+    let here : IsMade next c = each c (or_left (c == c) (is_in cs c) (grind (arith, nat_tests))) in
+    made_at next (with_level L c l) cs l (is_made-with_level next L c l here.0 here.1 made) (λ q e. each q (or_right (q == c) (is_in cs q) e))
 
 pub guarded_made : (next : ℕ) (S W : List ℕ) → ((q : ℕ) → is_in S q ≡ true → IsMade next q) → ((q : ℕ) → is_in W q ≡ true → IsMade next q) → is_made next (guarded_by S W) ≡ true
 guarded_made next S W secret written =

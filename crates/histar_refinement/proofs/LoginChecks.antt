@@ -4,6 +4,7 @@ use Rattle.std.proofs.Common.{◌≡◌, ◌≢◌, ℕ, ◌≤◌, Bool, true, 
 use Rattle.std.specs.Prelude.{map, option_map}
 use Rattle.std.specs.List.{list_all}
 use Rattle.std.specs.FinSet as set
+use Rattle.std.proofs.lemmas.Bool.{and_from, or_left}
 use mathlib.Core.Bool.{true≢false}
 use Rattle.histar_base.specs.Refusals.{◌orelse◌, unless}
 use Rattle.histar_flat.specs.Words.{Name, ProcName}
@@ -33,7 +34,6 @@ use Rattle.histar_refinement.specs.Labels.{boot_guard, private_guard, gate_right
 use Rattle.histar_refinement.specs.LaysOut.{Laid}
 use Rattle.histar_refinement.specs.Laws.{RunsAs}
 use Rattle.histar_refinement.proofs.AmongNames.{covers, in_first, in_second, at_head, later, each_head, each_append}
-use Rattle.histar_refinement.proofs.Members.{and_both, or_first}
 use Rattle.histar_refinement.proofs.SessionLemmas.{user_range}
 use Rattle.histar_refinement.proofs.Tested.{AreMade, observes_by_names, rights_by_names, capped_by_names, clearances_by_names, rights_made, clearance_made}
 use Rattle.histar_refinement.proofs.ClassTests.{user_apart, sees_unguarded}
@@ -187,7 +187,7 @@ module _ (session : Session) (s : State) (f : Flat) (l : Laid session s f) (me :
 
   password_seen : is_below_raised password wanted ≡ true
   password_seen = ap (is_below_raised password) wanted_is ∙ observes_by_names l.category l.different (private_guard i) more (user_apart i)
-      ∙ and_both (or_first (among more.owned (ReadsUser i)) (among more.tainted (ReadsUser i)) (in_second mine.owned gate.owned (ReadsUser i) (in_first (reading session name i) (writing session name i) (ReadsUser i) (at_head (ReadsUser i) (map ReadsGroup (groups_of session name)))))) refl
+      ∙ and_from _ _ (or_left (among more.owned (ReadsUser i)) (among more.tainted (ReadsUser i)) (in_second mine.owned gate.owned (ReadsUser i) (in_first (reading session name i) (writing session name i) (ReadsUser i) (at_head (ReadsUser i) (map ReadsGroup (groups_of session name)))))) refl
 
   -- the password is read
   pub read_password_said : check entered t (Read root_number (password_of i)) ≡ None
@@ -251,7 +251,7 @@ module _ (session : Session) (s : State) (f : Flat) (l : Laid session s f) (me :
     -- their label is taken
     pub set_label_said : check entered t (SetLabel (rights_label l.category r)) ≡ None
     set_label_said = λ j. unless (is_thread (entered_thread j)) denials.NoThread
-        orelse unless ((ap (λ (x : Found). in_range x label) entered_thread ∙ and_both below_label label_below) j) denials.Range
+        orelse unless ((ap (λ (x : Found). in_range x label) entered_thread ∙ and_from _ _ below_label label_below) j) denials.Range
         orelse unless (label_known j) denials.Range
 
     abbrev pub relabelled_state : State
@@ -272,7 +272,7 @@ module _ (session : Session) (s : State) (f : Flat) (l : Laid session s f) (me :
         ∙ clearances_by_names l.category l.different r (record { owned = mine.owned ++ mine.tainted; tainted = gate.owned ++ [] }) (covers all_names (r.owned ++ r.tainted) in_all)
 
     clears : may_clear (relabelled_state.objects t) clearance ≡ true
-    clears = ap (λ (x : Found). may_clear x clearance) relabelled_thread ∙ and_both
+    clears = ap (λ (x : Found). may_clear x clearance) relabelled_thread ∙ and_from _ _
         (capped_by_names l.category l.different r (r.owned ++ r.tainted) ∙ covers (r.owned ++ r.tainted) r.tainted (in_second r.owned r.tainted))
         ((is_below_join_raised-law clearance limit label).1 (λ q. let under = (is_below-law clearance limit).0 clearance_below q in omega (arith, under)))
 

@@ -4,6 +4,8 @@ use Rattle.std.specs.Prelude.{map, is_some, nat_eq}
 use Rattle.std.specs.List.{list_all}
 use Rattle.std.proofs.lemmas.Bool.Decides.{nat_tests}
 use Rattle.std.proofs.lemmas.Option.{none-some, same_Some}
+use Rattle.std.proofs.lemmas.Bool.{and_from, or_left, or_right}
+use Rattle.std.proofs.Math.Bool.{and-true}
 use mathlib.Core.Bool.{true≢false}
 use Rattle.histar_flat.specs.declared.calls.Mode.{Mode}
 use Rattle.histar_flat.specs.declared.calls.Mode.TheVariants as modes
@@ -18,7 +20,7 @@ use Rattle.histar_refinement.specs.Categories.{CategoryName, Categories, AreDiff
 use Rattle.histar_refinement.specs.Categories.CategoryName.{ReadsUser, ReadsGroup, OfJob}
 use Rattle.histar_refinement.specs.Guards.{Guard, Rights, guard_label, rights_label, rights_clearance}
 use Rattle.histar_refinement.specs.Labels.{class_guard, private_guard, readable_guard, scratch_guard, group_guard, open_guard, thread_rights}
-use Rattle.histar_refinement.proofs.Members.{and_both, or_first, or_second, and_true, mapped_from}
+use Rattle.histar_refinement.proofs.Members.{mapped_from}
 use Rattle.histar_refinement.proofs.CategoryTests.{among-append}
 use Rattle.histar_refinement.proofs.Tested.{cleared_exactly_by_names}
 use Rattle.histar_refinement.proofs.SessionLemmas.{is_number, has_number, equal_tested}
@@ -30,14 +32,14 @@ all_had jobs = each jobs jobs (λ job e. e)
   where
     each : (all some : List ProcName) → ((job : ProcName) → has some job ≡ true → has all job ≡ true) → list_all (has all) some ≡ true
     each all [] within = refl
-    each all (j ∷ some) within = and_both (within j (or_first (same j j) (has some j) (equal_tested j j refl))) (each all some (λ job e. within job (or_second (same job j) (has some job) e)))
+    each all (j ∷ some) within = and_from _ _ (within j (or_left (same j j) (has some j) (equal_tested j j refl))) (each all some (λ job e. within job (or_right (same job j) (has some job) e)))
 
 pub all_known : (p : Process) → list_all (knows p) p.chain ≡ true
-all_known p = each p.chain (λ job e. or_first (has p.chain job) (has p.held job) e)
+all_known p = each p.chain (λ job e. or_left (has p.chain job) (has p.held job) e)
   where
     each : (some : List ProcName) → ((job : ProcName) → has some job ≡ true → knows p job ≡ true) → list_all (knows p) some ≡ true
     each [] within = refl
-    each (j ∷ some) within = and_both (within j (or_first (same j j) (has some j) (equal_tested j j refl))) (each some (λ job e. within job (or_second (same job j) (has some job) e)))
+    each (j ∷ some) within = and_from _ _ (within j (or_left (same j j) (has some j) (equal_tested j j refl))) (each some (λ job e. within job (or_right (same job j) (has some job) e)))
 
 module _ (session : Session) (category : Categories) (different : AreDifferent category) (me : ProcName) (p : Process) where
   abbrev own : Rights
@@ -72,7 +74,7 @@ module _ (session : Session) (category : Categories) (different : AreDifferent c
   -- What is private or readable to user i is made by that user, in no job.
   pub private_range : (i : ℕ) → is_made_within (private_guard i) ≡ (is_free p && is_number (user_number session p.user) i)
   private_range i =
-      (λ k. below_private session me p category different i k && (cleared_exactly_by_names category different (private_guard i) both (user_apart i) ∙ and_true (among both (ReadsUser i)) ∙ reads_user i) k)
+      (λ k. below_private session me p category different i k && (cleared_exactly_by_names category different (private_guard i) both (user_apart i) ∙ and-true (among both (ReadsUser i)) ∙ reads_user i) k)
       ∙ alike (is_free p) (is_number (user_number session p.user) i)
 
   pub readable_range : (i : ℕ) → is_made_within (readable_guard i) ≡ (is_free p && is_number (user_number session p.user) i)
@@ -88,12 +90,12 @@ module _ (session : Session) (category : Categories) (different : AreDifferent c
 
   -- what is open is made by everyone, in no job
   pub open_range : is_made_within open_guard ≡ is_free p
-  open_range = (λ k. below_open session me p category different k && cleared_exactly_by_names category different open_guard both (λ c e. refl) k) ∙ and_true (is_free p)
+  open_range = (λ k. below_open session me p category different k && cleared_exactly_by_names category different open_guard both (λ c e. refl) k) ∙ and-true (is_free p)
 
   -- what is a group's is made by its members, in no job
   pub group_range : (k : ℕ) → is_made_within (group_guard k) ≡ (is_free p && (is_some (user_number session p.user) && has_number (groups_of session p.user) k))
   group_range k =
-      (λ i. below_group session me p category different k i && (cleared_exactly_by_names category different (group_guard k) both (group_apart k) ∙ and_true (among both (ReadsGroup k)) ∙ reads_group k) i)
+      (λ i. below_group session me p category different k i && (cleared_exactly_by_names category different (group_guard k) both (group_apart k) ∙ and-true (among both (ReadsGroup k)) ∙ reads_group k) i)
       ∙ alike (is_free p) (is_some (user_number session p.user) && has_number (groups_of session p.user) k)
 
   -- and what is scratch by a user who knows its jobs, and is in no other
@@ -117,12 +119,12 @@ module _ (session : Session) (category : Categories) (different : AreDifferent c
         of_private : is_free p ≡ true → class ≡ Private p.user → is_made_within g ≡ true
         of_private free is =
             let at = mapped_from private_guard (user_number session p.user) g (ap (class_guard session) (sym is) ∙ guard) in
-            ap is_made_within (sym at.2) ∙ private_range at.0 ∙ and_both free (number_itself (user_number session p.user) at.0 at.1)
+            ap is_made_within (sym at.2) ∙ private_range at.0 ∙ and_from _ _ free (number_itself (user_number session p.user) at.0 at.1)
 
         of_readable : is_free p ≡ true → class ≡ Readable p.user → is_made_within g ≡ true
         of_readable free is =
             let at = mapped_from readable_guard (user_number session p.user) g (ap (class_guard session) (sym is) ∙ guard) in
-            ap is_made_within (sym at.2) ∙ readable_range at.0 ∙ and_both free (number_itself (user_number session p.user) at.0 at.1)
+            ap is_made_within (sym at.2) ∙ readable_range at.0 ∙ and_from _ _ free (number_itself (user_number session p.user) at.0 at.1)
 
         of_open : is_free p ≡ true → class ≡ Open → is_made_within g ≡ true
         of_open free is = ap is_made_within (sym (same_Some open_guard g (ap (class_guard session) (sym is) ∙ guard))) ∙ open_range ∙ free
@@ -130,12 +132,12 @@ module _ (session : Session) (category : Categories) (different : AreDifferent c
         of_group : (group : Name) → is_free p ≡ true → is_member session p.user group ≡ true → class ≡ Grouped group → is_made_within g ≡ true
         of_group group free in_it is =
             let at = mapped_from group_guard (group_number session group) g (ap (class_guard session) (sym is) ∙ guard) in
-            ap is_made_within (sym at.2) ∙ group_range at.0 ∙ and_both free (member session me p category different ok group at.0 at.1 ∙ in_it)
+            ap is_made_within (sym at.2) ∙ group_range at.0 ∙ and_from _ _ free (member session me p category different ok group at.0 at.1 ∙ in_it)
 
         of_scratch : class ≡ Scratch p.user p.chain → is_made_within g ≡ true
         of_scratch is =
             let at = mapped_from (scratch_guard p.chain) (user_number session p.user) g (ap (class_guard session) (sym is) ∙ guard) in
-            ap is_made_within (sym at.2) ∙ scratch_range p.chain at.0 ∙ and_both (all_had p.chain) (and_both (number_itself (user_number session p.user) at.0 at.1) (all_known p))
+            ap is_made_within (sym at.2) ∙ scratch_range p.chain at.0 ∙ and_from _ _ (all_had p.chain) (and_from _ _ (number_itself (user_number session p.user) at.0 at.1) (all_known p))
 
         not_nobody : (b : Bool) (c : Class) → (if b then None else Some c) ≡ Some class → class ≡ c
         not_nobody true c e = absurd (none-some class e)

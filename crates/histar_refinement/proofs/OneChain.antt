@@ -2,6 +2,7 @@
 use Rattle.std.proofs.Common.{◌≡◌, ◌≢◌, ℕ, ◌+◌, ◌<◌, ◌≤◌, ◌==◌, ◌⊎◌, inl, inr, Bool, true, false, ◌||◌, List, [], ◌∷◌, arith, refl, sym, ap, ◌∙◌, subst}
 use Rattle.std.specs.Prelude.{map}
 use Rattle.std.proofs.lemmas.Bool.Decides.{eqb_tells}
+use Rattle.std.proofs.lemmas.Bool.{or_left}
 use mathlib.Core.Bool.{true≢false}
 use Rattle.histar_flat.specs.Words.{ProcName}
 use Rattle.histar_label.specs.Level.{rank}
@@ -14,7 +15,7 @@ use Rattle.histar_refinement.specs.Categories.CategoryName.{WritesProcess, OfJob
 use Rattle.histar_refinement.specs.Guards.{guard_label}
 use Rattle.histar_refinement.specs.Labels.{process_guard}
 use Rattle.histar_refinement.specs.LaysOut.{IsRisingFrom, AreInOrder}
-use Rattle.histar_refinement.proofs.Members.{is_in, or_first, same_truth, equal_itself}
+use Rattle.histar_refinement.proofs.Members.{is_in, same_truth, equal_itself}
 use Rattle.histar_refinement.proofs.Levelled.{guarded_level, at_guarded}
 use Rattle.histar_refinement.proofs.CategoryTests.{among_jobs, is_in_names, named_in}
 use Rattle.histar_refinement.proofs.Uses.{job_among}
@@ -37,15 +38,15 @@ not_among n xs q rising below = by (is_in xs q) refl
 -- rising lists with the same members are the same
 pub one_rising : (n m : ℕ) (xs ys : List ℕ) → IsRisingFrom n xs → IsRisingFrom m ys → ((q : ℕ) → is_in xs q ≡ is_in ys q) → xs ≡ ys
 one_rising n m [] [] a b alike = refl
-one_rising n m [] (y ∷ ys) a b alike = absurd (true≢false (sym (or_first (y == y) (is_in ys y) (equal_itself y)) ∙ sym (alike y)))
-one_rising n m (x ∷ xs) [] a b alike = absurd (true≢false (sym (or_first (x == x) (is_in xs x) (equal_itself x)) ∙ alike x))
+one_rising n m [] (y ∷ ys) a b alike = absurd (true≢false (sym (or_left (y == y) (is_in ys y) (equal_itself y)) ∙ sym (alike y)))
+one_rising n m (x ∷ xs) [] a b alike = absurd (true≢false (sym (or_left (x == x) (is_in xs x) (equal_itself x)) ∙ alike x))
 one_rising n m (x ∷ xs) (y ∷ ys) a b alike = (λ i. same i ∷ one_rising (x + 1) (y + 1) xs ys a.1 b.1 rest i)
   where
     x_there : y ≤ x
-    x_there = not_smaller y (y ∷ ys) x (omega arith, b.1) (sym (alike x) ∙ or_first (x == x) (is_in xs x) (equal_itself x))
+    x_there = not_smaller y (y ∷ ys) x (omega arith, b.1) (sym (alike x) ∙ or_left (x == x) (is_in xs x) (equal_itself x))
 
     y_there : x ≤ y
-    y_there = not_smaller x (x ∷ xs) y (omega arith, a.1) (alike y ∙ or_first (y == y) (is_in ys y) (equal_itself y))
+    y_there = not_smaller x (x ∷ xs) y (omega arith, a.1) (alike y ∙ or_left (y == y) (is_in ys y) (equal_itself y))
 
     same : x ≡ y
     same = let low = x_there in let high = y_there in omega (arith, low, high)

@@ -2,6 +2,7 @@
 use Rattle.std.proofs.Common.{◌≡◌, ℕ, inl, inr, Bool, true, false, List, [], ◌∷◌, Some, arith, refl, sym, ap, subst, ◌∙◌}
 use Rattle.std.specs.Prelude.{map}
 use Rattle.std.proofs.lemmas.Option.{same_Some}
+use Rattle.std.proofs.lemmas.Bool.{or_cases}
 use mathlib.Core.Bool.{true≢false}
 use Rattle.histar_flat.specs.Words.{Name, ProcName}
 use Rattle.histar_flat.specs.Sessions.{Session, user_number, group_number}
@@ -16,7 +17,7 @@ use Rattle.histar_refinement.specs.Guards.{Guard, guard_label}
 use Rattle.histar_refinement.specs.Labels.{class_guard, private_guard, readable_guard, scratch_guard, group_guard, open_guard}
 use Rattle.histar_refinement.specs.LaysOut.{IsInOrder}
 use Rattle.histar_refinement.proofs.AmongNames.{at_head, told_one}
-use Rattle.histar_refinement.proofs.Members.{or_either, mapped_from}
+use Rattle.histar_refinement.proofs.Members.{mapped_from}
 use Rattle.histar_refinement.proofs.Levelled.{guarded_level, at_guarded}
 use Rattle.histar_refinement.proofs.CategoryTests.{among_none, among_jobs, is_in_names, same_told}
 use Rattle.histar_refinement.proofs.SessionLemmas.{one_user, one_group}
@@ -112,7 +113,7 @@ sets like at alike = record {
 -- what a user reads by is told among jobs too
 user_read : (jobs : List ProcName) (i j : ℕ) → among (ReadsUser j ∷ map OfJob jobs) (ReadsUser i) ≡ true → i ≡ j
 unfolding number_of
-user_read jobs i j e = elim (or_either (same_category (ReadsUser i) (ReadsUser j)) (among (map OfJob jobs) (ReadsUser i)) e) [
+user_read jobs i j e = elim (or_cases (same_category (ReadsUser i) (ReadsUser j)) (among (map OfJob jobs) (ReadsUser i)) e) [
   | inl k ↦ ap number_of (same_told (ReadsUser i) (ReadsUser j) k)
   | inr k ↦ absurd (true≢false (sym k ∙ among_none OfJob (ReadsUser i) (λ job. refl) jobs))
 ]

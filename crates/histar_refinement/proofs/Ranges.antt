@@ -2,6 +2,7 @@
 use Rattle.std.proofs.Common.{◌≡◌, ℕ, Bool, true, false, ◌||◌, max, List, [], ◌∷◌, ◌++◌, None, arith, refl, sym, ap, ◌∙◌}
 use Rattle.std.specs.Prelude.{map}
 use Rattle.std.specs.List.{list_all}
+use Rattle.std.proofs.lemmas.Bool.{and_from, or_left, or_right}
 use mathlib.Core.Bool.{true≢false}
 use Rattle.histar_flat.specs.Words.{Name, ProcName}
 use Rattle.histar_label.specs.declared.levels.Level.{Level}
@@ -18,16 +19,16 @@ use Rattle.histar_refinement.specs.Categories.CategoryName.{ReadsGroup, WritesGr
 use Rattle.histar_refinement.specs.Guards.{Rights, guard_label, rights_label, rights_clearance}
 use Rattle.histar_refinement.specs.Labels.{process_guard, inside_guard, reading, writing, owned_as, thread_rights, gate_rights}
 use Rattle.histar_refinement.proofs.AmongNames.{covers, in_first, in_second, at_head, later, each_head, each_append}
-use Rattle.histar_refinement.proofs.Members.{is_in, is_in-append, and_both, or_first, or_second}
+use Rattle.histar_refinement.proofs.Members.{is_in, is_in-append}
 use Rattle.histar_refinement.proofs.Levelled.{owning_level, cleared_level, at_owning, at_cleared}
 use Rattle.histar_refinement.proofs.CategoryTests.{among-append, among_none, is_in_names, named_in}
 use Rattle.histar_refinement.proofs.Tested.{observes_by_names, below_by_names, cleared_by_names, rights_by_names, capped_by_names, clearances_by_names}
 use Rattle.histar_refinement.proofs.ClassTests.{jobs_apart, tainted_in_none}
 
 -- a test that each name passes
-passed_by_all : (test : CategoryName → Bool) (names : List CategoryName) → ((c : CategoryName) → among names c ≡ true → test c ≡ true) → list_all test names ≡ true
+pub passed_by_all : (test : CategoryName → Bool) (names : List CategoryName) → ((c : CategoryName) → among names c ≡ true → test c ≡ true) → list_all test names ≡ true
 passed_by_all test [] each = refl
-passed_by_all test (x ∷ names) each = and_both (each x (at_head x names)) (passed_by_all test names (λ c e. each c (later x names c e)))
+passed_by_all test (x ∷ names) each = and_from _ _ (each x (at_head x names)) (passed_by_all test names (λ c e. each c (later x names c e)))
 
 module _ (session : Session) (category : Categories) (different : AreDifferent category) (me : ProcName) (p : Process) (child : ProcName) where
   -- the rights of the thread once it has made the child's two categories
@@ -48,13 +49,13 @@ module _ (session : Session) (category : Categories) (different : AreDifferent c
 
   -- the jobs of the process are no bar, since its thread has them at 3
   jobs_seen : list_all (λ c. among grown.owned c || among grown.tainted c) (map OfJob p.chain) ≡ true
-  jobs_seen = passed_by_all (λ c. among grown.owned c || among grown.tainted c) (map OfJob p.chain) (λ c e. or_second (among grown.owned c) (among grown.tainted c) e)
+  jobs_seen = passed_by_all (λ c. among grown.owned c || among grown.tainted c) (map OfJob p.chain) (λ c e. or_right (among grown.owned c) (among grown.tainted c) e)
 
   -- its own container and process segment it modifies
   pub own_modified : (is_below (rights_label category grown) (guard_label category (process_guard me p)) ≡ true) × (is_below_raised (guard_label category (process_guard me p)) (rights_label category grown) ≡ true)
   own_modified = (
     below_by_names category different (process_guard me p) grown (jobs_apart session me p p.chain (WritesProcess me ∷ []) (λ job. refl))
-        ∙ and_both (covers (map OfJob p.chain) (map OfJob p.chain) (λ c e. e)) (and_both (later (WritesProcess child) (ReadsProcess child ∷ own.owned) (WritesProcess me) (later (ReadsProcess child) own.owned (WritesProcess me)
+        ∙ and_from _ _ (covers (map OfJob p.chain) (map OfJob p.chain) (λ c e. e)) (and_from _ _ (later (WritesProcess child) (ReadsProcess child ∷ own.owned) (WritesProcess me) (later (ReadsProcess child) own.owned (WritesProcess me)
         (later (ReadsProcess me) (WritesProcess me ∷ owned_as session p (user_number session p.user) ++ map OfJob p.held) (WritesProcess me) (at_head (WritesProcess me) (owned_as session p (user_number session p.user) ++ map OfJob p.held))))) refl),
     observes_by_names category different (process_guard me p) grown (jobs_apart session me p p.chain (WritesProcess me ∷ []) (λ job. refl)) ∙ jobs_seen,
   )
@@ -63,7 +64,7 @@ module _ (session : Session) (category : Categories) (different : AreDifferent c
   pub outer_above : is_below (rights_label category grown) (guard_label category (process_guard child newborn)) ≡ true
   outer_above =
       below_by_names category different (process_guard child newborn) grown (jobs_apart session me p p.chain (WritesProcess child ∷ []) (λ job. refl))
-      ∙ and_both (covers (map OfJob p.chain) (map OfJob p.chain) (λ c e. e)) (and_both (at_head (WritesProcess child) (ReadsProcess child ∷ own.owned)) refl)
+      ∙ and_from _ _ (covers (map OfJob p.chain) (map OfJob p.chain) (λ c e. e)) (and_from _ _ (at_head (WritesProcess child) (ReadsProcess child ∷ own.owned)) refl)
 
   pub outer_below : is_below (guard_label category (process_guard child newborn)) (rights_clearance category grown) ≡ true
   outer_below = cleared_by_names category different (process_guard child newborn) grown jobs_covered
@@ -74,16 +75,16 @@ module _ (session : Session) (category : Categories) (different : AreDifferent c
   pub inner_above : is_below (rights_label category grown) (guard_label category (inside_guard child newborn)) ≡ true
   inner_above =
       below_by_names category different (inside_guard child newborn) grown (jobs_apart session me p p.chain (WritesProcess child ∷ []) (λ job. refl))
-      ∙ and_both (covers (ReadsProcess child ∷ map OfJob p.chain) (map OfJob p.chain) (λ c e. later (ReadsProcess child) (map OfJob p.chain) c e)) (and_both (at_head (WritesProcess child) (ReadsProcess child ∷ own.owned)) refl)
+      ∙ and_from _ _ (covers (ReadsProcess child ∷ map OfJob p.chain) (map OfJob p.chain) (λ c e. later (ReadsProcess child) (map OfJob p.chain) c e)) (and_from _ _ (at_head (WritesProcess child) (ReadsProcess child ∷ own.owned)) refl)
 
   pub inner_below : is_below (guard_label category (inside_guard child newborn)) (rights_clearance category grown) ≡ true
   inner_below = cleared_by_names category different (inside_guard child newborn) grown
-      (and_both (in_first grown.owned grown.tainted (ReadsProcess child) (later (WritesProcess child) (ReadsProcess child ∷ own.owned) (ReadsProcess child) (at_head (ReadsProcess child) own.owned))) jobs_covered)
+      (and_from _ _ (in_first grown.owned grown.tainted (ReadsProcess child) (later (WritesProcess child) (ReadsProcess child ∷ own.owned) (ReadsProcess child) (at_head (ReadsProcess child) own.owned))) jobs_covered)
 
   pub inner_seen : is_below_raised (guard_label category (inside_guard child newborn)) (rights_label category grown) ≡ true
   inner_seen = observes_by_names category different (inside_guard child newborn) grown
       (each_head (λ c. among (WritesProcess child ∷ []) c ≡ false) (ReadsProcess child) (map OfJob p.chain) refl (jobs_apart session me p p.chain (WritesProcess child ∷ []) (λ job. refl)))
-      ∙ and_both (or_first (among grown.owned (ReadsProcess child)) (among grown.tainted (ReadsProcess child)) (later (WritesProcess child) (ReadsProcess child ∷ own.owned) (ReadsProcess child) (at_head (ReadsProcess child) own.owned))) jobs_seen
+      ∙ and_from _ _ (or_left (among grown.owned (ReadsProcess child)) (among grown.tainted (ReadsProcess child)) (later (WritesProcess child) (ReadsProcess child ∷ own.owned) (ReadsProcess child) (at_head (ReadsProcess child) own.owned))) jobs_seen
 
   -- the child's thread owns no more than its parent
   abbrev pub childs : Rights

@@ -6,6 +6,7 @@ use Rattle.std.specs.FinMap.Entries.{find-where_key}
 use Rattle.std.specs.Ordering.{eq_by_cmp}
 use Rattle.std.specs.Cmp.Lexicographic.{nat_list_cmp_total, texts_ties}
 use Rattle.std.proofs.lemmas.Option.{none-some}
+use Rattle.std.proofs.Math.Bool.{or-false}
 use mathlib.Core.Bool.{true≢false}
 use Rattle.histar_flat.specs.Words.{Name, Path, ProcName}
 use Rattle.histar_flat.specs.PathOrder.{path_cmp, same as same_name, same_path}
@@ -56,11 +57,7 @@ module _ (q : Path) where
       by (n ∷ e) = refl
 
   pub under_address : (r : Path) → under same_step (address_of q) (address_of r) ≡ under_path q r
-  under_address [] = ap (λ t. same same_step (address_of q) (Slash ∷ []) || t) not_root ∙ or_false (same same_step (address_of q) (Slash ∷ [])) ∙ same_addresses []
-    where
-      or_false : (t : Bool) → (t || false) ≡ t
-      or_false true = refl
-      or_false false = refl
+  under_address [] = ap (λ t. same same_step (address_of q) (Slash ∷ []) || t) not_root ∙ or-false (same same_step (address_of q) (Slash ∷ [])) ∙ same_addresses []
   under_address (n ∷ e) = λ i. same_addresses (n ∷ e) i || under_address e i
 
   pub under_listing : (r : Path) → under same_step (address_of q) (Listing ∷ address_of r) ≡ under_path q r

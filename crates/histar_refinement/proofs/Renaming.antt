@@ -53,12 +53,6 @@ module _ (session : Session) (s : State) (f : Flat) (l : Laid session s f) where
       by false u = refl
 
   module _ (n k : Name) (d : Path) (N : ℕ) (at_listing : l.naming.number (Listing ∷ address_of d) ≡ Some N) (absent : get f.files (k ∷ d) ≡ None) where
-    abbrev pub old_path : Path
-    old_path = n ∷ d
-
-    abbrev pub new_path : Path
-    new_path = k ∷ d
-
     abbrev pub after : Flat
     after = with_renamed f (n ∷ d) (k ∷ d)
 

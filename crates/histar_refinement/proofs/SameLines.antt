@@ -16,7 +16,7 @@ use Rattle.histar_layout.proofs.DirectoryLemmas.{same_directory}
 use Rattle.histar_flat.specs.Sessions.{Session}
 use Rattle.histar_layout.specs.declared.status.Child.{Child as Listed}
 use Rattle.histar_layout.specs.Status.{life_bytes, ProcessStatus, child_bytes, status_bytes, IsChild, IsStatus, child_at}
-use Rattle.histar_refinement.specs.Lines.{IsStatusSegment, IsThreadOf, IsDirectoryAt}
+use Rattle.histar_refinement.specs.Lines.{IsStatusSegment, IsDirectoryAt}
 
 -- a number at the front of bytes, and the rest
 one_number : (a b : ℕ) (x y : List ℕ) → a < 2 ^ 64 → b < 2 ^ 64 → to_be_bytes w64 a ++ x ≡ to_be_bytes w64 b ++ y → (a ≡ b) × (x ≡ y)
@@ -98,13 +98,6 @@ module _ (session : Session) (s : State) where
       let t = same_status (bytes_in (s.objects x.1)) x.2 y.2 x.4 (subst (λ q. IsStatus (bytes_in (s.objects q)) y.2) (sym k.1) y.4) in
       let z = same_Some (record { number = n; container = c; segment = g }) (record { number = n; container = d; segment = h }) (sym x.5 ∙ ap (λ (u : ProcessStatus). child_at u.children n) t ∙ y.5) in
       (ap (λ (l : Listed). l.container) z, ap (λ (l : Listed). l.segment) z)
-
-  -- a process has one thread at most
-  pub same_thread : (p : ProcName) (a b : ℕ) → IsThreadOf session s p a → IsThreadOf session s p b → a ≡ b
-  same_thread p a b x y =
-      let k = same_status_segment p x.0 y.0 x.1 y.1 x.3 y.3 in
-      let t = same_status (bytes_in (s.objects x.1)) x.2 y.2 x.4 (subst (λ q. IsStatus (bytes_in (s.objects q)) y.2) (sym k.1) y.4) in
-      sym x.6 ∙ ap (λ (u : ProcessStatus). u.thread) t ∙ y.6
 
   -- two directory segments found for one path are one
   pub same_directory_at : (p : Path) (c d g h : ℕ) → IsDirectoryAt session s p c g → IsDirectoryAt session s p d h → (c ≡ d) × (g ≡ h)

@@ -4,6 +4,7 @@ use Rattle.std.specs.Prelude.{is_some, not, slice_get, nat_lt, nat_eq, option_ma
 use Rattle.std.specs.List.{list_any, position_or_len}
 use Rattle.std.proofs.lemmas.Bool.Decides.{nat_tests, eqb_tells}
 use Rattle.std.proofs.lemmas.Option.{same_Some, none-some}
+use Rattle.std.proofs.lemmas.Bool.{and_from, or_left, or_right, or_cases}
 use mathlib.Core.Bool.{true≢false}
 use Rattle.histar_flat.specs.declared.calls.User.{User}
 use Rattle.histar_flat.specs.Words.{Name}
@@ -11,7 +12,7 @@ use Rattle.histar_flat.specs.PathOrder.{same}
 use Rattle.histar_flat.proofs.FileLemmas.{same_name_found}
 use Rattle.histar_flat.specs.Sessions.{Group, Session, has, user_number, group_number, numbers_with, groups_of, is_member}
 use Rattle.histar_flat.specs.Classes.{nobody}
-use Rattle.histar_refinement.proofs.Members.{same_truth, and_both, first_of, second_of, or_first, or_second, or_either, mapped_from}
+use Rattle.histar_refinement.proofs.Members.{same_truth, first_of, second_of, mapped_from}
 use Rattle.histar_refinement.specs.Sessions.{IsSession}
 
 pub equal_names : (a b : Name) → same a b ≡ true → a ≡ b
@@ -152,7 +153,7 @@ numbers_by : (m : ℕ) (g : Group) (groups : List Group) (name : Name) (k : ℕ)
     → has_number (if b then m ∷ numbers_with (m + 1) groups name else numbers_with (m + 1) groups name) k ≡ true
     → (has_number (numbers_with (m + 1) groups name) k ≡ true → IsFound (m + 1) groups name k) → IsFound m (g ∷ groups) name k
 numbers_by m g groups name k false is e later = let at = later e in (suc at.0, at.1, at.2, at.3, omega (arith, at.4))
-numbers_by m g groups name k true is e later = elim (or_either (nat_eq k m) (has_number (numbers_with (m + 1) groups name) k) e) [
+numbers_by m g groups name k true is e later = elim (or_cases (nat_eq k m) (has_number (numbers_with (m + 1) groups name) k) e) [
   | inl here ↦ elim (eqb_tells k m) [ inl same_k ↦ (0, g, refl, is, omega (arith, same_k.1)) | inr other ↦ absurd (true≢false (sym here ∙ other.0)) ]
   | inr further ↦ let at = later further in (suc at.0, at.1, at.2, at.3, omega (arith, at.4))
 ]
@@ -167,21 +168,21 @@ to_numbers m (h ∷ groups) name zero g at is =
     let same_g : h ≡ g = same_Some h g at in
     let here : has h.members name ≡ true = ap (λ (x : Group). has x.members name) same_g ∙ is in
     ap (λ b. has_number (if b then m ∷ numbers_with (m + 1) groups name else numbers_with (m + 1) groups name) (m + 0)) here
-    ∙ or_first (nat_eq (m + 0) m) (has_number (numbers_with (m + 1) groups name) (m + 0)) (grind (arith, nat_tests))
+    ∙ or_left (nat_eq (m + 0) m) (has_number (numbers_with (m + 1) groups name) (m + 0)) (grind (arith, nat_tests))
 to_numbers m (h ∷ groups) name (suc i) g at is =
     let later : has_number (numbers_with (m + 1) groups name) (m + 1 + i) ≡ true = to_numbers (m + 1) groups name i g at is in
     let number : m + suc i ≡ m + 1 + i = omega arith in
     ap (has_number (numbers_with m (h ∷ groups) name)) number ∙ by (has h.members name) later
   where
     by : (b : Bool) → has_number (numbers_with (m + 1) groups name) (m + 1 + i) ≡ true → has_number (if b then m ∷ numbers_with (m + 1) groups name else numbers_with (m + 1) groups name) (m + 1 + i) ≡ true
-    by true later = or_second (nat_eq (m + 1 + i) m) (has_number (numbers_with (m + 1) groups name) (m + 1 + i)) later
+    by true later = or_right (nat_eq (m + 1 + i) m) (has_number (numbers_with (m + 1) groups name) (m + 1 + i)) later
     by false later = later
 
 -- a member of a group of this name
 pub from_members : (groups : List Group) (name group : Name) → list_any (λ (g : Group). same g.name group && has g.members name) groups ≡ true
     → (i : ℕ) × (g : Group) × (slice_get groups i ≡ Some g) × (same g.name group ≡ true) × (has g.members name ≡ true)
 from_members [] name group e = absurd (true≢false (sym e))
-from_members (g ∷ groups) name group e = elim (or_either (same g.name group && has g.members name) (list_any (λ (h : Group). same h.name group && has h.members name) groups) e) [
+from_members (g ∷ groups) name group e = elim (or_cases (same g.name group && has g.members name) (list_any (λ (h : Group). same h.name group && has h.members name) groups) e) [
   | inl here ↦ (0, g, refl, first_of (same g.name group) (has g.members name) here, second_of (same g.name group) (has g.members name) here)
   | inr later ↦ let at = from_members groups name group later in (suc at.0, at.1, at.2, at.3, at.4)
 ]
@@ -190,8 +191,8 @@ to_members : (groups : List Group) (name group : Name) (i : ℕ) (g : Group) →
     → list_any (λ (h : Group). same h.name group && has h.members name) groups ≡ true
 to_members [] name group i g at is member = absurd (none-some g at)
 to_members (h ∷ groups) name group zero g at is member =
-    or_first (same h.name group && has h.members name) _ (subst (λ (x : Group). (same x.name group && has x.members name) ≡ true) (sym (same_Some h g at)) (and_both is member))
-to_members (h ∷ groups) name group (suc i) g at is member = or_second (same h.name group && has h.members name) _ (to_members groups name group i g at is member)
+    or_left (same h.name group && has h.members name) _ (subst (λ (x : Group). (same x.name group && has x.members name) ≡ true) (sym (same_Some h g at)) (and_from _ _ is member))
+to_members (h ∷ groups) name group (suc i) g at is member = or_right (same h.name group && has h.members name) _ (to_members groups name group i g at is member)
 
 -- a user is a member of a group exactly where the group's number is among those of the user's groups
 pub is_member_number : (session : Session) → IsSession session → (name group : Name) (k : ℕ) → group_number session group ≡ Some k → has_number (groups_of session name) k ≡ is_member session name group

@@ -3,6 +3,7 @@
 use Rattle.std.proofs.Common.{◌≡◌, ℕ, ◌+◌, ◌<◌, inl, true, false, List, [], ◌∷◌, Option, None, Some, arith, refl, sym, ap, ◌∙◌, subst}
 use Rattle.std.specs.Prelude.{is_some}
 use Rattle.std.specs.FinSet as set
+use Rattle.std.proofs.lemmas.Bool.{or_left}
 use Rattle.histar_flat.specs.Words.{ProcName}
 use Rattle.histar_label.specs.Levels.{Levels}
 use Rattle.histar_object.specs.declared.objects.Kind.TheVariants.{Segment, Container}
@@ -22,7 +23,6 @@ use Rattle.histar_refinement.specs.Addresses.Step.{Status, Inside, Runner}
 use Rattle.histar_refinement.specs.Expected.{thread_object, expected}
 use Rattle.histar_refinement.specs.LaysOut.{LaysOut, Laid}
 use Rattle.histar_rules.specs.Rules.{greatest}
-use Rattle.histar_refinement.proofs.Members.{or_first}
 use Rattle.histar_refinement.proofs.Places.{asked_runner}
 use Rattle.histar_refinement.proofs.Steps.{step_tells}
 use Rattle.histar_refinement.proofs.Moving.{number_below, at_number, bare_is}
@@ -72,7 +72,7 @@ module _ (session : Session) (s : State) (f : Flat) (l : LaysOut session s f) (m
   m = l.laid
 
   pub chain_used : (job : ProcName) → has p.chain job ≡ true → IsUsed session f (OfJob job)
-  chain_used job e = inl (me, p, here, or_first (has p.chain job) (has p.held job) e)
+  chain_used job e = inl (me, p, here, or_left (has p.chain job) (has p.held job) e)
 
   pub chain_free : is_some (user_number session p.user) ≡ false → p.chain ≡ []
   chain_free e = ((l.laid.processes me p here).free runs e).0

@@ -3,6 +3,7 @@ use Rattle.std.proofs.Common.{◌≡◌, ◌≢◌, ℕ, ◌+◌, ◌*◌, ◌<�
 use Rattle.std.specs.Prelude.{is_some, option_map, nat_le}
 use Rattle.std.proofs.lemmas.Bool.Decides.{nat_tests}
 use Rattle.std.proofs.lemmas.Option.{none-some, same_Some}
+use Rattle.std.proofs.lemmas.Bool.{and_from, or_left, or_right, or_cases}
 use mathlib.Core.Bool.{true≢false}
 use Rattle.histar_flat.specs.Words.{Path, ProcName}
 use Rattle.histar_flat.specs.PathOrder.{same}
@@ -31,7 +32,7 @@ use Rattle.histar_refinement.specs.Stands.{Stands}
 use Rattle.histar_refinement.specs.Expected.{segment, listing_object, home_object, status_object, inside_object, thread_object, bytes_for, status_at, expected}
 use Rattle.histar_refinement.specs.LaysOut.{IsInOrder, AreInOrder, IsProcess, Laid}
 use Rattle.histar_refinement.proofs.ProcessBytes.{alike_bytes}
-use Rattle.histar_refinement.proofs.Members.{first_of, second_of, and_both, or_first, or_second, or_either}
+use Rattle.histar_refinement.proofs.Members.{first_of, second_of}
 use Rattle.histar_refinement.proofs.SessionLemmas.{equal_tested}
 use Rattle.histar_refinement.proofs.Growing.{new_number, old_number, still_different}
 use Rattle.histar_refinement.proofs.Places.{path_address, same_home, same_directory, AsksAlike, asked_alike, asked_home, asked_status, asked_inside, asked_runner}
@@ -281,9 +282,6 @@ module _ (session : Session) (s : State) (f : Flat) (l : Laid session s f) (me :
   abbrev wish : Address Step → Found
   wish = expected session category after naming.number
 
-  abbrev kept_by : CategoryName → Type 0
-  kept_by c = category c ≡ l.category c
-
   files_alike : AsksAlike session l.category category f after l.naming.number naming.number
   files_alike = record {
     at_path = λ q. keep_node session f l.category category keeps q (get f.files q) refl;
@@ -340,7 +338,7 @@ module _ (session : Session) (s : State) (f : Flat) (l : Laid session s f) (me :
     | inl e ↦
         let is : newborn ≡ px = same_Some newborn px (sym at_child ∙ ap after.processes (sym e) ∙ at) in
         let in_chain : (has chain job || false) ≡ true = subst (λ (y : Process). knows y job ≡ true) (sym is) known in
-        chain_used job (elim (or_either (has chain job) false in_chain) [ inl k ↦ k | inr k ↦ absurd (true≢false (sym k)) ])
+        chain_used job (elim (or_cases (has chain job) false in_chain) [ inl k ↦ k | inr k ↦ absurd (true≢false (sym k)) ])
     | inr (inl e) ↦
         let is : parent ≡ px = same_Some parent px (sym at_me ∙ ap after.processes (sym e) ∙ at) in
         inl (me, p, here, subst (λ (y : Process). knows y job ≡ true) (sym is) known)
@@ -385,7 +383,7 @@ module _ (session : Session) (s : State) (f : Flat) (l : Laid session s f) (me :
   higher k e =
       let low : nat_le 1 k ≡ true = first_of (nat_le 1 k) (nat_le k p.born) e in
       let high : nat_le k p.born ≡ true = second_of (nat_le 1 k) (nat_le k p.born) e in
-      and_both low (grind (arith, nat_tests, high))
+      and_from _ _ low (grind (arith, nat_tests, high))
 
   given_by : (y : ProcName) (k : ℕ) → is_given f.processes y ≡ true → was_given (f.processes y) k ≡ true → was_given (after.processes y) k ≡ true
   given_by y k whole e = elim (which y) [
@@ -400,7 +398,7 @@ module _ (session : Session) (s : State) (f : Flat) (l : Laid session s f) (me :
   given_then [] e = refl
   given_then (k ∷ y) e =
       let whole = second_of (was_given (f.processes y) k) (is_given f.processes y) e in
-      and_both (given_by y k whole (first_of (was_given (f.processes y) k) (is_given f.processes y) e)) (given_then y whole)
+      and_from _ _ (given_by y k whole (first_of (was_given (f.processes y) k) (is_given f.processes y) e)) (given_then y whole)
 
   pub own_given : is_given f.processes me ≡ true
   own_given = l.processes_given me (ap is_some here)
@@ -409,7 +407,7 @@ module _ (session : Session) (s : State) (f : Flat) (l : Laid session s f) (me :
   child_given =
       let low : nat_le 1 (p.born + 1) ≡ true = grind (arith, nat_tests) in
       let high : nat_le (p.born + 1) (p.born + 1) ≡ true = grind (arith, nat_tests) in
-      and_both (ap (λ (o : Option Process). was_given o (p.born + 1)) at_me ∙ and_both low high) (given_then me own_given)
+      and_from _ _ (ap (λ (o : Option Process). was_given o (p.born + 1)) at_me ∙ and_from _ _ low high) (given_then me own_given)
 
   processes_given_then : (x : ProcName) → is_some (after.processes x) ≡ true → is_given after.processes x ≡ true
   processes_given_then x u = elim (used_process x u) [
@@ -432,8 +430,8 @@ module _ (session : Session) (s : State) (f : Flat) (l : Laid session s f) (me :
         someone = o.someone;
         free = o.free;
         apart = o.apart;
-        chain = keep_order session f l.category category keeps px.chain (λ job e. inl (x, px, at, or_first (has px.chain job) (has px.held job) e)) o.chain;
-        held = λ r. keep_order session f l.category category keeps px.held (λ job e. inl (x, px, at, or_second (has px.chain job) (has px.held job) e)) (o.held r);
+        chain = keep_order session f l.category category keeps px.chain (λ job e. inl (x, px, at, or_left (has px.chain job) (has px.held job) e)) o.chain;
+        held = λ r. keep_order session f l.category category keeps px.held (λ job e. inl (x, px, at, or_right (has px.chain job) (has px.held job) e)) (o.held r);
         few = o.few;
         status = o.status;
       }

@@ -6,12 +6,13 @@ use Rattle.std.specs.List.{list_any, range_with_len}
 use Rattle.std.specs.FinSet as set
 use Rattle.std.specs.Ordering.{nat_cmp}
 use Rattle.std.proofs.lemmas.Option.{same_Some}
+use Rattle.std.proofs.Math.Bool.{or-false}
 use Rattle.histar_flat.specs.Sessions.{Session}
 use Rattle.histar_label.specs.Levels.{Levels}
 use Rattle.histar_object.specs.Objects.{Objects, is_there, links_in}
 use Rattle.histar_object.specs.State.{Found}
 use Rattle.histar_container.specs.Tree.{Address, Naming, wanted, same, is_child, IsLaid, objects_at}
-use Rattle.histar_container.proofs.Addresses.{or_false, same_itself, same_other}
+use Rattle.histar_container.proofs.Addresses.{same_itself, same_other}
 use Rattle.histar_login.specs.Start.{start_objects, start_state, object_at}
 use Rattle.histar_refinement.specs.Addresses.{Step, same_step}
 use Rattle.histar_refinement.proofs.StartNumbers.{process_address, inside_address, start_number}
@@ -78,7 +79,7 @@ module _ (n : ℕ) where
   -- a container that links one number links what stands below it, where this is the number of its one child
   one_link : (m : ℕ) (a here : Address Step) → Place n here m → ((b : Address Step) (q : ℕ) → Place n b q → same same_step here b ≡ is_child same_step a (Some b))
       → (c : ℕ) → set.contains (set.from_list {R = nat_cmp} (m ∷ [])) c ≡ is_child same_step a (start_address n c)
-  one_link m a here p at c = set.contains-from_list_nat (m ∷ []) c ∙ or_false (nat_eq m c) ∙ number_is m c here p ∙ child_is a (is_this here) refl at c
+  one_link m a here p at c = set.contains-from_list_nat (m ∷ []) c ∙ or-false (nat_eq m c) ∙ number_is m c here p ∙ child_is a (is_this here) refl at c
 
   -- a number is one of those in the root container
   abbrev in_root : ℕ → Bool
@@ -135,7 +136,7 @@ module _ (n : ℕ) where
   home_links : (c : ℕ) → set.contains (set.from_list {R = nat_cmp} ((7 + 2 * n) ∷ (9 + 2 * n) ∷ [])) c ≡ is_child same_step process_address (start_address n c)
   home_links c =
       set.contains-from_list_nat ((7 + 2 * n) ∷ (9 + 2 * n) ∷ []) c
-      ∙ ap (λ b. nat_eq (7 + 2 * n) c || b) (or_false (nat_eq (9 + 2 * n) c))
+      ∙ ap (λ b. nat_eq (7 + 2 * n) c || b) (or-false (nat_eq (9 + 2 * n) c))
       ∙ (λ i. number_is (7 + 2 * n) c inside_address (on_inside (7 + 2 * n) refl) i || number_is (9 + 2 * n) c (Status ∷ process_address) (on_status (9 + 2 * n) refl) i)
       ∙ child_is process_address in_home refl at c
     where

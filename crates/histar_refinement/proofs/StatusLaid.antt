@@ -18,7 +18,6 @@ use Rattle.histar_refinement.specs.Stands.{bare}
 use Rattle.histar_refinement.specs.Processes.{or_zero, listed_by, status_by, children}
 use Rattle.histar_refinement.specs.Expected.{bytes_for, status_object}
 use Rattle.histar_refinement.specs.LaysOut.{Laid}
-use Rattle.histar_refinement.specs.Lines.{IsStatusSegment, IsThreadOf}
 use Rattle.histar_refinement.proofs.Places.{asked_status}
 use Rattle.histar_refinement.proofs.LinesLaid.{bytes_bare}
 
@@ -50,9 +49,3 @@ module _ (session : Session) (s : State) (f : Flat) (l : Laid session s f) where
         ∙ ap bytes_in (l.stands.objects (Status ∷ home_of me) ∙ asked_status session l.category f l.naming.number me)
         ∙ ap (λ (o : Option Process). bytes_in (status_object session l.category (bytes_for session l.category f l.naming.number me o) me o)) is;
   }
-
-  -- a running process whose segment is found has its thread
-  pub thread_by_segment : (me : ProcName) (p : Process) (c g t : ℕ) → f.processes me ≡ Some p → p.exited ≡ None → l.naming.number (Status ∷ home_of me) ≡ Some g
-      → l.naming.number (Runner ∷ Inside ∷ home_of me) ≡ Some t → IsStatusSegment session s me c g → IsThreadOf session s me t
-  thread_by_segment me p c g t is runs at runner found =
-      (c, g, status_by f.processes l.naming.number me p, found, holds_status me p g is at, runs, ap or_zero runner)

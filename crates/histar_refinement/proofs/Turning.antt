@@ -156,9 +156,6 @@ module _ (n k : Name) where
     abbrev pub turned_address : Address Step → Address Step
     turned_address = turned_list same_address (address_of d) turned_step
 
-    pub path_back : (q : Path) → turned (turned q) ≡ q
-    path_back = turned_back same_path same_path_found d turned_name (λ m. refl) name_back
-
     pub address_back : (a : Address Step) → turned_address (turned_address a) ≡ a
     address_back = turned_back same_address (same_tells same_step step_tells) (address_of d) turned_step step_still step_back
 

@@ -3,6 +3,7 @@ use Rattle.std.proofs.Common.{◌≡◌, ℕ, zero, suc, ◌<◌, ◌≤◌, inl
 use Rattle.std.specs.Prelude.{map, is_some, nat_eq, slice_get}
 use Rattle.std.proofs.lemmas.Bool.Decides.{nat_tests}
 use Rattle.std.proofs.lemmas.Option.{none-some, same_Some}
+use Rattle.std.proofs.lemmas.Bool.{or_left, or_right, or_cases}
 use mathlib.Core.Bool.{true≢false}
 use Rattle.histar_flat.specs.Words.{Name, Path, ProcName}
 use Rattle.histar_flat.specs.PathOrder.{same}
@@ -25,24 +26,24 @@ use Rattle.histar_refinement.specs.Expected.{container, guarded_object, content_
 use Rattle.histar_refinement.specs.LaysOut.{AreInOrder, IsRisingFrom}
 use Rattle.histar_refinement.proofs.CategoryTests.{same_told}
 use Rattle.histar_refinement.proofs.AmongNames.{each_none, each_one, each_head, each_append}
-use Rattle.histar_refinement.proofs.Members.{or_first, or_second, or_either, mapped_from}
+use Rattle.histar_refinement.proofs.Members.{mapped_from}
 use Rattle.histar_refinement.proofs.Growing.{GuardHas, RightsHave, same_guard_label, same_rights_label, same_rights_clearance}
 use Rattle.histar_refinement.proofs.SessionLemmas.{user_range, group_range, equal_tested, has_number, from_numbers}
 
 -- a name among those of jobs is a job's
 pub job_among : (jobs : List ProcName) (c : CategoryName) → among (map OfJob jobs) c ≡ true → (job : ProcName) × (c ≡ OfJob job) × (has jobs job ≡ true)
 job_among [] c e = absurd (true≢false (sym e))
-job_among (j ∷ jobs) c e = elim (or_either (same_category c (OfJob j)) (among (map OfJob jobs) c) e) [
-  | inl k ↦ (j, same_told c (OfJob j) k, or_first (same j j) (has jobs j) (equal_tested j j refl))
-  | inr k ↦ let later = job_among jobs c k in (later.0, later.1, or_second (same later.0 j) (has jobs later.0) later.2)
+job_among (j ∷ jobs) c e = elim (or_cases (same_category c (OfJob j)) (among (map OfJob jobs) c) e) [
+  | inl k ↦ (j, same_told c (OfJob j) k, or_left (same j j) (has jobs j) (equal_tested j j refl))
+  | inr k ↦ let later = job_among jobs c k in (later.0, later.1, or_right (same later.0 j) (has jobs later.0) later.2)
 ]
 
 -- and among those of groups a group's
 pub group_among : (f : ℕ → CategoryName) (ks : List ℕ) (c : CategoryName) → among (map f ks) c ≡ true → (k : ℕ) × (c ≡ f k) × (has_number ks k ≡ true)
 group_among f [] c e = absurd (true≢false (sym e))
-group_among f (m ∷ ks) c e = elim (or_either (same_category c (f m)) (among (map f ks) c) e) [
-  | inl k ↦ (m, same_told c (f m) k, or_first (nat_eq m m) (has_number ks m) (grind (arith, nat_tests)))
-  | inr k ↦ let later = group_among f ks c k in (later.0, later.1, or_second (nat_eq later.0 m) (has_number ks later.0) later.2)
+group_among f (m ∷ ks) c e = elim (or_cases (same_category c (f m)) (among (map f ks) c) e) [
+  | inl k ↦ (m, same_told c (f m) k, or_left (nat_eq m m) (has_number ks m) (grind (arith, nat_tests)))
+  | inr k ↦ let later = group_among f ks c k in (later.0, later.1, or_right (nat_eq later.0 m) (has_number ks later.0) later.2)
 ]
 
 -- the numbers of groups
@@ -93,10 +94,10 @@ module _ (session : Session) (f : Flat) where
     there = ap is_some here
 
     chain_used : (c : CategoryName) → among (map OfJob p.chain) c ≡ true → Used c
-    chain_used c e = let found = job_among p.chain c e in subst Used (sym found.1) (inl (me, p, here, or_first (has p.chain found.0) (has p.held found.0) found.2))
+    chain_used c e = let found = job_among p.chain c e in subst Used (sym found.1) (inl (me, p, here, or_left (has p.chain found.0) (has p.held found.0) found.2))
 
     held_used : (c : CategoryName) → among (map OfJob p.held) c ≡ true → Used c
-    held_used c e = let found = job_among p.held c e in subst Used (sym found.1) (inl (me, p, here, or_second (has p.chain found.0) (has p.held found.0) found.2))
+    held_used c e = let found = job_among p.held c e in subst Used (sym found.1) (inl (me, p, here, or_right (has p.chain found.0) (has p.held found.0) found.2))
 
     -- what guards a process
     pub process_used : GuardHas Used (process_guard me p)
@@ -182,4 +183,4 @@ module _ (session : Session) (f : Flat) where
       where
         same_jobs : (jobs : List ProcName) → ((job : ProcName) → has jobs job ≡ true → Used (OfJob job)) → map (λ job. category (OfJob job)) jobs ≡ map (λ job. other (OfJob job)) jobs
         same_jobs [] used = refl
-        same_jobs (j ∷ jobs) used = λ i. sym (keeps (OfJob j) (used j (or_first (same j j) (has jobs j) (equal_tested j j refl)))) i ∷ same_jobs jobs (λ job e. used job (or_second (same job j) (has jobs job) e)) i
+        same_jobs (j ∷ jobs) used = λ i. sym (keeps (OfJob j) (used j (or_left (same j j) (has jobs j) (equal_tested j j refl)))) i ∷ same_jobs jobs (λ job e. used job (or_right (same job j) (has jobs job) e)) i

@@ -4,6 +4,8 @@ use Rattle.std.proofs.Common.{◌≡◌, ℕ, ◌+◌, ◌≤◌, ◌⊎◌, inl
 use Rattle.std.specs.Prelude.{map}
 use Rattle.std.specs.List.{list_all}
 use Rattle.std.proofs.lemmas.Bool.Decides.{eqb_tells}
+use Rattle.std.proofs.lemmas.Bool.{and_from, or_left, or_right, or_cases}
+use Rattle.std.proofs.Math.Bool.{or-false, and-true}
 use mathlib.Core.Bool.{true≢false}
 use Rattle.histar_flat.specs.Words.{ProcName}
 use Rattle.histar_flat.specs.PathOrder.{same}
@@ -13,12 +15,13 @@ use Rattle.histar_label.proofs.Orders.{is_below-law, is_below_raised-law, is_bel
 use Rattle.histar_flat.specs.Sessions.{Session, has, user_number}
 use Rattle.histar_flat.specs.Classes.{Class, Process, is_free, may_read, may_write}
 use Rattle.histar_flat.proofs.WrappedJobs.{has_last}
+use Rattle.histar_flat.proofs.GivenNames.{longer_has}
 use Rattle.histar_calls.specs.Labelling.{guarded_by, owner_label}
 use Rattle.histar_refinement.specs.Categories.{CategoryName, Categories, AreDifferent, among}
 use Rattle.histar_refinement.specs.Categories.CategoryName.{ReadsUser, ReadsProcess, WritesProcess, OfJob}
 use Rattle.histar_refinement.specs.Guards.{Guard, Rights, guard_label, rights_label, rights_clearance}
 use Rattle.histar_refinement.specs.Labels.{class_guard, scratch_guard, process_guard, inside_guard, reading, writing, owned_as, thread_rights}
-use Rattle.histar_refinement.proofs.Members.{is_in, same_truth, and_both, or_first, or_second, or_either, or_false}
+use Rattle.histar_refinement.proofs.Members.{is_in, same_truth}
 use Rattle.histar_refinement.proofs.Levelled.{guarded_level, owning_level, at_guarded, at_owning, cleared_exactly, same_owning, same_cleared}
 use Rattle.histar_refinement.proofs.CategoryTests.{among-append, among_none, among_jobs, is_in_names, all_names, named_in}
 use Rattle.histar_refinement.proofs.Tested.{observes_by_names, below_by_names, cleared_by_names, rights_by_names, capped_by_names, clearances_by_names}
@@ -27,7 +30,7 @@ use Rattle.histar_refinement.proofs.SessionLemmas.{is_number}
 use Rattle.histar_refinement.proofs.ClassTests.{owns_read_of, jobs_apart, observes_class, modifies_class}
 use Rattle.histar_refinement.proofs.AmongNames.{covers, in_first, in_second, at_head, later, each_head, each_append}
 use Rattle.histar_refinement.proofs.Uses.{job_among}
-use Rattle.histar_refinement.proofs.JobLists.{has_added}
+use Rattle.histar_refinement.proofs.Ranges.{passed_by_all}
 
 -- One category more that is owned changes no test on what isn't guarded by it.
 free_below : (o t s w : Bool) → t ≡ false → s ≡ false → w ≡ false → rank (owning_level o t) ≤ rank (guarded_level s w)
@@ -67,11 +70,6 @@ module _ (O T S W : List ℕ) (c : ℕ) (not_tainted : is_in T c ≡ false) (not
         | inr e ↦ subst (λ b. rank (guarded_level (is_in S q) (is_in W q)) ≤ raised (owning_level (b || is_in O q) (is_in T q))) (sym e.0) (rw (sym (at_guarded S W q), sym (at_owning O T q)) ((is_below_raised-law (guarded_by S W) (owner_label O T)).0 below q))
       ])))
 
--- a test that each name passes
-all_of : (test : CategoryName → Bool) (names : List CategoryName) → ((c : CategoryName) → among names c ≡ true → test c ≡ true) → list_all test names ≡ true
-all_of test [] each = refl
-all_of test (x ∷ names) each = and_both (each x (at_head x names)) (all_of test names (λ c e. each c (later x names c e)))
-
 -- in some job no one is free
 pub not_free : (chain : List ProcName) (child : ProcName) → elim (chain ++ child ∷ []) as (λ _. Bool) [ [] ↦ true | job ∷ jobs ↦ false ] ≡ false
 not_free [] child = refl
@@ -79,9 +77,9 @@ not_free (j ∷ chain) child = refl
 
 has_old : (jobs : List ProcName) (child job : ProcName) → has jobs job ≡ true → has (jobs ++ child ∷ []) job ≡ true
 has_old [] child job e = absurd (true≢false (sym e))
-has_old (j ∷ jobs) child job e = elim (or_either (same job j) (has jobs job) e) [
-  | inl k ↦ or_first (same job j) (has (jobs ++ child ∷ []) job) k
-  | inr k ↦ or_second (same job j) (has (jobs ++ child ∷ []) job) (has_old jobs child job k)
+has_old (j ∷ jobs) child job e = elim (or_cases (same job j) (has jobs job) e) [
+  | inl k ↦ or_left (same job j) (has (jobs ++ child ∷ []) job) k
+  | inr k ↦ or_right (same job j) (has (jobs ++ child ∷ []) job) (has_old jobs child job k)
 ]
 
 module _ (session : Session) (category : Categories) (different : AreDifferent category) (me : ProcName) (p : Process) (child : ProcName) where
@@ -105,7 +103,7 @@ module _ (session : Session) (category : Categories) (different : AreDifferent c
   which_job : (list : List ProcName) (c : CategoryName) → among (map OfJob (list ++ child ∷ [])) c ≡ true → (among (map OfJob list) c ≡ true) ⊎ (c ≡ OfJob child)
   which_job list c e =
       let found = job_among (list ++ child ∷ []) c e in
-      elim (has_added list child found.0 found.2) [
+      elim (longer_has list child found.0 found.2) [
         | inl old ↦ inl (ap (among (map OfJob list)) found.1 ∙ among_jobs list found.0 ∙ old)
         | inr is ↦ inr (found.1 ∙ ap OfJob is)
       ]
@@ -115,10 +113,10 @@ module _ (session : Session) (category : Categories) (different : AreDifferent c
     pub scratch_above : is_below (rights_label category with_job) (guard_label category (scratch_guard jobs i)) ≡ true
     scratch_above =
         below_by_names category different (scratch_guard jobs i) with_job (λ c e. refl)
-        ∙ and_both (covers (ReadsUser i ∷ map OfJob jobs) (map OfJob p.chain) (λ c e. later (ReadsUser i) (map OfJob jobs) c (old_job c e))) refl
+        ∙ and_from _ _ (covers (ReadsUser i ∷ map OfJob jobs) (map OfJob p.chain) (λ c e. later (ReadsUser i) (map OfJob jobs) c (old_job c e))) refl
 
     reads_user : among both (ReadsUser i) ≡ is_number (user_number session p.user) i
-    reads_user = among-append own.owned (map OfJob p.chain) (ReadsUser i) ∙ (λ k. owns_read_of session me p i k || among_none OfJob (ReadsUser i) (λ job. refl) p.chain k) ∙ or_false (is_number (user_number session p.user) i)
+    reads_user = among-append own.owned (map OfJob p.chain) (ReadsUser i) ∙ (λ k. owns_read_of session me p i k || among_none OfJob (ReadsUser i) (λ job. refl) p.chain k) ∙ or-false (is_number (user_number session p.user) i)
 
     jobs_both : list_all (among both) (map OfJob jobs) ≡ true
     jobs_both = covers both (map OfJob jobs) (λ c e. elim (which_job p.chain c e) [
@@ -126,26 +124,22 @@ module _ (session : Session) (category : Categories) (different : AreDifferent c
       | inr is ↦ subst (λ x. among both x ≡ true) (sym is) (at_head (OfJob child) (own.owned ++ with_job.tainted))
     ])
 
-    and_true : (b : Bool) → (b && true) ≡ b
-    and_true true = refl
-    and_true false = refl
-
     pub scratch_below : is_below (guard_label category (scratch_guard jobs i)) (rights_clearance category with_job) ≡ is_number (user_number session p.user) i
     scratch_below =
         cleared_exactly (map category (scratch_guard jobs i).secret) [] (map category both) (λ q e. refl)
         ∙ all_names category different (is_in (map category both)) (among both) (is_in_names category different both) (scratch_guard jobs i).secret
-        ∙ (λ k. reads_user k && jobs_both k) ∙ and_true (is_number (user_number session p.user) i)
+        ∙ (λ k. reads_user k && jobs_both k) ∙ and-true (is_number (user_number session p.user) i)
 
     -- the directory segment in it: the thread may observe the directory where the user has this number
     pub scratch_seen : is_below_raised (guard_label category (scratch_guard jobs i)) (rights_label category with_job) ≡ is_number (user_number session p.user) i
     scratch_seen =
         observes_by_names category different (scratch_guard jobs i) with_job (λ c e. refl)
-        ∙ (λ k. (ap (λ b. b || among (map OfJob p.chain) (ReadsUser i)) (owns_read_of session me p i) ∙ ap (λ b. is_number (user_number session p.user) i || b) (among_none OfJob (ReadsUser i) (λ job. refl) p.chain) ∙ or_false (is_number (user_number session p.user) i)) k
-        && all_of (λ c. among with_job.owned c || among with_job.tainted c) (map OfJob jobs) (λ c e. elim (which_job p.chain c e) [
-          | inl old ↦ or_second (among with_job.owned c) (among with_job.tainted c) old
-          | inr is ↦ or_first (among with_job.owned c) (among with_job.tainted c) (subst (λ x. among with_job.owned x ≡ true) (sym is) (at_head (OfJob child) own.owned))
+        ∙ (λ k. (ap (λ b. b || among (map OfJob p.chain) (ReadsUser i)) (owns_read_of session me p i) ∙ ap (λ b. is_number (user_number session p.user) i || b) (among_none OfJob (ReadsUser i) (λ job. refl) p.chain) ∙ or-false (is_number (user_number session p.user) i)) k
+        && passed_by_all (λ c. among with_job.owned c || among with_job.tainted c) (map OfJob jobs) (λ c e. elim (which_job p.chain c e) [
+          | inl old ↦ or_right (among with_job.owned c) (among with_job.tainted c) old
+          | inr is ↦ or_left (among with_job.owned c) (among with_job.tainted c) (subst (λ x. among with_job.owned x ≡ true) (sym is) (at_head (OfJob child) own.owned))
         ]) k)
-        ∙ and_true (is_number (user_number session p.user) i)
+        ∙ and-true (is_number (user_number session p.user) i)
 
   -- The new job is in no label that stands, so the parent directory and its directory segment are observed and modified exactly where the
   -- flat rule lets them be read and written.
@@ -222,38 +216,38 @@ module _ (session : Session) (category : Categories) (different : AreDifferent c
 
   -- its own container and process segment it modifies
   pub own_modified : (is_below (rights_label category grown) (guard_label category (process_guard me p)) && is_below_raised (guard_label category (process_guard me p)) (rights_label category grown)) ≡ true
-  own_modified = and_both
+  own_modified = and_from _ _
       (below_by_names category different (process_guard me p) grown (jobs_apart session me p p.chain (WritesProcess me ∷ []) (λ job. refl))
-      ∙ and_both (covers (map OfJob p.chain) (map OfJob p.chain) (λ c e. e)) (and_both (old_owned (WritesProcess me) (later (ReadsProcess me) (WritesProcess me ∷ owned_as session p (user_number session p.user) ++ map OfJob p.held) (WritesProcess me) (at_head (WritesProcess me) (owned_as session p (user_number session p.user) ++ map OfJob p.held)))) refl))
+      ∙ and_from _ _ (covers (map OfJob p.chain) (map OfJob p.chain) (λ c e. e)) (and_from _ _ (old_owned (WritesProcess me) (later (ReadsProcess me) (WritesProcess me ∷ owned_as session p (user_number session p.user) ++ map OfJob p.held) (WritesProcess me) (at_head (WritesProcess me) (owned_as session p (user_number session p.user) ++ map OfJob p.held)))) refl))
       (observes_by_names category different (process_guard me p) grown (jobs_apart session me p p.chain (WritesProcess me ∷ []) (λ job. refl))
-      ∙ all_of (λ c. among grown.owned c || among grown.tainted c) (map OfJob p.chain) (λ c e. or_second (among grown.owned c) (among grown.tainted c) e))
+      ∙ passed_by_all (λ c. among grown.owned c || among grown.tainted c) (map OfJob p.chain) (λ c e. or_right (among grown.owned c) (among grown.tainted c) e))
 
   -- the child's container and process segment are in its range, and it modifies the container
   pub outer_above : is_below (rights_label category grown) (guard_label category (process_guard child newborn)) ≡ true
   outer_above =
       below_by_names category different (process_guard child newborn) grown (jobs_apart session me p p.chain (WritesProcess child ∷ []) (λ job. refl))
-      ∙ and_both (covers (map OfJob jobs) (map OfJob p.chain) old_job) (and_both (at_head (WritesProcess child) (ReadsProcess child ∷ OfJob child ∷ own.owned)) refl)
+      ∙ and_from _ _ (covers (map OfJob jobs) (map OfJob p.chain) old_job) (and_from _ _ (at_head (WritesProcess child) (ReadsProcess child ∷ OfJob child ∷ own.owned)) refl)
 
   pub outer_below : is_below (guard_label category (process_guard child newborn)) (rights_clearance category grown) ≡ true
   outer_below = cleared_by_names category different (process_guard child newborn) grown (covers all (map OfJob jobs) jobs_within)
 
   pub outer_seen : is_below_raised (guard_label category (process_guard child newborn)) (rights_label category grown) ≡ true
   outer_seen = observes_by_names category different (process_guard child newborn) grown (jobs_apart session me p jobs (WritesProcess child ∷ []) (λ job. refl))
-      ∙ all_of (λ c. among grown.owned c || among grown.tainted c) (map OfJob jobs) job_passes
+      ∙ passed_by_all (λ c. among grown.owned c || among grown.tainted c) (map OfJob jobs) job_passes
 
   -- and so with the internal container
   pub inner_above : is_below (rights_label category grown) (guard_label category (inside_guard child newborn)) ≡ true
   inner_above =
       below_by_names category different (inside_guard child newborn) grown (jobs_apart session me p p.chain (WritesProcess child ∷ []) (λ job. refl))
-      ∙ and_both (covers (ReadsProcess child ∷ map OfJob jobs) (map OfJob p.chain) (λ c e. later (ReadsProcess child) (map OfJob jobs) c (old_job c e))) (and_both (at_head (WritesProcess child) (ReadsProcess child ∷ OfJob child ∷ own.owned)) refl)
+      ∙ and_from _ _ (covers (ReadsProcess child ∷ map OfJob jobs) (map OfJob p.chain) (λ c e. later (ReadsProcess child) (map OfJob jobs) c (old_job c e))) (and_from _ _ (at_head (WritesProcess child) (ReadsProcess child ∷ OfJob child ∷ own.owned)) refl)
 
   pub inner_below : is_below (guard_label category (inside_guard child newborn)) (rights_clearance category grown) ≡ true
-  inner_below = cleared_by_names category different (inside_guard child newborn) grown (and_both (in_first grown.owned grown.tainted (ReadsProcess child) reads_owned) (covers all (map OfJob jobs) jobs_within))
+  inner_below = cleared_by_names category different (inside_guard child newborn) grown (and_from _ _ (in_first grown.owned grown.tainted (ReadsProcess child) reads_owned) (covers all (map OfJob jobs) jobs_within))
 
   pub inner_seen : is_below_raised (guard_label category (inside_guard child newborn)) (rights_label category grown) ≡ true
   inner_seen = observes_by_names category different (inside_guard child newborn) grown
       (each_head (λ c. among (WritesProcess child ∷ []) c ≡ false) (ReadsProcess child) (map OfJob jobs) refl (jobs_apart session me p jobs (WritesProcess child ∷ []) (λ job. refl)))
-      ∙ and_both (or_first (among grown.owned (ReadsProcess child)) (among grown.tainted (ReadsProcess child)) reads_owned) (all_of (λ c. among grown.owned c || among grown.tainted c) (map OfJob jobs) job_passes)
+      ∙ and_from _ _ (or_left (among grown.owned (ReadsProcess child)) (among grown.tainted (ReadsProcess child)) reads_owned) (passed_by_all (λ c. among grown.owned c || among grown.tainted c) (map OfJob jobs) job_passes)
 
   -- the child's thread has no more than its parent's
   abbrev pub childs : Rights
@@ -261,7 +255,7 @@ module _ (session : Session) (category : Categories) (different : AreDifferent c
 
   less_as_user : (number : Option ℕ) (c : CategoryName) → among (owned_as session newborn number) c ≡ true → among (owned_as session p number) c ≡ true
   less_as_user None c e = e
-  less_as_user (Some i) c e = elim (or_either (among (reading session p.user i) c) (among (if is_free newborn then writing session p.user i else []) c) (sym (among-append (reading session p.user i) (if is_free newborn then writing session p.user i else []) c) ∙ e)) [
+  less_as_user (Some i) c e = elim (or_cases (among (reading session p.user i) c) (among (if is_free newborn then writing session p.user i else []) c) (sym (among-append (reading session p.user i) (if is_free newborn then writing session p.user i else []) c) ∙ e)) [
     | inl k ↦ in_first (reading session p.user i) (if is_free p then writing session p.user i else []) c k
     | inr k ↦ absurd (true≢false (sym k ∙ ap (λ b. among (if b then writing session p.user i else []) c) (not_free p.chain child)))
   ]

@@ -10,6 +10,7 @@ use Rattle.histar_label.specs.Levels.{Levels}
 use Rattle.std.specs.FinMap as map
 use Rattle.std.specs.FinSet as set
 use Rattle.std.proofs.lemmas.Option.{none-some, same_Some}
+use Rattle.std.proofs.lemmas.Bool.{or_left, or_right}
 use Rattle.histar_layout.specs.Directory.{spelling}
 use Rattle.histar_layout.specs.declared.entry.Target.TheVariants as targets
 use Rattle.histar_object.specs.declared.objects.Kind.TheVariants.{Segment, Container}
@@ -25,6 +26,7 @@ use Rattle.histar_flat.specs.FlatState.{Node, Flat, entries_in, with_node, with_
 use Rattle.histar_flat.specs.FlatCalls.{most_entries}
 use Rattle.histar_flat.specs.FlatState.Content.{Dir}
 use Rattle.histar_flat.proofs.WrappedJobs.{has_last}
+use Rattle.histar_flat.proofs.GivenNames.{longer_has}
 use Rattle.histar_refinement.specs.Categories.{CategoryName, Categories, IsMade, among, naming_next, is_for, IsKnown, IsServed, IsUsed}
 use Rattle.histar_refinement.specs.Categories.CategoryName.{OfJob}
 use Rattle.histar_refinement.specs.Guards.{Guard, guard_label}
@@ -33,8 +35,7 @@ use Rattle.histar_refinement.specs.Addresses.{Step, address_of, home_of}
 use Rattle.histar_refinement.specs.Addresses.Step.{Listing, Status, Inside, Runner}
 use Rattle.histar_refinement.specs.Directories.{directory_of}
 use Rattle.histar_refinement.specs.LaysOut.{AreInOrder, LaysOut, Laid}
-use Rattle.histar_refinement.proofs.Members.{or_first, or_second}
-use Rattle.histar_refinement.proofs.JobLists.{has_added, in_order_last}
+use Rattle.histar_refinement.proofs.JobLists.{in_order_last}
 use Rattle.histar_refinement.proofs.Beside.{Beside, beside_added, beside_written, beside_category}
 use Rattle.histar_refinement.proofs.Spawned.{own_label, own_clearance, beside_start}
 use Rattle.histar_refinement.proofs.FileRows.{SameNumbers, ClassFits}
@@ -181,10 +182,10 @@ module _ (session : Session) (s : State) (f : Flat) (l : LaysOut session s f) (m
       omega (arith, old.1, kept, new)
 
   chain_known : (job : ProcName) → has p.chain job ≡ true → IsUsed session f (OfJob job)
-  chain_known job e = inl (me, p, here, or_first (has p.chain job) (has p.held job) e)
+  chain_known job e = inl (me, p, here, or_left (has p.chain job) (has p.held job) e)
 
   held_known : (job : ProcName) → has p.held job ≡ true → IsUsed session f (OfJob job)
-  held_known job e = inl (me, p, here, or_second (has p.chain job) (has p.held job) e)
+  held_known job e = inl (me, p, here, or_right (has p.chain job) (has p.held job) e)
 
   chain_ordered : AreInOrder m.category chain
   chain_ordered = in_order_last m.category child p.chain (λ job e. below_job job (chain_known job e)) (m.processes me p here).chain
@@ -327,7 +328,7 @@ module _ (session : Session) (s : State) (f : Flat) (l : LaysOut session s f) (m
       old_given job u = given_after session made_state with_directory k me p here runs room is_declared served stranger k_chain k_held C S T k_home k_status k_thread few_born job (l.jobs_given job u)
 
       given_now : (job : ProcName) → has chain job ≡ true → is_given (after session made_state with_directory k me p here runs room is_declared served stranger k_chain k_held C S T k_home k_status k_thread few_born).processes job ≡ true
-      given_now job e = elim (has_added p.chain child job e) [
+      given_now job e = elim (longer_has p.chain child job e) [
         | inl old ↦ old_given job (chain_known job old)
         | inr is ↦ subst (λ (j : ProcName). is_given (after session made_state with_directory k me p here runs room is_declared served stranger k_chain k_held C S T k_home k_status k_thread few_born).processes j ≡ true) (sym is) (given_child session made_state with_directory k me p here runs room is_declared served stranger k_chain k_held C S T k_home k_status k_thread few_born)
       ]

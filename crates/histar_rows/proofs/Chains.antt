@@ -82,10 +82,6 @@ module _ (t : ℕ) where
         | Some denied ↦ λ called others. absurd cc
       ]) made.2 made.3
 
-  -- so they are a chain of granted calls
-  pub granted_chain : (old new : KernelModel) (calls : List RawCall) → Made old new t calls None → Chain old t (all_granted calls) new
-  granted_chain old new calls made = let granted = granted_run old new calls made in subst (λ (steps : List Step). Chain old t steps new) granted.2 granted.1
-
   module _ (reply : Reply) where
     -- a run of granted calls may be broken off
     pub granted_broken_off : (old new : KernelModel) (line : ℕ) (calls : List RawCall) → Chain old t (all_granted calls) new → IsBrokenOff reply (state old) (entries_of line t (all_granted calls)) (state new)

@@ -3,6 +3,7 @@ use Rattle.std.proofs.Common.{◌≡◌, ◌≢◌, ℕ, ◌||◌, Bool, true, f
 use Rattle.std.proofs.lemmas.List.{map-append}
 use Rattle.std.specs.Prelude.{option_map}
 use Rattle.std.specs.List.{AllByRecursion}
+use Rattle.std.proofs.Math.Bool.{or-false}
 use Rattle.histar_flat.specs.declared.calls.UnixCall.{UnixCall}
 use Rattle.histar_flat.specs.declared.replies.Errno.{Errno}
 use Rattle.histar_flat.specs.declared.replies.Reply.{Reply}
@@ -23,7 +24,6 @@ use Rattle.histar_syscall.specs.declared.trace.TraceEntry.{TraceEntry}
 use Rattle.histar_syscall.specs.KernelModel.{KernelModel, state}
 use Rattle.histar_syscall.specs.Runs.{is_label_refusal, is_range_refusal, some_label_refusal, some_range_refusal}
 use Rattle.histar_syscall.proofs.Runs.{entry_of}
-use Rattle.histar_container.proofs.Addresses.{or_false}
 use Rattle.histar_calls.specs.Refusals.{errno_for, errno_of, write_errno_of}
 use Rattle.histar_calls.specs.Replies.{is_access, is_permission, is_no_access, is_no_permission, IsRefusedOnce, sets_labels}
 use Rattle.histar_refinement.specs.LaysOut.{LaysOut}
@@ -97,8 +97,8 @@ module _ (line t : ℕ) where
   refused_agree last denied errno told restoring sets [] =
       let none = none_refused (Refused errno) restoring in
       record {
-        access = ap (λ (b : Bool). is_label_refusal (Some denied) || b) none.0 ∙ or_false (is_label_refusal (Some denied)) ∙ (told_by denied).0 ∙ ap (λ (o : Option Errno). is_some_and o is_access) told;
-        permission = ap (λ (b : Bool). is_range_refusal (Some denied) || b) none.1 ∙ or_false (is_range_refusal (Some denied)) ∙ (told_by denied).1 ∙ ap (λ (o : Option Errno). is_some_and o is_permission) told;
+        access = ap (λ (b : Bool). is_label_refusal (Some denied) || b) none.0 ∙ or-false (is_label_refusal (Some denied)) ∙ (told_by denied).0 ∙ ap (λ (o : Option Errno). is_some_and o is_access) told;
+        permission = ap (λ (b : Bool). is_range_refusal (Some denied) || b) none.1 ∙ or-false (is_range_refusal (Some denied)) ∙ (told_by denied).1 ∙ ap (λ (o : Option Errno). is_some_and o is_permission) told;
         denials = (ap (option_map Refused) told, none.2);
         once = all_restoring t line restoring sets;
       }

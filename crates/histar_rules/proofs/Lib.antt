@@ -5,5 +5,5 @@ pub mod Sound
 pub mod Tainted
 pub mod TaintedMoves
 pub mod TaintedCalls
-pub mod Meetings
+pub mod Observed
 pub mod LinkedObjects

@@ -20,7 +20,7 @@ use Rattle.histar_rules.specs.declared.raw.Denied.TheVariants.{Observe, Modify, 
 use Rattle.histar_rules.specs.declared.raw.RawCall.TheVariants as calls
 use Rattle.histar_rules.specs.Finds.{container_of, segment_of, gate_of, state_shown, state_with}
 use Rattle.histar_rules.specs.Rules.{check, no_container, no_making, no_new, no_new_owner, no_link, no_segment, no_gate, fits_segment, greatest}
-use Rattle.histar_rules.proofs.Meetings.{object_shown, thread_by, making_met}
+use Rattle.histar_rules.proofs.Observed.{object_shown, thread_by, making_found}
 use Rattle.histar_rules.proofs.Passing.{first}
 
 -- what is there is not missing
@@ -80,28 +80,28 @@ module _ {Id : Type 0} (labels : Id → Option Levels) (es : List (ℕ × Object
         ∙ ap (λ (f : Option Denied). f orelse later) e
 
     -- of a question for a label, whether the object is a thread decides
-    pub label_met : check (state_shown labels es) t (calls.LabelOf d o) ≡ unless (not (is_thread (objects_of es o))) BadKind
-    label_met =
+    pub label_found : check (state_shown labels es) t (calls.LabelOf d o) ≡ unless (not (is_thread (objects_of es o))) BadKind
+    label_found =
         ap (λ (f : Option Denied). f orelse unless (not (is_thread (objects_of (shown labels es) o))) BadKind) linked
         ∙ ap (λ b. unless (not b) BadKind) (ap is_thread (shows labels es o) ∙ thread_by labels es (objects_of es o))
 
-    module _ (own most : Id) (thread : objects_of es t ≡ Some (thread_of own most)) where
+    module _ (own own_clearance : Id) (thread : objects_of es t ≡ Some (thread_of own own_clearance)) where
       -- of a read, whether the thread observes the segment
-      pub read_met : (label : Id) (bytes : List ℕ) (observed : Bool) → objects_of es o ≡ Some (segment_of label bytes)
+      pub read_found : (label : Id) (bytes : List ℕ) (observed : Bool) → objects_of es o ≡ Some (segment_of label bytes)
           → observed ≡ is_below_raised (label_at labels label) (label_at labels own) → check (state_shown labels es) t (calls.Read d o) ≡ unless observed Observe
-      read_met label bytes observed segment is =
-          let T = object_shown labels es t (thread_of own most) thread in
+      read_found label bytes observed segment is =
+          let T = object_shown labels es t (thread_of own own_clearance) thread in
           let O = object_shown labels es o (segment_of label bytes) segment in
           ap (λ (f : Option Denied). (f orelse unless (is_segment (objects_of (shown labels es) o)) BadKind) orelse unless (observes (objects_of (shown labels es) t) (objects_of (shown labels es) o)) Observe) linked
           ∙ (λ i. unless (is_segment (O i)) BadKind orelse unless (observes (T i) (O i)) Observe)
           ∙ ap (λ b. unless b Observe) (sym is)
 
       -- of a write, whether it modifies it, and then what it is to hold
-      pub write_met : (keep : ℕ) (more : List ℕ) (label : Id) (bytes : List ℕ) (modified : Bool) (held added : ℕ) → objects_of es o ≡ Some (segment_of label bytes)
+      pub write_found : (keep : ℕ) (more : List ℕ) (label : Id) (bytes : List ℕ) (modified : Bool) (held added : ℕ) → objects_of es o ≡ Some (segment_of label bytes)
           → modified ≡ (is_below (label_at labels own) (label_at labels label) && is_below_raised (label_at labels label) (label_at labels own)) → held ≡ length bytes → added ≡ length more
           → check (state_shown labels es) t (calls.Write d o keep more) ≡ (unless modified Modify orelse unless (fits_segment (min keep held + added)) TooBig)
-      write_met keep more label bytes modified held added segment is held_is added_is =
-          let T = object_shown labels es t (thread_of own most) thread in
+      write_found keep more label bytes modified held added segment is held_is added_is =
+          let T = object_shown labels es t (thread_of own own_clearance) thread in
           let O = object_shown labels es o (segment_of label bytes) segment in
           ap (λ (f : Option Denied). (f orelse unless (is_segment (objects_of (shown labels es) o)) BadKind)
           orelse unless (modifies (objects_of (shown labels es) t) (objects_of (shown labels es) o)) Modify
@@ -110,23 +110,23 @@ module _ {Id : Type 0} (labels : Id → Option Levels) (es : List (ℕ × Object
           ∙ (λ i. unless (sym is i) Modify orelse unless (fits_segment (min keep (sym held_is i) + sym added_is i)) TooBig)
 
       -- of the taking away of an object, whether it modifies the container
-      pub unlink_met : (label : Id) (links : Numbers) (below : Bool) → objects_of es d ≡ Some (container_of label links)
+      pub unlink_found : (label : Id) (links : Numbers) (below : Bool) → objects_of es d ≡ Some (container_of label links)
           → below ≡ is_below (label_at labels own) (label_at labels label) → check (state_shown labels es) t (calls.Unlink d o) ≡ unless below Modify
-      unlink_met label links below container is =
+      unlink_found label links below container is =
           let none = first (no_container (state_shown labels es) t d) _ linked in
           ap (λ (f : Option Denied). f orelse unless (modifies (objects_of (shown labels es) t) (objects_of (shown labels es) d)) Modify) linked
           ∙ ap (λ (f : Option Denied). f orelse unless (modifies (objects_of (shown labels es) t) (objects_of (shown labels es) d)) Modify) (sym none)
-          ∙ making_met labels es t d own most label links below none thread container is
+          ∙ making_found labels es t d own own_clearance label links below none thread container is
 
       -- of entering a gate, the labels of both
-      pub enter_met : (next : Next) (wanted clearance shown_label : Levels) (given limit : Id) (entry : Entry) (O M G L : Levels) → objects_of es o ≡ Some (gate_of given limit entry)
-          → O ≡ label_at labels own → M ≡ label_at labels most → G ≡ label_at labels given → L ≡ label_at labels limit
+      pub enter_found : (next : Next) (wanted clearance shown_label : Levels) (gate_label gate_clearance : Id) (entry : Entry) (O M G L : Levels) → objects_of es o ≡ Some (gate_of gate_label gate_clearance entry)
+          → O ≡ label_at labels own → M ≡ label_at labels own_clearance → G ≡ label_at labels gate_label → L ≡ label_at labels gate_clearance
           → check (state_with labels es next) t (calls.Enter d o wanted clearance shown_label)
           ≡ (unless (is_below O L) NoWay orelse unless (is_below O shown_label) NoWay orelse unless (lies_between O G wanted clearance M L) Range
           orelse unless (is_made next.category wanted) Range orelse unless (is_made next.category clearance) Range orelse unless (is_made next.category shown_label) Range)
-      enter_met next wanted clearance shown_label given limit entry O M G L gate own_is most_is given_is limit_is =
-          let T = object_shown labels es t (thread_of own most) thread in
-          let E = object_shown labels es o (gate_of given limit entry) gate in
+      enter_found next wanted clearance shown_label gate_label gate_clearance entry O M G L gate own_is most_is given_is limit_is =
+          let T = object_shown labels es t (thread_of own own_clearance) thread in
+          let E = object_shown labels es o (gate_of gate_label gate_clearance entry) gate in
           let made = unless (is_made next.category wanted) Range orelse unless (is_made next.category clearance) Range orelse unless (is_made next.category shown_label) Range in
           ap (λ (f : Option Denied). (f orelse unless (is_gate (objects_of (shown labels es) o)) BadKind)
           orelse unless (is_let_in (objects_of (shown labels es) t) (objects_of (shown labels es) o)) NoWay
@@ -136,26 +136,26 @@ module _ {Id : Type 0} (labels : Id → Option Levels) (es : List (ℕ × Object
           ∙ (λ i. unless (is_below (sym own_is i) (sym limit_is i)) NoWay orelse unless (is_below (sym own_is i) shown_label) NoWay
           orelse unless (lies_between (sym own_is i) (sym given_is i) wanted clearance (sym most_is i) (sym limit_is i)) Range orelse made)
 
-  module _ (t d : ℕ) (own most : Id) (made : no_making (state_shown labels es) t d ≡ None) (thread : objects_of es t ≡ Some (thread_of own most)) where
+  module _ (t d : ℕ) (own own_clearance : Id) (made : no_making (state_shown labels es) t d ≡ None) (thread : objects_of es t ≡ Some (thread_of own own_clearance)) where
     -- of the making of an object that owns nothing, the thread's labels
-    pub new_met : (next : Next) (label : Levels) (size : ℕ) (O M : Levels) → O ≡ label_at labels own → M ≡ label_at labels most
+    pub new_found : (next : Next) (label : Levels) (size : ℕ) (O M : Levels) → O ≡ label_at labels own → M ≡ label_at labels own_clearance
         → no_new (state_with labels es next) t d label size
         ≡ (unless (is_below O label && is_below label M) Range orelse unless (is_made next.category label) Range orelse unless (not (has_star label)) Range
         orelse unless (fits_segment size) TooBig orelse unless (nat_lt next.object greatest) TooBig)
-    new_met next label size O M own_is most_is =
-        let T = object_shown labels es t (thread_of own most) thread in
+    new_found next label size O M own_is most_is =
+        let T = object_shown labels es t (thread_of own own_clearance) thread in
         let later = unless (is_made next.category label) Range orelse unless (not (has_star label)) Range orelse unless (fits_segment size) TooBig orelse unless (nat_lt next.object greatest) TooBig in
         ap (λ (f : Option Denied). f orelse unless (in_range (objects_of (shown labels es) t) label) Range orelse later) made
         ∙ (λ i. unless (in_range (T i) label) Range orelse later)
         ∙ (λ i. unless (is_below (sym own_is i) label && is_below label (sym most_is i)) Range orelse later)
 
     -- and of one that may own
-    pub new_owner_met : (next : Next) (label clearance : Levels) (O M : Levels) → O ≡ label_at labels own → M ≡ label_at labels most
+    pub new_owner_found : (next : Next) (label clearance : Levels) (O M : Levels) → O ≡ label_at labels own → M ≡ label_at labels own_clearance
         → no_new_owner (state_with labels es next) t d label clearance
         ≡ (unless (is_below O label && is_below label clearance && is_below clearance M) Range orelse unless (is_made next.category label) Range orelse unless (is_made next.category clearance) Range
         orelse unless (nat_lt next.object greatest) TooBig)
-    new_owner_met next label clearance O M own_is most_is =
-        let T = object_shown labels es t (thread_of own most) thread in
+    new_owner_found next label clearance O M own_is most_is =
+        let T = object_shown labels es t (thread_of own own_clearance) thread in
         let later = unless (is_made next.category label) Range orelse unless (is_made next.category clearance) Range orelse unless (nat_lt next.object greatest) TooBig in
         ap (λ (f : Option Denied). f orelse unless (in_span (objects_of (shown labels es) t) label clearance) Range orelse later) made
         ∙ (λ i. unless (in_span (T i) label clearance) Range orelse later)

@@ -33,11 +33,6 @@ pub passes : (b : Bool) (d : Denied) (later : Option Denied) → (unless b d ore
 passes true d later e = (refl, e)
 passes false d later e = cc
 
--- what is not true is false
-pub not_passes : (b : Bool) → not b ≡ true → b ≡ false
-not_passes true e = cc
-not_passes false e = refl
-
 -- the caller of a call that isn't refused is a thread
 pub caller_is : (s : State) (t : ℕ) → no_thread s t ≡ None → is_thread (s.objects t) ≡ true
 caller_is s t e = unless_none (is_thread (s.objects t)) NoThread e

@@ -3,6 +3,7 @@ use Rattle.std.proofs.Common.{◌≡◌, ◌≢◌, ℕ, ◌+◌, ◌<◌, ◌||
 use Rattle.std.specs.Prelude.{not}
 use Rattle.std.specs.FinSet as set
 use Rattle.std.specs.Ordering.{nat_cmp}
+use Rattle.std.proofs.lemmas.Bool.{not-true}
 use Rattle.histar_base.specs.Refusals.{unless, ◌orelse◌}
 use Rattle.histar_label.specs.declared.levels.Level.TheVariants.{Star, L0, L1, L2, L3}
 use Rattle.histar_label.specs.Levels.{Levels, constant, with_level, level_of, level_of-constant, level_of-with_level, has_star}
@@ -26,7 +27,7 @@ use Rattle.histar_rules.specs.declared.raw.RawCall.{RawCall}
 use Rattle.histar_rules.specs.declared.raw.RawCall.TheVariants.{MakeCategory, OwnLabel, SetLabel, SetClearance, MakeSegment, MakeContainer, MakeThread, MakeGate, Enter, Read, Write, Unlink, LabelOf}
 use Rattle.histar_rules.specs.Rules.{no_thread, no_container, no_link, no_gate, no_making, known, check, Changes, Decides}
 use Rattle.histar_rules.specs.Sound.{root_number, IsWellLabelled, IsSound}
-use Rattle.histar_rules.proofs.Passing.{unless_none, first, rest, passes, not_passes, caller_is, container_is}
+use Rattle.histar_rules.proofs.Passing.{unless_none, first, rest, passes, caller_is, container_is}
 use Rattle.histar_rules.proofs.WellLabelled.{well_holding, well_plain, well_cleared, well_thread, well_relabelled, well_clearing, well_owning, well_later, labelled_put, labelled_changed, labelled_cut, labelled_new}
 use Rattle.histar_rules.proofs.Shapes.{thread_there, thread_links, clearing_links, cleared_links}
 
@@ -94,10 +95,6 @@ module _ (s : State) (sound : IsSound s) where
     some_made = subst (λ (n : ℕ). 0 < n) (sym cut.next_category) sound.some_made;
   }
 
--- a sound state stays sound where nothing but thread t's label and clearance changes, to labels that name only made categories
-pub sound_own : (s : State) (t : ℕ) (label clearance : Levels) → IsSound s → is_thread (s.objects t) ≡ true → known s label ≡ true → known s clearance ≡ true → IsSound (with_own s t label clearance)
-sound_own s t label clearance sound = sound_with_own s sound t label clearance
-
 -- who names a container is a thread
 container_caller : (s : State) (t d : ℕ) → no_container s t d ≡ None → is_thread (s.objects t) ≡ true
 container_caller s t d e = caller_is s t (first (no_thread s t) _ e)
@@ -134,7 +131,7 @@ module _ (s : State) (t : ℕ) (sound : IsSound s) where
       let ranged = passes (in_range (s.objects t) o.label) Range _ (rest (no_making s t d) _ e) in
       let made = passes (known s o.label) Range _ ranged.1 in
       let plain = passes (not (has_star o.label)) Range _ made.1 in
-      sound_added s sound d o (making_container s t d (first (no_making s t d) _ e)) leaf (well_plain s.next_category o made.0 (not_passes (has_star o.label) plain.0) none)
+      sound_added s sound d o (making_container s t d (first (no_making s t d) _ e)) leaf (well_plain s.next_category o made.0 (not-true (has_star o.label) plain.0) none)
 
   -- an object with a clearance is made
   made_cleared : (d : ℕ) (o : Object Levels) (clearance : Levels) (later : Option Denied) → kind_clearance o.kind ≡ Some clearance → (kind_is_segment o.kind || kind_is_container o.kind) ≡ false → ((c : ℕ) → set.contains (kind_links o.kind) c ≡ false)

@@ -58,14 +58,14 @@ floor_of_three L2 other = refl
 floor_of_three L3 other = refl
 
 -- a test of a label and a clearance that passes has both
-both_some : (l : Levels) (c : Option Levels) (test : Levels → Levels → Bool) → both (Some l) c test ≡ true → (most : Levels) × (test l most ≡ true)
+both_some : (l : Levels) (c : Option Levels) (test : Levels → Levels → Bool) → both (Some l) c test ≡ true → (own_clearance : Levels) × (test l own_clearance ≡ true)
 both_some l None test e = cc
-both_some l (Some most) test e = (most, e)
+both_some l (Some own_clearance) test e = (own_clearance, e)
 
 -- what is between two labels is above the first
 between_low : (l : Levels) (c : Option Levels) (label : Levels) → between (Some l) c label ≡ true → is_below l label ≡ true
 between_low l None label e = cc
-between_low l (Some most) label e = and_first (is_below l label) (is_below label most) e
+between_low l (Some own_clearance) label e = and_first (is_below l label) (is_below label own_clearance) e
 
 -- what is reached from what a container links is reached from the container
 link_then : {L : Type 0} (objects : Objects L) (d o : ℕ) → set.contains (links_in (objects d)) o ≡ true → (q : ℕ) → Reached objects o q → Reached objects d q
@@ -103,17 +103,17 @@ module _ (v : ℕ) where
   span_tainted : (f : Found) (label clearance : Levels) → IsTainted v f → in_span f label clearance ≡ true → level_of label v ≡ L3
   span_tainted None label clearance h e = cc
   span_tainted (Some o) label clearance h e =
-      let is = both_some o.label (kind_clearance o.kind) (λ own most. is_below own label && is_below label clearance && is_below clearance most) e in
+      let is = both_some o.label (kind_clearance o.kind) (λ own own_clearance. is_below own label && is_below label clearance && is_below clearance own_clearance) e in
       above_three o.label label h (first_of_three (is_below o.label label) (is_below label clearance) (is_below clearance is.0) is.1)
 
   -- so has the label behind a gate that doesn't own v
   gate_tainted : (f g : Found) (label clearance : Levels) → IsTainted v f → ((o : Object Levels) → g ≡ Some o → level_of o.label v ≢ Star) → in_gate f g label clearance ≡ true → level_of label v ≡ L3
   gate_tainted None g label clearance h other e = cc
   gate_tainted (Some t) None label clearance h other e =
-      let is = both_some t.label (kind_clearance t.kind) (λ own most. false) e in cc
+      let is = both_some t.label (kind_clearance t.kind) (λ own own_clearance. false) e in cc
   gate_tainted (Some t) (Some g) label clearance h other e =
-      let outer = both_some t.label (kind_clearance t.kind) (λ own most. both (Some g.label) (kind_clearance g.kind) (λ given limit. is_below (floor_of own given) label && is_below label clearance && is_below_join clearance most limit)) e in
-      let is = both_some g.label (kind_clearance g.kind) (λ given limit. is_below (floor_of t.label given) label && is_below label clearance && is_below_join clearance outer.0 limit) outer.1 in
+      let outer = both_some t.label (kind_clearance t.kind) (λ own own_clearance. both (Some g.label) (kind_clearance g.kind) (λ gate_label gate_clearance. is_below (floor_of own gate_label) label && is_below label clearance && is_below_join clearance own_clearance gate_clearance)) e in
+      let is = both_some g.label (kind_clearance g.kind) (λ gate_label gate_clearance. is_below (floor_of t.label gate_label) label && is_below label clearance && is_below_join clearance outer.0 gate_clearance) outer.1 in
       above_three (floor_of t.label g.label) label (floor_three t.label g.label h (other g refl)) (first_of_three (is_below (floor_of t.label g.label) label) (is_below label clearance) (is_below_join clearance outer.0 is.0) is.1)
 
   -- what a tainted thread may modify is tainted

@@ -21,29 +21,29 @@ holds_of found test = both (label_there found) (clearance_there found) test
 
 -- a label and a clearance above it lie between t's own label and t's clearance
 abbrev pub in_span : Found → Levels → Levels → Bool
-in_span t label clearance = holds_of t (λ own most. is_below own label && is_below label clearance && is_below clearance most)
+in_span t label clearance = holds_of t (λ own own_clearance. is_below own label && is_below label clearance && is_below clearance own_clearance)
 
 -- a clearance is above t's own label, and above t's clearance only where t owns
 abbrev pub may_clear : Found → Levels → Bool
-may_clear t clearance = holds_of t (λ own most. is_below own clearance && is_below_join_raised clearance most own)
+may_clear t clearance = holds_of t (λ own own_clearance. is_below own clearance && is_below_join_raised clearance own_clearance own)
 
 -- t's own label is below a label
 abbrev pub is_under : Found → Levels → Bool
-is_under t label = holds_of t (λ own most. is_below own label)
+is_under t label = holds_of t (λ own own_clearance. is_below own label)
 
 -- t's own label is below the clearance of a gate
 abbrev pub is_let_in : Found → Found → Bool
-is_let_in t gate = holds_of gate (λ given limit. is_under t limit)
+is_let_in t gate = holds_of gate (λ gate_label gate_clearance. is_under t gate_clearance)
 
 -- a label is above the floor of two labels, and a clearance above the label lies below the greater of two clearances
 abbrev pub lies_between : Levels → Levels → Levels → Levels → Levels → Levels → Bool
-lies_between own given label clearance most limit =
-    is_below (floor_of own given) label && is_below label clearance && is_below_join clearance most limit
+lies_between own gate_label label clearance own_clearance gate_clearance =
+    is_below (floor_of own gate_label) label && is_below label clearance && is_below_join clearance own_clearance gate_clearance
 
 -- a label and a clearance above it that t may have behind a gate: what t or the gate owns is owned, elsewhere the label is at
 -- least both, and the clearance at most the greater of both
 abbrev pub in_gate : Found → Found → Levels → Levels → Bool
-in_gate t gate label clearance = holds_of t (λ own most. holds_of gate (λ given limit. lies_between own given label clearance most limit))
+in_gate t gate label clearance = holds_of t (λ own own_clearance. holds_of gate (λ gate_label gate_clearance. lies_between own gate_label label clearance own_clearance gate_clearance))
 
 -- a clearance with level 3 at a category
 abbrev pub kind_with_three_at : ℕ → Kind Levels → Kind Levels

@@ -15,7 +15,7 @@ ghost use Rattle.histar_rules.specs.declared.raw.RawCall.TheVariants as calls;
 
 use crate::limits::Next;
 use crate::linked::{enter_in, label_in, read_in, unlink_in, write_in};
-use crate::meeting::{new_in, new_owner_in, thread_in};
+use crate::lookup::{new_in, new_owner_in, thread_in};
 use crate::raw::{Denied, Refusal};
 use histar_base::Bytes;
 use histar_container::{link_new, linked, remove_tree};
@@ -141,11 +141,11 @@ impl<S: LabelStore + Drop> LabelledObjects<S> {
     pub fn own(&self, thread: ObjId) -> Option<(&Label, &Label)>
         ensures { LendsThread (objects_of self.now.objects thread) result }
     {
-        let Some((own, most)) = thread_in(&self.table, thread) else {
+        let Some((own, own_clearance)) = thread_in(&self.table, thread) else {
             return None;
         };
         let label = self.store.get(own).unwrap();
-        let clearance = self.store.get(most).unwrap();
+        let clearance = self.store.get(own_clearance).unwrap();
         Some((label, clearance))
     }
 

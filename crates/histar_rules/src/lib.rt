@@ -7,7 +7,7 @@ mod handed;
 mod labelled;
 mod limits;
 mod linked;
-mod meeting;
+mod lookup;
 mod ranges;
 mod raw;
 

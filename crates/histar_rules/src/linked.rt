@@ -13,7 +13,7 @@ ghost use Rattle.histar_rules.specs.declared.raw.Denied.TheVariants.{BadKind, Mo
 
 use crate::checks::require;
 use crate::limits::{Next, fits};
-use crate::meeting::{labels_in, link_in};
+use crate::lookup::{labels_in, linked_in};
 use crate::ranges::{Opening, check_opening};
 use crate::raw::{Denied, Refusal};
 use histar_base::Bytes;
@@ -61,9 +61,9 @@ pub(crate) fn read_in<'t, S: LabelStore>(
     ensures bytes { IfOk result (λ bytes. bytes_there (objects_of table.now segment) ≡ Some bytes.now) }
     ensures unchanged { S.labels store.new ≡ S.labels store.old }
 {
-    let met = link_in(store, table, thread, container, segment)?;
+    let found = linked_in(store, table, thread, container, segment)?;
     let (label, bytes) = segment_in(table, segment)?;
-    if store.below_raised(label, met.own) {
+    if store.below_raised(label, found.own) {
         Ok(bytes)
     } else {
         Err(Denied::Observe)
@@ -103,9 +103,9 @@ pub(crate) fn write_in<S: LabelStore>(
     ensures answer { Tells (check (state_shown (S.labels store.old) table.now) thread (calls.Write container segment keep bytes.now)) result }
     ensures unchanged { S.labels store.new ≡ S.labels store.old }
 {
-    let met = link_in(store, table, thread, container, segment)?;
+    let found = linked_in(store, table, thread, container, segment)?;
     let (label, held) = segment_in(table, segment)?;
-    let modifies = modifies_by(store, met.own, label);
+    let modifies = modifies_by(store, found.own, label);
     check_change(modifies, held.len(), keep, bytes.len())
 }
 
@@ -121,8 +121,8 @@ pub(crate) fn unlink_in<S: LabelStore>(
     ensures answer { Tells (check (state_shown (S.labels store.old) table.now) thread (calls.Unlink container object)) result }
     ensures unchanged { S.labels store.new ≡ S.labels store.old }
 {
-    let met = link_in(store, table, thread, container, object)?;
-    if store.below(met.own, met.label) {
+    let found = linked_in(store, table, thread, container, object)?;
+    if store.below(found.own, found.label) {
         Ok(())
     } else {
         Err(Denied::Modify)
@@ -142,7 +142,7 @@ pub(crate) fn label_in<S: LabelStore>(
     ensures label { IfOk result (λ label. label ≡ label_there (objects_of table.now object)) }
     ensures unchanged { S.labels store.new ≡ S.labels store.old }
 {
-    link_in(store, table, thread, container, object)?;
+    linked_in(store, table, thread, container, object)?;
     label_unless_thread(table, object)
 }
 
@@ -178,15 +178,15 @@ pub(crate) fn enter_in<S: LabelStore>(
     ensures entry { IfOk result (λ entry. Some entry ≡ entry_there (objects_of table.now gate)) }
     ensures unchanged { S.labels store.new ≡ S.labels store.old }
 {
-    let met = link_in(store, table, thread, container, gate)?;
-    let (given, limit, entry) = gate_in(table, gate)?;
-    let (own, most) = labels_in(store, met.own, met.most);
-    let (given, limit) = labels_in(store, given, limit);
+    let found = linked_in(store, table, thread, container, gate)?;
+    let (gate_label, gate_clearance, entry) = gate_in(table, gate)?;
+    let (own, own_clearance) = labels_in(store, found.own, found.own_clearance);
+    let (gate_label, gate_clearance) = labels_in(store, gate_label, gate_clearance);
     let opening = Opening {
         own,
-        most,
-        given,
-        limit,
+        own_clearance,
+        gate_label,
+        gate_clearance,
     };
     check_opening(opening, wanted, clearance, shown, next)?;
     Ok(entry)

@@ -17,38 +17,38 @@ pub(crate) struct Opening<'s> {
     /// The thread's own label.
     pub(crate) own: &'s Label,
     /// The thread's clearance.
-    pub(crate) most: &'s Label,
+    pub(crate) own_clearance: &'s Label,
     /// The label that the gate gives.
-    pub(crate) given: &'s Label,
+    pub(crate) gate_label: &'s Label,
     /// The gate's clearance.
-    pub(crate) limit: &'s Label,
+    pub(crate) gate_clearance: &'s Label,
 }
 
 /// Whether a label lies between a thread's own label and its clearance.
-pub fn in_range(own: &Label, most: &Label, label: &Label) -> bool
-    ensures { result ≡ (is_below own.now label.now && is_below label.now most.now) }
+pub fn in_range(own: &Label, own_clearance: &Label, label: &Label) -> bool
+    ensures { result ≡ (is_below own.now label.now && is_below label.now own_clearance.now) }
 {
-    own.below(label) && label.below(most)
+    own.below(label) && label.below(own_clearance)
 }
 
 /// Whether a label and a clearance above it lie between a thread's own label and its clearance.
-pub(crate) fn in_span(own: &Label, most: &Label, label: &Label, clearance: &Label) -> bool
-    ensures { result ≡ (is_below own.now label.now && is_below label.now clearance.now && is_below clearance.now most.now) }
+pub(crate) fn in_span(own: &Label, own_clearance: &Label, label: &Label, clearance: &Label) -> bool
+    ensures { result ≡ (is_below own.now label.now && is_below label.now clearance.now && is_below clearance.now own_clearance.now) }
 {
-    own.below(label) && label.below(clearance) && clearance.below(most)
+    own.below(label) && label.below(clearance) && clearance.below(own_clearance)
 }
 
 /// Whether a label is above the floor of two labels, and a clearance between it and the join of two
 /// clearances.
 fn lies_between(opening: Opening, label: &Label, clearance: &Label) -> Result<bool, OutOfMemory>
     ensures { IfOk result (λ passes. passes ≡
-        lies_between opening.entry.own.now opening.entry.given.now label.now clearance.now opening.entry.most.now opening.entry.limit.now) }
+        lies_between opening.entry.own.now opening.entry.gate_label.now label.now clearance.now opening.entry.own_clearance.now opening.entry.gate_clearance.now) }
 {
-    let floor = opening.own.floor(opening.given)?;
+    let floor = opening.own.floor(opening.gate_label)?;
     Ok(
         floor.below(label)
             && label.below(clearance)
-            && clearance.below_join(opening.most, opening.limit),
+            && clearance.below_join(opening.own_clearance, opening.gate_clearance),
     )
 }
 
@@ -56,18 +56,18 @@ fn lies_between(opening: Opening, label: &Label, clearance: &Label) -> Result<bo
 /// its size, and the counter of objects.
 pub(crate) fn check_new(
     own: &Label,
-    most: &Label,
+    own_clearance: &Label,
     label: &Label,
     size: usize,
     next: Next,
 ) -> Result<(), Denied>
-    ensures { Tells (unless (is_below own.now label.now && is_below label.now most.now) Range
+    ensures { Tells (unless (is_below own.now label.now && is_below label.now own_clearance.now) Range
         orelse unless (is_made next.category label.now) Range
         orelse unless (not (has_star label.now)) Range
         orelse unless (fits_segment size) TooBig
         orelse unless (nat_lt next.object greatest) TooBig) result }
 {
-    require(in_range(own, most, label), Denied::Range)?;
+    require(in_range(own, own_clearance, label), Denied::Range)?;
     require(label.names_only_made(next.category), Denied::Range)?;
     require(!label.has_star(), Denied::Range)?;
     require(fits(size, 0), Denied::TooBig)?;
@@ -78,17 +78,17 @@ pub(crate) fn check_new(
 /// of objects.
 pub(crate) fn check_new_owner(
     own: &Label,
-    most: &Label,
+    own_clearance: &Label,
     label: &Label,
     clearance: &Label,
     next: Next,
 ) -> Result<(), Denied>
-    ensures { Tells (unless (is_below own.now label.now && is_below label.now clearance.now && is_below clearance.now most.now) Range
+    ensures { Tells (unless (is_below own.now label.now && is_below label.now clearance.now && is_below clearance.now own_clearance.now) Range
         orelse unless (is_made next.category label.now) Range
         orelse unless (is_made next.category clearance.now) Range
         orelse unless (nat_lt next.object greatest) TooBig) result }
 {
-    require(in_span(own, most, label, clearance), Denied::Range)?;
+    require(in_span(own, own_clearance, label, clearance), Denied::Range)?;
     require(label.names_only_made(next.category), Denied::Range)?;
     require(clearance.names_only_made(next.category), Denied::Range)?;
     require(next.object < u64::MAX, Denied::TooBig)
@@ -105,14 +105,14 @@ pub(crate) fn check_opening(
     shown: &Label,
     next: Next,
 ) -> Result<(), Refusal>
-    ensures { TellsUnlessExhausted (unless (is_below opening.entry.own.now opening.entry.limit.now) Gate
+    ensures { TellsUnlessExhausted (unless (is_below opening.entry.own.now opening.entry.gate_clearance.now) Gate
         orelse unless (is_below opening.entry.own.now shown.now) Gate
-        orelse unless (lies_between opening.entry.own.now opening.entry.given.now wanted.now clearance.now opening.entry.most.now opening.entry.limit.now) Range
+        orelse unless (lies_between opening.entry.own.now opening.entry.gate_label.now wanted.now clearance.now opening.entry.own_clearance.now opening.entry.gate_clearance.now) Range
         orelse unless (is_made next.category wanted.now) Range
         orelse unless (is_made next.category clearance.now) Range
         orelse unless (is_made next.category shown.now) Range) result }
 {
-    require(opening.own.below(opening.limit), Denied::Gate)?;
+    require(opening.own.below(opening.gate_clearance), Denied::Gate)?;
     require(opening.own.below(shown), Denied::Gate)?;
     require(lies_between(opening, wanted, clearance)?, Denied::Range)?;
     require(wanted.names_only_made(next.category), Denied::Range)?;

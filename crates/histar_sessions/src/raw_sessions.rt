@@ -99,7 +99,7 @@ fn label(alloc: Global, told: Told) -> Result<Label, OutOfMemory> {
     let (levels, default) = told;
     let mut label = Label::new(alloc, default);
     for &(category, level) in levels {
-        label = label.with(Category::new(category), level)?;
+        label.set(Category::new(category), level)?;
     }
     Ok(label)
 }

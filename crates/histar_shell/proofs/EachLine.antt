@@ -1,9 +1,8 @@
 -- Writing a line for each of some things, one after another.
-use Rattle.std.proofs.Common.{◌≡◌, ℕ, ◌+◌, ◌<◌, List, [], ◌∷◌, ◌++◌, length, take, drop, get_or, Bool, true, Option, Result, Ok, Err, refl, sym, ap, subst, ◌∙◌, append-nil, append_assoc, take-append-drop}
+use Rattle.std.proofs.Common.{◌≡◌, ℕ, ◌+◌, ◌<◌, List, [], ◌∷◌, ◌++◌, length, take, drop, get_or, Bool, true, Option, refl, sym, ap, subst, ◌∙◌, append-nil, append_assoc, take-append-drop}
 use Rattle.std.proofs.lemmas.List.{take_more, drop_more}
 use Rattle.std.proofs.lemmas.Grind.{flat_map-append}
 use Rattle.std.proofs.KnownBytes.{Appends-trans}
-use Rattle.std.specs.Prelude.{OnOk, OnErr}
 use Rattle.std.specs.List.{flat_map}
 use Rattle.std.specs.Io.KnownBytes.{Appends}
 use Rattle.histar_object.specs.State.{State}
@@ -82,13 +81,3 @@ tree_told b m tree asked is = subst (λ (x : Bool). IsAsked x (TellsTree m) (tre
 -- nothing of the tree was written yet
 pub tree_unwritten : (options : Options) (m : MachineModel) (a : Option (List ℕ)) → options.tree ≡ true → HasTree m → BeginsTree options m a a
 tree_unwritten options m a asked has = let text = tree_text (lines_at (state m.kernel) has.0) in (text, tree_told options.tree m has.0 asked has.1, (text, sent_none a text))
-
--- what follows from what a result says where it is one
-pub ok_so : {A E : Type 0} (r : Result A E) (P Q : Type 0) → (P → Q) → OnOk r P → OnOk r Q
-ok_so (Ok x) P Q so h = so h
-ok_so (Err e) P Q so h = tt
-
--- and where it is an error
-pub err_so : {A E : Type 0} (r : Result A E) (P Q : Type 0) → (P → Q) → OnErr r P → OnErr r Q
-err_so (Ok x) P Q so h = tt
-err_so (Err e) P Q so h = so h

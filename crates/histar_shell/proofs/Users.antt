@@ -5,7 +5,7 @@ use Rattle.std.specs.List.{AllByRecursion, position_or_len}
 use Rattle.std.specs.Str.{bytes_eq}
 use Rattle.std.proofs.lemmas.Bool.Decides.{nat_tests}
 use Rattle.std.proofs.lemmas.List.Elements.{All-head, All-tail}
-use Rattle.std.proofs.lemmas.Bool.{cases_lt}
+use Rattle.std.proofs.lemmas.Bool.{cases_lt, not-true}
 use Rattle.std.proofs.lemmas.List.Folds.{Any-from_list_any}
 use Rattle.std.proofs.lemmas.Option.{get_or_from_slice_get, slice_get-get_or, slice_get_within}
 use Rattle.histar_flat.specs.declared.calls.User.{User}
@@ -36,15 +36,10 @@ last_passes true true c h = h
 last_passes true false c h = absurd cc
 last_passes false b c h = absurd cc
 
--- what is not true is false
-not_passes : (b : Bool) → not b ≡ true → b ≡ false
-not_passes true h = absurd cc
-not_passes false h = refl
-
 -- a user's name is not `nobody`
 is_not_nobody : (name : List ℕ) → IsTrue (is_user_name name) → bytes_eq name nobody ≡ false
 unfolding is_user_name
-is_not_nobody name h = not_passes (bytes_eq name nobody) (last_passes (is_name name) (begins_with_letter name) (not (bytes_eq name nobody)) h)
+is_not_nobody name h = not-true (bytes_eq name nobody) (last_passes (is_name name) (begins_with_letter name) (not (bytes_eq name nobody)) h)
 
 -- so no user of a script is the first with the name
 none_first : (users : List User) → All (λ (u : User). IsTrue (is_user_name u.name)) users → position_or_len (λ (u : User). bytes_eq u.name nobody) users ≡ length users

@@ -1,8 +1,9 @@
 -- How raw calls of one thread are put together.
-use Rattle.std.specs.Prelude.{Bool, true, false, ◌||◌}
+use Rattle.std.specs.Prelude.{Bool, false, ◌||◌}
 use Rattle.std.proofs.Common.{◌≡◌, ℕ, List, [], ◌∷◌, ◌++◌, Option, None, Some, refl, sym, ap, ◌∙◌, subst, append_assoc}
 use Rattle.std.proofs.lemmas.List.{append-nil}
 use Rattle.std.specs.List.{AllByRecursion, list_any}
+use Rattle.std.proofs.Math.Bool.{or-false}
 use Rattle.histar_object.specs.State.{State}
 use Rattle.histar_rules.specs.declared.raw.Denied.{Denied}
 use Rattle.histar_rules.specs.declared.raw.RawCall.{RawCall}
@@ -105,10 +106,6 @@ module _ (t : ℕ) where
     pub ran : Ran old new t entries
     pub some : (p : Option Denied → Bool) → p None ≡ false → list_any (λ (e : TraceEntry). p e.denied) entries ≡ p (denied_of refusal)
 
-  or_false : (b : Bool) → (b || false) ≡ b
-  or_false true = refl
-  or_false false = refl
-
   run_none : (old new : KernelModel) → IsUnchanged old new → HasRun old new None
   run_none old new same = record {
     entries = [];
@@ -120,7 +117,7 @@ module _ (t : ℕ) where
   run_one old new call denied called = record {
     entries = entry_of old.line t call (Some denied) ∷ [];
     ran = record { trace = called.trace; run = (state new, called.outcome, called.state, refl); own = ((refl, refl), tt); line = called.line };
-    some = λ p none. or_false (p (Some denied));
+    some = λ p none. or-false (p (Some denied));
   }
 
   run_first : (old mid new : KernelModel) (call : RawCall) (refusal : Option (RawCall × Denied)) → Called old mid t call None → HasRun mid new refusal → HasRun old new refusal
@@ -145,13 +142,6 @@ module _ (t : ℕ) where
   -- a raw call more that was granted
   pub granted_more : (old mid new : KernelModel) (before : List RawCall) (call : RawCall) → Granted old mid t before → Called mid new t call None → Granted old new t (before ++ call ∷ [])
   granted_more old mid new before call granted called = made_more old mid new before call None granted called
-
-  -- a raw call that was granted and leaves its state has left it
-  pub granted_one : (old new : KernelModel) (call : RawCall) → Granted old new t (call ∷ []) → Called old new t call None
-  granted_one old new call granted = (elim granted.1 as (λ (x : Option Denied). Called old granted.0 t call x → GoesOn x call (Made granted.0 new t [] None) granted.0 new None → Called old new t call None) [
-    | None ↦ λ called rest. call_before old granted.0 new t call None called rest.0
-    | Some denied ↦ λ called rest. absurd cc
-  ]) granted.2 granted.3
 
   -- raw calls of a kernel that is as it was
   pub made_from : (old mid new : KernelModel) (calls : List RawCall) (refusal : Option (RawCall × Denied)) → IsUnchanged old mid → Made mid new t calls refusal → Made old new t calls refusal

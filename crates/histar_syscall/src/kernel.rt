@@ -10,8 +10,8 @@ ghost use Rattle.histar_syscall.specs.Answers.{answer, IsRightAnswer};
 ghost use Rattle.histar_syscall.specs.KernelModel.{Answered, ReadsLent, EndsAs, state};
 
 use crate::answers::{Answer, Reading};
-use crate::deciding::decide;
-use crate::starting::empty_objects;
+use crate::decide::decide;
+use crate::empty_objects::empty_objects;
 use crate::trace::{TraceEntry, log};
 use histar_base::Bytes;
 use histar_label::{Category, Label, LabelStore, OutOfMemory};
@@ -49,7 +49,7 @@ impl<S: LabelStore + Drop> Model for Kernel<S> {
     ghost invariant = { λ k. IsSound (state_of k.objects) };
 }
 
-#[tactic(auto, using(crate::proofs::Rooms::answered, crate::proofs::Rooms::exits, crate::proofs::Rooms::stays_sound))]
+#[tactic(auto, using(crate::proofs::Rooms::answered, crate::proofs::Rooms::exits, histar_rules::proofs::Sound::sound_decided))]
 impl<S: LabelStore + Drop> Kernel<S> {
     ghost use Rattle.std.specs.Borrow.{sem};
     ghost use Rattle.histar_syscall.specs.contracts.kernel.Kernel.{the_row};

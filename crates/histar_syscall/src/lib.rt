@@ -2,17 +2,17 @@
 #![tactic(auto)]
 
 mod answers;
-mod calling;
 mod containers;
-mod deciding;
+mod decide;
+mod empty_objects;
 mod kernel;
+mod raw_calls;
 pub mod run_laws;
 mod segments;
-mod starting;
 mod trace;
 
 pub use answers::Answer;
-pub use calling::run_raw;
 pub use histar_rules::{Denied, HandedLabel, RawCall, Refusal};
 pub use kernel::Kernel;
+pub use raw_calls::run_raw;
 pub use trace::TraceEntry;

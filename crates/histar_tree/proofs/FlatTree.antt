@@ -2,7 +2,7 @@
 use Rattle.std.specs.Prelude.{◌≡◌, ◌≢◌, ℕ, zero, suc, ◌+◌, ◌<◌, Bool, true, false, ◌||◌, cond, T, List, [], ◌∷◌, ◌++◌, length, Option, Some, None, is_some, refl}
 use Rattle.std.specs.List.{flat_map}
 use Rattle.std.proofs.Common.{◌⊎◌, arith, ap, inl, inr, sym, ◌∙◌, subst}
-use Rattle.std.proofs.lemmas.Bool.{true≢false}
+use Rattle.std.proofs.lemmas.Bool.{true≢false, cases_Bool}
 use Rattle.std.proofs.lemmas.Option.{none-some}
 use Rattle.std.specs.declared.cmp.Ordering.{Ordering}
 use Rattle.std.specs.declared.cmp.Ordering.TheVariants.{Less, Equal, Greater}
@@ -19,7 +19,7 @@ use Rattle.histar_flat.specs.FlatState.{Flat, Node, IsTree, is_some_and, is_dir,
 use Rattle.histar_flat.proofs.FileLemmas.{same_name_found, same_path_found}
 use Rattle.histar_flat.proofs.Finding.{first, second, both, less, equal, find_first, find_behind, find_below, find_later, ends_decide, names_decide}
 use Rattle.histar_flat.proofs.Trees.{nothing_below}
-use Rattle.histar_flat.proofs.Under.{true_or_false, under_itself, under_child, under_inner, above_is_not_under}
+use Rattle.histar_flat.proofs.Under.{under_itself, under_child, under_inner, above_is_not_under}
 use Rattle.histar_tree.specs.FlatTree.{nodes_in, walked, AreShallow, WalksMeetAll}
 
 -- ---- entries whose keys rise
@@ -102,7 +102,7 @@ under_outer n q r h =
 
 -- so what does not lie under the directory lies under none of its entries
 not_inner : (n : Name) (q r : Path) → under_path q r ≡ false → under_path (n ∷ q) r ≡ false
-not_inner n q r h = elim (true_or_false (under_path (n ∷ q) r)) [
+not_inner n q r h = elim (cases_Bool (under_path (n ∷ q) r)) [
   | inl e ↦ absurd (true≢false (sym (under_outer n q r e) ∙ h))
   | inr e ↦ e
 ]
@@ -162,7 +162,7 @@ one_entry q r n m g h =
 
 -- so it lies under no other one
 not_other : (q r : Path) (n m : Name) → under_path (n ∷ q) r ≡ true → n ≢ m → under_path (m ∷ q) r ≡ false
-not_other q r n m g other = elim (true_or_false (under_path (m ∷ q) r)) [
+not_other q r n m g other = elim (cases_Bool (under_path (m ∷ q) r)) [
   | inl h ↦ absurd (other (one_entry q r n m g h))
   | inr h ↦ h
 ]

@@ -35,11 +35,6 @@ use Rattle.histar_rows.proofs.Chains.{Step, all_granted, Chain, chain_after, ref
 use Rattle.histar_rows.proofs.Endings.{ReadsAmong, reply_is, told_shown, chain_unanswered, given_back_row}
 use Rattle.histar_rows.proofs.Steps.{EndsHere, Goal, replied, granted_so, denied_step}
 
--- one more that gives labels is one of them
-all_longer : (calls : List RawCall) (next : RawCall) → AllByRecursion (λ (c : RawCall). sets_labels c ≡ true) calls → sets_labels next ≡ true → AllByRecursion (λ (c : RawCall). sets_labels c ≡ true) (calls ++ next ∷ [])
-all_longer [] next sets one = (one, tt)
-all_longer (call ∷ calls) next sets one = (sets.0, all_longer calls next sets.1 one)
-
 module _ (session : Session) (f : Flat) (me : ProcName) (caller : IsRunning f me) (call : UnixCall) (old new : KernelModel) (t : ℕ) (named : IsThreadOf session (state old) me t) (result : Result Reply Stopped) where
   abbrev Row : Type 0
   Row = Goal session f me caller call old new t named result

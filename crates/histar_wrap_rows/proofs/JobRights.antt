@@ -1,11 +1,13 @@
 -- What the thread of a process may do once it has made the category of a job and the two of the job's first process, and what it stands by.
 use Rattle.std.proofs.Common.{◌≡◌, ◌≢◌, ℕ, ◌+◌, ◌<◌, inl, inr, true, false, List, [], ◌∷◌, ◌++◌, None, Some, arith, sym, ap, ◌∙◌, subst}
 use Rattle.std.specs.Prelude.{is_some}
+use Rattle.std.proofs.lemmas.Bool.{or_left}
 use mathlib.Core.Bool.{true≢false}
 use Rattle.histar_flat.specs.Words.{ProcName}
 use Rattle.histar_flat.specs.Sessions.{Session, has, user_number}
 use Rattle.histar_flat.specs.Classes.{Process}
 use Rattle.histar_flat.specs.FlatState.{Flat}
+use Rattle.histar_flat.proofs.GivenNames.{longer_has}
 use Rattle.histar_label.specs.declared.levels.Level.TheVariants.{Star, L3}
 use Rattle.histar_label.specs.Levels.{Levels, with_level, is_below, is_below_raised, is_made}
 use Rattle.histar_object.specs.declared.objects.Kind.TheVariants.{Thread}
@@ -22,8 +24,7 @@ use Rattle.histar_refinement.specs.LaysOut.{AreInOrder, Laid}
 use Rattle.histar_refinement.specs.Processes.{process_bytes}
 use Rattle.histar_refinement.proofs.AmongNames.{each_head, each_append}
 use Rattle.histar_refinement.proofs.Growing.{RightsHave, IsOld, new_number, made_label, made_clearance, same_rights_label, same_rights_clearance}
-use Rattle.histar_refinement.proofs.JobLists.{has_added}
-use Rattle.histar_refinement.proofs.Members.{first_of, second_of, or_first}
+use Rattle.histar_refinement.proofs.Members.{first_of, second_of}
 use Rattle.histar_refinement.proofs.RawChecks.{object}
 use Rattle.histar_refinement.proofs.Spawning.{after, no_child, with_reads, different_reads, category, different, keeps_first, keeps, made_then, at_child}
 use Rattle.histar_refinement.proofs.Tested.{AreMade, guard_made, rights_made, clearance_made, guard_owns_nothing}
@@ -98,8 +99,8 @@ module _ (session : Session) (s : State) (f : Flat) (l : Laid session s f) (me :
   jobs = p.chain ++ ((p.born + 1) ∷ me) ∷ []
 
   pub jobs_used : (job : ProcName) → has jobs job ≡ true → IsUsed session f (OfJob job)
-  jobs_used job e = elim (has_added p.chain child job e) [
-    | inl k ↦ inl (me, p, here, or_first (has p.chain job) (has p.held job) k)
+  jobs_used job e = elim (longer_has p.chain child job e) [
+    | inl k ↦ inl (me, p, here, or_left (has p.chain job) (has p.held job) k)
     | inr is ↦ inr (subst (IsServed f) (sym is) served)
   ]
 

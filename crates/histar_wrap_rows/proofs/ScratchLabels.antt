@@ -3,11 +3,13 @@
 use Rattle.std.proofs.Common.{◌≡◌, ℕ, ◌+◌, ◌≤◌, ◌&&◌, ◌||◌, ◌==◌, inl, inr, Bool, true, false, List, [], ◌∷◌, ◌++◌, length, Option, None, Some, arith, refl, sym, ap, ◌∙◌, subst}
 use Rattle.std.specs.Prelude.{is_some, map, nat_eq}
 use Rattle.std.proofs.lemmas.List.{map-append}
+use Rattle.std.proofs.lemmas.Bool.{or_left}
 use Rattle.histar_flat.specs.Words.{Path, ProcName}
 use Rattle.histar_flat.specs.Sessions.{Session, has, user_number}
 use Rattle.histar_flat.specs.Files.{get}
 use Rattle.histar_flat.specs.Classes.{Process, may_write}
 use Rattle.histar_flat.specs.FlatState.{Flat, Node}
+use Rattle.histar_flat.proofs.GivenNames.{longer_has}
 use Rattle.histar_label.specs.declared.levels.Level.TheVariants.{Star, L3}
 use Rattle.histar_label.specs.Levels.{Levels, with_level, is_below, is_below_raised, is_made}
 use Rattle.histar_object.specs.State.{State}
@@ -27,9 +29,8 @@ use Rattle.histar_refinement.proofs.CallLabels.{reads_numbered}
 use Rattle.histar_refinement.proofs.Counting.{number_named, keeps_named}
 use Rattle.histar_refinement.proofs.Growing.{RightsHave, IsOld, same_numbers, same_guard_label, still_different, made_label, made_clearance}
 use Rattle.histar_refinement.proofs.JobLabels.{jobs_are}
-use Rattle.histar_refinement.proofs.JobLists.{has_added}
 use Rattle.histar_refinement.proofs.Levelled.{same_guarded}
-use Rattle.histar_refinement.proofs.Members.{is_in, is_in-append, or_first}
+use Rattle.histar_refinement.proofs.Members.{is_in, is_in-append}
 use Rattle.histar_refinement.proofs.SessionLemmas.{user_range, is_number}
 use Rattle.histar_refinement.proofs.Tested.{guard_made, guard_owns_nothing}
 use Rattle.histar_refinement.proofs.Uses.{job_among, class_used, rights_used}
@@ -141,8 +142,8 @@ module _ (session : Session) (s : State) (f : Flat) (l : Laid session s f) (me :
   jobs_made : (c : CategoryName) → among (map OfJob jobs) c ≡ true → IsMade (job + 1) (names c)
   jobs_made c e =
       let found = job_among jobs c e in
-      elim (has_added p.chain child found.0 found.2) [
-        | inl k ↦ made c (subst (IsUsed session f) (sym found.1) (inl (me, p, here, or_first (has p.chain found.0) (has p.held found.0) k)))
+      elim (longer_has p.chain child found.0 found.2) [
+        | inl k ↦ made c (subst (IsUsed session f) (sym found.1) (inl (me, p, here, or_left (has p.chain found.0) (has p.held found.0) k)))
         | inr is ↦ subst (λ (x : CategoryName). IsMade (job + 1) (names x)) (sym (found.1 ∙ ap OfJob is)) job_made
       ]
 

@@ -1,5 +1,5 @@
 use Rattle.std.proofs.Common.{◌∙◌, ap}
-use Rattle.histar_shell.proofs.EachLine.{ok_so}
+use Rattle.std.proofs.lemmas.Result.{on_ok_weaker}
 use Rattle.histar_comparison.specs.Replies.{once_done}
 use Rattle.histar_comparison.proofs.Kept.{reply_kept}
 use Rattle.histar_comparison.proofs.observation.observe_call.Goals as goal
@@ -7,7 +7,7 @@ use Rattle.histar_comparison.proofs.observation.observe_call.Goals as goal
 pub returns : goal.returns
 returns g c =
     let directory = c.once_done-done.ensures ∙ ap (λ d. once_done d c.args.call.call) c.directory.ensures in
-    ok_so c.show.result _ _
+    on_ok_weaker c.show.result
     (λ shown. record {
       reply = c.in-Ok.reply;
       answered = c.in-Ok.ensures.answers;

@@ -2,10 +2,10 @@ use Rattle.std.proofs.Common.{◌≡◌, true, not, Err, sym, ap, subst, ◌∙�
 use Rattle.std.specs.Str.{bytes_eq}
 use Rattle.std.proofs.lemmas.Slice.Eq.{bytes_eq-Decides}
 use Rattle.std.proofs.lemmas.Option.{same_Some}
+use Rattle.std.proofs.lemmas.Bool.{not-false}
 use Rattle.histar_rawtext.specs.RawText.{thread_call_text}
 use Rattle.histar_rawtext.specs.Outcome.{Gives}
 use Rattle.histar_rawtext.specs.Reading.{thread_call_in}
-use Rattle.histar_rawtext.proofs.Numbers.{not_false}
 use Rattle.histar_rawtext.proofs.CallsRead.{thread_call_again}
 use Rattle.histar_rawtext.proofs.CallsRight.{thread_call_right}
 use Rattle.histar_rawtext.proofs.read_calls.read_raw.Goals as goal
@@ -26,7 +26,7 @@ returns-then-ne c t call is =
 
 pub returns : goal.returns
 returns c =
-    let equal : bytes_eq c.as_slice.result.now c.args.line.now ≡ true = not_false (bytes_eq c.as_slice.result.now c.args.line.now) (sym c.if-ne.ensures) in
+    let equal : bytes_eq c.as_slice.result.now c.args.line.now ≡ true = not-false (bytes_eq c.as_slice.result.now c.args.line.now) (sym c.if-ne.ensures) in
     let written = (bytes_eq-Decides c.as_slice.result.now c.args.line.now).0 equal in
     let right = thread_call_right c.args.line.now c.in-Ok.asked c.in-Ok.ensures in
     (sym c.in_ok-text.ensures ∙ sym c.as_slice.ensures.value ∙ written, right.0, right.1)

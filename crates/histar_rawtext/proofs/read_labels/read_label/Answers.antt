@@ -30,5 +30,5 @@ loop-part-preserved c =
     let texts = map (λ part. part.now) c.pop-in-loop-part.new.self.items in
     let first = exception_first c.loop-part.parts.items c.pop-in-loop-part.new.self.items c.in-Some-pop.part (Some c.loop-part.label) c.in-Some-pop.ensures.items in
     let added = one_added c.in-Some-pop.part.now c.loop-part.label c.in_ok-category.category c.in_ok-category.level c.in_ok-category.ensures in
-    let label = ap (λ label. with_exceptions texts (Some label)) (sym c.in_ok-label.ensures.value) in
+    let label = ap (λ label. with_exceptions texts (Some label)) (sym c.in_ok-set.ensures.ok) in
     sym (sym c.loop-part.invariant ∙ first ∙ ap (with_exceptions texts) added ∙ label)

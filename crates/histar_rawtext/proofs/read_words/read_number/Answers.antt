@@ -3,8 +3,9 @@ use Rattle.std.specs.Fmt.{decimal}
 use Rattle.std.specs.Str.{IsUtf8, bytes_eq}
 use Rattle.std.proofs.lemmas.Slice.Eq.{bytes_eq-Decides}
 use Rattle.std.proofs.lemmas.Fmt.{parse-decimal}
+use Rattle.std.proofs.lemmas.Bool.{not-false}
 use Rattle.histar_rawtext.specs.Reading.{number_in}
-use Rattle.histar_rawtext.proofs.Numbers.{number_again, no_number, utf8_number, not_false}
+use Rattle.histar_rawtext.proofs.Numbers.{number_again, no_number, utf8_number}
 use Rattle.histar_rawtext.proofs.read_words.read_number.Goals as goal
 
 pub returns-in_default : goal.returns-in_default
@@ -25,6 +26,6 @@ returns-then-ne c = no_number c.args.word.now (λ n small is.
 
 pub returns : goal.returns
 returns c =
-    let equal : bytes_eq c.as_bytes.result.now c.args.word.now ≡ true = not_false (bytes_eq c.as_bytes.result.now c.args.word.now) (sym c.if-ne.ensures) in
+    let equal : bytes_eq c.as_bytes.result.now c.args.word.now ≡ true = not-false (bytes_eq c.as_bytes.result.now c.args.word.now) (sym c.if-ne.ensures) in
     let written : c.args.word.now ≡ decimal c.in-Ok-parse.number = sym ((bytes_eq-Decides c.as_bytes.result.now c.args.word.now).0 equal) ∙ c.as_bytes.ensures.value ∙ c.format.ensures.text in
     ap number_in written ∙ number_again c.in-Ok-parse.number (omega arith)

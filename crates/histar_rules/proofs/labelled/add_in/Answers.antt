@@ -1,7 +1,8 @@
 use Rattle.std.proofs.Common.{◌≡◌, ◌∙◌}
+use Rattle.std.proofs.lemmas.Result.{on_ok_weaker, on_err_weaker}
 use Rattle.histar_object.specs.declared.objects.Object.{Object}
 use Rattle.histar_object.specs.Objects.{objects_of, with_new}
-use Rattle.histar_container.proofs.Keeping.{trans, all_on, shown_on, on_err, on_ok_from, on_err_from, none_there, linked_stand, new_stands, new_shown, shown_new, shown_same}
+use Rattle.histar_container.proofs.Keeping.{trans, all_on, shown_on, on_err, none_there, linked_stand, new_stands, new_shown, shown_new, shown_same}
 use Rattle.histar_rules.proofs.labelled.add_in.Goals as goal
 
 pub returns-in_err-kind-clause-stand : goal.returns-in_err-kind-clause-stand
@@ -45,7 +46,7 @@ returns-clause-ok g c =
     let o : Object g.row.S-Id.Denot = record { label = c.in_ok-label.label; kind = c.in_ok-kind.kind } in
     let same = shown_on one three (trans one two three c.put_kind.ensures.keeps c.put.ensures.keeps) c.args.table.now c.requires.stand in
     let value = new_shown two three c.put.ensures.keeps c.in_ok-kind.kind c.in_ok-kind.ensures.stands c.args.kind c.in_ok-kind.ensures.value c.in_ok-label.label c.args.label c.in_ok-label.ensures.stands in
-    on_ok_from c.link_new.result _ _
+    on_ok_weaker c.link_new.result
     (λ (e : objects_of c.link_new.new.table ≡ with_new (objects_of c.args.table.now) c.args.container c.args.number o).
     shown_new three c.args.table.now c.link_new.new.table c.args.container c.args.number o e ∙ (λ i. with_new (same i) c.args.container c.args.number (value i)))
     c.link_new.ensures.ok
@@ -55,7 +56,7 @@ returns-clause-err g c =
     let one = g.S.LabelStore.labels c.args.store.now in
     let two = g.S.LabelStore.labels c.put_kind.new.store in
     let three = g.S.LabelStore.labels c.put.new.self in
-    on_err_from c.link_new.result _ _
+    on_err_weaker c.link_new.result
     (λ (e : objects_of c.link_new.new.table ≡ objects_of c.args.table.now).
     shown_same three c.args.table.now c.link_new.new.table e ∙ shown_on one three (trans one two three c.put_kind.ensures.keeps c.put.ensures.keeps) c.args.table.now c.requires.stand)
     c.link_new.ensures.err

@@ -5,30 +5,30 @@ use Rattle.histar_label.specs.Store.{label_at}
 use Rattle.histar_object.specs.Objects.{thread_of}
 use Rattle.histar_rules.specs.declared.raw.Denied.TheVariants.{Modify}
 use Rattle.histar_rules.specs.Finds.{container_of}
-use Rattle.histar_rules.proofs.Meetings.{label_stands}
-use Rattle.histar_rules.proofs.LinkedObjects.{unlink_met}
+use Rattle.histar_rules.proofs.Observed.{label_stands}
+use Rattle.histar_rules.proofs.LinkedObjects.{unlink_found}
 use Rattle.histar_rules.proofs.linked.unlink_in.Goals as goal
 
 pub below-requires-clause-lower_stands : goal.below-requires-clause-lower_stands
 below-requires-clause-lower_stands g c =
-    subst (λ (labels : g.row.S-Id.Denot → Option Levels). IsSome (labels c.in_ok-met.met.own)) (sym c.in_ok-met.ensures.unchanged)
-    (label_stands (g.S.LabelStore.labels c.args.store.now) c.args.table.now c.requires c.args.thread (thread_of c.in_ok-met.met.own c.in_ok-met.met.most) c.in_ok-met.ensures.thread)
+    subst (λ (labels : g.row.S-Id.Denot → Option Levels). IsSome (labels c.in_ok-found.found.own)) (sym c.in_ok-found.ensures.unchanged)
+    (label_stands (g.S.LabelStore.labels c.args.store.now) c.args.table.now c.requires c.args.thread (thread_of c.in_ok-found.found.own c.in_ok-found.found.own_clearance) c.in_ok-found.ensures.thread)
 
 pub below-requires-clause-upper_stands : goal.below-requires-clause-upper_stands
 below-requires-clause-upper_stands g c =
-    subst (λ (labels : g.row.S-Id.Denot → Option Levels). IsSome (labels c.in_ok-met.met.label)) (sym c.in_ok-met.ensures.unchanged)
-    (label_stands (g.S.LabelStore.labels c.args.store.now) c.args.table.now c.requires c.args.container (container_of c.in_ok-met.met.label c.in_ok-met.met.links.now) c.in_ok-met.ensures.container)
+    subst (λ (labels : g.row.S-Id.Denot → Option Levels). IsSome (labels c.in_ok-found.found.label)) (sym c.in_ok-found.ensures.unchanged)
+    (label_stands (g.S.LabelStore.labels c.args.store.now) c.args.table.now c.requires c.args.container (container_of c.in_ok-found.found.label c.in_ok-found.found.links.now) c.in_ok-found.ensures.container)
 
 pub returns-then-below-clause-answer : goal.returns-then-below-clause-answer
 returns-then-below-clause-answer g c =
-    let met = c.in_ok-met.met in
-    unlink_met (g.S.LabelStore.labels c.args.store.now) c.args.table.now c.args.thread c.args.container c.args.object c.in_ok-met.ensures.answer met.own met.most c.in_ok-met.ensures.thread met.label met.links.now c.below.result c.in_ok-met.ensures.container
-    (c.below.ensures.answer ∙ ap (λ (labels : g.row.S-Id.Denot → Option Levels). is_below (label_at labels met.own) (label_at labels met.label)) c.in_ok-met.ensures.unchanged)
+    let found = c.in_ok-found.found in
+    unlink_found (g.S.LabelStore.labels c.args.store.now) c.args.table.now c.args.thread c.args.container c.args.object c.in_ok-found.ensures.answer found.own found.own_clearance c.in_ok-found.ensures.thread found.label found.links.now c.below.result c.in_ok-found.ensures.container
+    (c.below.ensures.answer ∙ ap (λ (labels : g.row.S-Id.Denot → Option Levels). is_below (label_at labels found.own) (label_at labels found.label)) c.in_ok-found.ensures.unchanged)
     ∙ ap (λ b. unless b Modify) c.if-below.true
 
 pub returns-else-below-clause-answer : goal.returns-else-below-clause-answer
 returns-else-below-clause-answer g c =
-    let met = c.in_ok-met.met in
-    unlink_met (g.S.LabelStore.labels c.args.store.now) c.args.table.now c.args.thread c.args.container c.args.object c.in_ok-met.ensures.answer met.own met.most c.in_ok-met.ensures.thread met.label met.links.now c.below.result c.in_ok-met.ensures.container
-    (c.below.ensures.answer ∙ ap (λ (labels : g.row.S-Id.Denot → Option Levels). is_below (label_at labels met.own) (label_at labels met.label)) c.in_ok-met.ensures.unchanged)
+    let found = c.in_ok-found.found in
+    unlink_found (g.S.LabelStore.labels c.args.store.now) c.args.table.now c.args.thread c.args.container c.args.object c.in_ok-found.ensures.answer found.own found.own_clearance c.in_ok-found.ensures.thread found.label found.links.now c.below.result c.in_ok-found.ensures.container
+    (c.below.ensures.answer ∙ ap (λ (labels : g.row.S-Id.Denot → Option Levels). is_below (label_at labels found.own) (label_at labels found.label)) c.in_ok-found.ensures.unchanged)
     ∙ ap (λ b. unless b Modify) c.if-below.false

@@ -1,7 +1,7 @@
-use Rattle.std.proofs.lemmas.Result.{err_from_is_err_and}
+use Rattle.std.proofs.lemmas.Result.{err_from_is_err_and, on_ok_weaker, on_err_weaker}
 use Rattle.std.proofs.Common.{ap}
 use Rattle.histar_shell.specs.Ending.{asked_trace}
-use Rattle.histar_shell.proofs.EachLine.{ending_written, err_so, ok_so, trace_begun, tree_begun}
+use Rattle.histar_shell.proofs.EachLine.{ending_written, trace_begun, tree_begun}
 use Rattle.histar_shell.proofs.ending.write_ending.Goals as goal
 
 pub returns-in_err-write_tree-clause-err : goal.returns-in_err-write_tree-clause-err
@@ -11,8 +11,8 @@ returns-in_err-write_tree-clause-err g c =
 
 pub returns-clause-ok : goal.returns-clause-ok
 returns-clause-ok g c =
-    ok_so c.write_trace.result _ _ (ending_written c.args.options c.args.machine.now _ _ _ (asked_trace c.args.options c.trace.result.now) (ap (asked_trace c.args.options) c.trace.ensures) c.in_ok-write_tree.ensures.ok) c.write_trace.ensures.ok
+    on_ok_weaker c.write_trace.result (ending_written c.args.options c.args.machine.now _ _ _ (asked_trace c.args.options c.trace.result.now) (ap (asked_trace c.args.options) c.trace.ensures) c.in_ok-write_tree.ensures.ok) c.write_trace.ensures.ok
 
 pub returns-clause-err : goal.returns-clause-err
 returns-clause-err g c =
-    err_so c.write_trace.result _ _ (trace_begun c.args.options c.args.machine.now _ _ _ (asked_trace c.args.options c.trace.result.now) (ap (asked_trace c.args.options) c.trace.ensures) c.in_ok-write_tree.ensures.ok) c.write_trace.ensures.err
+    on_err_weaker c.write_trace.result (trace_begun c.args.options c.args.machine.now _ _ _ (asked_trace c.args.options c.trace.result.now) (ap (asked_trace c.args.options) c.trace.ensures) c.in_ok-write_tree.ensures.ok) c.write_trace.ensures.err

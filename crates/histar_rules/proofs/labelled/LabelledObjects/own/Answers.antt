@@ -1,6 +1,6 @@
 use Rattle.histar_object.specs.Objects.{thread_of}
 use Rattle.histar_container.proofs.Keeping.{copied_some}
-use Rattle.histar_rules.proofs.Meetings.{label_stands, clearance_stands}
+use Rattle.histar_rules.proofs.Observed.{label_stands, clearance_stands}
 use Rattle.histar_rules.proofs.labelled.LabelledObjects.own.Goals as goal
 
 pub unwrap-label-requires : goal.unwrap-label-requires

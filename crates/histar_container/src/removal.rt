@@ -1,0 +1,67 @@
+//! The removal of an object with all that is reached from it.
+ghost use Rattle.std.specs.Prelude.{◌≡◌, ℕ, ◌↔◌, nat_eq, OnOk, OnErr, IfOk, IsTrue, true};
+ghost use Rattle.std.specs.Set.{is_member};
+ghost use Rattle.std.specs.FinSet as set;
+ghost use Rattle.histar_object.specs.Objects.{objects_of, links_in, AppendsAll};
+ghost use Rattle.histar_container.specs.Tree.{Reached, AreTree, IsCut};
+
+use crate::container::unlink;
+use histar_object::{Kind, ObjId, Table};
+use std::alloc::{AllocError, Global};
+
+/// Takes a container's link to an object away, with the object and all that is reached from it. It
+/// wants memory for the numbers of what goes, before it changes anything.
+pub fn remove_tree<L: Drop>(
+    table: &mut Table<L>,
+    alloc: Global,
+    container: ObjId,
+    object: ObjId,
+) -> Result<(), AllocError>
+    requires tree { AreTree (objects_of table.old) }
+    requires linked { IsTrue (set.contains (links_in (objects_of table.old container)) object) }
+    ensures ok { OnOk result (IsCut (objects_of table.old) container object (objects_of table.new)) }
+    ensures err { OnErr result (objects_of table.new ≡ objects_of table.old) }
+{
+    let gone = reached_from(table, alloc, container, object)?;
+    unlink(table, container, object);
+    for number in &gone {
+        table.remove(*number);
+    }
+    Ok(())
+}
+
+// The numbers that are reached from an object that a container links, each once: the object's own
+// first, and behind each what it links.
+fn reached_from<L>(
+    table: &Table<L>,
+    alloc: Global,
+    container: ObjId,
+    object: ObjId,
+) -> Result<Vec<ObjId>, AllocError>
+    requires tree { AreTree (objects_of table.now) }
+    requires linked { IsTrue (set.contains (links_in (objects_of table.now container)) object) }
+    ensures { IfOk result (λ v. (q : ℕ) → (is_member nat_eq v.items q ≡ true) ↔ Reached (objects_of table.now) object q) }
+{
+    let mut list = Vec::new(alloc);
+    list.push(object)?;
+    let mut read = 0;
+    while read < list.len() {
+        let number = list[read];
+        append_links(table, number, &mut list)?;
+        read += 1;
+    }
+    Ok(list)
+}
+
+// Appends to a list what an object links.
+fn append_links<L>(table: &Table<L>, object: ObjId, list: &mut Vec<ObjId>) -> Result<(), AllocError>
+    ensures { OnOk result (AppendsAll (links_in (objects_of table.now object)) list.old.items list.new.items) }
+{
+    match table.get(object) {
+        Some(holder) => match &holder.kind {
+            Kind::Container(links) => links.append_to(list),
+            _ => Ok(()),
+        },
+        None => Ok(()),
+    }
+}

@@ -1,5 +1,0 @@
-use Rattle.histar_login.specs.Booting.{BootsOn, IsAnywhere, categories_part}
-use Rattle.histar_login.proofs.booting.make_categories.Given as goal
-
-abbrev pub invariant-loop : goal.invariant-loop
-invariant-loop g l = BootsOn l.initial.kernel l.kernel IsAnywhere (categories_part l.counter)

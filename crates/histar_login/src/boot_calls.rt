@@ -1,0 +1,369 @@
+//! Boots a machine by raw calls of its boot thread.
+ghost use Rattle.std.specs.Prelude.{◌≡◌, ℕ, [], ◌+◌, ◌*◌, ◌<◌, ◌≤◌, ◌++◌, length, IfOk, OnOk, OnErr};
+ghost use Rattle.histar_object.specs.State.{empty_state};
+ghost use Rattle.histar_rules.specs.Sound.{root_number};
+ghost use Rattle.histar_rules.specs.declared.raw.RawCall.TheVariants as calls;
+ghost use Rattle.histar_syscall.specs.KernelModel.{state};
+ghost use Rattle.histar_calls.specs.Categories.{write_category};
+ghost use Rattle.histar_calls.specs.Labelling.{written_by};
+ghost use Rattle.histar_login.specs.Boot.{HasBegunBoot, IsBooted, boot_thread_number, gate_call, inner_call, last_call, listing_call, outer_call, password_call, slash_call, status_call, table_call, thread_call};
+ghost use Rattle.histar_login.specs.Booting.{Allows, BeginsDirectory, BeginsOn, BeginsProcess, BeginsUser, BeginsUsers, BootsOn, Grants, HasRoom, IsAnywhere, IsBeforeDirectory, IsBeforeUser, IsFirstDirectory, IsFirstHome, IsNextCategory, IsUnderWay, IsUndenied, MakesDirectory, MakesObject, MakesProcess, MakesUser, MakesUsers, Passes, categories_part, two_categories};
+ghost use Rattle.histar_login.specs.Start.{process_bytes, start_state, places_of};
+
+use crate::gates::gate_labels;
+use crate::table::user_table;
+use histar_base::Bytes;
+use histar_calls::{
+    Home, Place, Places, Stopped, label_of, owners_among, read_category, write_category,
+};
+use histar_flat::{Session, User};
+use histar_label::{Category, Label, LabelStore, Level};
+use histar_object::{Entry, ObjId};
+use histar_syscall::{Kernel, Refusal};
+use std::alloc::{AllocError, Global};
+
+/// The category that the boot thread alone owns.
+const BOOT: u64 = 1;
+
+/// The root container, which the empty kernel has.
+fn root_container() -> ObjId
+    ensures { result ≡ root_number }
+{
+    ObjId::new(1)
+}
+
+/// The boot thread, which the empty kernel has.
+fn boot_thread() -> ObjId
+    ensures { result ≡ boot_thread_number }
+{
+    ObjId::new(2)
+}
+
+/// What a raw call of boot answered. None is denied, so boot stops only where memory ran out.
+fn granted<A: Drop>(answer: Result<A, Refusal>) -> Result<A, Stopped>
+    requires { IsUndenied answer }
+    ensures { Passes answer result }
+{
+    match answer {
+        Ok(a) => Ok(a),
+        Err(Refusal::OutOfMemory) => Err(Stopped),
+        Err(Refusal::Denied(_)) => unreachable!(),
+    }
+}
+
+/// Makes a category, which the boot thread owns from then on.
+fn make_category<S: LabelStore + Drop>(kernel: &mut Kernel<S>) -> Result<Category, Stopped>
+    requires { Allows kernel.old calls.MakeCategory }
+    ensures { Grants kernel.old kernel.new calls.MakeCategory result (IsNextCategory kernel.old) }
+{
+    granted(kernel.make_category(boot_thread()))
+}
+
+/// Makes the two categories of a user, of a group, or of nobody.
+fn make_two_categories<S: LabelStore + Drop>(kernel: &mut Kernel<S>) -> Result<(), Stopped>
+    requires { IsUnderWay (HasRoom 2 0) kernel.old }
+    ensures ok { OnOk result (BootsOn kernel.old kernel.new IsAnywhere two_categories) }
+    ensures err { OnErr result (BeginsOn kernel.old kernel.new IsAnywhere two_categories) }
+{
+    make_category(kernel)?;
+    make_category(kernel)?;
+    Ok(())
+}
+
+/// Makes two categories so often.
+fn make_categories<S: LabelStore + Drop>(
+    kernel: &mut Kernel<S>,
+    count: usize,
+) -> Result<(), Stopped>
+    requires { IsUnderWay (HasRoom (2 * count) 0) kernel.old }
+    ensures ok { OnOk result (BootsOn kernel.old kernel.new IsAnywhere (categories_part count)) }
+    ensures err { OnErr result (BeginsOn kernel.old kernel.new IsAnywhere (categories_part count)) }
+{
+    for _ in 0..count {
+        make_two_categories(kernel)?;
+    }
+    Ok(())
+}
+
+/// Makes a segment with a user's password.
+fn make_password<S: LabelStore + Drop>(
+    alloc: Global,
+    kernel: &mut Kernel<S>,
+    number: u8,
+    password: &[u8],
+) -> Result<ObjId, Stopped>
+    requires { Allows kernel.old (password_call number password.now) }
+    ensures { MakesObject kernel.old kernel.new (password_call number password.now) result }
+{
+    let (read, write) = (read_category(number), write_category(number));
+    let secret = label_of(alloc, Level::L1, &[(read, Level::L3), (write, Level::L0)])?;
+    let password = Bytes::copy_of(alloc, password)?;
+    granted(kernel.make_segment(alloc, boot_thread(), root_container(), secret, password))
+}
+
+/// Makes the gate that gives the categories of a user and of its groups.
+fn make_login_gate<S: LabelStore + Drop>(
+    alloc: Global,
+    kernel: &mut Kernel<S>,
+    number: u8,
+    owners: &[u8],
+) -> Result<ObjId, Stopped>
+    requires { Allows kernel.old (gate_call number owners.now) }
+    ensures { MakesObject kernel.old kernel.new (gate_call number owners.now) result }
+{
+    let (given, most) = gate_labels(alloc, owners)?;
+    let entry = Entry::Login(number);
+    granted(kernel.make_gate(boot_thread(), root_container(), given, most, entry))
+}
+
+/// Makes the password and the gate of a user.
+fn make_user<S: LabelStore + Drop>(
+    alloc: Global,
+    kernel: &mut Kernel<S>,
+    session: &Session,
+    number: u8,
+    user: &User,
+) -> Result<(), Stopped>
+    requires number { number ≤ length session.now.users }
+    requires begins { IsUnderWay (IsBeforeUser session.now number) kernel.old }
+    ensures ok { OnOk result (MakesUser kernel.old kernel.new session.now number user.now) }
+    ensures err { OnErr result (BeginsUser kernel.old kernel.new session.now number user.now) }
+{
+    let users = session.users();
+    let groups = session.groups();
+    let owners = owners_among(alloc, users.len(), groups, number, user.name)?;
+    make_password(alloc, kernel, number, user.password.as_bytes())?;
+    make_login_gate(alloc, kernel, number, owners.as_slice())?;
+    Ok(())
+}
+
+/// Makes the passwords and the gates of all users.
+fn make_users<S: LabelStore + Drop>(
+    alloc: Global,
+    kernel: &mut Kernel<S>,
+    session: &Session,
+) -> Result<(), Stopped>
+    requires { IsUnderWay (IsBeforeUser session.now 1) kernel.old }
+    ensures ok { OnOk result (MakesUsers kernel.old kernel.new session.now) }
+    ensures err { OnErr result (BeginsUsers kernel.old kernel.new session.now) }
+{
+    let users = session.users();
+    for (i, user) in users.iter().enumerate() {
+        make_user(alloc, kernel, session, i as u8 + 1, user)?;
+    }
+    Ok(())
+}
+
+/// Makes the user table, which no thread may write once the boot thread is gone.
+fn make_user_table<S: LabelStore + Drop>(
+    alloc: Global,
+    kernel: &mut Kernel<S>,
+    session: &Session,
+) -> Result<ObjId, Stopped>
+    requires { IsUnderWay (IsBeforeDirectory session.now) kernel.old }
+    ensures { MakesObject kernel.old kernel.new (table_call session.now) result }
+{
+    let guarded = label_of(alloc, Level::L1, &[(Category::new(BOOT), Level::L0)])?;
+    let table = user_table(alloc, session)?;
+    granted(kernel.make_segment(alloc, boot_thread(), root_container(), guarded, table))
+}
+
+/// The label of what the first user alone may write, and everyone may read.
+fn first_users_label(alloc: Global) -> Result<Label, AllocError>
+    ensures { IfOk result (λ label. label ≡ written_by (write_category 1)) }
+{
+    label_of(alloc, Level::L1, &[(write_category(1), Level::L0)])
+}
+
+/// Makes the container of `/`.
+fn make_slash<S: LabelStore + Drop>(alloc: Global, kernel: &mut Kernel<S>) -> Result<ObjId, Stopped>
+    requires { Allows kernel.old slash_call }
+    ensures { MakesObject kernel.old kernel.new slash_call result }
+{
+    let label = first_users_label(alloc)?;
+    granted(kernel.make_container(alloc, boot_thread(), root_container(), label))
+}
+
+/// Makes the directory segment of `/`, which has no entry yet.
+fn make_listing<S: LabelStore + Drop>(
+    alloc: Global,
+    kernel: &mut Kernel<S>,
+    slash: ObjId,
+) -> Result<ObjId, Stopped>
+    requires { Allows kernel.old (listing_call slash) }
+    ensures { MakesObject kernel.old kernel.new (listing_call slash) result }
+{
+    let label = first_users_label(alloc)?;
+    let empty = Bytes::new(alloc);
+    granted(kernel.make_segment(alloc, boot_thread(), slash, label, empty))
+}
+
+/// Makes the user table, and `/` with its directory segment, which are the first user's to write.
+fn make_directory<S: LabelStore + Drop>(
+    alloc: Global,
+    kernel: &mut Kernel<S>,
+    session: &Session,
+) -> Result<Place, Stopped>
+    requires some { 0 < length session.now.users }
+    requires begins { IsUnderWay (IsBeforeDirectory session.now) kernel.old }
+    ensures boots { OnOk result (MakesDirectory kernel.old kernel.new session.now) }
+    ensures slash { IfOk result (IsFirstDirectory kernel.old session.now) }
+    ensures err { OnErr result (BeginsDirectory kernel.old kernel.new session.now) }
+{
+    make_user_table(alloc, kernel, session)?;
+    let container = make_slash(alloc, kernel)?;
+    let listing = make_listing(alloc, kernel, container)?;
+    Ok(Place { container, listing })
+}
+
+/// The bytes of the process segment of process 0: it runs, and no child was born.
+fn process_bytes(alloc: Global, internal: ObjId, thread: ObjId) -> Result<Bytes, AllocError>
+    ensures { IfOk result (λ b. b ≡ process_bytes internal thread) }
+{
+    let mut bytes = Vec::from_slice(alloc, b"r\0\0")?;
+    bytes.extend_from_slice(&internal.number().to_be_bytes())?;
+    bytes.extend_from_slice(&thread.number().to_be_bytes())?;
+    Ok(Bytes::from_vec(bytes))
+}
+
+/// Makes the container of process 0.
+fn make_outer<S: LabelStore + Drop>(
+    alloc: Global,
+    kernel: &mut Kernel<S>,
+    write: Category,
+) -> Result<ObjId, Stopped>
+    requires { Allows kernel.old (outer_call write) }
+    ensures { MakesObject kernel.old kernel.new (outer_call write) result }
+{
+    let label = label_of(alloc, Level::L1, &[(write, Level::L0)])?;
+    granted(kernel.make_container(alloc, boot_thread(), root_container(), label))
+}
+
+/// Makes the internal container of process 0.
+fn make_internal<S: LabelStore + Drop>(
+    alloc: Global,
+    kernel: &mut Kernel<S>,
+    outer: ObjId,
+    read: Category,
+    write: Category,
+) -> Result<ObjId, Stopped>
+    requires { Allows kernel.old (inner_call outer read write) }
+    ensures { MakesObject kernel.old kernel.new (inner_call outer read write) result }
+{
+    let secret = label_of(alloc, Level::L1, &[(read, Level::L3), (write, Level::L0)])?;
+    granted(kernel.make_container(alloc, boot_thread(), outer, secret))
+}
+
+/// Makes the thread of process 0.
+fn make_first_thread<S: LabelStore + Drop>(
+    alloc: Global,
+    kernel: &mut Kernel<S>,
+    internal: ObjId,
+    read: Category,
+    write: Category,
+) -> Result<ObjId, Stopped>
+    requires { Allows kernel.old (thread_call internal read write) }
+    ensures { MakesObject kernel.old kernel.new (thread_call internal read write) result }
+{
+    let own = label_of(
+        alloc,
+        Level::L1,
+        &[(read, Level::Star), (write, Level::Star)],
+    )?;
+    let most = label_of(alloc, Level::L2, &[(read, Level::L3), (write, Level::L3)])?;
+    granted(kernel.make_thread(boot_thread(), internal, own, most))
+}
+
+/// Makes the process segment of process 0.
+fn make_status<S: LabelStore + Drop>(
+    alloc: Global,
+    kernel: &mut Kernel<S>,
+    outer: ObjId,
+    write: Category,
+    internal: ObjId,
+    thread: ObjId,
+) -> Result<ObjId, Stopped>
+    requires { Allows kernel.old (status_call outer write internal thread) }
+    ensures { MakesObject kernel.old kernel.new (status_call outer write internal thread) result }
+{
+    let guarded = label_of(alloc, Level::L1, &[(write, Level::L0)])?;
+    let bytes = process_bytes(alloc, internal, thread)?;
+    granted(kernel.make_segment(alloc, boot_thread(), outer, guarded, bytes))
+}
+
+/// Makes process 0: its two categories, its container, its internal container, its thread, and its
+/// process segment. It answers where the process is found.
+fn make_process<S: LabelStore + Drop>(
+    alloc: Global,
+    kernel: &mut Kernel<S>,
+) -> Result<Home, Stopped>
+    requires { IsUnderWay (HasRoom 2 4) kernel.old }
+    ensures boots { OnOk result (MakesProcess kernel.old kernel.new) }
+    ensures home { IfOk result (IsFirstHome kernel.old) }
+    ensures err { OnErr result (BeginsProcess kernel.old kernel.new) }
+{
+    let read = make_category(kernel)?;
+    let write = make_category(kernel)?;
+    let outer = make_outer(alloc, kernel, write)?;
+    let internal = make_internal(alloc, kernel, outer, read, write)?;
+    let thread = make_first_thread(alloc, kernel, internal, read, write)?;
+    let segment = make_status(alloc, kernel, outer, write, internal, thread)?;
+    Ok(Home {
+        container: outer,
+        segment,
+    })
+}
+
+/// Takes the boot thread away.
+fn unlink_boot_thread<S: LabelStore + Drop>(
+    alloc: Global,
+    kernel: &mut Kernel<S>,
+) -> Result<(), Stopped>
+    requires { Allows kernel.old last_call }
+    ensures { Grants kernel.old kernel.new last_call result (λ _. Unit {0}) }
+{
+    granted(kernel.unlink(alloc, boot_thread(), root_container(), boot_thread()))
+}
+
+/// Makes the raw calls of boot on the empty kernel: the boot thread makes two categories for nobody,
+/// for each user and for each group, the users' passwords and gates, the user table, `/`, and process
+/// 0, and takes itself away. It answers where `/` and process 0 are found. Where it stops, no call was
+/// denied: memory ran out.
+fn boot_on<S: LabelStore + Drop>(
+    alloc: Global,
+    kernel: &mut Kernel<S>,
+    session: &Session,
+) -> Result<Places, Stopped>
+    requires some { 0 < length session.now.users }
+    requires state { state kernel.old ≡ empty_state }
+    requires trace { kernel.old.trace ≡ [] }
+    requires line { kernel.old.line ≡ 0 }
+    ensures booted { OnOk result (IsBooted session.now kernel.new) }
+    ensures state { OnOk result (state kernel.new ≡ start_state session.now) }
+    ensures places { IfOk result (λ places. places ≡ places_of (length session.now.users)) }
+    ensures err { OnErr result (HasBegunBoot session.now kernel.old kernel.new) }
+{
+    make_categories(kernel, 1 + session.users().len() + session.groups().len())?;
+    make_users(alloc, kernel, session)?;
+    let slash = make_directory(alloc, kernel, session)?;
+    let home = make_process(alloc, kernel)?;
+    unlink_boot_thread(alloc, kernel)?;
+    Ok(Places { slash, home })
+}
+
+/// Boots a machine, and answers its kernel, and where `/` and process 0 are found. It stops only where
+/// memory ran out: no raw call of boot is denied. The first user writes `/`, so there is one.
+pub fn boot<S: LabelStore + Drop>(
+    alloc: Global,
+    store: S,
+    session: &Session,
+) -> Result<(Kernel<S>, Places), Stopped>
+    requires { 0 < length session.now.users }
+    ensures booted { IfOk result (λ r. IsBooted session.now r.0) }
+    ensures state { IfOk result (λ r. state r.0 ≡ start_state session.now) }
+    ensures places { IfOk result (λ r. r.1 ≡ places_of (length session.now.users)) }
+{
+    let mut kernel = Kernel::new(alloc, store)?;
+    let places = boot_on(alloc, &mut kernel, session)?;
+    Ok((kernel, places))
+}

@@ -1,0 +1,38 @@
+use Rattle.std.proofs.Common.{Option, IsSome, sym, ap, ◌∙◌, subst}
+use Rattle.histar_base.specs.Refusals.{unless}
+use Rattle.histar_label.specs.Levels.{Levels, is_below}
+use Rattle.histar_label.specs.Store.{label_at}
+use Rattle.histar_object.specs.Objects.{thread_of}
+use Rattle.histar_rules.specs.declared.raw.Denied.TheVariants.{Modify}
+use Rattle.histar_rules.specs.Finds.{container_of}
+use Rattle.histar_rules.proofs.Observed.{behind_refusal, making_found, label_stands}
+use Rattle.histar_rules.proofs.lookup.modified_in.Goals as goal
+
+pub returns-in_err-found-clause-answer : goal.returns-in_err-found-clause-answer
+returns-in_err-found-clause-answer g c = behind_refusal _ _ _ c.from_residual.result c.in_err-found.ensures.answer c.from_residual.ensures.1
+
+pub below-requires-clause-lower_stands : goal.below-requires-clause-lower_stands
+below-requires-clause-lower_stands g c =
+    let found = c.in_ok-found.found in
+    subst (λ (labels : g.row.S-Id.Denot → Option Levels). IsSome (labels found.own)) (sym c.in_ok-found.ensures.unchanged)
+    (label_stands (g.S.LabelStore.labels c.args.store.now) c.args.table.now c.requires c.args.thread (thread_of found.own found.own_clearance) c.in_ok-found.ensures.thread)
+
+pub below-requires-clause-upper_stands : goal.below-requires-clause-upper_stands
+below-requires-clause-upper_stands g c =
+    let found = c.in_ok-found.found in
+    subst (λ (labels : g.row.S-Id.Denot → Option Levels). IsSome (labels found.label)) (sym c.in_ok-found.ensures.unchanged)
+    (label_stands (g.S.LabelStore.labels c.args.store.now) c.args.table.now c.requires c.args.container (container_of found.label found.links.now) c.in_ok-found.ensures.container)
+
+pub returns-then-below-clause-answer : goal.returns-then-below-clause-answer
+returns-then-below-clause-answer g c =
+    let found = c.in_ok-found.found in
+    making_found (g.S.LabelStore.labels c.args.store.now) c.args.table.now c.args.thread c.args.container found.own found.own_clearance found.label found.links.now c.below.result c.in_ok-found.ensures.answer c.in_ok-found.ensures.thread c.in_ok-found.ensures.container
+    (c.below.ensures.answer ∙ ap (λ (labels : g.row.S-Id.Denot → Option Levels). is_below (label_at labels found.own) (label_at labels found.label)) c.in_ok-found.ensures.unchanged)
+    ∙ ap (λ b. unless b Modify) c.if-below.true
+
+pub returns-else-below-clause-answer : goal.returns-else-below-clause-answer
+returns-else-below-clause-answer g c =
+    let found = c.in_ok-found.found in
+    making_found (g.S.LabelStore.labels c.args.store.now) c.args.table.now c.args.thread c.args.container found.own found.own_clearance found.label found.links.now c.below.result c.in_ok-found.ensures.answer c.in_ok-found.ensures.thread c.in_ok-found.ensures.container
+    (c.below.ensures.answer ∙ ap (λ (labels : g.row.S-Id.Denot → Option Levels). is_below (label_at labels found.own) (label_at labels found.label)) c.in_ok-found.ensures.unchanged)
+    ∙ ap (λ b. unless b Modify) c.if-below.false

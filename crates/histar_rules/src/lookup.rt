@@ -1,0 +1,178 @@
+//! What a call finds of its thread and of the container that it names, each by one look-up.
+ghost use Rattle.std.specs.Prelude.{◌≡◌, IfOk, IsSome, Some};
+ghost use Rattle.histar_base.specs.Refusals.{unless, ◌orelse◌};
+ghost use Rattle.histar_label.specs.Store.{label_at};
+ghost use Rattle.histar_object.specs.Objects.{objects_of, thread_of, is_there, is_container};
+ghost use Rattle.histar_container.specs.Shown.{AllStand};
+ghost use Rattle.histar_rules.specs.Finds.{FindsThread, container_of, state_shown, state_with};
+ghost use Rattle.histar_rules.specs.Rules.{no_container, no_making, no_new, no_new_owner, no_link, Tells};
+ghost use Rattle.histar_rules.specs.declared.raw.Denied.TheVariants.{NoEntry, BadKind};
+
+use crate::limits::Next;
+use crate::ranges::{check_new, check_new_owner};
+use crate::raw::Denied;
+use histar_label::{Label, LabelStore};
+use histar_object::{Kind, Links, ObjId, Table};
+
+/// A thread and a container that it may observe, as they were found.
+#[derive(Clone, Copy)]
+pub(crate) struct Observed<'t, L> {
+    /// The thread's own label.
+    pub(crate) own: L,
+    /// Its clearance.
+    pub(crate) own_clearance: L,
+    /// The container's label.
+    pub(crate) label: L,
+    /// What the container links.
+    pub(crate) links: &'t Links,
+}
+
+/// The label and the clearance of a thread.
+pub(crate) fn thread_in<L: Copy>(table: &Table<L>, thread: ObjId) -> Option<(L, L)>
+    ensures { FindsThread (objects_of table.now thread) result }
+{
+    match table.get(thread) {
+        Some(object) => match object.kind {
+            Kind::Thread(clearance) => Some((object.label, clearance)),
+            _ => None,
+        },
+        None => None,
+    }
+}
+
+/// The label of a container, and what it links.
+pub(crate) fn container_in<L: Copy>(
+    table: &Table<L>,
+    container: ObjId,
+) -> Result<(L, &Links), Denied>
+    ensures answer { Tells (unless (is_there (objects_of table.now container)) NoEntry
+        orelse unless (is_container (objects_of table.now container)) BadKind) result }
+    ensures found { IfOk result (λ found. objects_of table.now container ≡ Some (container_of found.0 found.1.now)) }
+{
+    match table.get(container) {
+        Some(object) => match &object.kind {
+            Kind::Container(links) => Ok((object.label, links)),
+            _ => Err(Denied::BadKind),
+        },
+        None => Err(Denied::NoEntry),
+    }
+}
+
+/// The checks of every call that names a container.
+pub(crate) fn observed_in<'t, S: LabelStore>(
+    store: &mut S,
+    table: &'t Table<S::Id>,
+    thread: ObjId,
+    container: ObjId,
+) -> Result<Observed<'t, S::Id>, Denied>
+    requires { AllStand (S.labels store.old) (objects_of table.now) }
+    ensures answer { Tells (no_container (state_shown (S.labels store.old) table.now) thread container) result }
+    ensures thread { IfOk result (λ found. objects_of table.now thread ≡ Some (thread_of found.own found.own_clearance)) }
+    ensures container { IfOk result (λ found. objects_of table.now container ≡ Some (container_of found.label found.links.now)) }
+    ensures unchanged { S.labels store.new ≡ S.labels store.old }
+{
+    let Some((own, own_clearance)) = thread_in(table, thread) else {
+        return Err(Denied::NoThread);
+    };
+    let (label, links) = container_in(table, container)?;
+    if store.below_raised(label, own) {
+        Ok(Observed {
+            own,
+            own_clearance,
+            label,
+            links,
+        })
+    } else {
+        Err(Denied::Observe)
+    }
+}
+
+/// The checks of every call that makes an object in a container, before those of its labels.
+pub(crate) fn modified_in<'t, S: LabelStore>(
+    store: &mut S,
+    table: &'t Table<S::Id>,
+    thread: ObjId,
+    container: ObjId,
+) -> Result<Observed<'t, S::Id>, Denied>
+    requires { AllStand (S.labels store.old) (objects_of table.now) }
+    ensures answer { Tells (no_making (state_shown (S.labels store.old) table.now) thread container) result }
+    ensures thread { IfOk result (λ found. objects_of table.now thread ≡ Some (thread_of found.own found.own_clearance)) }
+    ensures unchanged { S.labels store.new ≡ S.labels store.old }
+{
+    let found = observed_in(store, table, thread, container)?;
+    if store.below(found.own, found.label) {
+        Ok(found)
+    } else {
+        Err(Denied::Modify)
+    }
+}
+
+// The labels that two Ids stand for.
+pub(crate) fn labels_in<S: LabelStore>(store: &S, first: S::Id, second: S::Id) -> (&Label, &Label)
+    requires first { IsSome (S.labels store.now first) }
+    requires second { IsSome (S.labels store.now second) }
+    ensures first { result.0.now ≡ label_at (S.labels store.now) first }
+    ensures second { result.1.now ≡ label_at (S.labels store.now) second }
+{
+    (store.get(first).unwrap(), store.get(second).unwrap())
+}
+
+/// The checks of the making of an object that owns nothing and holds so many bytes.
+pub(crate) fn new_in<S: LabelStore>(
+    store: &mut S,
+    table: &Table<S::Id>,
+    next: Next,
+    thread: ObjId,
+    container: ObjId,
+    label: &Label,
+    size: usize,
+) -> Result<(), Denied>
+    requires { AllStand (S.labels store.old) (objects_of table.now) }
+    ensures answer { Tells (no_new (state_with (S.labels store.old) table.now next) thread container label.now size) result }
+    ensures unchanged { S.labels store.new ≡ S.labels store.old }
+{
+    let found = modified_in(store, table, thread, container)?;
+    let (own, own_clearance) = labels_in(store, found.own, found.own_clearance);
+    check_new(own, own_clearance, label, size, next)
+}
+
+/// The checks of the making of an object that may own.
+pub(crate) fn new_owner_in<S: LabelStore>(
+    store: &mut S,
+    table: &Table<S::Id>,
+    next: Next,
+    thread: ObjId,
+    container: ObjId,
+    label: &Label,
+    clearance: &Label,
+) -> Result<(), Denied>
+    requires { AllStand (S.labels store.old) (objects_of table.now) }
+    ensures answer { Tells (no_new_owner (state_with (S.labels store.old) table.now next) thread container label.now clearance.now) result }
+    ensures unchanged { S.labels store.new ≡ S.labels store.old }
+{
+    let found = modified_in(store, table, thread, container)?;
+    let (own, own_clearance) = labels_in(store, found.own, found.own_clearance);
+    check_new_owner(own, own_clearance, label, clearance, next)
+}
+
+/// The checks of every call that names an object in a container.
+pub(crate) fn linked_in<'t, S: LabelStore>(
+    store: &mut S,
+    table: &'t Table<S::Id>,
+    thread: ObjId,
+    container: ObjId,
+    object: ObjId,
+) -> Result<Observed<'t, S::Id>, Denied>
+    requires { AllStand (S.labels store.old) (objects_of table.now) }
+    ensures answer { Tells (no_link (state_shown (S.labels store.old) table.now) thread container object) result }
+    ensures thread { IfOk result (λ found. objects_of table.now thread ≡ Some (thread_of found.own found.own_clearance)) }
+    ensures container { IfOk result (λ found. objects_of table.now container ≡ Some (container_of found.label found.links.now)) }
+    ensures unchanged { S.labels store.new ≡ S.labels store.old }
+{
+    let found = observed_in(store, table, thread, container)?;
+    if found.links.contains(object) {
+        Ok(found)
+    } else {
+        Err(Denied::NoEntry)
+    }
+}
