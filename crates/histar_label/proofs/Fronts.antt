@@ -91,12 +91,16 @@ earlier_same None = refl
 earlier_same (Some a) = ap Some (omega arith)
 
 module _ (A B : Exceptions) where
-  -- no exception comes before the lower category
+  -- no exception comes before a category that is not above the lower one
   lower_under : (c : ℕ) → IsUnderFirst c (lower A B) → IsUnder c A × IsUnder c B
   lower_under c h = let both = under_both (first_category A) (first_category B) c h in (under_first A c both.0, under_first B c both.1)
 
+  -- no exception comes before the lower category
+  pub front_under : (c : ℕ) → lower A B ≡ Some c → IsUnder c A × IsUnder c B
+  front_under c h = let under : IsUnderFirst c (lower A B) = rw h (omega arith) in lower_under c under
+
   -- where there is none, both are empty
-  lower_none : lower A B ≡ None → (A ≡ []) × (B ≡ [])
+  pub lower_none : lower A B ≡ None → (A ≡ []) × (B ≡ [])
   lower_none h = let both = earlier_none (first_category A) (first_category B) h in (empty_from_none A both.0, empty_from_none B both.1)
 
   -- a list that comes twice makes no other lowest category
