@@ -10,7 +10,7 @@ use crate::labels::label_made;
 use crate::places::Places;
 use crate::user_table::UserTable;
 use histar_base::Bytes;
-use histar_flat::{Mode, Path, Reply};
+use histar_flat::{Mode, Name, Reply};
 use histar_label::LabelStore;
 use histar_layout::Target;
 use histar_object::ObjId;
@@ -27,7 +27,7 @@ pub fn create<S: LabelStore + Drop>(
     places: &Places,
     users: &UserTable,
     thread: ObjId,
-    path: &Path,
+    path: &[Name],
     mode: Mode,
 ) -> Result<Reply, Stopped>
     ensures { Runs (create_program users.now places.now path.now mode) kernel.old kernel.new thread result }
@@ -41,7 +41,7 @@ fn create_file<S: LabelStore + Drop>(
     places: &Places,
     users: &UserTable,
     thread: ObjId,
-    path: &Path,
+    path: &[Name],
     mode: Mode,
 ) -> Result<Reply, Ending>
     ensures { Runs (create_program users.now places.now path.now mode) kernel.old kernel.new thread (settled result) }

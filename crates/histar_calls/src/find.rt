@@ -8,7 +8,7 @@ ghost use Rattle.histar_calls.specs.Parts.{find_file, find_room};
 use crate::directory::{Directory, file_at, find_place, look_in, walk};
 use crate::ending::Ending;
 use crate::places::{Place, Places};
-use histar_flat::{Errno, Name, Path};
+use histar_flat::{Errno, Name};
 use histar_label::LabelStore;
 use histar_layout::Dir;
 use histar_object::ObjId;
@@ -38,11 +38,11 @@ pub fn find_file<S: LabelStore + Drop>(
     kernel: &mut Kernel<S>,
     places: &Places,
     thread: ObjId,
-    path: &Path,
+    path: &[Name],
 ) -> Result<FoundFile, Ending>
     ensures { RunsPart (find_file places.now path.now) kernel.old kernel.new thread result }
 {
-    let [name, parent @ ..] = path.names() else {
+    let [name, parent @ ..] = path else {
         return Err(Ending::Refused(Errno::EISDIR));
     };
     let place = find_place(kernel, places, thread, parent)?;
@@ -59,12 +59,12 @@ pub fn find_room<S: LabelStore + Drop>(
     alloc: Global,
     places: &Places,
     thread: ObjId,
-    path: &Path,
+    path: &[Name],
 ) -> Result<Room, Ending>
     ensures runs { RunsPart (find_room places.now path.now) kernel.old kernel.new thread result }
     ensures room { IfOk result (λ room. map.len room.entries < most_entries) }
 {
-    let [name, parent @ ..] = path.names() else {
+    let [name, parent @ ..] = path else {
         return Err(Ending::Refused(Errno::EEXIST));
     };
     let directory = walk(kernel, alloc, places, thread, parent)?;

@@ -6,7 +6,7 @@ ghost use Rattle.histar_calls.specs.Refusals.{settled};
 use crate::directory::walk;
 use crate::ending::{Ending, Stopped, settle};
 use crate::places::Places;
-use histar_flat::{Listing, Path, Reply};
+use histar_flat::{Listing, Name, Reply};
 use histar_label::LabelStore;
 use histar_layout::MOST_ENTRIES;
 use histar_object::ObjId;
@@ -21,7 +21,7 @@ pub fn list<S: LabelStore + Drop>(
     alloc: Global,
     places: &Places,
     thread: ObjId,
-    path: &Path,
+    path: &[Name],
 ) -> Result<Reply, Stopped>
     ensures { Runs (list_program places.now path.now) kernel.old kernel.new thread result }
 {
@@ -33,13 +33,13 @@ fn list_entries<S: LabelStore + Drop>(
     alloc: Global,
     places: &Places,
     thread: ObjId,
-    path: &Path,
+    path: &[Name],
 ) -> Result<Reply, Ending>
     ensures { Runs (list_program places.now path.now) kernel.old kernel.new thread (settled result) }
 {
     let mut entries = Vec::new(alloc);
     entries.reserve(MOST_ENTRIES)?;
-    let directory = walk(kernel, alloc, places, thread, path.names())?;
+    let directory = walk(kernel, alloc, places, thread, path)?;
     directory.entries.list(&mut entries);
     Ok(Reply::Entries(Listing::new(entries)))
 }

@@ -6,7 +6,7 @@ ghost use Rattle.histar_calls.specs.Refusals.{settled};
 use crate::ending::{Ending, Stopped, settle};
 use crate::find::find_file;
 use crate::places::Places;
-use histar_flat::{Path, Reply};
+use histar_flat::{Name, Reply};
 use histar_label::LabelStore;
 use histar_object::ObjId;
 use histar_syscall::Kernel;
@@ -20,7 +20,7 @@ pub fn read<S: LabelStore + Drop>(
     alloc: Global,
     places: &Places,
     thread: ObjId,
-    path: &Path,
+    path: &[Name],
 ) -> Result<Reply, Stopped>
     ensures { Runs (read_program places.now path.now) kernel.old kernel.new thread result }
 {
@@ -32,7 +32,7 @@ fn read_file<S: LabelStore + Drop>(
     alloc: Global,
     places: &Places,
     thread: ObjId,
-    path: &Path,
+    path: &[Name],
 ) -> Result<Reply, Ending>
     ensures { Runs (read_program places.now path.now) kernel.old kernel.new thread (settled result) }
 {

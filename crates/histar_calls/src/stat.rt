@@ -8,7 +8,7 @@ use crate::directory::{entry_at, find_place, look_in};
 use crate::ending::{Ending, Stopped, settle};
 use crate::places::Places;
 use crate::user_table::UserTable;
-use histar_flat::{Path, Reply};
+use histar_flat::{Name, Reply};
 use histar_label::LabelStore;
 use histar_object::ObjId;
 use histar_syscall::Kernel;
@@ -33,7 +33,7 @@ pub fn stat<S: LabelStore + Drop>(
     places: &Places,
     users: &UserTable,
     thread: ObjId,
-    path: &Path,
+    path: &[Name],
 ) -> Result<Reply, Stopped>
     ensures { Runs (stat_program users.now places.now path.now) kernel.old kernel.new thread result }
 {
@@ -45,7 +45,7 @@ fn stat_object<S: LabelStore + Drop>(
     places: &Places,
     users: &UserTable,
     thread: ObjId,
-    path: &Path,
+    path: &[Name],
 ) -> Result<Reply, Ending>
     ensures { Runs (stat_program users.now places.now path.now) kernel.old kernel.new thread (settled result) }
 {
@@ -62,11 +62,11 @@ fn find_object<S: LabelStore + Drop>(
     kernel: &mut Kernel<S>,
     places: &Places,
     thread: ObjId,
-    path: &Path,
+    path: &[Name],
 ) -> Result<FoundObject, Ending>
     ensures { RunsPart (find_object places.now path.now) kernel.old kernel.new thread result }
 {
-    let [name, parent @ ..] = path.names() else {
+    let [name, parent @ ..] = path else {
         return Ok(FoundObject {
             container: ObjId::new(ROOT),
             object: places.slash.container,

@@ -7,7 +7,7 @@ use crate::ending::{Ending, Stopped, settle, written};
 use crate::find::find_file;
 use crate::places::Places;
 use histar_base::Bytes;
-use histar_flat::{Path, Reply};
+use histar_flat::{Name, Reply};
 use histar_label::LabelStore;
 use histar_object::ObjId;
 use histar_syscall::Kernel;
@@ -21,7 +21,7 @@ pub fn write<S: LabelStore + Drop>(
     alloc: Global,
     places: &Places,
     thread: ObjId,
-    path: &Path,
+    path: &[Name],
     bytes: Bytes,
 ) -> Result<Reply, Stopped>
     ensures { Runs (write_program places.now path.now bytes) kernel.old kernel.new thread result }
@@ -34,7 +34,7 @@ fn write_file<S: LabelStore + Drop>(
     alloc: Global,
     places: &Places,
     thread: ObjId,
-    path: &Path,
+    path: &[Name],
     bytes: Bytes,
 ) -> Result<Reply, Ending>
     ensures { Runs (write_program places.now path.now bytes) kernel.old kernel.new thread (settled result) }

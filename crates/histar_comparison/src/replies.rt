@@ -115,7 +115,7 @@ pub fn wrap_path(call: &UnixCall) -> Option<Path>
     ensures { result ≡ wrap_path call.now }
 {
     match call {
-        UnixCall::Wrap(path) => Some(*path),
+        UnixCall::Wrap(path) => Some(path.path()),
         _ => None,
     }
 }
@@ -125,10 +125,10 @@ pub fn once_done(directory: Option<Path>, call: &UnixCall) -> Option<Path>
     ensures { result ≡ once_done directory call.now }
 {
     match call {
-        UnixCall::Unlink(path) => left_without(path, directory),
-        UnixCall::Rmdir(path) => left_without(path, directory),
-        UnixCall::Rmtree(path) => left_without(path, directory),
-        UnixCall::Rename(path, name) => renamed(directory, path, *name),
+        UnixCall::Unlink(path) => left_without(&path.path(), directory),
+        UnixCall::Rmdir(path) => left_without(&path.path(), directory),
+        UnixCall::Rmtree(path) => left_without(&path.path(), directory),
+        UnixCall::Rename(path, name) => renamed(directory, &path.path(), *name),
         _ => directory,
     }
 }

@@ -253,6 +253,12 @@ module _ {Id : Type 0} where
       shows_all labels fs ∙ ap (by_value labels) e ∙ value_linked labels (put (objects_of es) n o) d n
       ∙ ap (λ f. changed_at f d (linking n)) (value_put labels (objects_of es) n o ∙ ap (λ f. put f n (object_by (label_at labels) o)) (sym (shows_all labels es)))
 
+  -- what it shows once an object was changed
+  pub shown_changed : (labels : Id → Option Levels) (es fs : List (ℕ × Object Id)) (n : ℕ) (f : Object Id → Object Id) (h : Object Levels → Object Levels) → ((o : Object Id) → object_by (label_at labels) (f o) ≡ h (object_by (label_at labels) o))
+      → objects_of fs ≡ changed_at (objects_of es) n f → objects_of (shown labels fs) ≡ changed_at (objects_of (shown labels es)) n h
+  shown_changed labels es fs n f h same e =
+      shows_all labels fs ∙ ap (by_value labels) e ∙ value_changed labels (objects_of es) n f h same ∙ ap (λ g. changed_at g n h) (sym (shows_all labels es))
+
   -- what it shows once a segment has other bytes
   pub shown_held : (labels : Id → Option Levels) (es fs : List (ℕ × Object Id)) (q : ℕ) (bytes : List ℕ) → objects_of fs ≡ changed_at (objects_of es) q (holding bytes)
       → objects_of (shown labels fs) ≡ changed_at (objects_of (shown labels es)) q (holding bytes)
@@ -285,6 +291,12 @@ pub kept_own : {Id A E : Type 0} (labels : Id → Option Levels) (objects : Obje
     → AllStand labels (objects_of fs) → IsUnusedFrom objects next → 0 < next → is_thread (objects t) ≡ true → OnOk r (objects_of (shown labels fs) ≡ put objects t o) → OnErr r (objects_of (shown labels fs) ≡ objects) → IsKept labels fs next
 kept_own labels objects fs next t o (Ok x) stand unused positive thread ok err = record { stand = stand; unused = subst (λ (f : Objects Levels). IsUnusedFrom f next) (sym ok) (unused_own objects next unused t o thread); positive = positive }
 kept_own labels objects fs next t o (Err x) stand unused positive thread ok err = record { stand = stand; unused = subst (λ (f : Objects Levels). IsUnusedFrom f next) (sym err) unused; positive = positive }
+
+-- what a call that changes an object keeps, whether it did or not
+pub kept_changed : {Id A E : Type 0} (labels : Id → Option Levels) (objects : Objects Levels) (fs : List (ℕ × Object Id)) (next n : ℕ) (h : Object Levels → Object Levels) (r : Result A E)
+    → AllStand labels (objects_of fs) → IsUnusedFrom objects next → 0 < next → OnOk r (objects_of (shown labels fs) ≡ changed_at objects n h) → OnErr r (objects_of (shown labels fs) ≡ objects) → IsKept labels fs next
+kept_changed labels objects fs next n h (Ok x) stand unused positive ok err = record { stand = stand; unused = subst (λ (f : Objects Levels). IsUnusedFrom f next) (sym ok) (unused_changed objects next unused n h); positive = positive }
+kept_changed labels objects fs next n h (Err x) stand unused positive ok err = record { stand = stand; unused = subst (λ (f : Objects Levels). IsUnusedFrom f next) (sym err) unused; positive = positive }
 
 -- what a call that splices a segment keeps, whether it did or not
 pub kept_spliced : {Id A E : Type 0} (labels : Id → Option Levels) (es fs : List (ℕ × Object Id)) (next q : ℕ) (bytes : List ℕ) (r : Result A E)

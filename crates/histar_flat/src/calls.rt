@@ -1,6 +1,6 @@
 //! Users, the calls that they make, and the lines of a script that hold them.
 use crate::names::{Name, Password};
-use crate::paths::Path;
+use crate::owned_paths::OwnedPath;
 use crate::processes::ProcName;
 use histar_base::Bytes;
 
@@ -28,27 +28,27 @@ pub enum Mode {
 #[derive(Drop)]
 pub enum UnixCall {
     /// Makes an empty file.
-    Create(Path, Mode),
+    Create(OwnedPath, Mode),
     /// Makes an empty directory.
-    Mkdir(Path, Mode),
+    Mkdir(OwnedPath, Mode),
     /// Asks for the bytes of a file.
-    Read(Path),
+    Read(OwnedPath),
     /// Puts bytes in the place of what a file holds.
-    Write(Path, Bytes),
+    Write(OwnedPath, Bytes),
     /// Puts bytes behind what a file holds.
-    Append(Path, Bytes),
+    Append(OwnedPath, Bytes),
     /// Asks for the entries of a directory.
-    List(Path),
+    List(OwnedPath),
     /// Asks what stands at a path, whose it is and of which mode.
-    Stat(Path),
+    Stat(OwnedPath),
     /// Takes a file away.
-    Unlink(Path),
+    Unlink(OwnedPath),
     /// Takes an empty directory away.
-    Rmdir(Path),
+    Rmdir(OwnedPath),
     /// Takes away a file, or a directory with all below it.
-    Rmtree(Path),
+    Rmtree(OwnedPath),
     /// Gives an entry another name in the same directory.
-    Rename(Path, Name),
+    Rename(OwnedPath, Name),
     /// Has a child of the process be born.
     Spawn,
     /// Ends the process that makes the call, with this status.
@@ -62,7 +62,7 @@ pub enum UnixCall {
     /// Makes the process that of another user, by the user's password.
     Login(Name, Password),
     /// Starts a job: a directory for it, and a child of the process that is in it.
-    Wrap(Path),
+    Wrap(OwnedPath),
 }
 
 /// A call line of a script.

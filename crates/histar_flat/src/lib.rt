@@ -7,6 +7,7 @@ mod calls;
 pub mod flat_laws;
 mod groups;
 mod names;
+mod owned_paths;
 mod paths;
 mod processes;
 mod readers;
@@ -18,6 +19,7 @@ mod words;
 pub use calls::{CallLine, Mode, UnixCall, User};
 pub use groups::Group;
 pub use names::{Name, Password};
+pub use owned_paths::OwnedPath;
 pub use paths::Path;
 pub use processes::{MOST_NUMBERS, ProcName};
 pub use readers::{

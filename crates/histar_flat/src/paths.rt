@@ -2,6 +2,7 @@
 ghost use Rattle.std.specs.Prelude.{◌≡◌, ◌<◌, ◌≤◌, [], ◌∷◌, length, slice_get, codes};
 ghost use Rattle.std.specs.Option.{option_copied};
 ghost use Rattle.histar_flat.specs.FlatState.{moved};
+ghost use Rattle.histar_flat.specs.Padding.{padded, unused_name};
 ghost use Rattle.histar_flat.specs.PathOrder.{below_path, parent, under_path};
 ghost use Rattle.histar_flat.specs.Words.{most_names};
 
@@ -50,18 +51,35 @@ impl Path {
         }
     }
 
+    /// The path of these names, of which the last stands first.
+    pub(crate) fn of(names: &[Name]) -> Path
+        requires { length names.now ≤ most_names }
+        ensures { result ≡ names.now }
+    {
+        Path {
+            names: padded_names(names),
+            len: names.len() as u8,
+        }
+    }
+
     /// The path of the entry of this directory that has the name.
     pub fn entry(&self, name: Name) -> Path
         requires { length self.now < most_names }
         ensures { result ≡ name ∷ self.now }
     {
-        let mut names = self.names;
-        names.rotate_right(1);
-        names[0] = name;
-        Path {
-            names,
-            len: self.len + 1,
-        }
+        let mut path = *self;
+        path.enter(name);
+        path
+    }
+
+    /// Goes on to the entry of this directory that has the name.
+    pub(crate) fn enter(&mut self, name: Name)
+        requires { length self.old < most_names }
+        ensures { self.new ≡ name ∷ self.old }
+    {
+        self.names.rotate_right(1);
+        self.names[0] = name;
+        self.len += 1;
     }
 
     /// The names of the path, the last one first.
@@ -172,6 +190,15 @@ impl Ord for Path {
     fn cmp(&self, other: &Path) -> Ordering {
         self.names().iter().rev().cmp(other.names().iter().rev())
     }
+}
+
+fn padded_names(names: &[Name]) -> [Name; MOST_NAMES]
+    requires { length names.now ≤ most_names }
+    ensures { result ≡ padded most_names unused_name names.now }
+{
+    let mut padded = [unused_name(); MOST_NAMES];
+    padded[..names.len()].copy_from_slice(names);
+    padded
 }
 
 /// The name that stands in the places of a path that are not used.

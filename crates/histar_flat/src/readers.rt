@@ -68,7 +68,7 @@ fn read_names(text: &[u8]) -> Option<Path>
     let mut rest = text;
     for _ in 0..MOST_NAMES {
         let (word, after) = split_at_first(rest, b'/');
-        path = path.entry(read_name(word)?);
+        path.enter(read_name(word)?);
         match after {
             None => return Some(path),
             Some(names) => rest = names,

@@ -1,6 +1,7 @@
 //! Looking a name up in the bytes of a directory.
 ghost use Rattle.std.specs.Prelude.{◌≡◌};
 ghost use Rattle.std.specs.FinMap as map;
+ghost use Rattle.histar_flat.specs.PathOrder.{same};
 ghost use Rattle.histar_layout.specs.Directory.{Entries, IsDirectory};
 ghost use Rattle.histar_layout.specs.Found.{found_in};
 
@@ -18,10 +19,21 @@ pub fn look_up(bytes: &[u8], name: &Name) -> Option<Target>
     let wanted = name.as_bytes();
     let mut rest = bytes;
     'entries: while let Some((text, told, after)) = read_slot(rest) {
-        if wanted == text {
+        if is_same(wanted, text) {
             return told_by(told);
         }
         rest = after;
     }
     None
+}
+
+/// Whether two names are one. Names of one directory differ most often in their last bytes, so these are
+/// compared first.
+fn is_same(name: &[u8], other: &[u8]) -> bool
+    ensures { result ≡ same name.now other.now }
+{
+    match (name, other) {
+        ([.., last], [.., other_last]) if *last != *other_last => false,
+        _ => name == other,
+    }
 }

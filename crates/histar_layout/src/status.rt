@@ -41,6 +41,9 @@ pub struct NotAStatus;
 /// The most children that a process segment lists.
 const MOST_CHILDREN: usize = 64;
 
+/// How many bytes the head of a process segment has.
+const HEAD_LEN: usize = 19;
+
 /// How many bytes a child has in a process segment.
 const CHILD_LEN: usize = 17;
 
@@ -91,7 +94,7 @@ pub fn first_status(alloc: Global, internal: ObjId, thread: ObjId) -> Result<Byt
         internal,
         thread,
     };
-    let mut out = Vec::new(alloc);
+    let mut out = Vec::with_capacity(alloc, HEAD_LEN)?;
     push_head(&mut out, head)?;
     Ok(Bytes::from_vec(out))
 }
@@ -110,7 +113,7 @@ pub fn exit_status(alloc: Global, bytes: &[u8], number: u8) -> Result<Bytes, All
         internal: ObjId::new(0),
         thread: ObjId::new(0),
     };
-    let mut out = Vec::new(alloc);
+    let mut out = Vec::with_capacity(alloc, bytes.len())?;
     push_head(&mut out, head)?;
     out.extend_from_slice(children)?;
     Ok(Bytes::from_vec(out))
@@ -131,7 +134,7 @@ pub fn add_child(
         return Ok(Bytes::new(alloc));
     };
     let number = head.born + 1;
-    let mut out = Vec::new(alloc);
+    let mut out = Vec::with_capacity(alloc, bytes.len() + CHILD_LEN)?;
     push_head(
         &mut out,
         StatusHead {
@@ -159,7 +162,7 @@ pub fn remove_child(alloc: Global, bytes: &[u8], number: u8) -> Result<Bytes, Al
     let Some((head, children)) = split_status(bytes) else {
         return Ok(Bytes::new(alloc));
     };
-    let mut out = Vec::new(alloc);
+    let mut out = Vec::with_capacity(alloc, bytes.len())?;
     push_head(&mut out, head)?;
     push_others(&mut out, children, number)?;
     Ok(Bytes::from_vec(out))

@@ -5,7 +5,7 @@ ghost use Rattle.histar_calls.specs.Programs.{RunsPart};
 ghost use Rattle.histar_moves.specs.Parts.{find_entry, must_be_file, must_be_directory, must_be_empty, must_be_free, take_away};
 
 use histar_calls::{Directory, Ending, Place, Places, walk, write_entries};
-use histar_flat::{Errno, Name, Path};
+use histar_flat::{Errno, Name};
 use histar_label::LabelStore;
 use histar_layout::{Dir, Target};
 use histar_object::ObjId;
@@ -91,12 +91,12 @@ pub fn find_entry<S: LabelStore + Drop>(
     alloc: Global,
     places: &Places,
     thread: ObjId,
-    path: &Path,
+    path: &[Name],
 ) -> Result<FoundEntry, Ending>
     ensures runs { RunsPart (find_entry places.now path.now) kernel.old kernel.new thread result }
     ensures there { IfOk result (λ entry. map.get entry.entries entry.name ≡ Some entry.target) }
 {
-    let [name, parent @ ..] = path.names() else {
+    let [name, parent @ ..] = path else {
         return Err(Ending::Refused(Errno::EBUSY));
     };
     let directory = walk(kernel, alloc, places, thread, parent)?;

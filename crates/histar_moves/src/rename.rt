@@ -5,7 +5,7 @@ ghost use Rattle.histar_moves.specs.Rename.{rename_program};
 
 use crate::entry::find_entry;
 use histar_calls::{Ending, Places, Stopped, settle, write_entries};
-use histar_flat::{Name, Path, Reply};
+use histar_flat::{Name, Reply};
 use histar_label::LabelStore;
 use histar_object::ObjId;
 use histar_syscall::Kernel;
@@ -20,7 +20,7 @@ pub fn rename<S: LabelStore + Drop>(
     alloc: Global,
     places: &Places,
     thread: ObjId,
-    path: &Path,
+    path: &[Name],
     name: &Name,
 ) -> Result<Reply, Stopped>
     ensures { Runs (rename_program places.now path.now name.now) kernel.old kernel.new thread result }
@@ -33,7 +33,7 @@ fn rename_entry<S: LabelStore + Drop>(
     alloc: Global,
     places: &Places,
     thread: ObjId,
-    path: &Path,
+    path: &[Name],
     name: &Name,
 ) -> Result<Reply, Ending>
     ensures { Runs (rename_program places.now path.now name.now) kernel.old kernel.new thread (settled result) }

@@ -5,7 +5,7 @@ ghost use Rattle.histar_moves.specs.Rmdir.{rmdir_program};
 
 use crate::entry::{find_entry, must_be_empty, take_away};
 use histar_calls::{Directory, Ending, Places, Stopped, settle};
-use histar_flat::{Path, Reply};
+use histar_flat::{Name, Reply};
 use histar_label::LabelStore;
 use histar_object::ObjId;
 use histar_syscall::Kernel;
@@ -20,7 +20,7 @@ pub fn rmdir<S: LabelStore + Drop>(
     alloc: Global,
     places: &Places,
     thread: ObjId,
-    path: &Path,
+    path: &[Name],
 ) -> Result<Reply, Stopped>
     ensures { Runs (rmdir_program places.now path.now) kernel.old kernel.new thread result }
 {
@@ -32,7 +32,7 @@ fn remove_directory<S: LabelStore + Drop>(
     alloc: Global,
     places: &Places,
     thread: ObjId,
-    path: &Path,
+    path: &[Name],
 ) -> Result<Reply, Ending>
     ensures { Runs (rmdir_program places.now path.now) kernel.old kernel.new thread (settled result) }
 {

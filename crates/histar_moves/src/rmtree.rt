@@ -5,7 +5,7 @@ ghost use Rattle.histar_moves.specs.Rmtree.{rmtree_program};
 
 use crate::entry::{find_entry, take_away};
 use histar_calls::{Ending, Places, Stopped, settle};
-use histar_flat::{Path, Reply};
+use histar_flat::{Name, Reply};
 use histar_label::LabelStore;
 use histar_object::ObjId;
 use histar_syscall::Kernel;
@@ -19,7 +19,7 @@ pub fn rmtree<S: LabelStore + Drop>(
     alloc: Global,
     places: &Places,
     thread: ObjId,
-    path: &Path,
+    path: &[Name],
 ) -> Result<Reply, Stopped>
     ensures { Runs (rmtree_program places.now path.now) kernel.old kernel.new thread result }
 {
@@ -31,7 +31,7 @@ fn remove_tree<S: LabelStore + Drop>(
     alloc: Global,
     places: &Places,
     thread: ObjId,
-    path: &Path,
+    path: &[Name],
 ) -> Result<Reply, Ending>
     ensures { Runs (rmtree_program places.now path.now) kernel.old kernel.new thread (settled result) }
 {

@@ -67,7 +67,8 @@ pub fn joined(
 ) -> Result<Vec<Category>, AllocError>
     ensures { IfOk result (λ all. all.items ≡ first.now ++ second.now) }
 {
-    let mut all = Vec::from_slice(alloc, first)?;
+    let mut all = Vec::with_capacity(alloc, first.len() + second.len())?;
+    all.extend_from_slice(first)?;
     all.extend_from_slice(second)?;
     Ok(all)
 }

@@ -7,3 +7,4 @@ pub mod TaintedMoves
 pub mod TaintedCalls
 pub mod Observed
 pub mod LinkedObjects
+pub mod Relabelled

@@ -57,17 +57,17 @@ abbrev pub with_star_at : ℕ → Object Levels → Object Levels
 with_star_at c o = record { label = with_level o.label c Star; kind = kind_with_three_at c o.kind }
 
 -- an object with another label
-abbrev pub with_label : Levels → Object Levels → Object Levels
+abbrev pub with_label : {L : Type 0} → L → Object L → Object L
 with_label label o = record { label = label; kind = o.kind }
 
 -- a thread with another clearance
-abbrev pub kind_with_clearance : Levels → Kind Levels → Kind Levels
+abbrev pub kind_with_clearance : {L : Type 0} → L → Kind L → Kind L
 kind_with_clearance clearance (Segment bytes) = Segment bytes
 kind_with_clearance clearance (Container links) = Container links
 kind_with_clearance clearance (Thread old) = Thread clearance
 kind_with_clearance clearance (Gate old entry) = Gate clearance entry
 
-abbrev pub with_clearance : Levels → Object Levels → Object Levels
+abbrev pub with_clearance : {L : Type 0} → L → Object L → Object L
 with_clearance clearance o = record { label = o.label; kind = kind_with_clearance clearance o.kind }
 
 -- the state with one object changed, if it is there

@@ -10,6 +10,7 @@ ghost use Rattle.histar_container.specs.Shown.{objects_shown, kind_by, AllStand,
 ghost use Rattle.histar_container.specs.ObjectsModel.{state_of, CutsOff};
 ghost use Rattle.histar_container.specs.Tree.{AreTree};
 ghost use Rattle.histar_rules.specs.Finds.{LendsThread};
+ghost use Rattle.histar_rules.specs.Rights.{kind_with_clearance, with_changed, with_clearance, with_label};
 ghost use Rattle.histar_rules.specs.Rules.{check, greatest, no_new, no_new_owner, Tells, TellsUnlessExhausted, Decides, AreBytesOf, IsLabelOf, IsEntryOf};
 ghost use Rattle.histar_rules.specs.declared.raw.RawCall.TheVariants as calls;
 
@@ -358,6 +359,22 @@ impl<S: LabelStore + Drop> LabelledObjects<S> {
         remove_tree(&mut self.table, alloc, container, object)
     }
 
+    /// Gives a thread another label.
+    pub fn set_label(&mut self, thread: ObjId, label: Label) -> Result<(), AllocError>
+        ensures ok { OnOk result (state_of self.new ≡ with_changed (state_of self.old) thread (with_label label)) }
+        ensures err { OnErr result (state_of self.new ≡ state_of self.old) }
+    {
+        set_label_in(&mut self.store, &mut self.table, thread, label)
+    }
+
+    /// Gives a thread another clearance.
+    pub fn set_clearance(&mut self, thread: ObjId, clearance: Label) -> Result<(), AllocError>
+        ensures ok { OnOk result (state_of self.new ≡ with_changed (state_of self.old) thread (with_clearance clearance)) }
+        ensures err { OnErr result (state_of self.new ≡ state_of self.old) }
+    {
+        set_clearance_in(&mut self.store, &mut self.table, thread, clearance)
+    }
+
     /// Gives a thread another label and another clearance.
     pub fn set_own(
         &mut self,
@@ -449,6 +466,57 @@ fn add_in<S: LabelStore>(
     link_new(table, container, number, Object { label, kind })
 }
 
+// Puts an object's new label into the store, and then changes the object.
+fn set_label_in<S: LabelStore>(
+    store: &mut S,
+    table: &mut Table<S::Id>,
+    object: ObjId,
+    label: Label,
+) -> Result<(), AllocError>
+    requires { AllStand (S.labels store.old) (objects_of table.old) }
+    ensures stand { AllStand (S.labels store.new) (objects_of table.new) }
+    ensures ok { OnOk result (objects_shown (S.labels store.new) table.new
+        ≡ changed_at (objects_shown (S.labels store.old) table.old) object (with_label label)) }
+    ensures err { OnErr result (objects_shown (S.labels store.new) table.new ≡ objects_shown (S.labels store.old) table.old) }
+{
+    let label = store.put(label)?;
+    if let Some(found) = table.get_mut(object) {
+        found.label = label;
+    }
+    Ok(())
+}
+
+// Puts the new clearance of a thread or a gate into the store, and then changes the thread or the gate.
+fn set_clearance_in<S: LabelStore>(
+    store: &mut S,
+    table: &mut Table<S::Id>,
+    object: ObjId,
+    clearance: Label,
+) -> Result<(), AllocError>
+    requires { AllStand (S.labels store.old) (objects_of table.old) }
+    ensures stand { AllStand (S.labels store.new) (objects_of table.new) }
+    ensures ok { OnOk result (objects_shown (S.labels store.new) table.new
+        ≡ changed_at (objects_shown (S.labels store.old) table.old) object (with_clearance clearance)) }
+    ensures err { OnErr result (objects_shown (S.labels store.new) table.new ≡ objects_shown (S.labels store.old) table.old) }
+{
+    let clearance = store.put(clearance)?;
+    if let Some(found) = table.get_mut(object) {
+        set_kind_clearance(&mut found.kind, clearance);
+    }
+    Ok(())
+}
+
+// Gives a thread or a gate another clearance.
+fn set_kind_clearance<L: Drop>(kind: &mut Kind<L>, clearance: L)
+    ensures { kind.new ≡ kind_with_clearance clearance kind.old }
+{
+    match kind {
+        Kind::Thread(own) => *own = clearance,
+        Kind::Gate(own, _) => *own = clearance,
+        _ => {}
+    }
+}
+
 // Puts a thread's new labels into the store, and then changes the thread.
 fn set_own_in<S: LabelStore>(
     store: &mut S,
@@ -500,9 +568,10 @@ fn splice_in<L: Drop>(
 fn spliced(alloc: Global, old: &[u8], keep: u32, new: &Bytes) -> Result<Bytes, AllocError>
     ensures { IfOk result (λ b. b ≡ take keep old.now ++ new.now) }
 {
-    let mut content = Vec::new(alloc);
     let kept = (keep as usize).min(old.len());
+    let new = new.as_slice();
+    let mut content = Vec::with_capacity(alloc, kept + new.len())?;
     content.extend_from_slice(&old[..kept])?;
-    content.extend_from_slice(new.as_slice())?;
+    content.extend_from_slice(new)?;
     Ok(Bytes::from_vec(content))
 }

@@ -1,6 +1,7 @@
-//! Reading what a line says. `Ok(None)` is a bad line; the bytes of a `write` or an `append` and the members of a group are copied,
-//! so memory may run out.
+//! Reading what a line says. `Ok(None)` is a bad line; paths, the bytes of a `write` or an `append` and the members of a group are
+//! copied, so memory may run out.
 ghost use Rattle.std.specs.Prelude.{◌≡◌, IfOk};
+ghost use Rattle.histar_flat.specs.Words.{path_of};
 ghost use Rattle.histar_script.specs.Reading.{user_of, path_mode_of, path_bytes_of, rename_of, login_of, call_on, call_alone, call_named, call_of, words_item, item_of};
 
 use crate::groups::read_group;
@@ -8,7 +9,7 @@ use crate::items::Item;
 use crate::lines::{is_plain, split_word};
 use histar_base::Bytes;
 use histar_flat::{
-    Mode, Path, UnixCall, User, read_mode, read_name, read_password, read_path, read_process,
+    Mode, OwnedPath, UnixCall, User, read_mode, read_name, read_password, read_path, read_process,
     read_status, read_user_name,
 };
 use std::alloc::{AllocError, Global};
@@ -24,24 +25,39 @@ fn read_user(text: &[u8]) -> Option<User>
     Some(User { name, password })
 }
 
+/// A path, as a call owns it.
+fn read_owned_path(alloc: Global, text: &[u8]) -> Result<Option<OwnedPath>, AllocError>
+    ensures { IfOk result (λ path. path ≡ path_of text.now) }
+{
+    let Some(path) = read_path(text) else {
+        return Ok(None);
+    };
+    let path = OwnedPath::of(alloc, &path)?;
+    Ok(Some(path))
+}
+
 /// `PATH MODE`
 #[tactic(auto, unfolding(crate::specs::Reading::path_mode_of))]
-fn read_path_and_mode(text: &[u8]) -> Option<(Path, Mode)>
-    ensures { result ≡ path_mode_of text.now }
+fn read_path_and_mode(alloc: Global, text: &[u8]) -> Result<Option<(OwnedPath, Mode)>, AllocError>
+    ensures { IfOk result (λ parts. parts ≡ path_mode_of text.now) }
 {
     let (word, rest) = split_word(text);
-    let path = read_path(word)?;
-    let mode = read_mode(rest?)?;
-    Some((path, mode))
+    let Some(path) = read_owned_path(alloc, word)? else {
+        return Ok(None);
+    };
+    let Some(mode) = rest.and_then(|mode| read_mode(mode)) else {
+        return Ok(None);
+    };
+    Ok(Some((path, mode)))
 }
 
 /// `PATH BYTES`
 #[tactic(auto, unfolding(crate::specs::Reading::path_bytes_of))]
-fn read_path_and_bytes(alloc: Global, text: &[u8]) -> Result<Option<(Path, Bytes)>, AllocError>
+fn read_path_and_bytes(alloc: Global, text: &[u8]) -> Result<Option<(OwnedPath, Bytes)>, AllocError>
     ensures { IfOk result (λ parts. parts ≡ path_bytes_of text.now) }
 {
     let (word, rest) = split_word(text);
-    let Some(path) = read_path(word) else {
+    let Some(path) = read_owned_path(alloc, word)? else {
         return Ok(None);
     };
     let Some(bytes) = rest else {
@@ -64,17 +80,21 @@ fn read_login(text: &[u8]) -> Option<UnixCall>
 
 /// `PATH NAME`
 #[tactic(auto, unfolding(crate::specs::Reading::rename_of))]
-fn read_rename(text: &[u8]) -> Option<UnixCall>
-    ensures { result ≡ rename_of text.now }
+fn read_rename(alloc: Global, text: &[u8]) -> Result<Option<UnixCall>, AllocError>
+    ensures { IfOk result (λ call. call ≡ rename_of text.now) }
 {
     let (word, rest) = split_word(text);
-    let path = read_path(word)?;
-    let name = read_name(rest?)?;
-    Some(UnixCall::Rename(path, name))
+    let Some(path) = read_owned_path(alloc, word)? else {
+        return Ok(None);
+    };
+    let Some(name) = rest.and_then(|name| read_name(name)) else {
+        return Ok(None);
+    };
+    Ok(Some(UnixCall::Rename(path, name)))
 }
 
 /// The call of this word on a path and nothing else.
-fn call_on(word: &[u8], path: Path) -> Option<UnixCall>
+fn call_on(word: &[u8], path: OwnedPath) -> Option<UnixCall>
     ensures { result ≡ call_on word.now path }
 {
     if word == b"read".as_slice() {
@@ -114,9 +134,11 @@ fn call_named(alloc: Global, word: &[u8], rest: &[u8]) -> Result<Option<UnixCall
     ensures { IfOk result (λ call. call ≡ call_named word.now rest.now) }
 {
     if word == b"create".as_slice() {
-        Ok(read_path_and_mode(rest).map(|(path, mode)| UnixCall::Create(path, mode)))
+        let parts = read_path_and_mode(alloc, rest)?;
+        Ok(parts.map(|(path, mode)| UnixCall::Create(path, mode)))
     } else if word == b"mkdir".as_slice() {
-        Ok(read_path_and_mode(rest).map(|(path, mode)| UnixCall::Mkdir(path, mode)))
+        let parts = read_path_and_mode(alloc, rest)?;
+        Ok(parts.map(|(path, mode)| UnixCall::Mkdir(path, mode)))
     } else if word == b"write".as_slice() {
         let parts = read_path_and_bytes(alloc, rest)?;
         Ok(parts.map(|(path, bytes)| UnixCall::Write(path, bytes)))
@@ -124,7 +146,7 @@ fn call_named(alloc: Global, word: &[u8], rest: &[u8]) -> Result<Option<UnixCall
         let parts = read_path_and_bytes(alloc, rest)?;
         Ok(parts.map(|(path, bytes)| UnixCall::Append(path, bytes)))
     } else if word == b"rename".as_slice() {
-        Ok(read_rename(rest))
+        read_rename(alloc, rest)
     } else if word == b"login".as_slice() {
         Ok(read_login(rest))
     } else if word == b"exit".as_slice() {
@@ -134,7 +156,8 @@ fn call_named(alloc: Global, word: &[u8], rest: &[u8]) -> Result<Option<UnixCall
     } else if word == b"kill".as_slice() {
         Ok(read_process(rest).map(UnixCall::Kill))
     } else {
-        Ok(read_path(rest).and_then(|path| call_on(word, path)))
+        let path = read_owned_path(alloc, rest)?;
+        Ok(path.and_then(|path| call_on(word, path)))
     }
 }
 

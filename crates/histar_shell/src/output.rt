@@ -10,6 +10,9 @@ use histar_flat::{FileMode, Name, Path, ProcName, Reply, Stat};
 use itoa::Buffer;
 use std::alloc::{AllocError, Global};
 
+/// The room that the line of a reply is given at first, in bytes: few are longer.
+const USUAL_LINE: usize = 64;
+
 /// Adds a number, in decimal digits.
 fn push_number(line: &mut Vec<u8>, number: u32) -> Result<(), AllocError>
     ensures { OnOk result (line.new.items ≡ line.old.items ++ decimal number) }
@@ -141,8 +144,8 @@ pub fn reply_text(alloc: Global, reply: &Reply) -> Result<Vec<u8>, AllocError>
 pub fn reply_line(alloc: Global, number: u32, reply: &Reply) -> Result<Vec<u8>, AllocError>
     ensures { IfOk result (λ line. line.items ≡ line_text number reply.now) }
 {
-    let mut digits = Buffer::new();
-    let mut line = Vec::from_slice(alloc, digits.format(number).as_bytes())?;
+    let mut line = Vec::with_capacity(alloc, USUAL_LINE)?;
+    push_number(&mut line, number)?;
     line.extend_from_slice(b" ")?;
     push_reply(&mut line, reply)?;
     line.extend_from_slice(b"\n")?;

@@ -1,6 +1,5 @@
 //! The calls of a thread on itself, and the making of threads.
 ghost use Rattle.std.specs.Prelude.{◌≡◌, ◌<◌, IfOk, Some};
-ghost use Rattle.histar_label.specs.Levels.{Levels};
 ghost use Rattle.histar_object.specs.Objects.{objects_of, thread_of};
 ghost use Rattle.histar_container.specs.ObjectsModel.{state_of};
 ghost use Rattle.histar_rules.specs.Rules.{check, Tells, Decides, IsNextNumber, AreLabelsOf};
@@ -57,14 +56,13 @@ pub fn make_category<S: LabelStore + Drop>(
     Ok(category)
 }
 
-/// The checks of a new label for the thread itself: where they pass, the thread's clearance.
-fn check_set_label<'o, S: LabelStore + Drop>(
-    objects: &'o LabelledObjects<S>,
+/// The checks of a new label for the thread itself.
+fn check_set_label<S: LabelStore + Drop>(
+    objects: &LabelledObjects<S>,
     thread: ObjId,
     label: &Label,
-) -> Result<&'o Label, Denied>
-    ensures answer { Tells (check (state_of objects.now) thread (calls.SetLabel label.now)) result }
-    ensures clearance { IfOk result (λ most. (own : Levels) × (objects_of objects.now.objects thread ≡ Some (thread_of own most.now))) }
+) -> Result<(), Denied>
+    ensures { Tells (check (state_of objects.now) thread (calls.SetLabel label.now)) result }
 {
     let Some((own, most)) = objects.own(thread) else {
         return Err(Denied::NoThread);
@@ -73,8 +71,7 @@ fn check_set_label<'o, S: LabelStore + Drop>(
     require(
         label.names_only_made(objects.next_category()),
         Denied::Range,
-    )?;
-    Ok(most)
+    )
 }
 
 /// Gives the thread another label, which lies between its own label and its clearance: it may give
@@ -86,20 +83,18 @@ pub fn set_label<S: LabelStore + Drop>(
 ) -> Result<(), Refusal>
     ensures { Decides objects.old objects.new thread (calls.SetLabel label.now) result (λ _. Unit {0}) }
 {
-    let clearance = check_set_label(objects, thread, label)?;
-    let clearance = clearance.copy()?;
-    objects.set_own(thread, label.copy()?, clearance)?;
+    check_set_label(objects, thread, label)?;
+    objects.set_label(thread, label.copy()?)?;
     Ok(())
 }
 
-/// The checks of a new clearance for the thread itself: where they pass, the thread's label.
-fn check_set_clearance<'o, S: LabelStore + Drop>(
-    objects: &'o LabelledObjects<S>,
+/// The checks of a new clearance for the thread itself.
+fn check_set_clearance<S: LabelStore + Drop>(
+    objects: &LabelledObjects<S>,
     thread: ObjId,
     clearance: &Label,
-) -> Result<&'o Label, Denied>
-    ensures answer { Tells (check (state_of objects.now) thread (calls.SetClearance clearance.now)) result }
-    ensures label { IfOk result (λ own. (most : Levels) × (objects_of objects.now.objects thread ≡ Some (thread_of own.now most))) }
+) -> Result<(), Denied>
+    ensures { Tells (check (state_of objects.now) thread (calls.SetClearance clearance.now)) result }
 {
     let Some((own, most)) = objects.own(thread) else {
         return Err(Denied::NoThread);
@@ -108,8 +103,7 @@ fn check_set_clearance<'o, S: LabelStore + Drop>(
     require(
         clearance.names_only_made(objects.next_category()),
         Denied::Range,
-    )?;
-    Ok(own)
+    )
 }
 
 /// Gives the thread another clearance, which is above its own label, and above its old clearance only
@@ -121,9 +115,8 @@ pub fn set_clearance<S: LabelStore + Drop>(
 ) -> Result<(), Refusal>
     ensures { Decides objects.old objects.new thread (calls.SetClearance clearance.now) result (λ _. Unit {0}) }
 {
-    let label = check_set_clearance(objects, thread, clearance)?;
-    let label = label.copy()?;
-    objects.set_own(thread, label, clearance.copy()?)?;
+    check_set_clearance(objects, thread, clearance)?;
+    objects.set_clearance(thread, clearance.copy()?)?;
     Ok(())
 }
 

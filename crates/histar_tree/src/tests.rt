@@ -66,7 +66,7 @@ fn a_path_leads_to_a_new_file(rt: HostRuntime) -> Result<(), Fail> {
         &places,
         &users,
         thread,
-        &file,
+        file.names(),
         Mode::Open,
     )?;
     let found = resolve::resolve(&kernel, &places, &file).ok_or("a file")?;

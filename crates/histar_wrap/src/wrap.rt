@@ -9,7 +9,7 @@ use crate::scratch::{hold_job, make_scratch};
 use histar_calls::{
     Ending, Places, Stopped, UserTable, find_room, jobs_in, scratch_label, settle, user_of,
 };
-use histar_flat::{Path, ProcName, Reply};
+use histar_flat::{Name, ProcName, Reply};
 use histar_label::{Category, Label, LabelStore};
 use histar_process::{Caller, Segment, give_birth, owned_by, room_for_child};
 use histar_syscall::Kernel;
@@ -33,7 +33,7 @@ pub fn wrap<S: LabelStore + Drop>(
     users: &UserTable,
     name: &ProcName,
     caller: &Caller,
-    path: &Path,
+    path: &[Name],
 ) -> Result<Reply, Stopped>
     ensures { Runs (wrap_program users.now places.now name.now caller.now.home path.now) kernel.old kernel.new caller.now.thread result }
 {
@@ -47,7 +47,7 @@ fn start_job<S: LabelStore + Drop>(
     users: &UserTable,
     name: &ProcName,
     caller: &Caller,
-    path: &Path,
+    path: &[Name],
 ) -> Result<Reply, Ending>
     ensures { Runs (wrap_program users.now places.now name.now caller.now.home path.now) kernel.old kernel.new caller.now.thread (settled result) }
 {

@@ -1,11 +1,11 @@
-use Rattle.std.proofs.Common.{ap, ◌∙◌, sym, ◌++◌}
+use Rattle.std.proofs.Common.{ap, ◌∙◌, ◌++◌}
 use Rattle.histar_flat.specs.declared.replies.Reply.TheVariants.{Entries}
 use Rattle.histar_layout.specs.Listing.{names_in}
 use Rattle.histar_calls.specs.declared.ending.Ending.TheVariants.{Stopped}
 use Rattle.histar_calls.specs.Parts.{walk}
 use Rattle.histar_calls.specs.ListCall.{list_program}
 use Rattle.histar_calls.proofs.Directories.{before_walk}
-use Rattle.histar_calls.proofs.Running.{part_as, then_call, call_fails, call_fails_so, replies_so}
+use Rattle.histar_calls.proofs.Running.{then_call, call_fails, call_fails_so, replies_so}
 use Rattle.histar_calls.proofs.list.list_entries.Goals as goal
 
 pub returns-in_err-reserve : goal.returns-in_err-reserve
@@ -24,7 +24,7 @@ returns-in_err-directory g c =
     let end = c.walk.new.kernel in
     call_fails_so t (list_program c.args.places.now c.args.path.now) old end c.in_err-directory.field-0.0 _ c.from_residual-in_err-directory.ensures.1
     (call_fails t (walk c.args.places.now c.args.path.now) old end _ c.in_err-directory.field-0.0
-    (part_as t (walk c.args.places.now c.args.path.now) old end (walk c.args.places.now c.names.result.now) (ap (walk c.args.places.now) (sym c.names.ensures)) _ c.in_err-directory.ensures))
+    c.in_err-directory.ensures)
 
 pub returns : goal.returns
 unfolding list_program
@@ -35,5 +35,5 @@ returns g c =
     let nothing_yet = c.in_ok-reserve.ensures.items ∙ c.new-entries.ensures.items in
     let listing_is = c.new.ensures ∙ c.list.ensures ∙ ap (λ es. es ++ names_in c.in_ok-directory.directory.entries) nothing_yet in
     then_call t (walk c.args.places.now c.args.path.now) old end _ end c.in_ok-directory.directory
-    (part_as t (walk c.args.places.now c.args.path.now) old end (walk c.args.places.now c.names.result.now) (ap (walk c.args.places.now) (sym c.names.ensures)) _ c.in_ok-directory.ensures) _
+    c.in_ok-directory.ensures _
     (replies_so t end (Entries (names_in c.in_ok-directory.directory.entries)) (Entries c.new.result) (ap Entries listing_is))

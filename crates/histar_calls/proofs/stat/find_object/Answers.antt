@@ -23,7 +23,7 @@ returns-in_default g c =
     let t = c.args.thread in
     let k = c.args.kernel.now in
     let places = c.args.places.now in
-    part_as t (find_object places c.args.path.now) k k (find_object places []) (ap (find_object places) (sym c.names.ensures ∙ no_names c.names.result.now (omega arith))) _
+    part_as t (find_object places c.args.path.now) k k (find_object places []) (ap (find_object places) (no_names c.args.path.now (omega arith))) _
     (subst (λ root. RunsPart (find_object places []) k k t (Ok (record { container = root; object = places.slash.container; is_directory = true }))) (sym c.new.ensures)
     (hands t k (record { container = root_number; object = places.slash.container; is_directory = true })))
 
@@ -32,10 +32,10 @@ unfolding find_object
 returns-in_err-place g c =
     let t = c.args.thread in
     let part = find_object c.args.places.now in
-    let names = c.names.result.now in
+    let names = c.args.path.now in
     let name = c.name-item.result in
     let parent = take (length names - 1) (drop 1 names) in
-    let split = sym c.names.ensures ∙ first_of_names names name (omega arith) c.name-item.is in
+    let split = first_of_names names name (omega arith) c.name-item.is in
     fails_so t (part c.args.path.now) c.args.kernel.now c.find_place.new.kernel c.in_err-place.field-0.0 _ c.from_residual.ensures.1
     (place_fails t c.args.places.now c.args.kernel.now c.find_place.new.kernel part c.args.path.now name parent split entry_at object_in refl c.in_err-place.field-0.0 c.in_err-place.ensures)
 
@@ -44,10 +44,10 @@ unfolding find_object
 returns-in_err-found g c =
     let t = c.args.thread in
     let part = find_object c.args.places.now in
-    let names = c.names.result.now in
+    let names = c.args.path.now in
     let name = c.name-item.result in
     let parent = take (length names - 1) (drop 1 names) in
-    let split = sym c.names.ensures ∙ first_of_names names name (omega arith) c.name-item.is in
+    let split = first_of_names names name (omega arith) c.name-item.is in
     fails_so t (part c.args.path.now) c.args.kernel.now c.look_in.new.kernel c.in_err-found.field-0.0 _ c.from_residual-in_err-found.ensures.1
     (look_fails t c.args.places.now c.args.kernel.now c.look_in.new.kernel part c.args.path.now name parent split entry_at object_in refl c.find_place.new.kernel c.in_ok-place.place c.in_ok-place.ensures c.in_err-found.field-0.0 c.in_err-found.ensures)
 
@@ -58,10 +58,10 @@ returns-in_err-target g c =
     let part = find_object c.args.places.now in
     let old = c.args.kernel.now in
     let end = c.look_in.new.kernel in
-    let names = c.names.result.now in
+    let names = c.args.path.now in
     let name = c.name-item.result in
     let parent = take (length names - 1) (drop 1 names) in
-    let split = sym c.names.ensures ∙ first_of_names names name (omega arith) c.name-item.is in
+    let split = first_of_names names name (omega arith) c.name-item.is in
     let errno = c.in_err-target.field-0.0 in
     fails_so t (part c.args.path.now) old end (Refused errno) _ c.from_residual-in_err-target.ensures.1
     (led t c.args.places.now old end part c.args.path.now name parent split entry_at object_in refl c.find_place.new.kernel c.in_ok-place.place c.in_ok-place.ensures c.in_ok-found.found c.in_ok-found.ensures (Err (Refused errno))
@@ -74,10 +74,10 @@ returns g c =
     let part = find_object c.args.places.now in
     let old = c.args.kernel.now in
     let end = c.look_in.new.kernel in
-    let names = c.names.result.now in
+    let names = c.args.path.now in
     let name = c.name-item.result in
     let parent = take (length names - 1) (drop 1 names) in
-    let split = sym c.names.ensures ∙ first_of_names names name (omega arith) c.name-item.is in
+    let split = first_of_names names name (omega arith) c.name-item.is in
     let target = c.in_ok-target.target in
     subst (λ (found : FoundObject). RunsPart (part c.args.path.now) old end t (Ok found)) (λ i. record { container = c.in_ok-place.place.container; object = sym c.object.ensures i; is_directory = sym c.is_directory.ensures i })
     (led t c.args.places.now old end part c.args.path.now name parent split entry_at object_in refl c.find_place.new.kernel c.in_ok-place.place c.in_ok-place.ensures c.in_ok-found.found c.in_ok-found.ensures (Ok (object_in c.in_ok-place.place target))

@@ -2,10 +2,10 @@ use Rattle.std.proofs.Common.{◌≡◌, ◌≤◌, length, ap, sym, ◌∙◌, 
 use Rattle.histar_flat.proofs.PaddingLemmas.{padded_front}
 use Rattle.histar_flat.specs.Padding.{unused_name}
 use Rattle.histar_flat.specs.PaddingLaws.{length-kept}
-use Rattle.histar_flat.proofs.paths.Path.entry.Goals as goal
+use Rattle.histar_flat.proofs.paths.Path.enter.Goals as goal
 
-pub invariant_of-result : goal.invariant_of-result
-invariant_of-result c =
+pub invariant_of-self : goal.invariant_of-self
+invariant_of-self c =
     let inside = c.self.inside in
     let depth : length c.args.self.now ≡ inside.len = ap length (sym c.self.view_is) ∙ length-kept 8 unused_name inside.names inside.len c.self.invariant in
     let room : inside.len ≤ 7 = omega (arith, depth, c.requires) in
