@@ -7,13 +7,16 @@ use std::cmp::Ordering;
 use std::test::Fail;
 
 /// The path that a text is, and `/` where it is none.
-fn path(text: &str) -> Path {
-    read_path(text.as_bytes()).unwrap_or(Path::root())
+fn path(alloc: Global, text: &str) -> Result<Path, AllocError> {
+    match read_path(alloc, text.as_bytes())? {
+        Some(path) => Ok(path.path()),
+        None => Ok(Path::root()),
+    }
 }
 
 /// A line of a tree.
 fn line(alloc: Global, place: &str, text: &str) -> Result<(Path, Bytes), AllocError> {
-    Ok((path(place), Bytes::copy_of(alloc, text.as_bytes())?))
+    Ok((path(alloc, place)?, Bytes::copy_of(alloc, text.as_bytes())?))
 }
 
 fn reply(alloc: Global, line: u32, text: &str) -> Result<ShownReply, AllocError> {
@@ -23,11 +26,15 @@ fn reply(alloc: Global, line: u32, text: &str) -> Result<ShownReply, AllocError>
 
 #[test]
 fn orders_paths_by_names_from_the_root(rt: HostRuntime) -> Result<(), Fail> {
-    assert!(rt; path("/").cmp(&path("/a")) == Ordering::Less);
-    assert!(rt; path("/a").cmp(&path("/a/b")) == Ordering::Less);
-    assert!(rt; path("/a/b").cmp(&path("/a-b")) == Ordering::Less);
-    assert!(rt; path("/b/a").cmp(&path("/a/b")) == Ordering::Greater);
-    assert!(rt; path("/a/b").cmp(&path("/a/b")) == Ordering::Equal);
+    let alloc = rt.alloc();
+    let slash = path(alloc, "/")?;
+    let (a, other_a) = (path(alloc, "/a")?, path(alloc, "/a-b")?);
+    let (a_b, b_a) = (path(alloc, "/a/b")?, path(alloc, "/b/a")?);
+    assert!(rt; slash.cmp(&a) == Ordering::Less);
+    assert!(rt; a.cmp(&a_b) == Ordering::Less);
+    assert!(rt; a_b.cmp(&other_a) == Ordering::Less);
+    assert!(rt; b_a.cmp(&a_b) == Ordering::Greater);
+    assert!(rt; a_b.cmp(&a_b) == Ordering::Equal);
     Ok(())
 }
 
@@ -41,9 +48,9 @@ fn finds_a_path_of_one_tree_alone(rt: HostRuntime) -> Result<(), Fail> {
         line(alloc, "/b", "f")?,
     ];
     let forth = first_difference(lines.as_slice(), others.as_slice(), None, None);
-    assert!(rt; forth == Some(path("/a")));
+    assert!(rt; forth == Some(path(alloc, "/a")?));
     let back = first_difference(others.as_slice(), lines.as_slice(), None, None);
-    assert!(rt; back == Some(path("/a")));
+    assert!(rt; back == Some(path(alloc, "/a")?));
     let same = first_difference(lines.as_slice(), lines.as_slice(), None, None);
     assert!(rt; same.is_none());
     Ok(())
@@ -55,7 +62,7 @@ fn finds_a_path_with_another_text(rt: HostRuntime) -> Result<(), Fail> {
     let lines = [line(alloc, "/", "d")?, line(alloc, "/b", "f")?];
     let others = [line(alloc, "/", "d")?, line(alloc, "/b", "g")?];
     let found = first_difference(lines.as_slice(), others.as_slice(), None, None);
-    assert!(rt; found == Some(path("/b")));
+    assert!(rt; found == Some(path(alloc, "/b")?));
     Ok(())
 }
 
@@ -68,11 +75,16 @@ fn leaves_out_what_lies_below_a_directory(rt: HostRuntime) -> Result<(), Fail> {
         line(alloc, "/k", "f")?,
     ];
     let others = [line(alloc, "/j", "d")?, line(alloc, "/k", "g")?];
-    let below = Some(path("/j"));
+    let below = Some(path(alloc, "/j")?);
     let found = first_difference(lines.as_slice(), others.as_slice(), below, None);
-    assert!(rt; found == Some(path("/k")));
-    let found = first_difference(lines.as_slice(), others.as_slice(), None, Some(path("/k")));
-    assert!(rt; found == Some(path("/j/a")));
+    assert!(rt; found == Some(path(alloc, "/k")?));
+    let found = first_difference(
+        lines.as_slice(),
+        others.as_slice(),
+        None,
+        Some(path(alloc, "/k")?),
+    );
+    assert!(rt; found == Some(path(alloc, "/j/a")?));
     Ok(())
 }
 
