@@ -9,7 +9,7 @@ use Rattle.histar_object.specs.declared.objects.Kind.TheVariants.{Segment, Conta
 use Rattle.histar_object.specs.declared.objects.Object.{Object}
 use Rattle.histar_object.specs.Objects.{Objects, objects_of, changed_at}
 use Rattle.histar_object.proofs.Changes.{at_each}
-use Rattle.histar_container.specs.Shown.{kind_by, object_by, shown, KindStands, Stands, AllStand}
+use Rattle.histar_container.specs.Shown.{kind_by, shown, KindStands, AllStand}
 use Rattle.histar_container.proofs.Keeping.{all_on, shown_on, shown_changed, stand_changed}
 use Rattle.histar_rules.specs.Rights.{with_label, with_clearance, kind_with_clearance}
 

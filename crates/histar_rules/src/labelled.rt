@@ -104,23 +104,6 @@ impl<S: LabelStore + Drop> LabelledObjects<S> {
         self.next_category += 1;
     }
 
-    /// Whether a container has this number.
-    pub fn is_container(&self, object: ObjId) -> bool
-        ensures { result ≡ is_container (objects_of self.now.objects object) }
-    {
-        match self.table.get(object) {
-            Some(object) => matches!(object.kind, Kind::Container(_)),
-            None => false,
-        }
-    }
-
-    /// Whether the container links the object.
-    pub fn is_linked(&self, container: ObjId, object: ObjId) -> bool
-        ensures { result ≡ set.contains (links_in (objects_of self.now.objects container)) object }
-    {
-        linked(&self.table, container, object)
-    }
-
     /// The bytes of a segment.
     pub fn bytes(&self, object: ObjId) -> Option<&[u8]>
         ensures { option_copied result ≡ bytes_there (objects_of self.now.objects object) }

@@ -16,6 +16,3 @@ pub use handed::HandedLabel;
 pub use labelled::LabelledObjects;
 pub use ranges::in_range;
 pub use raw::{Denied, RawCall, Refusal};
-
-#[cfg(test)]
-mod tests;

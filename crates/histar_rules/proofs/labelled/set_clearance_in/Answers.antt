@@ -1,4 +1,4 @@
-use Rattle.std.proofs.Common.{◌≡◌, ap, ◌∙◌}
+use Rattle.std.proofs.Common.{ap, ◌∙◌}
 use Rattle.histar_object.specs.Objects.{objects_of, put}
 use Rattle.histar_object.proofs.Changes.{put_changed}
 use Rattle.histar_container.proofs.Links.{on_some}

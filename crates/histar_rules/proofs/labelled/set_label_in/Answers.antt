@@ -1,5 +1,5 @@
-use Rattle.std.proofs.Common.{◌≡◌, ap, ◌∙◌}
-use Rattle.histar_object.specs.Objects.{objects_of, changed_at}
+use Rattle.std.proofs.Common.{ap, ◌∙◌}
+use Rattle.histar_object.specs.Objects.{objects_of}
 use Rattle.histar_object.proofs.Changes.{put_changed}
 use Rattle.histar_container.proofs.Links.{on_some}
 use Rattle.histar_rules.specs.Rights.{with_label}
