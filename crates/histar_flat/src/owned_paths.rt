@@ -1,9 +1,10 @@
 //! Paths as calls own them.
-ghost use Rattle.std.specs.Prelude.{◌≡◌, ◌≤◌, length, reverse, vec_len};
+ghost use Rattle.std.specs.Prelude.{◌≡◌, ◌≤◌, length, IfOk};
 ghost use Rattle.histar_flat.specs.Words.{most_names};
 
 use crate::names::Name;
 use crate::paths::Path;
+use std::alloc::{AllocError, Global};
 use std::marker::Model;
 
 /// The path of a call: it has room for as many names as it has, where a [`Path`] has room for eight, so
@@ -25,13 +26,13 @@ impl Model for OwnedPath {
 }
 
 impl OwnedPath {
-    /// The path of these names, from `/` on.
-    pub(crate) fn of(mut names: Vec<Name>) -> OwnedPath
-        requires { vec_len names ≤ most_names }
-        ensures { result ≡ reverse names.items }
+    /// The same path.
+    pub fn of(alloc: Global, path: &Path) -> Result<OwnedPath, AllocError>
+        ensures { IfOk result (λ owned. owned ≡ path.now) }
     {
-        names.reverse();
-        OwnedPath { names }
+        let mut names = Vec::with_capacity(alloc, path.depth())?;
+        names.extend_from_slice(path.names())?;
+        Ok(OwnedPath { names })
     }
 
     /// The names of the path, the last one first.

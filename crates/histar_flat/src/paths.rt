@@ -73,7 +73,7 @@ impl Path {
     }
 
     /// Goes on to the entry of this directory that has the name.
-    fn enter(&mut self, name: Name)
+    pub(crate) fn enter(&mut self, name: Name)
         requires { length self.old < most_names }
         ensures { self.new ≡ name ∷ self.old }
     {

@@ -1,5 +1,5 @@
 //! Readers of single words.
-ghost use Rattle.std.specs.Prelude.{◌≡◌, ◌<◌, [], IsTrue, IfOk};
+ghost use Rattle.std.specs.Prelude.{◌≡◌, ◌<◌, [], IsTrue};
 ghost use Rattle.std.specs.List.{list_all};
 ghost use Rattle.std.specs.Option.{option_copied};
 ghost use Rattle.histar_flat.specs.Digits.{number_by_digits, digit_count as count, is_digit as digit, is_first_digit as first_digit};
@@ -8,12 +8,10 @@ ghost use Rattle.histar_flat.specs.Words.{most_names, path_from, split_at_first 
 
 use crate::calls::Mode;
 use crate::names::{Name, Password};
-use crate::owned_paths::OwnedPath;
-use crate::paths::MOST_NAMES;
+use crate::paths::{MOST_NAMES, Path};
 use crate::processes::{MOST_NUMBERS, ProcName};
 use crate::words::MOST_WORD_BYTES;
 use memchr::memchr;
-use std::alloc::{AllocError, Global};
 
 /// How many children may be born to a process.
 const MOST_CHILDREN: u16 = 64;
@@ -51,45 +49,32 @@ pub fn read_password(text: &[u8]) -> Option<Password>
     Some(Password::of(text))
 }
 
-/// The path that the bytes are: `/`, or up to eight names with a slash before each. It takes room for as
-/// many names as there are slashes.
-pub fn read_path(alloc: Global, text: &[u8]) -> Result<Option<OwnedPath>, AllocError>
-    ensures { IfOk result (λ path. path ≡ path_of text.now) }
+/// The path that the bytes are: `/`, or up to eight names with a slash before each.
+pub fn read_path(text: &[u8]) -> Option<Path>
+    ensures { result ≡ path_of text.now }
 {
     match text {
-        [b'/'] => Ok(Some(OwnedPath::of(Vec::new(alloc)))),
-        [b'/', names @ ..] => {
-            let room = Vec::with_capacity(alloc, slash_count(text).min(MOST_NAMES))?;
-            read_names(room, names)
-        }
-        _ => Ok(None),
+        [b'/'] => Some(Path::root()),
+        [b'/', names @ ..] => read_names(names),
+        _ => None,
     }
 }
 
-/// How many slashes stand in the text.
-fn slash_count(text: &[u8]) -> usize {
-    text.iter().filter(|b| **b == b'/').count()
-}
-
-/// The path that names with slashes between them lead to from `/`. They are put into the room that is
-/// handed in.
-fn read_names(mut names: Vec<Name>, text: &[u8]) -> Result<Option<OwnedPath>, AllocError>
-    requires { names.items ≡ [] }
-    ensures { IfOk result (λ path. path ≡ path_from most_names [] text.now) }
+/// The path that names with slashes between them lead to from `/`.
+fn read_names(text: &[u8]) -> Option<Path>
+    ensures { result ≡ path_from most_names [] text.now }
 {
+    let mut path = Path::root();
     let mut rest = text;
     for _ in 0..MOST_NAMES {
         let (word, after) = split_at_first(rest, b'/');
-        let Some(name) = read_name(word) else {
-            return Ok(None);
-        };
-        names.push(name)?;
+        path.enter(read_name(word)?);
         match after {
-            None => return Ok(Some(OwnedPath::of(names))),
-            Some(next) => rest = next,
+            None => return Some(path),
+            Some(names) => rest = names,
         }
     }
-    Ok(None)
+    None
 }
 
 /// The bytes before the first one that is the separator, and those after it where there is one.

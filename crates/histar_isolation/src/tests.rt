@@ -7,16 +7,13 @@ use std::cmp::Ordering;
 use std::test::Fail;
 
 /// The path that a text is, and `/` where it is none.
-fn path(alloc: Global, text: &str) -> Result<Path, AllocError> {
-    match read_path(alloc, text.as_bytes())? {
-        Some(path) => Ok(path.path()),
-        None => Ok(Path::root()),
-    }
+fn path(text: &str) -> Path {
+    read_path(text.as_bytes()).unwrap_or(Path::root())
 }
 
 /// A line of a tree.
 fn line(alloc: Global, place: &str, text: &str) -> Result<(Path, Bytes), AllocError> {
-    Ok((path(alloc, place)?, Bytes::copy_of(alloc, text.as_bytes())?))
+    Ok((path(place), Bytes::copy_of(alloc, text.as_bytes())?))
 }
 
 fn reply(alloc: Global, line: u32, text: &str) -> Result<ShownReply, AllocError> {
@@ -26,15 +23,11 @@ fn reply(alloc: Global, line: u32, text: &str) -> Result<ShownReply, AllocError>
 
 #[test]
 fn orders_paths_by_names_from_the_root(rt: HostRuntime) -> Result<(), Fail> {
-    let alloc = rt.alloc();
-    let slash = path(alloc, "/")?;
-    let (a, other_a) = (path(alloc, "/a")?, path(alloc, "/a-b")?);
-    let (a_b, b_a) = (path(alloc, "/a/b")?, path(alloc, "/b/a")?);
-    assert!(rt; slash.cmp(&a) == Ordering::Less);
-    assert!(rt; a.cmp(&a_b) == Ordering::Less);
-    assert!(rt; a_b.cmp(&other_a) == Ordering::Less);
-    assert!(rt; b_a.cmp(&a_b) == Ordering::Greater);
-    assert!(rt; a_b.cmp(&a_b) == Ordering::Equal);
+    assert!(rt; path("/").cmp(&path("/a")) == Ordering::Less);
+    assert!(rt; path("/a").cmp(&path("/a/b")) == Ordering::Less);
+    assert!(rt; path("/a/b").cmp(&path("/a-b")) == Ordering::Less);
+    assert!(rt; path("/b/a").cmp(&path("/a/b")) == Ordering::Greater);
+    assert!(rt; path("/a/b").cmp(&path("/a/b")) == Ordering::Equal);
     Ok(())
 }
 
@@ -48,9 +41,9 @@ fn finds_a_path_of_one_tree_alone(rt: HostRuntime) -> Result<(), Fail> {
         line(alloc, "/b", "f")?,
     ];
     let forth = first_difference(lines.as_slice(), others.as_slice(), None, None);
-    assert!(rt; forth == Some(path(alloc, "/a")?));
+    assert!(rt; forth == Some(path("/a")));
     let back = first_difference(others.as_slice(), lines.as_slice(), None, None);
-    assert!(rt; back == Some(path(alloc, "/a")?));
+    assert!(rt; back == Some(path("/a")));
     let same = first_difference(lines.as_slice(), lines.as_slice(), None, None);
     assert!(rt; same.is_none());
     Ok(())
@@ -62,7 +55,7 @@ fn finds_a_path_with_another_text(rt: HostRuntime) -> Result<(), Fail> {
     let lines = [line(alloc, "/", "d")?, line(alloc, "/b", "f")?];
     let others = [line(alloc, "/", "d")?, line(alloc, "/b", "g")?];
     let found = first_difference(lines.as_slice(), others.as_slice(), None, None);
-    assert!(rt; found == Some(path(alloc, "/b")?));
+    assert!(rt; found == Some(path("/b")));
     Ok(())
 }
 
@@ -75,16 +68,11 @@ fn leaves_out_what_lies_below_a_directory(rt: HostRuntime) -> Result<(), Fail> {
         line(alloc, "/k", "f")?,
     ];
     let others = [line(alloc, "/j", "d")?, line(alloc, "/k", "g")?];
-    let below = Some(path(alloc, "/j")?);
+    let below = Some(path("/j"));
     let found = first_difference(lines.as_slice(), others.as_slice(), below, None);
-    assert!(rt; found == Some(path(alloc, "/k")?));
-    let found = first_difference(
-        lines.as_slice(),
-        others.as_slice(),
-        None,
-        Some(path(alloc, "/k")?),
-    );
-    assert!(rt; found == Some(path(alloc, "/j/a")?));
+    assert!(rt; found == Some(path("/k")));
+    let found = first_difference(lines.as_slice(), others.as_slice(), None, Some(path("/k")));
+    assert!(rt; found == Some(path("/j/a")));
     Ok(())
 }
 

@@ -1,6 +1,7 @@
 //! Reading what a line says. `Ok(None)` is a bad line; paths, the bytes of a `write` or an `append` and the members of a group are
 //! copied, so memory may run out.
 ghost use Rattle.std.specs.Prelude.{◌≡◌, IfOk};
+ghost use Rattle.histar_flat.specs.Words.{path_of};
 ghost use Rattle.histar_script.specs.Reading.{user_of, path_mode_of, path_bytes_of, rename_of, login_of, call_on, call_alone, call_named, call_of, words_item, item_of};
 
 use crate::groups::read_group;
@@ -24,13 +25,24 @@ fn read_user(text: &[u8]) -> Option<User>
     Some(User { name, password })
 }
 
+/// A path, as a call owns it.
+fn read_owned_path(alloc: Global, text: &[u8]) -> Result<Option<OwnedPath>, AllocError>
+    ensures { IfOk result (λ path. path ≡ path_of text.now) }
+{
+    let Some(path) = read_path(text) else {
+        return Ok(None);
+    };
+    let path = OwnedPath::of(alloc, &path)?;
+    Ok(Some(path))
+}
+
 /// `PATH MODE`
 #[tactic(auto, unfolding(crate::specs::Reading::path_mode_of))]
 fn read_path_and_mode(alloc: Global, text: &[u8]) -> Result<Option<(OwnedPath, Mode)>, AllocError>
     ensures { IfOk result (λ parts. parts ≡ path_mode_of text.now) }
 {
     let (word, rest) = split_word(text);
-    let Some(path) = read_path(alloc, word)? else {
+    let Some(path) = read_owned_path(alloc, word)? else {
         return Ok(None);
     };
     let Some(mode) = rest.and_then(|mode| read_mode(mode)) else {
@@ -45,7 +57,7 @@ fn read_path_and_bytes(alloc: Global, text: &[u8]) -> Result<Option<(OwnedPath, 
     ensures { IfOk result (λ parts. parts ≡ path_bytes_of text.now) }
 {
     let (word, rest) = split_word(text);
-    let Some(path) = read_path(alloc, word)? else {
+    let Some(path) = read_owned_path(alloc, word)? else {
         return Ok(None);
     };
     let Some(bytes) = rest else {
@@ -72,7 +84,7 @@ fn read_rename(alloc: Global, text: &[u8]) -> Result<Option<UnixCall>, AllocErro
     ensures { IfOk result (λ call. call ≡ rename_of text.now) }
 {
     let (word, rest) = split_word(text);
-    let Some(path) = read_path(alloc, word)? else {
+    let Some(path) = read_owned_path(alloc, word)? else {
         return Ok(None);
     };
     let Some(name) = rest.and_then(|name| read_name(name)) else {
@@ -144,7 +156,7 @@ fn call_named(alloc: Global, word: &[u8], rest: &[u8]) -> Result<Option<UnixCall
     } else if word == b"kill".as_slice() {
         Ok(read_process(rest).map(UnixCall::Kill))
     } else {
-        let path = read_path(alloc, rest)?;
+        let path = read_owned_path(alloc, rest)?;
         Ok(path.and_then(|path| call_on(word, path)))
     }
 }

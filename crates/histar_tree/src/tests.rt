@@ -42,7 +42,7 @@ fn boot_makes_slash_alone(rt: HostRuntime) -> Result<(), Fail> {
         resolve::resolve(&kernel, &places, &Path::root()),
         Some(slash)
     );
-    let nothing = read_path(alloc, b"/nothing")?.ok_or("a path")?.path();
+    let nothing = read_path(b"/nothing").ok_or("a path")?;
     assert!(rt; resolve::resolve(&kernel, &places, &nothing).is_none());
     Ok(())
 }
@@ -58,7 +58,7 @@ fn a_path_leads_to_a_new_file(rt: HostRuntime) -> Result<(), Fail> {
     let caller = find_caller(&kernel, places.home, &zero).ok_or("process 0")?;
     let (name, password) = root()?;
     login::login(&mut kernel, alloc, &users, &caller, name, password)?;
-    let file = read_path(alloc, b"/file")?.ok_or("a path")?.path();
+    let file = read_path(b"/file").ok_or("a path")?;
     let thread = caller.thread;
     create::create(
         &mut kernel,

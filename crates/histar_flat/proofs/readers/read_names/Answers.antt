@@ -1,44 +1,37 @@
-use Rattle.std.proofs.Common.{◌≡◌, ◌+◌, ◌-◌, ◌<◌, List, [], ◌∷◌, ◌++◌, reverse, length, Some, None, sym, ap, subst, ◌∙◌, arith, length-append}
-use Rattle.std.proofs.lemmas.List.{reverse-append}
+use Rattle.std.proofs.Common.{◌≡◌, ◌+◌, ◌-◌, ◌<◌, [], Some, None, sym, ap, subst, ◌∙◌, arith}
 use Rattle.std.specs.Option.{option_copied}
-use Rattle.histar_flat.specs.Words.{Name, slash, split_at_first, name_of, path_from}
+use Rattle.histar_flat.specs.Words.{slash, split_at_first, name_of, path_from}
 use Rattle.histar_flat.proofs.PathLemmas.{no_name, last_name, next_name}
 use Rattle.histar_flat.proofs.readers.read_names.Goals as goal
 
--- what was put in last stands first once the names are turned
-turned : (names pushed : List Name) (name : Name) → pushed ≡ names ++ name ∷ [] → reverse pushed ≡ name ∷ reverse names
-turned names pushed name is = ap reverse is ∙ reverse-append names (name ∷ [])
-
-pub returns-in_default : goal.returns-in_default
-returns-in_default c =
-    let none : name_of (split_at_first slash c.loop.rest.now).0 ≡ None = ap name_of (sym c.split_at_first.ensures.before) ∙ sym c.read_name.ensures ∙ c.in_default.is in
-    sym (no_name (8 - c.loop.counter) (reverse c.loop.names.items) c.loop.rest.now none) ∙ c.loop.invariant.0
+pub returns-in_err-read_name : goal.returns-in_err-read_name
+returns-in_err-read_name c =
+    let none : name_of (split_at_first slash c.loop.rest.now).0 ≡ None = ap name_of (sym c.split_at_first.ensures.before) ∙ sym c.read_name.ensures ∙ c.in_err-read_name.was in
+    c.from_residual.ensures ∙ sym (no_name (8 - c.loop.counter) c.loop.path c.loop.rest.now none) ∙ c.loop.invariant.0
 
 pub returns-in-None : goal.returns-in-None
 returns-in-None c =
-    let name = c.in-Some.name in
-    let is : name_of (split_at_first slash c.loop.rest.now).0 ≡ Some name = ap name_of (sym c.split_at_first.ensures.before) ∙ sym c.read_name.ensures ∙ c.in-Some.is in
+    let name = c.in_ok-read_name.field-0 in
+    let is : name_of (split_at_first slash c.loop.rest.now).0 ≡ Some name = ap name_of (sym c.split_at_first.ensures.before) ∙ sym c.read_name.ensures ∙ c.in_ok-read_name.was in
     let end : (split_at_first slash c.loop.rest.now).1 ≡ None = sym c.split_at_first.ensures.after ∙ ap option_copied c.in-None.is in
     let left : 0 < 8 - c.loop.counter = omega (arith, c.loop-test.true) in
-    ap (λ path. Some path) (c.of.ensures ∙ turned c.loop.names.items c.push.new.self.items name c.in_ok-push.ensures.items)
-    ∙ sym (last_name (8 - c.loop.counter) (reverse c.loop.names.items) c.loop.rest.now name left is end) ∙ c.loop.invariant.0
+    ap (λ path. Some path) c.enter.ensures ∙ sym (last_name (8 - c.loop.counter) c.loop.path c.loop.rest.now name left is end) ∙ c.loop.invariant.0
 
 pub loop-preserved : goal.loop-preserved
 loop-preserved c =
-    let name = c.in-Some.name in
-    let names = c.in-Some-after.next.now in
-    let is : name_of (split_at_first slash c.loop.rest.now).0 ≡ Some name = ap name_of (sym c.split_at_first.ensures.before) ∙ sym c.read_name.ensures ∙ c.in-Some.is in
-    let on : (split_at_first slash c.loop.rest.now).1 ≡ Some names = sym c.split_at_first.ensures.after ∙ ap option_copied c.in-Some-after.is in
+    let name = c.in_ok-read_name.field-0 in
+    let names = c.in-Some.names.now in
+    let is : name_of (split_at_first slash c.loop.rest.now).0 ≡ Some name = ap name_of (sym c.split_at_first.ensures.before) ∙ sym c.read_name.ensures ∙ c.in_ok-read_name.was in
+    let on : (split_at_first slash c.loop.rest.now).1 ≡ Some names = sym c.split_at_first.ensures.after ∙ ap option_copied c.in-Some.is in
     let left : 0 < 8 - c.loop.counter = omega (arith, c.loop-test.true) in
     let less : 8 - (c.loop.counter + 1) ≡ 8 - c.loop.counter - 1 = omega arith in
-    let more : length c.push.new.self.items ≡ c.loop.counter + 1 = ap length c.in_ok-push.ensures.items ∙ omega (arith, length-append c.loop.names.items (name ∷ []), c.loop.invariant.1) in
-    rw (turned c.loop.names.items c.push.new.self.items name c.in_ok-push.ensures.items, less) (
-      sym (next_name (8 - c.loop.counter) (reverse c.loop.names.items) c.loop.rest.now names name left is on) ∙ c.loop.invariant.0,
-      more,
+    rw (c.enter.ensures, less) (
+      sym (next_name (8 - c.loop.counter) c.loop.path c.loop.rest.now names name left is on) ∙ c.loop.invariant.0,
+      omega (arith, c.loop.invariant.1),
     )
 
 pub returns : goal.returns
 unfolding path_from
 returns c =
     let none : 8 - c.loop.counter ≡ 0 = omega (arith, c.loop-test.false) in
-    subst (λ left. path_from left (reverse c.loop.names.items) c.loop.rest.now ≡ path_from 8 [] c.args.text.now) none c.loop.invariant.0
+    subst (λ left. path_from left c.loop.path c.loop.rest.now ≡ path_from 8 [] c.args.text.now) none c.loop.invariant.0
