@@ -1,5 +1,5 @@
 -- A root container alone is a tree, and so are the objects of the empty kernel.
-use Rattle.std.proofs.Common.{◌≡◌, ◌≢◌, ℕ, ◌+◌, ◌<◌, nat_eq, true, false, [], ◌∷◌, Option, None, Some, Result, Ok, Err, OnOk, inl, inr, arith, refl, sym, ap, ◌∙◌, subst, lit<, if◌then◌else◌}
+use Rattle.std.proofs.Common.{◌≡◌, ◌≢◌, ℕ, ◌<◌, nat_eq, true, false, [], ◌∷◌, Option, None, Some, inl, inr, arith, refl, sym, ap, ◌∙◌, subst, lit<, if◌then◌else◌}
 use Rattle.std.specs.Prelude.{is_some}
 use Rattle.std.specs.FinSet as set
 use Rattle.std.specs.Ordering.{nat_cmp}
@@ -9,12 +9,12 @@ use Rattle.std.proofs.lemmas.Bool.Decides.{eqb_tells}
 use Rattle.histar_label.specs.Levels.{Levels}
 use Rattle.histar_object.specs.declared.objects.Kind.TheVariants.{Container}
 use Rattle.histar_object.specs.declared.objects.Object.{Object}
-use Rattle.histar_object.specs.Objects.{Objects, put, no_objects, with_new, links_in, kind_links, is_there, is_container}
-use Rattle.histar_object.specs.State.{State, with_object, root_object, boot_thread, empty_state}
+use Rattle.histar_object.specs.Objects.{Objects, put, no_objects, with_new, links_in, kind_links, is_there}
+use Rattle.histar_object.specs.State.{root_object, boot_thread, empty_state}
 use Rattle.histar_container.specs.Tree.{Address, Naming, wanted, same, is_child, IsTree}
 use Rattle.histar_container.proofs.Addresses.{inner, same_tells}
 use Rattle.histar_container.proofs.TableMoves.{put_here, put_other}
-use Rattle.histar_container.proofs.Trees.{laid_itself, tree_new, tree_linked}
+use Rattle.histar_container.proofs.Trees.{laid_itself, tree_new}
 
 module _ {L : Type 0} (root next : ℕ) (o : Object L) (below : root < next) (leaf : (c : ℕ) → set.contains (kind_links o.kind) c ≡ false) where
   -- the root has the address of no steps, and nothing else has one
@@ -109,9 +109,3 @@ tree_empty_state =
         | inr k ↦ rw (e.0, k.0) refl
       ]
     ]
-
--- a state with one object more in a container has a tree too
-pub tree_added : {A E : Type 0} (r : Result A E) (old new : State) (root d : ℕ) (o : Object Levels) → IsTree old.objects root old.next_object → is_container (old.objects d) ≡ true → ((c : ℕ) → set.contains (kind_links o.kind) c ≡ false)
-    → OnOk r (new ≡ with_object old d o) → OnOk r (IsTree new.objects root (old.next_object + 1))
-tree_added (Ok x) old new root d o tree container leaf is = tree_linked old.objects new.objects root old.next_object d old.next_object o tree refl container leaf (ap (λ (s : State). s.objects) is)
-tree_added (Err x) old new root d o tree container leaf is = tt

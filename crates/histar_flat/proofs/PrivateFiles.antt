@@ -1,30 +1,24 @@
 -- A private file and the processes of others: one call.
-use Rattle.std.specs.Prelude.{◌≡◌, ◌≢◌, ℕ, true, false, not, ◌&&◌, cond, List, ◌∷◌, length, nat_le, Option, Some, None, refl}
+use Rattle.std.specs.Prelude.{◌≡◌, ◌≢◌, ℕ, true, false, not, ◌&&◌, cond, List, ◌∷◌, length, nat_le, Some, None, refl}
 use Rattle.std.proofs.Common.{ap, sym, ◌∙◌, inl, inr}
 use Rattle.std.proofs.lemmas.Bool.{true≢false, cases_Bool}
 use Rattle.histar_base.specs.Refusals.{◌orelse◌, unless}
 use Rattle.histar_flat.specs.declared.calls.UnixCall.{UnixCall}
-use Rattle.histar_flat.specs.declared.calls.UnixCall.TheVariants.{Read, Write}
-use Rattle.histar_flat.specs.declared.replies.Errno.{Errno}
+use Rattle.histar_flat.specs.declared.calls.UnixCall.TheVariants.{Write}
 use Rattle.histar_flat.specs.declared.replies.Errno.TheVariants.{EACCES, EFBIG}
-use Rattle.histar_flat.specs.declared.replies.Reply.TheVariants.{Data}
 use Rattle.histar_flat.specs.Words.{Name, Path, ProcName}
 use Rattle.histar_flat.specs.PathOrder.{same, under_path}
 use Rattle.histar_flat.specs.Sessions.{Session}
 use Rattle.histar_flat.specs.Files.{get}
-use Rattle.histar_flat.specs.Classes.{Process, is_free, may_read, may_write}
-use Rattle.histar_flat.specs.FlatState.{Flat, IsTree, is_some_and, reads, writes, moved}
-use Rattle.histar_flat.specs.FlatCalls.{most_bytes, no_file, refused, answer, reply_or, running, reply_by, reply_to, flat_after}
+use Rattle.histar_flat.specs.Classes.{Process, is_free, may_write}
+use Rattle.histar_flat.specs.FlatState.{Flat, IsTree, is_some_and, writes, moved}
+use Rattle.histar_flat.specs.FlatCalls.{most_bytes, no_file, refused, flat_after}
 use Rattle.histar_flat.specs.Laws.{private_file, runs_for, takes_away}
 use Rattle.histar_flat.proofs.FileLemmas.{get_other, get-keep}
 use Rattle.histar_flat.proofs.Refusals.{passes_first, passes_later, passed}
 use Rattle.histar_flat.proofs.Renaming.{stays, get_renamed}
 use Rattle.histar_flat.proofs.Changes.{EachChange, by_line}
 use Rattle.histar_flat.proofs.Trees.{nothing_below}
-
--- what is read may be read
-pub read_is_readable : (session : Session) (f : Flat) (me : ProcName) (p : Process) (r : Path) → refused session f me p (Read r) ≡ None → reads session f p r ≡ true
-read_is_readable session f me p r h = passed (reads session f p r) EACCES (passes_later (no_file session f p r) (unless (reads session f p r) EACCES) h)
 
 -- what is written may be written
 pub written_is_writable : (session : Session) (f : Flat) (me : ProcName) (p : Process) (r : Path) (bytes : List ℕ) → refused session f me p (Write r bytes) ≡ None → writes session f p r ≡ true
@@ -38,10 +32,6 @@ module _ (f : Flat) (q : Path) (owner : Name) (bytes : List ℕ) (h : get f.file
   elsewhere r free e = let gone : Some (private_file owner bytes) ≡ None = sym h ∙ ap (get f.files) e ∙ free in absurd (cc)
 
   module _ (session : Session) where
-    -- another user's process may not read it
-    private_is_unread : (p : Process) → same p.user owner ≡ false → reads session f p q ≡ false
-    private_is_unread p other = ap (λ o. is_some_and o (λ n. may_read session p n.class)) h ∙ other
-
     -- nor write it
     private_is_unwritten : (p : Process) → same p.user owner ≡ false → writes session f p q ≡ false
     private_is_unwritten p other = ap (λ o. is_some_and o (λ n. may_write session p n.class)) h ∙ ap (λ b. b && is_free p) other
@@ -77,15 +67,3 @@ module _ (f : Flat) (q : Path) (owner : Name) (bytes : List ℕ) (h : get f.file
   private_file_stays tree session me call other kept =
       by_line session f me call (λ g. get g.files q ≡ Some (private_file owner bytes)) h
       (λ p runs. private_changes session tree me p call (sym (ap (λ r. is_some_and r (λ p. same p.user owner)) runs) ∙ other) kept)
-
-  -- A process that is not the owner's is never answered the bytes of a private file.
-  pub private_file_is_untold : (session : Session) (me : ProcName) (told : List ℕ) → runs_for f me owner ≡ false → reply_to session f me (Read q) ≢ Data told
-  private_file_is_untold session me told other = by (running f me) other
-    where
-      first : (p : Process) → same p.user owner ≡ false → (refusal : Option Errno) → refused session f me p (Read q) ≡ refusal → reply_or refusal (answer f me p (Read q)) ≢ Data told
-      first p i None e = absurd (true≢false (sym (read_is_readable session f me p q e) ∙ private_is_unread session p i))
-      first p i (Some d) e = λ k. cc
-
-      by : (r : Option Process) → is_some_and r (λ p. same p.user owner) ≡ false → reply_by session f me r (Read q) ≢ Data told
-      by None i = λ k. cc
-      by (Some p) i = first p i (refused session f me p (Read q)) refl

@@ -1,6 +1,5 @@
 //! Paths.
-ghost use Rattle.std.specs.Prelude.{◌≡◌, ◌<◌, ◌≤◌, [], ◌∷◌, length, slice_get, codes};
-ghost use Rattle.std.specs.Option.{option_copied};
+ghost use Rattle.std.specs.Prelude.{◌≡◌, ◌<◌, ◌≤◌, [], ◌∷◌, length, codes};
 ghost use Rattle.histar_flat.specs.FlatState.{moved};
 ghost use Rattle.histar_flat.specs.Padding.{padded, unused_name};
 ghost use Rattle.histar_flat.specs.PathOrder.{below_path, parent, under_path};
@@ -87,13 +86,6 @@ impl Path {
         ensures { result.now ≡ self.now }
     {
         &self.names[..self.len as usize]
-    }
-
-    /// The last name, which `/` alone doesn't have.
-    pub fn last(&self) -> Option<&Name>
-        ensures { option_copied result ≡ slice_get self.now 0 }
-    {
-        self.names().first()
     }
 
     /// Whether what stands here is what stands at the other path, or lies below it.

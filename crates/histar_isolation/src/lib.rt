@@ -4,8 +4,6 @@
 
 pub mod isolation_laws;
 mod replies;
-#[cfg(test)]
-mod tests;
 mod trees;
 mod verdict;
 

@@ -7,7 +7,7 @@ use Rattle.std.proofs.lemmas.Option.{cond_some, same_Some}
 use Rattle.histar_flat.specs.Words.{most_children}
 use Rattle.histar_flat.proofs.Options.{bind_some}
 use Rattle.histar_layout.specs.Reading.{◌>>=◌, front_at, number_at}
-use Rattle.histar_layout.specs.Status.{ProcessStatus, child_at, child_in, children_in, head_in, head_of, look_for, status_in}
+use Rattle.histar_layout.specs.Status.{child_at, child_in, children_in, head_in, head_of, look_for, status_in}
 use Rattle.histar_layout.specs.StatusParts.{IsSplit}
 use Rattle.histar_layout.specs.declared.status.Child.{Child}
 use Rattle.histar_layout.specs.declared.status.StatusHead.{StatusHead}
@@ -170,9 +170,3 @@ is_split bytes head rest fits h some = by (children_in most_children rest) refl 
 -- what is split tells the head
 pub head_told : (bytes : List ℕ) (head : StatusHead) (rest : List ℕ) → IsSplit bytes head rest → Some head ≡ option_map head_of (status_in bytes)
 head_told bytes head rest split = ap Some split.head_is ∙ ap (option_map head_of) (sym split.told)
-
--- and whether one more child may be born
-pub room_told : (bytes : List ℕ) (head : StatusHead) → Some head ≡ option_map head_of (status_in bytes) → head.born < most_children → (status : ProcessStatus) → status_in bytes ≡ Some status → status.born < most_children
-room_told bytes head is room status told =
-    let same : head ≡ head_of status = same_Some head (head_of status) (is ∙ ap (option_map head_of) told) in
-    omega (arith, ap (λ (h : StatusHead). h.born) same)

@@ -18,6 +18,3 @@ pub use status::{
     Child, NotAStatus, StatusHead, add_child, exit_status, find_child, first_status, read_status,
     remove_child, statuses_are_spelled,
 };
-
-#[cfg(test)]
-mod tests;

@@ -8,6 +8,3 @@ mod session;
 
 pub use read_session::RawLine;
 pub use session::run_raw_script;
-
-#[cfg(test)]
-mod tests;

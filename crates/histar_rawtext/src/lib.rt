@@ -18,6 +18,3 @@ pub use answers::write_answer;
 pub use entries::{denial_name, trace_line};
 pub use raw_calls::write_call;
 pub use read_calls::read_raw;
-
-#[cfg(test)]
-mod tests;

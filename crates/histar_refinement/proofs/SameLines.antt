@@ -1,22 +1,13 @@
--- What the segments of a state tell of a process or a directory is one thing at most.
-use Rattle.std.proofs.Common.{◌≡◌, ℕ, ◌^◌, ◌<◌, List, [], ◌∷◌, ◌++◌, get_or, take, drop, Option, Some, None, refl, sym, ap, subst, ◌∙◌, append_assoc, arith}
+-- Bytes are one process segment at most. And the numbers in what an entry leads to.
+use Rattle.std.proofs.Common.{◌≡◌, ℕ, ◌^◌, ◌<◌, List, [], ◌∷◌, ◌++◌, get_or, take, drop, Option, Some, None, refl, sym, ap, ◌∙◌, append_assoc, arith}
 use Rattle.std.specs.Int.{w64, to_be_bytes, from_be_bytes}
 use Rattle.std.specs.List.{flat_map, AllByRecursion}
-use Rattle.std.specs.FinMap as map
 use Rattle.std.proofs.lemmas.List.{take_at, drop_at}
 use Rattle.std.proofs.lemmas.Nat.{from_be_bytes-to_be_bytes_8}
-use Rattle.std.proofs.lemmas.Option.{same_Some}
-use Rattle.histar_flat.specs.Words.{Path, ProcName}
-use Rattle.histar_object.specs.Objects.{bytes_in}
-use Rattle.histar_object.specs.State.{State}
-use Rattle.histar_layout.specs.Directory.{Entries, IsDirectory}
 use Rattle.histar_layout.specs.declared.entry.Target.{Target}
 use Rattle.histar_layout.specs.declared.entry.Target.TheVariants as targets
-use Rattle.histar_layout.proofs.DirectoryLemmas.{same_directory}
-use Rattle.histar_flat.specs.Sessions.{Session}
 use Rattle.histar_layout.specs.declared.status.Child.{Child as Listed}
-use Rattle.histar_layout.specs.Status.{life_bytes, ProcessStatus, child_bytes, status_bytes, IsChild, IsStatus, child_at}
-use Rattle.histar_refinement.specs.Lines.{IsStatusSegment, IsDirectoryAt}
+use Rattle.histar_layout.specs.Status.{life_bytes, ProcessStatus, child_bytes, status_bytes, IsChild, IsStatus}
 
 -- a number at the front of bytes, and the rest
 one_number : (a b : ℕ) (x y : List ℕ) → a < 2 ^ 64 → b < 2 ^ 64 → to_be_bytes w64 a ++ x ≡ to_be_bytes w64 b ++ y → (a ≡ b) × (x ≡ y)
@@ -88,22 +79,3 @@ container_in (targets.Directory container listing) = container
 abbrev pub listing_in : Target → ℕ
 listing_in (targets.File file) = 0
 listing_in (targets.Directory container listing) = listing
-
-module _ (session : Session) (s : State) where
-  -- two segments found for one process are one, in every state
-  pub same_status_segment : (p : ProcName) (c d g h : ℕ) → IsStatusSegment session s p c g → IsStatusSegment session s p d h → (c ≡ d) × (g ≡ h)
-  same_status_segment [] c d g h x y = (x.0 ∙ sym y.0, x.1 ∙ sym y.1)
-  same_status_segment (n ∷ p) c d g h x y =
-      let k = same_status_segment p x.0 y.0 x.1 y.1 x.3 y.3 in
-      let t = same_status (bytes_in (s.objects x.1)) x.2 y.2 x.4 (subst (λ q. IsStatus (bytes_in (s.objects q)) y.2) (sym k.1) y.4) in
-      let z = same_Some (record { number = n; container = c; segment = g }) (record { number = n; container = d; segment = h }) (sym x.5 ∙ ap (λ (u : ProcessStatus). child_at u.children n) t ∙ y.5) in
-      (ap (λ (l : Listed). l.container) z, ap (λ (l : Listed). l.segment) z)
-
-  -- two directory segments found for one path are one
-  pub same_directory_at : (p : Path) (c d g h : ℕ) → IsDirectoryAt session s p c g → IsDirectoryAt session s p d h → (c ≡ d) × (g ≡ h)
-  same_directory_at [] c d g h x y = (x.0 ∙ sym y.0, x.1 ∙ sym y.1)
-  same_directory_at (n ∷ p) c d g h x y =
-      let k = same_directory_at p x.0 y.0 x.1 y.1 x.3 y.3 in
-      let t = same_directory (bytes_in (s.objects x.1)) x.2 y.2 x.4 (subst (λ q. IsDirectory (bytes_in (s.objects q)) y.2) (sym k.1) y.4) in
-      let z = same_Some (targets.Directory c g) (targets.Directory d h) (sym x.5 ∙ ap (λ (u : Entries). map.get u n) t ∙ y.5) in
-      (ap container_in z, ap listing_in z)

@@ -3,15 +3,9 @@
 #![tactic(auto)]
 
 #[cfg(test)]
-mod boot;
-#[cfg(test)]
-mod endings;
+mod processes;
 #[cfg(test)]
 mod raw_confined;
-#[cfg(test)]
-mod raw_gates;
-#[cfg(test)]
-mod raw_labels;
 #[cfg(test)]
 mod raw_open;
 #[cfg(test)]
@@ -22,5 +16,3 @@ mod raw_sessions;
 mod runs;
 #[cfg(test)]
 mod stops;
-#[cfg(test)]
-mod texts;

@@ -17,7 +17,6 @@ pub(crate) enum Asked {
     MakeCategory,
     OwnLabel,
     SetLabel(Told),
-    SetClearance(Told),
     /// In a container, with a label.
     MakeSegment(u64, Told, &'static [u8], usize),
     /// In a container, with a label.
@@ -34,8 +33,6 @@ pub(crate) enum Asked {
     Write(u64, u64, u32, &'static [u8], usize),
     /// Of a container and an object.
     Unlink(u64, u64),
-    /// Of a container and an object.
-    LabelOf(u64, u64),
 }
 
 /// What a raw call answers, or why it is refused.
@@ -47,7 +44,6 @@ pub(crate) enum Expected {
     Mark(u32),
     /// A text, so many times over.
     Bytes(&'static [u8], usize),
-    Label(Told),
     OwnLabel(Told, Told),
     Refused(Denied),
 }
@@ -57,8 +53,6 @@ pub(crate) const OBSERVE: Expected = Expected::Refused(Denied::Observe);
 pub(crate) const MODIFY: Expected = Expected::Refused(Denied::Modify);
 
 pub(crate) const RANGE: Expected = Expected::Refused(Denied::Range);
-
-pub(crate) const GATE: Expected = Expected::Refused(Denied::Gate);
 
 pub(crate) const NO_ENTRY: Expected = Expected::Refused(Denied::NoEntry);
 
@@ -88,9 +82,6 @@ pub(crate) const CLEARED_2: Told = (&[(2, Level::L3)], Level::L2);
 
 /// Names a category that is never made.
 pub(crate) const UNMADE: Told = (&[(9, Level::L2)], Level::L1);
-
-/// A clearance that names a category that is never made.
-pub(crate) const UNMADE_CLEARANCE: Told = (&[(9, Level::L1)], Level::L2);
 
 /// The line, the thread, what it asks, and what it is answered.
 pub(crate) type Row = (u32, u64, Asked, Expected);
@@ -173,7 +164,6 @@ fn raw_call(alloc: Global, asked: Asked) -> Result<RawCall, OutOfMemory> {
         Asked::MakeCategory => Ok(RawCall::MakeCategory),
         Asked::OwnLabel => Ok(RawCall::OwnLabel),
         Asked::SetLabel(told) => Ok(RawCall::SetLabel(handed(alloc, told)?)),
-        Asked::SetClearance(told) => Ok(RawCall::SetClearance(handed(alloc, told)?)),
         Asked::MakeSegment(container, told, text, times) => {
             segment_call(alloc, container, told, repeated(alloc, text, times)?)
         }
@@ -201,9 +191,6 @@ fn raw_call(alloc: Global, asked: Asked) -> Result<RawCall, OutOfMemory> {
         Asked::Unlink(container, object) => {
             Ok(RawCall::Unlink(ObjId::new(container), ObjId::new(object)))
         }
-        Asked::LabelOf(container, object) => {
-            Ok(RawCall::LabelOf(ObjId::new(container), ObjId::new(object)))
-        }
     }
 }
 
@@ -217,7 +204,6 @@ fn is_answer(alloc: Global, answer: &Answer, expected: Expected) -> Result<bool,
         (Answer::Bytes(bytes), Expected::Bytes(text, times)) => {
             Ok(bytes.as_slice() == repeated(alloc, text, times)?.as_slice())
         }
-        (Answer::Label(found), Expected::Label(told)) => Ok(*found == label(alloc, told)?),
         (Answer::OwnLabel(own, most), Expected::OwnLabel(told, clearance)) => {
             Ok(*own == label(alloc, told)? && *most == label(alloc, clearance)?)
         }

@@ -2,13 +2,13 @@
 use histar_label::{InternStore, LabelStore, PlainStore};
 use histar_script::Fault;
 use histar_shell::{Counted, Options, run, run_with};
-use std::alloc::{AllocError, Global};
+use std::alloc::Global;
 use std::io;
 use std::io::{ErrorKind, Read, Write};
 use std::test::Fail;
 
 /// A run that prints the replies alone.
-pub const REPLIES: Options = Options {
+const REPLIES: Options = Options {
     tree: false,
     trace: false,
 };
@@ -111,23 +111,6 @@ impl Write for FailingWriter {
     }
 }
 
-#[test]
-fn gives_the_same_text_in_any_pieces(rt: HostRuntime) -> Result<(), Fail> {
-    for piece in [1, 2, 7, 4096] {
-        let mut reader = FailingReader::new(SCRIPT, piece, 0);
-        let mut writer = FailingWriter::new(rt.alloc(), piece, TEXT.len(), false);
-        let _trace = run(rt.alloc(), &mut reader, &mut writer, REPLIES)?;
-        assert_eq!(rt; reader.failures(), 0);
-        assert_eq!(rt; writer.failures(), 0);
-        assert_eq!(rt;
-            writer.into_inner().taken.as_slice(),
-            TEXT,
-            "in pieces of {piece}"
-        );
-    }
-    Ok(())
-}
-
 /// What a run of the first session over this store writes, with its tree and its trace.
 fn text_over<S: LabelStore + Drop>(alloc: Global, store: S) -> Result<Vec<u8>, Fail> {
     let mut reader = Counted::new(SCRIPT);
@@ -181,72 +164,4 @@ fn writes_as_much_as_the_writer_takes(rt: HostRuntime) {
             assert_eq!(rt; writer.into_inner().taken.as_slice(), &TEXT[..room]);
         }
     }
-}
-
-/// The fault of a run of the text, and how many bytes were written.
-fn outcome_of(alloc: Global, text: &[u8]) -> (Option<Fault>, usize) {
-    let mut reader = Counted::new(text);
-    let mut writer = Counted::new(Vec::new(alloc));
-    let ran = run(alloc, &mut reader, &mut writer, REPLIES);
-    (ran.err(), writer.into_inner().len())
-}
-
-#[test]
-fn names_the_fault_of_a_script(rt: HostRuntime) {
-    let cases: [(&[u8], u32); 6] = [
-        (b"", 1),
-        (b"0 read /a\n", 1),
-        (b"user root rr\r\n", 1),
-        (b"user root rr\n0 read /a\n0 read /a/\n0 read /b/", 3),
-        (b"user root rr\n0 read /a\nuser bob bb", 3),
-        (b"# only a comment\n\n", 3),
-    ];
-    for (text, line) in cases {
-        assert_eq!(rt;
-            outcome_of(rt.alloc(), text),
-            (Some(Fault::BadScript(line)), 0)
-        );
-    }
-}
-
-/// A comment of `#` and so many letters, with its line end.
-fn push_comment(text: &mut Vec<u8>, letters: usize) -> Result<(), AllocError> {
-    text.push(b'#')?;
-    for _ in 0..letters {
-        text.push(b'x')?;
-    }
-    text.push(b'\n')?;
-    Ok(())
-}
-
-#[test]
-fn takes_as_many_bytes_as_a_script_may_have(rt: HostRuntime) -> Result<(), Fail> {
-    let mut text = Vec::from_slice(rt.alloc(), b"user root rr\n")?;
-    for _ in 0..1022 {
-        push_comment(&mut text, 1023)?;
-    }
-    push_comment(&mut text, 1011)?;
-    assert_eq!(rt; text.len(), 1_048_576);
-    assert_eq!(rt; outcome_of(rt.alloc(), text.as_slice()), (None, 0));
-    text.push(b'\n')?;
-    assert_eq!(rt;
-        outcome_of(rt.alloc(), text.as_slice()),
-        (Some(Fault::TooLong), 0)
-    );
-    Ok(())
-}
-
-#[test]
-fn takes_as_many_lines_as_a_script_may_have(rt: HostRuntime) -> Result<(), Fail> {
-    let mut text = Vec::from_slice(rt.alloc(), b"user root rr\n")?;
-    for _ in 0..16_383 {
-        text.push(b'\n')?;
-    }
-    assert_eq!(rt; outcome_of(rt.alloc(), text.as_slice()), (None, 0));
-    text.push(b'\n')?;
-    assert_eq!(rt;
-        outcome_of(rt.alloc(), text.as_slice()),
-        (Some(Fault::TooLong), 0)
-    );
-    Ok(())
 }

@@ -1,8 +1,8 @@
 //! Machines that stop where memory runs out, and what they have done by then. With ample memory none stops:
 //! `.ci/failing-calls` has each allocation of these tests fail in turn.
-use crate::texts::call_text;
 use histar_flat::CallLine;
 use histar_label::PlainStore;
+use histar_rawtext::trace_line;
 use histar_script::read_script;
 use histar_shell::Machine;
 use histar_syscall::TraceEntry;
@@ -77,11 +77,8 @@ fn check_beginning(
 ) -> Result<(), Fail> {
     assert!(rt; trace.len() <= ample.len());
     for (entry, other) in trace.iter().zip(ample.iter()) {
-        let call = call_text(alloc, &entry.call)?;
-        assert_eq!(rt; call.as_str(), call_text(alloc, &other.call)?.as_str());
-        assert_eq!(rt; entry.line, other.line);
-        assert_eq!(rt; entry.thread.number(), other.thread.number());
-        assert_eq!(rt; entry.denied, other.denied);
+        let line = trace_line(alloc, entry)?;
+        assert_eq!(rt; line.as_slice(), trace_line(alloc, other)?.as_slice());
     }
     Ok(())
 }

@@ -73,19 +73,6 @@ module _ (t : ℕ) where
         ]) granted.3,
   )
 
-  -- nothing comes behind a call that was refused
-  pub made_longer : (old new : KernelModel) (calls more : List RawCall) (r : RawCall × Denied) → Made old new t calls (Some r) → Made old new t (calls ++ more) (Some r)
-  made_longer old new [] more r made = absurd cc
-  made_longer old new (c ∷ calls) more r made = (
-    made.0,
-    made.1,
-    made.2,
-    (elim made.1 as (λ (x : Option Denied). GoesOn x c (Made made.0 new t calls (Some r)) made.0 new (Some r) → GoesOn x c (Made made.0 new t (calls ++ more) (Some r)) made.0 new (Some r)) [
-      | None ↦ λ rest. made_longer made.0 new calls more r rest
-      | Some denied ↦ λ rest. rest
-    ]) made.3,
-  )
-
   -- a kernel that is as it was has made what it had made
   pub made_unchanged : (old mid new : KernelModel) (calls : List RawCall) (refusal : Option (RawCall × Denied)) → Made old mid t calls refusal → IsUnchanged mid new → Made old new t calls refusal
   made_unchanged old mid new [] refusal made same = (still_same old mid new made.0 same, made.1)
@@ -142,21 +129,3 @@ module _ (t : ℕ) where
   -- a raw call more that was granted
   pub granted_more : (old mid new : KernelModel) (before : List RawCall) (call : RawCall) → Granted old mid t before → Called mid new t call None → Granted old new t (before ++ call ∷ [])
   granted_more old mid new before call granted called = made_more old mid new before call None granted called
-
-  -- raw calls of a kernel that is as it was
-  pub made_from : (old mid new : KernelModel) (calls : List RawCall) (refusal : Option (RawCall × Denied)) → IsUnchanged old mid → Made mid new t calls refusal → Made old new t calls refusal
-  made_from old mid new [] refusal same made = (still_same old mid new same made.0, made.1)
-  made_from old mid new (c ∷ calls) refusal same made = (made.0, made.1, call_after old mid made.0 t c made.1 same made.2, made.3)
-
-  -- raw calls behind others that were all granted
-  pub made_after : (old mid new : KernelModel) (before calls : List RawCall) (refusal : Option (RawCall × Denied)) → Granted old mid t before → Made mid new t calls refusal → Made old new t (before ++ calls) refusal
-  made_after old mid new [] calls refusal granted made = made_from old mid new calls refusal granted.0 made
-  made_after old mid new (c ∷ before) calls refusal granted made = (
-    granted.0,
-    granted.1,
-    granted.2,
-    (elim granted.1 as (λ (x : Option Denied). GoesOn x c (Made granted.0 mid t before None) granted.0 mid None → GoesOn x c (Made granted.0 new t (before ++ calls) refusal) granted.0 new refusal) [
-      | None ↦ λ rest. made_after granted.0 mid new before calls refusal rest made
-      | Some denied ↦ λ rest. absurd cc
-    ]) granted.3,
-  )

@@ -9,6 +9,3 @@ pub mod tree_laws;
 
 pub use processes::{ProcessNode, procs_of};
 pub use tree::{TreeNode, bytes_of, tree_of};
-
-#[cfg(test)]
-mod tests;

@@ -1,6 +1,6 @@
 use Rattle.std.proofs.Common.{length, ap, ◌∙◌, arith}
 use Rattle.histar_flat.specs.Sessions.{Session, with_user}
-use Rattle.histar_tree.proofs.tests.session.Goals as goal
+use Rattle.histar_sessions.proofs.processes.session.Goals as goal
 
 -- one user has a name alone
 pub returns : goal.returns
