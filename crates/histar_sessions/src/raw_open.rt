@@ -1,17 +1,17 @@
 //! A session in which a secret is opened by a gate, and one in which a tainted thread ends with its
 //! container.
 use crate::raw_sessions::{
-    Asked, CLEARED_2, Expected, MODIFY, NO_ENTRY, NO_THREAD, OBSERVE, OWNS_2, PLAIN, RANGE, Row,
-    SECRET, TAINTED, Told, UNMADE, session,
+    Asked, CLEARED_2, Expected, ListedLabel, MODIFY, NO_ENTRY, NO_THREAD, OBSERVE, OWNS_2, PLAIN,
+    RANGE, Row, SECRET, TAINTED, UNMADE, session,
 };
 use histar_label::{Level, PlainStore};
 use std::test::Fail;
 
-const OWNS_3: Told = (&[(3, Level::Star)], Level::L1);
+const OWNS_3: ListedLabel = (&[(3, Level::Star)], Level::L1);
 
-const OWNS_BOTH: Told = (&[(2, Level::Star), (3, Level::Star)], Level::L1);
+const OWNS_BOTH: ListedLabel = (&[(2, Level::Star), (3, Level::Star)], Level::L1);
 
-const CLEARED_3: Told = (&[(3, Level::L3)], Level::L2);
+const CLEARED_3: ListedLabel = (&[(3, Level::L3)], Level::L2);
 
 const OPENED: [Row; 11] = [
     (1, 2, Asked::MakeCategory, Expected::Category(2)),

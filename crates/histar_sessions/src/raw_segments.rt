@@ -1,17 +1,17 @@
 //! A session on segments: each way in which they are read, written and made, and each refusal.
 use crate::raw_sessions::{
-    Asked, BAD_KIND, CLEARED_2, Expected, GUARDED, MODIFY, NO_ENTRY, NO_THREAD, NOTHING, OBSERVE,
-    OWNS_2, PLAIN, RANGE, Row, SECRET, TAINTED, TOO_BIG, Told, UNMADE, session,
+    Asked, BAD_KIND, CLEARED_2, Expected, GUARDED, ListedLabel, MODIFY, NO_ENTRY, NO_THREAD,
+    NOTHING, OBSERVE, OWNS_2, PLAIN, RANGE, Row, SECRET, TAINTED, TOO_BIG, UNMADE, session,
 };
 use histar_label::{Level, PlainStore};
 use std::test::Fail;
 
 /// Category 4 was made and 5 is the next.
-const TAINTED_4: Told = (&[(4, Level::L2)], Level::L1);
+const TAINTED_4: ListedLabel = (&[(4, Level::L2)], Level::L1);
 
-const NEXT: Told = (&[(5, Level::L2)], Level::L1);
+const NEXT: ListedLabel = (&[(5, Level::L2)], Level::L1);
 
-const UNCLEARED: Told = (&[(3, Level::L3)], Level::L1);
+const UNCLEARED: ListedLabel = (&[(3, Level::L3)], Level::L1);
 
 /// The threads 4, which owns category 2, and 5, a secret segment 6, a secret container 7, a container 8
 /// that neither may modify, and no object 9.

@@ -8,25 +8,25 @@ use histar_syscall::{Answer, Denied, HandedLabel, Kernel, RawCall, Refusal, Trac
 use std::alloc::Global;
 use std::process::Abort;
 
-/// A label: the levels at some categories, and the level everywhere else.
-pub(crate) type Told = (&'static [(u64, Level)], Level);
+/// A label as a table lists it: the levels at some categories, and the level everywhere else.
+pub(crate) type ListedLabel = (&'static [(u64, Level)], Level);
 
-/// A raw call. Containers and objects are told by number, and bytes are a text, so many times over.
+/// A raw call. Containers and objects stand by their numbers, and bytes are a text, so many times over.
 #[derive(Clone, Copy)]
 pub(crate) enum Asked {
     MakeCategory,
     OwnLabel,
-    SetLabel(Told),
+    SetLabel(ListedLabel),
     /// In a container, with a label.
-    MakeSegment(u64, Told, &'static [u8], usize),
+    MakeSegment(u64, ListedLabel, &'static [u8], usize),
     /// In a container, with a label.
-    MakeContainer(u64, Told),
+    MakeContainer(u64, ListedLabel),
     /// In a container, with a label and a clearance.
-    MakeThread(u64, Told, Told),
+    MakeThread(u64, ListedLabel, ListedLabel),
     /// In a container, with a label, a clearance and a mark.
-    MakeGate(u64, Told, Told, u32),
+    MakeGate(u64, ListedLabel, ListedLabel, u32),
     /// Of a container and a gate: the wanted label, the wanted clearance and the shown label.
-    Enter(u64, u64, Told, Told, Told),
+    Enter(u64, u64, ListedLabel, ListedLabel, ListedLabel),
     /// Of a container and a segment.
     Read(u64, u64),
     /// Of a container and a segment, keeping so many bytes.
@@ -44,7 +44,7 @@ pub(crate) enum Expected {
     Mark(u32),
     /// A text, so many times over.
     Bytes(&'static [u8], usize),
-    OwnLabel(Told, Told),
+    OwnLabel(ListedLabel, ListedLabel),
     Refused(Denied),
 }
 
@@ -65,29 +65,29 @@ pub(crate) const TOO_BIG: Expected = Expected::Refused(Denied::TooBig);
 /// A number that no object gets.
 pub(crate) const NOTHING: u64 = 99;
 
-pub(crate) const PLAIN: Told = (&[], Level::L1);
+pub(crate) const PLAIN: ListedLabel = (&[], Level::L1);
 
-pub(crate) const TAINTED: Told = (&[], Level::L2);
+pub(crate) const TAINTED: ListedLabel = (&[], Level::L2);
 
 /// What only the owner of category 2 may observe, or who is tainted so.
-pub(crate) const SECRET: Told = (&[(2, Level::L3)], Level::L1);
+pub(crate) const SECRET: ListedLabel = (&[(2, Level::L3)], Level::L1);
 
 /// What only the owner of category 3 may modify.
-pub(crate) const GUARDED: Told = (&[(3, Level::L0)], Level::L1);
+pub(crate) const GUARDED: ListedLabel = (&[(3, Level::L0)], Level::L1);
 
-pub(crate) const OWNS_2: Told = (&[(2, Level::Star)], Level::L1);
+pub(crate) const OWNS_2: ListedLabel = (&[(2, Level::Star)], Level::L1);
 
 /// The clearance of an owner of category 2.
-pub(crate) const CLEARED_2: Told = (&[(2, Level::L3)], Level::L2);
+pub(crate) const CLEARED_2: ListedLabel = (&[(2, Level::L3)], Level::L2);
 
 /// Names a category that is never made.
-pub(crate) const UNMADE: Told = (&[(9, Level::L2)], Level::L1);
+pub(crate) const UNMADE: ListedLabel = (&[(9, Level::L2)], Level::L1);
 
 /// The line, the thread, what it asks, and what it is answered.
 pub(crate) type Row = (u32, u64, Asked, Expected);
 
-fn label(alloc: Global, told: Told) -> Result<Label, OutOfMemory> {
-    let (levels, default) = told;
+fn label(alloc: Global, listed: ListedLabel) -> Result<Label, OutOfMemory> {
+    let (levels, default) = listed;
     let mut label = Label::new(alloc, default);
     for &(category, level) in levels {
         label.set(Category::new(category), level)?;
@@ -96,8 +96,8 @@ fn label(alloc: Global, told: Told) -> Result<Label, OutOfMemory> {
 }
 
 /// The label, as a raw call hands it over.
-fn handed(alloc: Global, told: Told) -> Result<HandedLabel, OutOfMemory> {
-    let label = label(alloc, told)?;
+fn handed(alloc: Global, listed: ListedLabel) -> Result<HandedLabel, OutOfMemory> {
+    let label = label(alloc, listed)?;
     Ok(HandedLabel::new(alloc, label)?)
 }
 
@@ -112,20 +112,20 @@ fn repeated(alloc: Global, text: &[u8], times: usize) -> Result<Bytes, OutOfMemo
 fn segment_call(
     alloc: Global,
     container: u64,
-    told: Told,
+    listed: ListedLabel,
     bytes: Bytes,
 ) -> Result<RawCall, OutOfMemory> {
-    let label = handed(alloc, told)?;
+    let label = handed(alloc, listed)?;
     Ok(RawCall::MakeSegment(ObjId::new(container), label, bytes))
 }
 
 fn thread_call(
     alloc: Global,
     container: u64,
-    told: Told,
-    clearance: Told,
+    listed: ListedLabel,
+    clearance: ListedLabel,
 ) -> Result<RawCall, OutOfMemory> {
-    let own = handed(alloc, told)?;
+    let own = handed(alloc, listed)?;
     let clearance = handed(alloc, clearance)?;
     Ok(RawCall::MakeThread(ObjId::new(container), own, clearance))
 }
@@ -133,12 +133,12 @@ fn thread_call(
 fn gate_call(
     alloc: Global,
     container: u64,
-    told: Told,
-    clearance: Told,
+    listed: ListedLabel,
+    clearance: ListedLabel,
     mark: u32,
 ) -> Result<RawCall, OutOfMemory> {
     let container = ObjId::new(container);
-    let given = handed(alloc, told)?;
+    let given = handed(alloc, listed)?;
     let clearance = handed(alloc, clearance)?;
     let entry = Entry::Mark(mark);
     Ok(RawCall::MakeGate(container, given, clearance, entry))
@@ -147,9 +147,9 @@ fn gate_call(
 fn enter_call(
     alloc: Global,
     place: (u64, u64),
-    wanted: Told,
-    clearance: Told,
-    shown: Told,
+    wanted: ListedLabel,
+    clearance: ListedLabel,
+    shown: ListedLabel,
 ) -> Result<RawCall, OutOfMemory> {
     let (container, gate) = (ObjId::new(place.0), ObjId::new(place.1));
     let wanted = handed(alloc, wanted)?;
@@ -163,19 +163,19 @@ fn raw_call(alloc: Global, asked: Asked) -> Result<RawCall, OutOfMemory> {
     match asked {
         Asked::MakeCategory => Ok(RawCall::MakeCategory),
         Asked::OwnLabel => Ok(RawCall::OwnLabel),
-        Asked::SetLabel(told) => Ok(RawCall::SetLabel(handed(alloc, told)?)),
-        Asked::MakeSegment(container, told, text, times) => {
-            segment_call(alloc, container, told, repeated(alloc, text, times)?)
+        Asked::SetLabel(listed) => Ok(RawCall::SetLabel(handed(alloc, listed)?)),
+        Asked::MakeSegment(container, listed, text, times) => {
+            segment_call(alloc, container, listed, repeated(alloc, text, times)?)
         }
-        Asked::MakeContainer(container, told) => {
-            let label = handed(alloc, told)?;
+        Asked::MakeContainer(container, listed) => {
+            let label = handed(alloc, listed)?;
             Ok(RawCall::MakeContainer(ObjId::new(container), label))
         }
-        Asked::MakeThread(container, told, clearance) => {
-            thread_call(alloc, container, told, clearance)
+        Asked::MakeThread(container, listed, clearance) => {
+            thread_call(alloc, container, listed, clearance)
         }
-        Asked::MakeGate(container, told, clearance, mark) => {
-            gate_call(alloc, container, told, clearance, mark)
+        Asked::MakeGate(container, listed, clearance, mark) => {
+            gate_call(alloc, container, listed, clearance, mark)
         }
         Asked::Enter(container, gate, wanted, clearance, shown) => {
             enter_call(alloc, (container, gate), wanted, clearance, shown)
@@ -194,7 +194,7 @@ fn raw_call(alloc: Global, asked: Asked) -> Result<RawCall, OutOfMemory> {
     }
 }
 
-/// Whether the kernel answered what the table tells.
+/// Whether the kernel answered what the table says.
 fn is_answer(alloc: Global, answer: &Answer, expected: Expected) -> Result<bool, OutOfMemory> {
     match (answer, expected) {
         (Answer::Done, Expected::Done) => Ok(true),
@@ -204,8 +204,8 @@ fn is_answer(alloc: Global, answer: &Answer, expected: Expected) -> Result<bool,
         (Answer::Bytes(bytes), Expected::Bytes(text, times)) => {
             Ok(bytes.as_slice() == repeated(alloc, text, times)?.as_slice())
         }
-        (Answer::OwnLabel(own, most), Expected::OwnLabel(told, clearance)) => {
-            Ok(*own == label(alloc, told)? && *most == label(alloc, clearance)?)
+        (Answer::OwnLabel(own, most), Expected::OwnLabel(listed, clearance)) => {
+            Ok(*own == label(alloc, listed)? && *most == label(alloc, clearance)?)
         }
         _ => Ok(false),
     }
@@ -247,7 +247,7 @@ fn run_at_once<S: LabelStore + Drop>(
     Ok(())
 }
 
-/// One call after another, each answered as the table tells.
+/// One call after another, each answered as the table says.
 fn run_by_call<S: LabelStore + Drop>(
     rt: &impl Abort,
     alloc: Global,
@@ -260,8 +260,8 @@ fn run_by_call<S: LabelStore + Drop>(
         kernel.begin(line);
         match kernel.call(alloc, ObjId::new(thread), call) {
             Ok(answer) => {
-                let is_told = is_answer(alloc, &answer, expected)?;
-                assert!(rt; is_told, "thread {thread} on line {line}");
+                let is_expected = is_answer(alloc, &answer, expected)?;
+                assert!(rt; is_expected, "thread {thread} on line {line}");
             }
             Err(Refusal::Denied(denied)) => {
                 assert_eq!(rt;

@@ -38,12 +38,12 @@ fn has_stopped(
     calls: Vec<CallLine>,
 ) -> bool {
     let mut has_stopped = false;
-    for asked in calls {
+    for call_line in calls {
         let CallLine {
             line,
             process,
             call,
-        } = asked;
+        } = call_line;
         let made = machine.trace().len();
         let is_stopped = machine.step(alloc, line, &process, call).is_err();
         if has_stopped {
