@@ -7,8 +7,8 @@ pub mod Running
 pub mod Directories
 pub mod Finding
 pub mod Making
-pub mod Telling
-pub mod TellingPrograms
+pub mod DenialReplies
+pub mod RepliesOfPrograms
 pub mod MakingDirectories
 pub mod ClassSteps
 pub mod Lookups

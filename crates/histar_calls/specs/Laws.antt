@@ -22,31 +22,31 @@ use Rattle.histar_calls.specs.StatCall.{stat_program}
 
 -- After this denial a program replies EACCES exactly where it was by label and EPERM exactly where it was by range; before its reply it
 -- only gives the thread labels, and stops where it may not.
-abbrev pub TellsDenial : Denied → Program → Type 0
-TellsDenial denied (Answers reply) = (is_label_refusal (Some denied) ≡ is_no_access reply) × (is_range_refusal (Some denied) ≡ is_no_permission reply)
-TellsDenial denied (Asks call next) =
-    (sets_labels call ≡ true) × ((answer : AnswerOf call) → TellsDenial denied (next (Ok answer))) × ((other : Denied) → next (Err other) ≡ Stops)
-TellsDenial denied (Lists bytes next) = ⊥
-TellsDenial denied Stops = Unit {0}
+abbrev pub RepliesToDenial : Denied → Program → Type 0
+RepliesToDenial denied (Answers reply) = (is_label_refusal (Some denied) ≡ is_no_access reply) × (is_range_refusal (Some denied) ≡ is_no_permission reply)
+RepliesToDenial denied (Asks call next) =
+    (sets_labels call ≡ true) × ((answer : AnswerOf call) → RepliesToDenial denied (next (Ok answer))) × ((other : Denied) → next (Err other) ≡ Stops)
+RepliesToDenial denied (Lists bytes next) = ⊥
+RepliesToDenial denied Stops = Unit {0}
 
--- A program tells its refusals: each denial is told, and where none came its reply is neither EACCES nor EPERM.
-abbrev pub TellsRefusals : Program → Type 0
-TellsRefusals (Answers reply) = (is_no_access reply ≡ false) × (is_no_permission reply ≡ false)
-TellsRefusals (Asks call next) = ((answer : AnswerOf call) → TellsRefusals (next (Ok answer))) × ((denied : Denied) → TellsDenial denied (next (Err denied)))
-TellsRefusals (Lists bytes next) = (listed : Option Entries) → TellsRefusals (next listed)
-TellsRefusals Stops = Unit {0}
+-- A program replies to its refusals: after a denial it has the reply of that denial, and where none came its reply is neither EACCES nor EPERM.
+abbrev pub RepliesToRefusals : Program → Type 0
+RepliesToRefusals (Answers reply) = (is_no_access reply ≡ false) × (is_no_permission reply ≡ false)
+RepliesToRefusals (Asks call next) = ((answer : AnswerOf call) → RepliesToRefusals (next (Ok answer))) × ((denied : Denied) → RepliesToDenial denied (next (Err denied)))
+RepliesToRefusals (Lists bytes next) = (listed : Option Entries) → RepliesToRefusals (next listed)
+RepliesToRefusals Stops = Unit {0}
 
--- Where a program that tells its refusals was run to its reply, the reply is EACCES exactly where a raw call was refused by label, EPERM
+-- Where a program that replies to its refusals was run to its reply, the reply is EACCES exactly where a raw call was refused by label, EPERM
 -- exactly where one was refused by range, at most one was refused, and after it the thread was only given labels.
-abbrev pub RefusalsAreTold : Type 0
-RefusalsAreTold = (program : Program) → TellsRefusals program → (old new : KernelModel) (thread : ℕ) (reply : Reply) → Completes program old new thread reply → Replies old new thread reply
+abbrev pub RefusalsHaveReplies : Type 0
+RefusalsHaveReplies = (program : Program) → RepliesToRefusals program → (old new : KernelModel) (thread : ℕ) (reply : Reply) → Completes program old new thread reply → Replies old new thread reply
 
--- the programs of the calls tell their refusals
-pub record CallsTellRefusals : Type 0 where
-  pub read : (places : Places) (path : Path) → TellsRefusals (read_program places path)
-  pub write : (places : Places) (path : Path) (bytes : List ℕ) → TellsRefusals (write_program places path bytes)
-  pub create : (session : Session) (places : Places) (path : Path) (mode : Mode) → TellsRefusals (create_program session places path mode)
-  pub append : (places : Places) (path : Path) (bytes : List ℕ) → TellsRefusals (append_program places path bytes)
-  pub mkdir : (session : Session) (places : Places) (path : Path) (mode : Mode) → TellsRefusals (mkdir_program session places path mode)
-  pub list : (places : Places) (path : Path) → TellsRefusals (list_program places path)
-  pub stat : (session : Session) (places : Places) (path : Path) → TellsRefusals (stat_program session places path)
+-- the programs of the calls reply to their refusals
+pub record CallsReplyToRefusals : Type 0 where
+  pub read : (places : Places) (path : Path) → RepliesToRefusals (read_program places path)
+  pub write : (places : Places) (path : Path) (bytes : List ℕ) → RepliesToRefusals (write_program places path bytes)
+  pub create : (session : Session) (places : Places) (path : Path) (mode : Mode) → RepliesToRefusals (create_program session places path mode)
+  pub append : (places : Places) (path : Path) (bytes : List ℕ) → RepliesToRefusals (append_program places path bytes)
+  pub mkdir : (session : Session) (places : Places) (path : Path) (mode : Mode) → RepliesToRefusals (mkdir_program session places path mode)
+  pub list : (places : Places) (path : Path) → RepliesToRefusals (list_program places path)
+  pub stat : (session : Session) (places : Places) (path : Path) → RepliesToRefusals (stat_program session places path)

@@ -24,14 +24,14 @@ find_object places (name ∷ parent) rest = do
   target ← given (entry_at found)
   rest (record { container = place.container; object = object_of target; is_directory = is_directory target })
 
--- the reply tells of what is of a class; of a label that is of no class nothing can be told
-abbrev pub told : Bool → Option Class → Program
-told is_directory None = Stops
-told is_directory (Some class) = Answers (Stats (stat_of class is_directory))
+-- the reply to a `stat` of what is of a class; of a label that is of no class there is none
+abbrev pub class_reply : Bool → Option Class → Program
+class_reply is_directory None = Stops
+class_reply is_directory (Some class) = Answers (Stats (stat_of class is_directory))
 
 -- the object is found, and its label is asked for, which tells the class
 unfoldable pub stat_program : Session → Places → Path → Program
 stat_program session places path = do
   object ← find_object places path
   label ← ask (LabelOf object.container object.object)
-  told object.is_directory (class_of session label)
+  class_reply object.is_directory (class_of session label)

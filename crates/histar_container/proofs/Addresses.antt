@@ -6,16 +6,16 @@ use mathlib.Core.Bool.{true≢false}
 use Rattle.histar_container.specs.Tree.{Address, same, under}
 
 -- a test answers for each two values whether they are equal
-abbrev pub Tells : {X : Type 0} → (X → X → Bool) → Type 0
-Tells test = (x y : _) → ((test x y ≡ true) × (x ≡ y)) ⊎ ((test x y ≡ false) × (x ≢ y))
+abbrev pub TestsEquality : {X : Type 0} → (X → X → Bool) → Type 0
+TestsEquality test = (x y : _) → ((test x y ≡ true) × (x ≡ y)) ⊎ ((test x y ≡ false) × (x ≢ y))
 
 -- what is in a Some is one value
 pub inner : {X : Type 0} (x y : X) → Some x ≡ Some y → x ≡ y
 inner x y e = cc
 
-module _ {X : Type 0} (same_step : X → X → Bool) (tells : Tells same_step) where
+module _ {X : Type 0} (same_step : X → X → Bool) (tells : TestsEquality same_step) where
   -- whether two addresses are the same tells whether they are equal
-  pub same_tells : Tells (same same_step)
+  pub same_tells : TestsEquality (same same_step)
   same_tells [] [] = inl (refl, refl)
   same_tells [] (y ∷ b) = inr (refl, λ e. cc)
   same_tells (x ∷ a) [] = inr (refl, λ e. cc)

@@ -9,7 +9,7 @@ use Rattle.histar_object.specs.declared.objects.Object.{Object}
 use Rattle.histar_object.specs.Objects.{Objects, links_in}
 use Rattle.histar_container.specs.Tree.{Address, Naming, wanted, same, under, is_child, is_under, without_below, set_at, cut, IsLaid, IsCut}
 use Rattle.histar_container.proofs.Links.{unlinked_links}
-use Rattle.histar_container.proofs.Addresses.{Tells, inner, same_tells, same_itself, same_other, under_itself, under_child, under_other, above}
+use Rattle.histar_container.proofs.Addresses.{TestsEquality, inner, same_tells, same_itself, same_other, under_itself, under_child, under_other, above}
 use Rattle.histar_container.proofs.Reaching.{same_number, not_reached, is_reached}
 
 -- what is left of a value that may be taken away is that value
@@ -18,7 +18,7 @@ some_left true y z e = cc
 some_left false y z e = (refl, e)
 
 -- o stands one step below d, and is cut off from it
-module _ {X : Type 0} (same_step : X → X → Bool) (tells : Tells same_step) {L : Type 0} (objects : Objects L) (next : ℕ) (expected : Address X → Option (Object L)) (naming : Naming X) (laid : IsLaid same_step objects next expected naming)
+module _ {X : Type 0} (same_step : X → X → Bool) (tells : TestsEquality same_step) {L : Type 0} (objects : Objects L) (next : ℕ) (expected : Address X → Option (Object L)) (naming : Naming X) (laid : IsLaid same_step objects next expected naming)
     (new : Objects L) (d o : ℕ) (is_cut : IsCut objects d o new) (x : X) (a : Address X) (at_o : naming.address o ≡ Some (x ∷ a)) (at_d : naming.address d ≡ Some a) where
   left : Naming X
   left = without_below same_step naming (x ∷ a)

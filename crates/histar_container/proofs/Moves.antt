@@ -8,14 +8,14 @@ use Rattle.std.proofs.lemmas.Bool.Decides.{eqb_tells}
 use Rattle.histar_object.specs.declared.objects.Object.{Object}
 use Rattle.histar_object.specs.Objects.{Objects, links_in}
 use Rattle.histar_container.specs.Tree.{Address, Naming, wanted, same, is_child, with_number, set_at, IsLaid}
-use Rattle.histar_container.proofs.Addresses.{Tells, inner, same_tells, same_itself, same_other, longer}
+use Rattle.histar_container.proofs.Addresses.{TestsEquality, inner, same_tells, same_itself, same_other, longer}
 use Rattle.histar_container.proofs.Reaching.{same_number}
 
 -- what has an address is not the next number
 pub next_unused : {X : Type 0} (same_step : X → X → Bool) {L : Type 0} (objects : Objects L) (next : ℕ) (expected : Address X → Option (Object L)) (naming : Naming X) → IsLaid same_step objects next expected naming → (d : ℕ) (a : Address X) → naming.address d ≡ Some a → d ≢ next
 next_unused same_step objects next expected naming laid d a at_d e = let k : Some a ≡ None = sym at_d ∙ ap naming.address e ∙ laid.unused next (omega arith) in cc
 
-module _ {X : Type 0} (same_step : X → X → Bool) (tells : Tells same_step) {L : Type 0} (objects : Objects L) (next : ℕ) (expected : Address X → Option (Object L)) (naming : Naming X) (laid : IsLaid same_step objects next expected naming) where
+module _ {X : Type 0} (same_step : X → X → Bool) (tells : TestsEquality same_step) {L : Type 0} (objects : Objects L) (next : ℕ) (expected : Address X → Option (Object L)) (naming : Naming X) (laid : IsLaid same_step objects next expected naming) where
   -- the object at n is set, and its links stay
   module _ (new : Objects L) (n : ℕ) (a : Address X) (at_n : naming.address n ≡ Some a) (others : (q : ℕ) → q ≢ n → new q ≡ objects q)
       (same_links : (c : ℕ) → set.contains (links_in (new n)) c ≡ set.contains (links_in (objects n)) c) where

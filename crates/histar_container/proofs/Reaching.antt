@@ -7,7 +7,7 @@ use Rattle.histar_object.specs.declared.objects.Object.{Object}
 use Rattle.histar_object.specs.Objects.{Objects, links_in}
 use Rattle.histar_container.specs.Tree.{Address, Naming, wanted, same, under, is_child, is_under, IsLaid, Reached, here, there}
 use Rattle.histar_container.proofs.Links.{none_linked}
-use Rattle.histar_container.proofs.Addresses.{Tells, inner, same_itself, same_is, under_itself, under_child, above}
+use Rattle.histar_container.proofs.Addresses.{TestsEquality, inner, same_itself, same_is, under_itself, under_child, above}
 
 -- a link from p to c leads from an address to one a step below it
 pub record LinkAt {X : Type 0} (naming : Naming X) (p c : ℕ) : Type 0 where
@@ -16,7 +16,7 @@ pub record LinkAt {X : Type 0} (naming : Naming X) (p c : ℕ) : Type 0 where
   pub at_holder : naming.address p ≡ Some above
   pub at_linked : naming.address c ≡ Some (step ∷ above)
 
-module _ {X : Type 0} (same_step : X → X → Bool) (tells : Tells same_step) {L : Type 0} (objects : Objects L) (next : ℕ) (expected : Address X → Option (Object L)) (naming : Naming X) (laid : IsLaid same_step objects next expected naming) where
+module _ {X : Type 0} (same_step : X → X → Bool) (tells : TestsEquality same_step) {L : Type 0} (objects : Objects L) (next : ℕ) (expected : Address X → Option (Object L)) (naming : Naming X) (laid : IsLaid same_step objects next expected naming) where
   -- two numbers of one address are the same
   pub same_number : (p q : ℕ) (a : Address X) → naming.address p ≡ Some a → naming.address q ≡ Some a → p ≡ q
   same_number p q a i j = inner p q (sym (laid.numbered p a i) ∙ laid.numbered q a j)

@@ -8,7 +8,7 @@ use Rattle.histar_object.specs.declared.objects.Object.{Object}
 use Rattle.histar_object.specs.Objects.{Objects, put, changed_at, with_new, linking, unlinking, links_in, kind_links, is_container}
 use Rattle.histar_container.specs.Tree.{Address, Naming, wanted, with_number, without_below, set_at, cut, IsLaid, IsCut}
 use Rattle.histar_container.proofs.Links.{linked_links}
-use Rattle.histar_container.proofs.Addresses.{Tells}
+use Rattle.histar_container.proofs.Addresses.{TestsEquality}
 use Rattle.histar_container.proofs.Moves.{laid_set, laid_added, next_unused}
 use Rattle.histar_container.proofs.Cutting.{laid_cut}
 
@@ -45,7 +45,7 @@ module _ {L : Type 0} (objects : Objects L) (n : ℕ) where
     | inr e ↦ ap (λ b. if b then option_map (linking n) (put objects n o q) else put objects n o q) e.0 ∙ put_other o q not_new
   ]
 
-module _ {X : Type 0} (same_step : X → X → Bool) (tells : Tells same_step) {L : Type 0} (objects : Objects L) (next : ℕ) (expected : Address X → Option (Object L)) (naming : Naming X) (laid : IsLaid same_step objects next expected naming) where
+module _ {X : Type 0} (same_step : X → X → Bool) (tells : TestsEquality same_step) {L : Type 0} (objects : Objects L) (next : ℕ) (expected : Address X → Option (Object L)) (naming : Naming X) (laid : IsLaid same_step objects next expected naming) where
   -- the object at a number is the one that is expected at its address
   pub expected_there : (q : ℕ) (a : Address X) → naming.address q ≡ Some a → objects q ≡ expected a
   expected_there q a e = laid.as_expected q ∙ ap (wanted expected) e

@@ -1,4 +1,4 @@
--- A listing tells what stands in its directory, by rising names.
+-- A listing shows what stands in its directory, by rising names.
 use Rattle.std.specs.Prelude.{◌≡◌, ◌≢◌, cond, T, List, [], ◌∷◌, Some, None, option_map, refl}
 use Rattle.std.specs.List.{filter_map, cons_option}
 use Rattle.std.proofs.Common.{ap, sym, ◌∙◌, subst, inl, inr}
@@ -14,7 +14,7 @@ use Rattle.histar_flat.specs.Words.{Name, Path}
 use Rattle.histar_flat.specs.PathOrder.{path_cmp}
 use Rattle.histar_flat.specs.PathOrderLaws.{path_cmp_total, path_cmp_exact}
 use Rattle.histar_flat.specs.FlatState.{Node, Entry, is_dir, entry_in, entries_in}
-use Rattle.histar_flat.specs.FileLaws.{ListingsTellWhatStands}
+use Rattle.histar_flat.specs.FileLaws.{ListingsShowWhatStands}
 use Rattle.histar_flat.proofs.Answered.{is_answered}
 use Rattle.histar_flat.proofs.FileLemmas.{same_name_found, same_path_found}
 use Rattle.histar_flat.proofs.Finding.{first, second, both, find_first, find_behind, names_decide}
@@ -100,9 +100,9 @@ module _ (d : Path) where
 same_entries : (a b : List Entry) → Entries a ≡ Entries b → a ≡ b
 same_entries a b e = cc
 
--- a listing tells what stands there
-pub listings_tell_what_stands : ListingsTellWhatStands
-listings_tell_what_stands session f me d entries said =
+-- a listing shows what stands there
+pub listings_show_what_stands : ListingsShowWhatStands
+listings_show_what_stands session f me d entries said =
     let is = is_answered session f me (ListCall d) (Entries entries) (λ e. cc) (λ (errno : Errno) e. cc) said in
     let same : entries_in f d ≡ entries = same_entries (entries_in f d) entries is.answers in (
       subst (λ (l : List Entry). T (is_sorted by_bytes l)) same (sorted_listed d f.files.entries f.files.sorted),

@@ -19,7 +19,7 @@ use Rattle.histar_flat.specs.FlatState.{Flat, Node, Content, is_some_and, reads,
 use Rattle.histar_flat.specs.FlatState.Content.{Dir, File}
 use Rattle.histar_flat.specs.FlatCalls.{most_bytes, no_file, refused, class_or_open, inner_chain, next_child, changed, answer, reply_or, flat_or, if_running, running, reply_by, flat_by, reply_to, flat_after}
 use Rattle.histar_flat.specs.Meaning.{answered_from}
-use Rattle.histar_flat.specs.Laws.{is_login_of, has_no_login_of, AreAway, PrivateBytesAreUntold, GroupBytesAreUntold, GroupBytesStayUntold}
+use Rattle.histar_flat.specs.Laws.{is_login_of, has_no_login_of, AreAway, PrivateBytesAreHidden, GroupBytesAreHidden, GroupBytesStayHidden}
 use Rattle.histar_flat.proofs.FileLemmas.{same_name_found, same_path_found, get-insert, get-keep}
 use Rattle.histar_flat.proofs.Refusals.{two_pass}
 use Rattle.histar_flat.proofs.Entries.{shown, all_told, find_told, same_told}
@@ -331,19 +331,19 @@ group_is_kept session group = record { unread = unread; unwritten = unwritten }
     unwritten p (Grouped g) other h = unread p (Grouped g) other (and_parts (is_member session p.user g) (is_free p) h).0
 
 -- no reply tells others what a private file holds, until its owner logs in
-pub private_bytes_are_untold : PrivateBytesAreUntold
-private_bytes_are_untold owner session f q bytes other calls h away quiet =
+pub private_bytes_are_hidden : PrivateBytesAreHidden
+private_bytes_are_hidden owner session f q bytes other calls h away quiet =
     all_replies_alike session (is_private_of owner) (λ name. same name owner) (private_is_kept session owner) f (with_bytes f q other)
     (other_bytes_alike (is_private_of owner) f q (Private owner) bytes other (same_self owner) h) away calls quiet
 
 -- no reply tells who is no member what a file of a group holds
-pub group_bytes_are_untold : GroupBytesAreUntold
-group_bytes_are_untold group session f q bytes other me call h outside =
+pub group_bytes_are_hidden : GroupBytesAreHidden
+group_bytes_are_hidden group session f q bytes other me call h outside =
     reply_to_alike session (is_class_of_group group) (λ name. is_member session name group) (group_is_kept session group) f (with_bytes f q other)
     (other_bytes_alike (is_class_of_group group) f q (Grouped group) bytes other (same_self group) h) me call outside
 
 -- and none does until a member logs in
-pub group_bytes_stay_untold : GroupBytesStayUntold
-group_bytes_stay_untold group session f q bytes other calls h away quiet =
+pub group_bytes_stay_hidden : GroupBytesStayHidden
+group_bytes_stay_hidden group session f q bytes other calls h away quiet =
     all_replies_alike session (is_class_of_group group) (λ name. is_member session name group) (group_is_kept session group) f (with_bytes f q other)
     (other_bytes_alike (is_class_of_group group) f q (Grouped group) bytes other (same_self group) h) away calls quiet

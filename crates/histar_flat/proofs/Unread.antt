@@ -19,7 +19,7 @@ use Rattle.histar_flat.specs.Files.{get, keep}
 use Rattle.histar_flat.specs.Classes.{Process, nobody, sees, may_read, may_write, class_made}
 use Rattle.histar_flat.specs.FlatState.{Flat, Node, is_some_and, is_dir, is_there, is_dir_at, reads, bytes_of, entry_in, entries_in, into}
 use Rattle.histar_flat.specs.FlatCalls.{most_entries, most_bytes, no_child, no_file, not_found, is_child, refused, life_reply, stat_reply, answer, reply_or, if_running, reply_by}
-use Rattle.histar_flat.specs.FileLaws.{is_inside, UnreadDirectoriesAreUntold}
+use Rattle.histar_flat.specs.FileLaws.{is_inside, UnreadDirectoriesAreHidden}
 use Rattle.histar_flat.proofs.Alike.{guarded}
 use Rattle.histar_flat.proofs.FileLemmas.{same_path_found, same_lists, get-keep}
 use Rattle.histar_flat.proofs.Refusals.{passes_first, passes_later}
@@ -279,8 +279,8 @@ module _ (session : Session) (f g : Flat) (d : Path) (processes : f.processes �
       by (Some e) is = ap (λ (o : Option Errno). reply_or o (answer f me p call)) is ∙ sym (ap (λ (o : Option Errno). reply_or o (answer g me p call)) is)
 
 -- whatever stands below a directory that a process may not read, each call of the process has the same reply
-pub unread_directories_are_untold : UnreadDirectoriesAreUntold
-unread_directories_are_untold session f g d processes alike me p call runs unread =
+pub unread_directories_are_hidden : UnreadDirectoriesAreHidden
+unread_directories_are_hidden session f g d processes alike me p call runs unread =
     ap (λ (o : Option Process). reply_by session f me o call) runs
     ∙ reply_alike session f g d processes alike p unread me call
     ∙ sym (ap (λ (o : Option Process). reply_by session g me o call) (sym (λ i. if_running (processes i me)) ∙ runs))

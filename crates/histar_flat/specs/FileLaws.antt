@@ -17,8 +17,8 @@ use Rattle.histar_flat.specs.FlatCalls.{running, reply_to, flat_after}
 use Rattle.histar_flat.specs.Laws.{private_file}
 
 -- In a listing the names rise; a name is in it exactly where something stands there, and as a directory exactly where that is one.
-abbrev pub ListingsTellWhatStands : Type 0
-ListingsTellWhatStands = (session : Session) (f : Flat) (me : ProcName) (d : Path) (entries : List Entry) → reply_to session f me (ListCall d) ≡ Entries entries
+abbrev pub ListingsShowWhatStands : Type 0
+ListingsShowWhatStands = (session : Session) (f : Flat) (me : ProcName) (d : Path) (entries : List Entry) → reply_to session f me (ListCall d) ≡ Entries entries
     → T (is_sorted (slice_cmp nat_cmp) entries) × ((n : Name) → find (slice_cmp nat_cmp) n entries ≡ option_map is_dir (get f.files (n ∷ d)))
 
 -- the call takes away what stands at the path
@@ -52,6 +52,6 @@ abbrev pub is_inside : Path → Path → Bool
 is_inside d q = under_path d q && not (same_path d q)
 
 -- Whatever stands below a directory that a process may not read, each call of the process has the same reply.
-abbrev pub UnreadDirectoriesAreUntold : Type 0
-UnreadDirectoriesAreUntold = (session : Session) (f g : Flat) (d : Path) → f.processes ≡ g.processes → ((q : Path) → is_inside d q ≡ false → get f.files q ≡ get g.files q)
+abbrev pub UnreadDirectoriesAreHidden : Type 0
+UnreadDirectoriesAreHidden = (session : Session) (f g : Flat) (d : Path) → f.processes ≡ g.processes → ((q : Path) → is_inside d q ≡ false → get f.files q ≡ get g.files q)
     → (me : ProcName) (p : Process) (call : UnixCall) → running f me ≡ Some p → reads session f p d ≡ false → reply_to session f me call ≡ reply_to session g me call

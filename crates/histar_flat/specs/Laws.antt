@@ -59,13 +59,13 @@ PrivateFilesStay = (f : Flat) → IsTree f → (q : Path) (owner : Name) (bytes 
     → get (flat_after session f me call).files q ≡ Some (private_file owner bytes)
 
 -- a process that is not the owner's and reads a private file is answered no bytes
-abbrev pub PrivateFilesAreUntold : Type 0
-PrivateFilesAreUntold = (f : Flat) (q : Path) (owner : Name) (bytes : List ℕ) → get f.files q ≡ Some (private_file owner bytes)
+abbrev pub PrivateFilesAreHidden : Type 0
+PrivateFilesAreHidden = (f : Flat) (q : Path) (owner : Name) (bytes : List ℕ) → get f.files q ≡ Some (private_file owner bytes)
     → (session : Session) (me : ProcName) (told : List ℕ) → runs_for f me owner ≡ false → reply_to session f me (Read q) ≢ Data told
 
 -- while no process is the owner's and no call is a login as the owner, all replies are as if other bytes stood in the private file
-abbrev pub PrivateBytesAreUntold : Type 0
-PrivateBytesAreUntold = (owner : Name) (session : Session) (f : Flat) (q : Path) (bytes other : List ℕ) (calls : List CallLine) → get f.files q ≡ Some (private_file owner bytes)
+abbrev pub PrivateBytesAreHidden : Type 0
+PrivateBytesAreHidden = (owner : Name) (session : Session) (f : Flat) (q : Path) (bytes other : List ℕ) (calls : List CallLine) → get f.files q ≡ Some (private_file owner bytes)
     → AreAway (λ name. same name owner) f → has_no_login_of (λ name. same name owner) calls ≡ true → answered_from session f calls ≡ answered_from session (with_bytes f q other) calls
 
 -- a file of this group with these bytes
@@ -73,13 +73,13 @@ abbrev pub group_file : Name → List ℕ → Node
 group_file group bytes = record { class = Grouped group; content = File bytes }
 
 -- each call of a process that is no member's has the reply that it had if other bytes stood in a file of the group
-abbrev pub GroupBytesAreUntold : Type 0
-GroupBytesAreUntold = (group : Name) (session : Session) (f : Flat) (q : Path) (bytes other : List ℕ) (me : ProcName) (call : UnixCall) → get f.files q ≡ Some (group_file group bytes)
+abbrev pub GroupBytesAreHidden : Type 0
+GroupBytesAreHidden = (group : Name) (session : Session) (f : Flat) (q : Path) (bytes other : List ℕ) (me : ProcName) (call : UnixCall) → get f.files q ≡ Some (group_file group bytes)
     → is_some_and (running f me) (λ p. is_member session p.user group) ≡ false → reply_to session f me call ≡ reply_to session (with_bytes f q other) me call
 
 -- while no process is a member's and no call is a login as a member, all replies are as if other bytes stood in the group's file
-abbrev pub GroupBytesStayUntold : Type 0
-GroupBytesStayUntold = (group : Name) (session : Session) (f : Flat) (q : Path) (bytes other : List ℕ) (calls : List CallLine) → get f.files q ≡ Some (group_file group bytes)
+abbrev pub GroupBytesStayHidden : Type 0
+GroupBytesStayHidden = (group : Name) (session : Session) (f : Flat) (q : Path) (bytes other : List ℕ) (calls : List CallLine) → get f.files q ≡ Some (group_file group bytes)
     → AreAway (λ name. is_member session name group) f → has_no_login_of (λ name. is_member session name group) calls ≡ true → answered_from session f calls ≡ answered_from session (with_bytes f q other) calls
 
 -- a process that has written bytes to a file, and reads the file next, is answered these bytes

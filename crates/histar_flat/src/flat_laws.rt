@@ -1,10 +1,10 @@
 //! What the meaning of calls amounts to. Each law is the contract of a function that does nothing.
 ghost use Rattle.histar_flat.specs.Laws.{RefusalsChangeNothing, WritesAreReadBack, OneReplyALine};
-ghost use Rattle.histar_flat.specs.Laws.{PrivateFilesStay, PrivateFilesAreUntold};
-ghost use Rattle.histar_flat.specs.Laws.{PrivateBytesAreUntold, GroupBytesAreUntold, GroupBytesStayUntold};
+ghost use Rattle.histar_flat.specs.Laws.{PrivateFilesStay, PrivateFilesAreHidden};
+ghost use Rattle.histar_flat.specs.Laws.{PrivateBytesAreHidden, GroupBytesAreHidden, GroupBytesStayHidden};
 ghost use Rattle.histar_flat.specs.Laws.{PathsAreATree, NamesAreGivenOnce, NobodyHasAJob};
-ghost use Rattle.histar_flat.specs.FileLaws.{ListingsTellWhatStands, RemovalsTakeWhatIsBelow, RenamesKeepWhatStands};
-ghost use Rattle.histar_flat.specs.FileLaws.{WritersTakePrivateFiles, UnreadDirectoriesAreUntold};
+ghost use Rattle.histar_flat.specs.FileLaws.{ListingsShowWhatStands, RemovalsTakeWhatIsBelow, RenamesKeepWhatStands};
+ghost use Rattle.histar_flat.specs.FileLaws.{WritersTakePrivateFiles, UnreadDirectoriesAreHidden};
 ghost use Rattle.histar_flat.specs.JobLaws.{WrappedJobsStayInside, JobsStayInside};
 ghost use Rattle.histar_flat.specs.JobLaws.{CallsChangeTheirOwnTree, JobsReadAsTheirUser};
 ghost use Rattle.histar_flat.specs.ProcessLaws.{KillsTakeTheirTree, ExitsLeaveChildren, GoneChangeNothing, GoneStayGone};
@@ -21,26 +21,26 @@ pub fn a_private_file_stays_with_others()
 {}
 
 /// A process that is not the owner's and reads a private file is answered no bytes.
-pub fn a_private_file_is_untold_to_others()
-    ensures { PrivateFilesAreUntold }
+pub fn a_private_file_is_hidden_from_others()
+    ensures { PrivateFilesAreHidden }
 {}
 
 /// While no process is the owner's, and none logs in as the owner, no reply depends on the bytes of
 /// a private file.
-pub fn private_bytes_are_untold()
-    ensures { PrivateBytesAreUntold }
+pub fn private_bytes_are_hidden()
+    ensures { PrivateBytesAreHidden }
 {}
 
 /// Each call of a process whose user is no member of a group has the same reply, whatever bytes stand
 /// in a file of the group.
-pub fn group_bytes_are_untold()
-    ensures { GroupBytesAreUntold }
+pub fn group_bytes_are_hidden()
+    ensures { GroupBytesAreHidden }
 {}
 
 /// While no process is a member's, and none logs in as a member, no reply depends on the bytes of a file
 /// of the group.
-pub fn group_bytes_stay_untold()
-    ensures { GroupBytesStayUntold }
+pub fn group_bytes_stay_hidden()
+    ensures { GroupBytesStayHidden }
 {}
 
 /// A process that has written bytes to a file, and reads the file next, is answered these bytes.
@@ -50,8 +50,8 @@ pub fn what_is_written_is_read_back()
 
 /// In a listing the names rise; a name is in it exactly where something stands there, and is told as a
 /// directory's exactly where that is one.
-pub fn a_listing_tells_what_stands()
-    ensures { ListingsTellWhatStands }
+pub fn a_listing_shows_what_stands()
+    ensures { ListingsShowWhatStands }
 {}
 
 /// An `unlink`, a `rmdir` or a `rmtree` takes exactly what stands at its path and below it.
@@ -73,8 +73,8 @@ pub fn writers_of_directories_take_private_files()
 
 /// Whatever stands below a directory that a process may not read, each call of the process has the same
 /// reply.
-pub fn unread_directories_are_untold()
-    ensures { UnreadDirectoriesAreUntold }
+pub fn unread_directories_are_hidden()
+    ensures { UnreadDirectoriesAreHidden }
 {}
 
 /// The replies of a script are one a call line, in the order of the lines.

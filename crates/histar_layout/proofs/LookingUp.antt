@@ -12,7 +12,7 @@ use Rattle.histar_layout.specs.declared.entry.Target.{Target}
 use Rattle.histar_layout.specs.declared.entry.Target.TheVariants.{File, Directory}
 use Rattle.histar_layout.specs.Directory.{Entries, target_bytes, entry_bytes, IsTarget, IsEntry, IsDirectory}
 use Rattle.histar_layout.specs.Reading.{◌>>=◌, front_at, target_at}
-use Rattle.histar_layout.specs.Found.{slot_at, told_by, found_among, found_in}
+use Rattle.histar_layout.specs.Found.{slot_at, target_from, found_among, found_in}
 use Rattle.histar_layout.proofs.EntryLemmas.{bind_at, front_again, target_again}
 use Rattle.histar_layout.proofs.MapLemmas.{by_bytes}
 use Rattle.histar_layout.proofs.DirectoryLemmas.{Entry}
@@ -37,7 +37,7 @@ none_at_end = refl
 nowhere : (most : ℕ) (rest : List ℕ) (name : Name) → slot_at rest ≡ None → found_among most rest name ≡ None
 unfolding found_among
 nowhere zero rest name none = refl
-nowhere (suc most) rest name none = ap (λ o. o >>= λ slot. cond (same name slot.0.0) (told_by slot.0.1) (found_among most slot.1 name)) none
+nowhere (suc most) rest name none = ap (λ o. o >>= λ slot. cond (same name slot.0.0) (target_from slot.0.1) (found_among most slot.1 name)) none
 
 pub leads_nowhere : (bytes rest : List ℕ) (name : Name) → IsLeft bytes rest name → slot_at rest ≡ None → found_in bytes name ≡ None
 leads_nowhere bytes rest name left none = left.same_found ∙ nowhere left.most rest name none
@@ -63,20 +63,20 @@ slot_shorter (len ∷ bytes) x e =
 
 module _ (rest : List ℕ) (name : Name) (x : (List ℕ × List ℕ) × List ℕ) (is : slot_at rest ≡ Some x) where
   -- one entry is gone over
-  over_one : (most : ℕ) (b : Bool) → same name x.0.0 ≡ b → found_among (suc most) rest name ≡ cond b (told_by x.0.1) (found_among most x.1 name)
+  over_one : (most : ℕ) (b : Bool) → same name x.0.0 ≡ b → found_among (suc most) rest name ≡ cond b (target_from x.0.1) (found_among most x.1 name)
   unfolding found_among
   over_one most b test =
-      bind_at (slot_at rest) (λ slot. cond (same name slot.0.0) (told_by slot.0.1) (found_among most slot.1 name)) x is
-      ∙ ap (λ (c : Bool). cond c (told_by x.0.1) (found_among most x.1 name)) test
+      bind_at (slot_at rest) (λ slot. cond (same name slot.0.0) (target_from slot.0.1) (found_among most slot.1 name)) x is
+      ∙ ap (λ (c : Bool). cond c (target_from x.0.1) (found_among most x.1 name)) test
 
   -- so where at most so many are
-  over_first : (most : ℕ) → length rest ≤ most → (b : Bool) → same name x.0.0 ≡ b → (fewer : ℕ) × (most ≡ suc fewer) × (found_among most rest name ≡ cond b (told_by x.0.1) (found_among fewer x.1 name))
+  over_first : (most : ℕ) → length rest ≤ most → (b : Bool) → same name x.0.0 ≡ b → (fewer : ℕ) × (most ≡ suc fewer) × (found_among most rest name ≡ cond b (target_from x.0.1) (found_among fewer x.1 name))
   over_first zero enough b test = absurd (omega (arith, slot_shorter rest x is))
   over_first (suc most) enough b test = (most, refl, over_one most b test)
 
   module _ (bytes : List ℕ) (left : IsLeft bytes rest name) where
     -- where it has the name, that is what is found
-    pub found_here : same name x.0.0 ≡ true → found_in bytes name ≡ told_by x.0.1
+    pub found_here : same name x.0.0 ≡ true → found_in bytes name ≡ target_from x.0.1
     found_here test =
         let first = over_first left.most left.enough true test in
         left.same_found ∙ first.2
@@ -95,8 +95,8 @@ target_len (File file) = refl
 target_len (Directory container listing) = refl
 
 -- they tell the target
-told_again : (t : Target) → IsTarget t → told_by (target_bytes t) ≡ Some t
-unfolding told_by
+told_again : (t : Target) → IsTarget t → target_from (target_bytes t) ≡ Some t
+unfolding target_from
 told_again t is =
     bind_at (target_at (target_bytes t)) (λ (x : Target × List ℕ). Some x.0) (t, [])
     (ap target_at (sym (append-nil (target_bytes t))) ∙ target_again t [] is)

@@ -18,8 +18,8 @@ slot_at (len ∷ bytes) = do
   Some ((text.0, told.0), told.1)
 
 -- where these bytes tell that an entry leads
-unfoldable pub told_by : List ℕ → Option Target
-told_by bytes = do
+unfoldable pub target_from : List ℕ → Option Target
+target_from bytes = do
   target ← target_at bytes
   Some target.0
 
@@ -28,7 +28,7 @@ unfoldable pub found_among : ℕ → List ℕ → Name → Option Target
 found_among zero bytes name = None
 found_among (suc most) bytes name = do
   slot ← slot_at bytes
-  if same name slot.0.0 then told_by slot.0.1 else found_among most slot.1 name
+  if same name slot.0.0 then target_from slot.0.1 else found_among most slot.1 name
 
 -- where the first entry of this name leads in the bytes, which have more bytes than entries
 unfoldable pub found_in : List ℕ → Name → Option Target

@@ -6,7 +6,7 @@ ghost use Rattle.histar_layout.specs.Directory.{Entries, IsDirectory};
 ghost use Rattle.histar_layout.specs.Found.{found_in};
 
 use crate::entry::Target;
-use crate::read_entry::{read_slot, told_by};
+use crate::read_entry::{read_slot, target_from};
 use histar_flat::Name;
 
 /// Where the entry of this name leads. It goes from entry to entry, up to the one that has the name and no
@@ -20,7 +20,7 @@ pub fn look_up(bytes: &[u8], name: &Name) -> Option<Target>
     let mut rest = bytes;
     'entries: while let Some((text, told, after)) = read_slot(rest) {
         if is_same(wanted, text) {
-            return told_by(told);
+            return target_from(told);
         }
         rest = after;
     }

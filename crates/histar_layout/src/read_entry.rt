@@ -1,7 +1,7 @@
 //! Reading the entries of directories.
 ghost use Rattle.std.specs.Prelude.{◌≡◌, IfSome, IsTrue};
 ghost use Rattle.histar_flat.specs.Words.{is_name};
-ghost use Rattle.histar_layout.specs.Found.{slot_at, told_by};
+ghost use Rattle.histar_layout.specs.Found.{slot_at, target_from};
 ghost use Rattle.histar_layout.specs.Reading.{Gives, front_at, number_at, target_of, target_at, entry_at};
 
 use crate::entry::Target;
@@ -60,9 +60,9 @@ pub fn read_slot(bytes: &[u8]) -> Option<(&[u8], &[u8], &[u8])>
 }
 
 /// Where these bytes tell that an entry leads.
-#[tactic(auto, unfolding(crate::specs::Found::told_by))]
-pub fn told_by(bytes: &[u8]) -> Option<Target>
-    ensures { result ≡ told_by bytes.now }
+#[tactic(auto, unfolding(crate::specs::Found::target_from))]
+pub fn target_from(bytes: &[u8]) -> Option<Target>
+    ensures { result ≡ target_from bytes.now }
 {
     let Some((target, _)) = read_target(bytes) else {
         return None;

@@ -13,5 +13,5 @@ pub mod LoginRuns
 pub mod AllowedCalls
 pub mod Beginnings
 pub mod MadeLabels
-pub mod TellingLogins
+pub mod RepliesOfLogins
 pub mod Numbers

@@ -72,8 +72,8 @@ abbrev pub BootsOn : KernelModel → KernelModel → (Part → Type 0) → Part 
 BootsOn old new IsSo more = (first : KernelModel) (p : Part) → IsSo p → Boots first old p → Boots first new (and_then p more)
 
 -- where boot had come so far that this holds, this holds too
-abbrev pub Tells : KernelModel → (Part → Type 0) → Type 0 → Type 0
-Tells old IsSo Told = (first : KernelModel) (p : Part) → IsSo p → Boots first old p → Told
+abbrev pub FollowsOfBoot : KernelModel → (Part → Type 0) → Type 0 → Type 0
+FollowsOfBoot old IsSo Shown = (first : KernelModel) (p : Part) → IsSo p → Boots first old p → Shown
 
 -- of these raw calls, behind those before, a beginning that is not all of them was made, and each was granted
 pub record HasBegun (first now : KernelModel) (before calls : List RawCall) : Type 0 where
@@ -194,7 +194,7 @@ MakesDirectory old new session = BootsOn old new (IsBefore (3 + 2 * length sessi
 
 -- the container and the segment that are made there are those of `/`
 abbrev pub IsFirstDirectory : KernelModel → Session → Place → Type 0
-IsFirstDirectory old session slash = Tells old (IsBefore (3 + 2 * length session.users)) (slash ≡ (places_of (length session.users)).slash)
+IsFirstDirectory old session slash = FollowsOfBoot old (IsBefore (3 + 2 * length session.users)) (slash ≡ (places_of (length session.users)).slash)
 
 -- process 0
 abbrev pub process_part : ℕ → ℕ → Part
@@ -210,4 +210,4 @@ BeginsProcess old new = (n owners : ℕ) → BeginsOn old new (IsBeforeBoth (6 +
 
 -- the container and the segment that are made behind `/` are those of process 0
 abbrev pub IsFirstHome : KernelModel → Home → Type 0
-IsFirstHome old home = (n owners : ℕ) → Tells old (IsBeforeBoth (6 + 2 * n) (own_read_category owners)) (home ≡ (places_of n).home)
+IsFirstHome old home = (n owners : ℕ) → FollowsOfBoot old (IsBeforeBoth (6 + 2 * n) (own_read_category owners)) (home ≡ (places_of n).home)

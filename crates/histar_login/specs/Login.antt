@@ -14,7 +14,7 @@ use Rattle.histar_rules.specs.declared.raw.RawCall.TheVariants.{OwnLabel, SetLab
 use Rattle.histar_rules.specs.Sound.{root_number}
 use Rattle.histar_calls.specs.Categories.{owners_of}
 use Rattle.histar_calls.specs.Labelling.{owner_label, cleared_at}
-use Rattle.histar_calls.specs.Laws.{TellsRefusals}
+use Rattle.histar_calls.specs.Laws.{RepliesToRefusals}
 use Rattle.histar_calls.specs.Programs.{Program}
 use Rattle.histar_calls.specs.Programs.Program.{Answers}
 use Rattle.histar_calls.specs.Parts.{◌>>=◌, ◌>>◌, ask}
@@ -86,6 +86,6 @@ login_at session caller name password (Some place) = login_as_program caller (pl
 abbrev pub login_program : Session → Caller → Name → List ℕ → Program
 login_program session caller name password = login_at session caller name password (place_of session.users name)
 
--- the programs of logins tell their refusals
-abbrev pub LoginsTellRefusals : Type 0
-LoginsTellRefusals = (session : Session) (caller : Caller) (name : Name) (password : List ℕ) → TellsRefusals (login_program session caller name password)
+-- the programs of logins reply to their refusals
+abbrev pub LoginsReplyToRefusals : Type 0
+LoginsReplyToRefusals = (session : Session) (caller : Caller) (name : Name) (password : List ℕ) → RepliesToRefusals (login_program session caller name password)

@@ -1,3 +1,3 @@
-pub mod MovesTelling
+pub mod RepliesOfMoves
 pub mod TakingAway
 pub mod Deciding

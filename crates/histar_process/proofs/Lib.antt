@@ -1,6 +1,6 @@
 pub mod Segments
 pub mod Scanning
-pub mod ProcessTelling
+pub mod RepliesOfProcessCalls
 pub mod Births
 pub mod Rooms
 pub mod Calling

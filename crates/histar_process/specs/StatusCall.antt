@@ -10,13 +10,13 @@ use Rattle.histar_calls.specs.Parts.{◌>>=◌}
 use Rattle.histar_process.specs.Parts.{find_home, read_status}
 
 -- what is told of a process that has exited with this number, or runs
-abbrev pub life_told : Option ℕ → Reply
-life_told None = Running
-life_told (Some number) = Exited number
+abbrev pub status_reply : Option ℕ → Reply
+status_reply None = Running
+status_reply (Some number) = Exited number
 
 -- the process is found, and its segment is read
 unfoldable pub status_program : Places → ProcName → Program
 status_program places name = do
   home ← find_home places.home name
   status ← read_status home
-  Answers (life_told status.exited)
+  Answers (status_reply status.exited)

@@ -2,7 +2,7 @@
 ghost use Rattle.std.specs.Prelude.{◌≡◌};
 ghost use Rattle.histar_calls.specs.Programs.{Runs};
 ghost use Rattle.histar_calls.specs.Refusals.{settled};
-ghost use Rattle.histar_process.specs.StatusCall.{life_told, status_program};
+ghost use Rattle.histar_process.specs.StatusCall.{status_reply, status_program};
 
 use crate::find::{find_home, read_head};
 use histar_calls::{Ending, Places, Stopped, settle};
@@ -21,10 +21,10 @@ pub fn status<S: LabelStore + Drop>(
 ) -> Result<Reply, Stopped>
     ensures { Runs (status_program places.now name.now) kernel.old kernel.new thread result }
 {
-    settle(tell_status(kernel, places, thread, name))
+    settle(reply_status(kernel, places, thread, name))
 }
 
-fn tell_status<S: LabelStore + Drop>(
+fn reply_status<S: LabelStore + Drop>(
     kernel: &mut Kernel<S>,
     places: &Places,
     thread: ObjId,
@@ -34,12 +34,12 @@ fn tell_status<S: LabelStore + Drop>(
 {
     let home = find_home(kernel, places.home, thread, name.numbers())?;
     let head = read_head(kernel, thread, &home)?;
-    Ok(life_told(head.exited))
+    Ok(status_reply(head.exited))
 }
 
 /// What is told of a process that has exited with this number, or runs.
-fn life_told(exited: Option<u8>) -> Reply
-    ensures { result ≡ life_told exited }
+fn status_reply(exited: Option<u8>) -> Reply
+    ensures { result ≡ status_reply exited }
 {
     match exited {
         None => Reply::Running,

@@ -19,10 +19,10 @@ pub fn whoami<S: LabelStore + Drop>(
 ) -> Result<Reply, Stopped>
     ensures { Runs (whoami_program users.now) kernel.old kernel.new thread result }
 {
-    settle(tell_user(kernel, users, thread))
+    settle(reply_user(kernel, users, thread))
 }
 
-fn tell_user<S: LabelStore + Drop>(
+fn reply_user<S: LabelStore + Drop>(
     kernel: &mut Kernel<S>,
     users: &UserTable,
     thread: ObjId,

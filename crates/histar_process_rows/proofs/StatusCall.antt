@@ -15,7 +15,7 @@ use Rattle.histar_syscall.specs.KernelModel.{KernelModel, state}
 use Rattle.histar_calls.specs.declared.ending.Stopped.{Stopped}
 use Rattle.histar_calls.specs.Programs.{Runs}
 use Rattle.histar_calls.specs.Programs.Program.{Answers}
-use Rattle.histar_process.specs.StatusCall.{life_told, status_program}
+use Rattle.histar_process.specs.StatusCall.{status_reply, status_program}
 use Rattle.histar_login.specs.Start.{places_of}
 use Rattle.histar_refinement.specs.Sessions.{IsSession}
 use Rattle.histar_refinement.specs.LaysOut.{LaysOut}
@@ -27,12 +27,12 @@ use Rattle.histar_process_rows.specs.Laws.{StatusesAreRows}
 use Rattle.histar_process_rows.proofs.Searches.{search_reads, has_search, search_step}
 
 -- what the program tells of a process's life is what the flat rules answer
-life_is : (e : Option ℕ) → life_told e ≡ elim e as (λ _. Reply) [ None ↦ Running | Some n ↦ Exited n ]
+life_is : (e : Option ℕ) → status_reply e ≡ elim e as (λ _. Reply) [ None ↦ Running | Some n ↦ Exited n ]
 life_is None = refl
 life_is (Some n) = refl
 
 -- and needs no more than granted raw calls
-life_backed : (s : State) (entries : List TraceEntry) (e : Option ℕ) → IsBacked s entries (life_told e)
+life_backed : (s : State) (entries : List TraceEntry) (e : Option ℕ) → IsBacked s entries (status_reply e)
 life_backed s entries None = tt
 life_backed s entries (Some n) = tt
 
@@ -40,17 +40,17 @@ module _ (session : Session) (ok : IsSession session) (old new : KernelModel) (f
   abbrev call : UnixCall
   call = calls.Status name
 
-  said : (other : Process) → f.processes name ≡ Some other → life_told other.exited ≡ life_reply (f.processes name)
+  said : (other : Process) → f.processes name ≡ Some other → status_reply other.exited ≡ life_reply (f.processes name)
   said other here = life_is other.exited ∙ ap life_reply (sym here)
 
   status_is_row : Runs (status_program (places_of (length session.users)) name) old new t result → Goal session f me ready.caller call old new t ready.thread result
   unfolding status_program
   status_is_row run =
       let reads = search_reads session (state old) f me t ready name in
-      search_step session ok old new f me t ready call result name (λ home status. Answers (life_told status.exited)) run
+      search_step session ok old new f me t ready call result name (λ home status. Answers (status_reply status.exited)) run
       (λ errno is steps among. (is, has_search session (state old) f me t ready name _ among))
       (λ found other here seen mid stays chain on.
-      answered_step session f me ready.caller call old new t ready.thread result reads mid chain (life_told other.exited) (said other here) found
+      answered_step session f me ready.caller call old new t ready.thread result reads mid chain (status_reply other.exited) (said other here) found
       (subst (IsBacked (state old) _) (said other here) (life_backed (state old) _ other.exited))
       (has_search session (state old) f me t ready name _ (among_granted_all old.line t reads))
       (subst (λ (s : State). LaysOut session s f) (sym stays) ready.lays_out) on)

@@ -12,21 +12,21 @@ use Rattle.histar_syscall.specs.declared.answers.Answer.{Answer}
 use Rattle.histar_syscall.specs.Answers.{answer}
 use Rattle.histar_syscall.specs.KernelModel.{KernelModel, state, Called}
 use Rattle.histar_raw_session.specs.declared.read_session.RawLine.{RawLine}
-use Rattle.histar_raw_session.specs.Answers.{line_text, TellsCall, TellsCalls, AnswersCall, BeginsAnswer, AnswersCalls, BeginsAnswers}
+use Rattle.histar_raw_session.specs.Answers.{line_text, PrintsCall, PrintsCalls, AnswersCall, BeginsAnswer, AnswersCalls, BeginsAnswers}
 
 -- ---- one call
 
 -- what the kernel answers is the outcome, and its line tells it
 pub granted : {X E : Type 0} (first : State) (old new : KernelModel) (asked : RawLine) (told : Answer) (items : X → List ℕ) (result : Result X E) → state old ≡ first → Called old new asked.thread asked.call None → answer (state old) asked.thread asked.call ≡ Some told → IfOk result (λ line. items line ≡ line_text asked.line (Ok told))
-    → IfOk result (λ line. TellsCall first (state new) asked (items line))
+    → IfOk result (λ line. PrintsCall first (state new) asked (items line))
 granted first old new asked told items (Ok line) same called right text =
-    subst (λ (s : State). TellsCall s (state new) asked (items line)) same (record { outcome = Ok told; has = (called.outcome, right, called.state); told = text })
+    subst (λ (s : State). PrintsCall s (state new) asked (items line)) same (record { outcome = Ok told; has = (called.outcome, right, called.state); prints = text })
 granted first old new asked told items (Err e) same called right text = tt
 
 -- and so with what it denies
-pub denied : {X E : Type 0} (first : State) (old new : KernelModel) (asked : RawLine) (d : Denied) (items : X → List ℕ) (result : Result X E) → state old ≡ first → Called old new asked.thread asked.call (Some d) → IfOk result (λ line. items line ≡ line_text asked.line (Err d)) → IfOk result (λ line. TellsCall first (state new) asked (items line))
+pub denied : {X E : Type 0} (first : State) (old new : KernelModel) (asked : RawLine) (d : Denied) (items : X → List ℕ) (result : Result X E) → state old ≡ first → Called old new asked.thread asked.call (Some d) → IfOk result (λ line. items line ≡ line_text asked.line (Err d)) → IfOk result (λ line. PrintsCall first (state new) asked (items line))
 denied first old new asked d items (Ok line) same called text =
-    subst (λ (s : State). TellsCall s (state new) asked (items line)) same (record { outcome = Err d; has = (called.outcome, called.state); told = text })
+    subst (λ (s : State). PrintsCall s (state new) asked (items line)) same (record { outcome = Err d; has = (called.outcome, called.state); prints = text })
 denied first old new asked d items (Err e) same called text = tt
 
 -- ---- calls one after another
@@ -43,9 +43,9 @@ front_after a b c text next whole begun = (
 )
 
 -- one more call
-tells_more : (first mid last : State) (calls : List RawLine) (asked : RawLine) (text line : List ℕ) → TellsCalls first calls text mid → TellsCall mid last asked line → TellsCalls first (calls ++ asked ∷ []) (text ++ line) last
+tells_more : (first mid last : State) (calls : List RawLine) (asked : RawLine) (text line : List ℕ) → PrintsCalls first calls text mid → PrintsCall mid last asked line → PrintsCalls first (calls ++ asked ∷ []) (text ++ line) last
 tells_more first mid last [] asked text line done one =
-    (last, line, [], subst (λ (s : State). TellsCall s last asked line) done.1 one, ap (λ (l : List ℕ). l ++ line) done.0 ∙ sym (append-nil line), (refl, refl))
+    (last, line, [], subst (λ (s : State). PrintsCall s last asked line) done.1 one, ap (λ (l : List ℕ). l ++ line) done.0 ∙ sym (append-nil line), (refl, refl))
 tells_more first mid last (b ∷ calls) asked text line done one = (
   done.0,
   done.1,

@@ -17,46 +17,46 @@ abbrev pub HasOutcome : State → ℕ → RawCall → Result Answer Denied → S
 HasOutcome s t call (Ok told) new = (check s t call ≡ None) × (answer s t call ≡ Some told) × Changes s t call new
 HasOutcome s t call (Err denied) new = (check s t call ≡ Some denied) × (new ≡ s)
 
--- the line that tells an outcome: the number of the call line, and an equals sign and the answer, or the denial's name
+-- the line of an outcome: the number of the call line, and an equals sign and the answer, or the denial's name
 abbrev pub line_text : ℕ → Result Answer Denied → List ℕ
 line_text number (Ok told) = decimal number ++ codes " = " ++ answer_text told ++ codes "\n"
 line_text number (Err denied) = decimal number ++ codes " " ++ denied_text denied ++ codes "\n"
 
--- the call has an outcome by the rules, and the line tells it
-pub record TellsCall (before after : State) (asked : RawLine) (line : List ℕ) : Type 0 where
+-- the call has an outcome by the rules, and the line prints it
+pub record PrintsCall (before after : State) (asked : RawLine) (line : List ℕ) : Type 0 where
   pub outcome : Result Answer Denied
   pub has : HasOutcome before asked.thread asked.call outcome after
-  pub told : line ≡ line_text asked.line outcome
+  pub prints : line ≡ line_text asked.line outcome
 
 -- From the first state the rules lead to the last one by these calls, each at the state that the one before left, and the text is the
--- lines that tell their outcomes.
-abbrev pub TellsCalls : State → List RawLine → List ℕ → State → Type 0
-TellsCalls s [] text last = (text ≡ []) × (last ≡ s)
-TellsCalls s (asked ∷ calls) text last =
-    (mid : State) × (line : List ℕ) × (rest : List ℕ) × TellsCall s mid asked line × (text ≡ line ++ rest) × TellsCalls mid calls rest last
+-- lines of their outcomes.
+abbrev pub PrintsCalls : State → List RawLine → List ℕ → State → Type 0
+PrintsCalls s [] text last = (text ≡ []) × (last ≡ s)
+PrintsCalls s (asked ∷ calls) text last =
+    (mid : State) × (line : List ℕ) × (rest : List ℕ) × PrintsCall s mid asked line × (text ≡ line ++ rest) × PrintsCalls mid calls rest last
 
--- the call has an outcome by the rules, and the line that tells it was written
+-- the call has an outcome by the rules, and the line that prints it was written
 pub record AnswersCall (before after : State) (old new : Option (List ℕ)) (asked : RawLine) : Type 0 where
   pub line : List ℕ
-  pub tells : TellsCall before after asked line
+  pub tells : PrintsCall before after asked line
   pub written : Appends old new line
 
--- nothing was written, or the call has an outcome by the rules and a beginning of the line that tells it was written
+-- nothing was written, or the call has an outcome by the rules and a beginning of the line that prints it was written
 abbrev pub BeginsAnswer : State → State → Option (List ℕ) → Option (List ℕ) → RawLine → Type 0
-BeginsAnswer before after old new asked = Keeps old new ⊎ ((line : List ℕ) × TellsCall before after asked line × AppendsFront old new line)
+BeginsAnswer before after old new asked = Keeps old new ⊎ ((line : List ℕ) × PrintsCall before after asked line × AppendsFront old new line)
 
--- each of the calls has its outcome by the rules, and the lines that tell them were written
+-- each of the calls has its outcome by the rules, and the lines that print them were written
 pub record AnswersCalls (before after : State) (old new : Option (List ℕ)) (calls : List RawLine) : Type 0 where
   pub text : List ℕ
-  pub tells : TellsCalls before calls text after
+  pub tells : PrintsCalls before calls text after
   pub written : Appends old new text
 
--- the first of the calls have their outcomes by the rules, and a beginning of the lines that tell them was written
+-- the first of the calls have their outcomes by the rules, and a beginning of the lines that print them was written
 pub record BeginsAnswers (before : State) (old new : Option (List ℕ)) (calls : List RawLine) : Type 0 where
   pub first : List RawLine
   pub rest : List RawLine
   pub parts : calls ≡ first ++ rest
   pub text : List ℕ
   pub last : State
-  pub tells : TellsCalls before first text last
+  pub tells : PrintsCalls before first text last
   pub written : AppendsFront old new text

@@ -1,4 +1,4 @@
-//! The lines that tell what became of calls.
+//! The lines that print what became of calls.
 ghost use Rattle.std.specs.Prelude.{◌≡◌, ◌++◌, IfOk, OnOk, Ok, Err};
 ghost use Rattle.std.specs.Fmt.{decimal};
 ghost use Rattle.histar_raw_session.specs.Answers.{line_text};

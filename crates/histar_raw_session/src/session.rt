@@ -3,7 +3,7 @@ ghost use Rattle.std.specs.Prelude.{◌≡◌, false, IfErr, IfOk, IfSome, OnOk,
 ghost use Rattle.histar_devices.specs.Device.{CountsFailure};
 ghost use Rattle.histar_script.specs.Runs.{IsOutputFault, LeavesSink, RunsInput, is_read_failed, is_write_failed};
 ghost use Rattle.histar_syscall.specs.KernelModel.{state};
-ghost use Rattle.histar_raw_session.specs.Answers.{AnswersCall, AnswersCalls, BeginsAnswer, BeginsAnswers, TellsCall};
+ghost use Rattle.histar_raw_session.specs.Answers.{AnswersCall, AnswersCalls, BeginsAnswer, BeginsAnswers, PrintsCall};
 ghost use Rattle.histar_raw_session.specs.Run.{RunsSession};
 
 use crate::lines::{answer_line, denial_line};
@@ -89,13 +89,13 @@ fn answer_call<S: LabelStore + Drop, W: Sink>(
     Ok(())
 }
 
-/// Has the kernel make one call, and tells in a line what became of it.
+/// Has the kernel make one call, and prints in a line what became of it.
 fn make_call<S: LabelStore + Drop>(
     alloc: Global,
     kernel: &mut Kernel<S>,
     asked: RawLine,
 ) -> Result<Vec<u8>, OutOfMemory>
-    ensures { IfOk result (λ line. TellsCall (state kernel.old) (state kernel.new) asked line.items) }
+    ensures { IfOk result (λ line. PrintsCall (state kernel.old) (state kernel.new) asked line.items) }
 {
     let RawLine {
         line: number,

@@ -7,7 +7,7 @@ use Rattle.histar_flat.proofs.SplitLemmas.{lacks}
 use Rattle.histar_rules.specs.declared.raw.RawCall.{RawCall}
 use Rattle.histar_rules.specs.declared.raw.RawCall.TheVariants.{MakeCategory, OwnLabel, SetLabel, SetClearance, MakeSegment, MakeContainer, MakeThread, MakeGate, Enter, Read, Write, Unlink, LabelOf}
 use Rattle.histar_rawtext.specs.RawText.{label_text, bytes_text, entry_text, call_name, call_words, call_text, thread_call_text}
-use Rattle.histar_rawtext.specs.RawTextLaws.{IsWritable, TextsTellCalls}
+use Rattle.histar_rawtext.specs.RawTextLaws.{IsWritable, TextsDetermineCalls}
 use Rattle.histar_rawtext.proofs.Parting.{same_parts, spaced, AreWords, same_words, same_fronts}
 use Rattle.histar_rawtext.proofs.WordTexts.{lacks-decimal, space_is_no_digit, lacks-bytes, lacks-entry, same_bytes, same_entry}
 use Rattle.histar_rawtext.proofs.LabelTexts.{lacks-label, same_label}
@@ -202,8 +202,8 @@ pub call_spelled : (t : ℕ) (a : RawCall) → thread_call_text t a ≡ decimal 
 call_spelled t a = append_assoc (decimal t) (32 ∷ []) (call_text a) ∙ ap (λ text. decimal t ++ 32 ∷ (call_name a ++ text)) (words_spelled a)
 
 -- a thread's call is told by its text
-pub texts_tell_calls : TextsTellCalls
-texts_tell_calls t u a b small_t small_u p q e =
+pub texts_determine_calls : TextsDetermineCalls
+texts_determine_calls t u a b small_t small_u p q e =
     let whole = sym (call_spelled t a) ∙ e ∙ call_spelled u b in
     let parts = same_parts 32 (decimal t) (decimal u) (spaced (call_name a ∷ words_of a)) (spaced (call_name b ∷ words_of b)) (lacks-decimal 32 t space_is_no_digit small_t) (lacks-decimal 32 u space_is_no_digit small_u) refl refl whole in
     let words = same_words (call_name a ∷ words_of a) (call_name b ∷ words_of b) (name_is_word a, are_words a p) (name_is_word b, are_words b q) parts.1 in

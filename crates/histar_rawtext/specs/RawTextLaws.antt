@@ -1,4 +1,4 @@
--- What the texts of raw calls tell.
+-- What the texts of raw calls determine.
 use Rattle.std.specs.Prelude.{◌≡◌, ℕ, ◌<◌, ◌^◌, ⊤}
 use Rattle.std.specs.List.{AllByRecursion}
 use Rattle.histar_label.specs.Levels.{Levels, exceptions_of}
@@ -38,5 +38,5 @@ IsWritable (Unlink container object) = IsNumber container × IsNumber object
 IsWritable (LabelOf container object) = IsNumber container × IsNumber object
 
 -- two raw calls of threads that have one text are the same call of the same thread
-abbrev pub TextsTellCalls : Type 0
-TextsTellCalls = (t u : ℕ) (a b : RawCall) → IsNumber t → IsNumber u → IsWritable a → IsWritable b → thread_call_text t a ≡ thread_call_text u b → (t ≡ u) × (a ≡ b)
+abbrev pub TextsDetermineCalls : Type 0
+TextsDetermineCalls = (t u : ℕ) (a b : RawCall) → IsNumber t → IsNumber u → IsWritable a → IsWritable b → thread_call_text t a ≡ thread_call_text u b → (t ≡ u) × (a ≡ b)

@@ -1,6 +1,6 @@
 //! The texts of raw kernel calls, written and read, of what they answer, and of the entries of the trace.
 //!
-//! [`rawtext_laws`] says that a text tells the call that it was written of.
+//! [`rawtext_laws`] says that a text determines the call that it was written of.
 #![tactic(auto)]
 
 mod answers;

@@ -32,7 +32,7 @@ use Rattle.histar_refinement.specs.Processes.{or_zero, children, listed_by, stat
 use Rattle.histar_refinement.specs.LaysOut.{Laid}
 use Rattle.histar_refinement.specs.Laws.{IsCallerOf, CallersAreFound, CallersAreThere}
 use Rattle.histar_refinement.proofs.CallerLabels.{write_found, read_found}
-use Rattle.histar_refinement.proofs.LabelsTold.{label_bare}
+use Rattle.histar_refinement.proofs.FileLabels.{label_bare}
 use Rattle.histar_refinement.proofs.Moving.{at_number}
 use Rattle.histar_refinement.proofs.Places.{asked_home, asked_inside}
 use Rattle.histar_refinement.proofs.Standing.{some_of}

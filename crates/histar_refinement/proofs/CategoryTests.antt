@@ -9,7 +9,7 @@ use mathlib.Core.Bool.{true≢false}
 use Rattle.histar_flat.specs.Words.{ProcName}
 use Rattle.histar_flat.specs.PathOrder.{same}
 use Rattle.histar_flat.proofs.FileLemmas.{same_name_found}
-use Rattle.histar_container.proofs.Addresses.{Tells}
+use Rattle.histar_container.proofs.Addresses.{TestsEquality}
 use Rattle.histar_flat.specs.Sessions.{has}
 use Rattle.histar_refinement.specs.Categories.{CategoryName, Categories, AreDifferent, split_category, same_category, among}
 use Rattle.histar_refinement.specs.Categories.CategoryName.{OfBoot, ReadsUser, WritesUser, ReadsGroup, WritesGroup, ReadsProcess, WritesProcess, OfJob}
@@ -47,7 +47,7 @@ pub same_split : (c d : CategoryName) → (split_category c).0 ≡ (split_catego
 same_split c d kind rest = sym (join_split c) ∙ (λ i. join_category (kind i) (rest i)) ∙ join_split d
 
 -- whether two names are the same tells whether they are equal
-pub category_tells : Tells same_category
+pub category_tells : TestsEquality same_category
 category_tells x y = elim (eqb_tells (split_category x).0 (split_category y).0) [
   | inl kind ↦ elim (same_name_found (split_category x).1 (split_category y).1) [
     | inl rest ↦ inl (and_from _ _ kind.0 rest.0, sym (join_split x) ∙ (λ i. join_category (kind.1 i) (rest.1 i)) ∙ join_split y)

@@ -45,8 +45,8 @@ pub mod StatusFound
 pub mod OneFlatState
 pub mod RawChecks
 pub mod FileChecks
-pub mod LabelsTold
-pub mod ClassTold
+pub mod FileLabels
+pub mod ClassFound
 pub mod LeftObjects
 pub mod LoginChecks
 pub mod CallLabels

@@ -14,7 +14,7 @@ use Rattle.histar_object.specs.Objects.{Objects, changed_at, linking, kind_linki
 use Rattle.histar_object.specs.State.{State, Found, with_object}
 use Rattle.histar_container.specs.ObjectsModel.{CutsOff}
 use Rattle.histar_container.specs.Tree.{Address, Naming, with_number, without_below, under, is_under, set_at, cut, same, IsLaid, objects_at}
-use Rattle.histar_container.proofs.Addresses.{Tells, same_tells, same_itself, same_other}
+use Rattle.histar_container.proofs.Addresses.{TestsEquality, same_tells, same_itself, same_other}
 use Rattle.histar_container.proofs.Reaching.{not_reached}
 use Rattle.histar_container.proofs.TableMoves.{changed_here, changed_other, new_there, new_holder, new_other, laid_new, laid_changed, laid_without}
 use Rattle.histar_container.proofs.Trees.{laid_itself}
@@ -85,7 +85,7 @@ pub not_some : (x : Option ℕ) → is_some x ≡ false → x ≡ None
 not_some None e = refl
 not_some (Some x) e = absurd (true≢false e)
 
-module _ {X : Type 0} (same_step : X → X → Bool) (tells : Tells same_step) (s : State) (naming : Naming X) (asked : Address X → Found) (stands : Stands same_step s naming asked) where
+module _ {X : Type 0} (same_step : X → X → Bool) (tells : TestsEquality same_step) (s : State) (naming : Naming X) (asked : Address X → Found) (stands : Stands same_step s naming asked) where
   -- a number that an address has is below the next one
   pub number_below : (a : Address X) (q : ℕ) → naming.number a ≡ Some q → q < s.next_object
   number_below a q is = elim (cases_lt q s.next_object) [

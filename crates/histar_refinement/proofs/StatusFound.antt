@@ -32,8 +32,8 @@ module _ (number : Numbers) (me : ProcName) (test : ℕ → Bool) (n : ℕ) wher
   abbrev listed_from : ℕ → ℕ → Option Listed
   listed_from a k = child_at (map (listed_by number me) (filter test (range_with_len a k))) n
 
-  abbrev Tells : ℕ → Type 0
-  Tells a = (((a == n) ≡ true) × (a ≡ n)) ⊎ (((a == n) ≡ false) × (a ≢ n))
+  abbrev IsTested : ℕ → Type 0
+  IsTested a = (((a == n) ≡ true) × (a ≡ n)) ⊎ (((a == n) ≡ false) × (a ≢ n))
 
   later_number : (a : ℕ) → a ≤ n → a ≢ n → a + 1 ≤ n
   later_number a low other = elim (cases_lt a n) [ inl lt ↦ omega (arith, lt) | inr le ↦ absurd (other (omega (arith, low, le))) ]
@@ -42,7 +42,7 @@ module _ (number : Numbers) (me : ProcName) (test : ℕ → Bool) (n : ℕ) wher
   one_more a k b = child_at (map (listed_by number me) (cond b (a ∷ filter test (range_with_len (a + 1) k)) (filter test (range_with_len (a + 1) k)))) n
 
   -- a number that passes the test is listed
-  listed_step : test n ≡ true → (a k : ℕ) → a ≤ n → (b : Bool) → test a ≡ b → Tells a → (a + 1 ≤ n → listed_from (a + 1) k ≡ Some (listed_by number me n)) → one_more a k b ≡ Some (listed_by number me n)
+  listed_step : test n ≡ true → (a k : ℕ) → a ≤ n → (b : Bool) → test a ≡ b → IsTested a → (a + 1 ≤ n → listed_from (a + 1) k ≡ Some (listed_by number me n)) → one_more a k b ≡ Some (listed_by number me n)
   listed_step passes a k low true is (inl e) later = ap (λ t. cond t (Some (listed_by number me a)) (listed_from (a + 1) k)) e.0 ∙ ap (λ (x : ℕ). Some (listed_by number me x)) e.1
   listed_step passes a k low true is (inr e) later = ap (λ t. cond t (Some (listed_by number me a)) (listed_from (a + 1) k)) e.0 ∙ later (later_number a low e.1)
   listed_step passes a k low false is (inl e) later = absurd (true≢false (sym passes ∙ ap test (sym e.1) ∙ is))
@@ -53,7 +53,7 @@ module _ (number : Numbers) (me : ProcName) (test : ℕ → Bool) (n : ℕ) wher
   listed_there passes a (suc k) low high = listed_step passes a k low (test a) refl (eqb_tells a n) (λ more. listed_there passes (a + 1) k more (omega (arith, high)))
 
   -- and what is listed passes it
-  back_step : (x : Listed) (a k : ℕ) (b : Bool) → test a ≡ b → Tells a → (listed_from (a + 1) k ≡ Some x → (test n ≡ true) × (listed_by number me n ≡ x)) → one_more a k b ≡ Some x → (test n ≡ true) × (listed_by number me n ≡ x)
+  back_step : (x : Listed) (a k : ℕ) (b : Bool) → test a ≡ b → IsTested a → (listed_from (a + 1) k ≡ Some x → (test n ≡ true) × (listed_by number me n ≡ x)) → one_more a k b ≡ Some x → (test n ≡ true) × (listed_by number me n ≡ x)
   back_step x a k true is (inl e) later found =
       let here : Some (listed_by number me a) ≡ Some x = sym (ap (λ t. cond t (Some (listed_by number me a)) (listed_from (a + 1) k)) e.0) ∙ found in
       (ap test (sym e.1) ∙ is, ap (listed_by number me) (sym e.1) ∙ same_Some (listed_by number me a) x here)

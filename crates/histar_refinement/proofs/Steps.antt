@@ -4,7 +4,7 @@ use Rattle.std.proofs.Common.{ap, sym, ◌∙◌, inl, inr}
 use Rattle.std.proofs.lemmas.Bool.{and_from, and_left, and_right}
 use Rattle.std.proofs.lemmas.Bool.Decides.{eqb_tells}
 use Rattle.histar_flat.proofs.FileLemmas.{same_name_found}
-use Rattle.histar_container.proofs.Addresses.{Tells}
+use Rattle.histar_container.proofs.Addresses.{TestsEquality}
 use Rattle.histar_refinement.specs.Addresses.{Step, split_step, same_step}
 use Rattle.histar_refinement.specs.Addresses.Step.{Left, Slash, Listing, Named, Home, Status, Inside, Runner, Child}
 
@@ -36,7 +36,7 @@ join_split Runner = refl
 join_split (Child n) = refl
 
 -- whether two steps are the same tells whether they are equal
-pub step_tells : Tells same_step
+pub step_tells : TestsEquality same_step
 step_tells x y = elim (eqb_tells (split_step x).0 (split_step y).0) [
   | inl kind ↦ elim (same_name_found (split_step x).1 (split_step y).1) [
     | inl rest ↦ inl (and_from _ _ kind.0 rest.0, sym (join_split x) ∙ (λ i. join_step (kind.1 i) (rest.1 i)) ∙ join_split y)

@@ -14,7 +14,7 @@ use Rattle.histar_syscall.specs.KernelModel.{KernelModel, state, Called, IsUncha
 use Rattle.histar_syscall.specs.Runs.{IsBy, IsRun, GoesOn, Made}
 use Rattle.histar_syscall.proofs.Runs.{entry_of, still_same, call_after}
 use Rattle.histar_calls.specs.Replies.{IsRestoring, sets_labels}
-use Rattle.histar_rows.specs.Rows.{has_category, IsBrokenOff, IsDenialTold}
+use Rattle.histar_rows.specs.Rows.{has_category, IsBrokenOff, IsReplyOfDenial}
 
 -- a raw call with its outcome
 abbrev pub Step : Type 0
@@ -98,7 +98,7 @@ module _ (t : ℕ) where
 
     -- and one whose last raw calls give the thread labels, behind one whose denial the reply tells
     pub refused_broken_off : (old new : KernelModel) (line : ℕ) (calls : List RawCall) (last : RawCall) (denied : Denied) (restoring : List RawCall)
-        → IsDenialTold reply (Some denied) → AllByRecursion (λ (c : RawCall). sets_labels c ≡ true) restoring
+        → IsReplyOfDenial reply (Some denied) → AllByRecursion (λ (c : RawCall). sets_labels c ≡ true) restoring
         → Chain old t (all_granted calls ++ (last, Some denied) ∷ all_granted restoring) new
         → IsBrokenOff reply (state old) (entries_of line t (all_granted calls ++ (last, Some denied) ∷ all_granted restoring)) (state new)
     refused_broken_off old new line [] last denied restoring told sets chain =

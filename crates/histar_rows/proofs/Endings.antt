@@ -28,7 +28,7 @@ use Rattle.histar_calls.specs.Refusals.{errno_for, errno_of, write_errno_of}
 use Rattle.histar_calls.specs.Replies.{is_access, is_permission, is_no_access, is_no_permission, IsRefusedOnce, sets_labels}
 use Rattle.histar_refinement.specs.LaysOut.{LaysOut}
 use Rattle.histar_refinement.specs.Lines.{IsThreadOf}
-use Rattle.histar_rows.specs.Rows.{IsRunning, IsDenialTold, EndsWithRead, HasReads, HasReadsOf, IsLine, IsUnanswered, IsBrokenOff, DoesItsRow}
+use Rattle.histar_rows.specs.Rows.{IsRunning, IsReplyOfDenial, EndsWithRead, HasReads, HasReadsOf, IsLine, IsUnanswered, IsBrokenOff, DoesItsRow}
 use Rattle.histar_rows.proofs.Chains.{Step, all_granted, entries_of, Chain, chain_run, chain_own, all_restoring}
 
 -- what a reply needs where no raw call was refused: bytes were read last, an errno is neither EACCES nor EPERM, and it is not `gone`
@@ -72,7 +72,7 @@ told_shown call denied errno told = shown_by denied errno told
 pub record Agrees (r : Reply) (entries : List TraceEntry) : Type 0 where
   pub access : some_label_refusal entries ≡ is_no_access r
   pub permission : some_range_refusal entries ≡ is_no_permission r
-  pub denials : AllByRecursion (λ (e : TraceEntry). IsDenialTold r e.denied) entries
+  pub denials : AllByRecursion (λ (e : TraceEntry). IsReplyOfDenial r e.denied) entries
   pub once : IsRefusedOnce entries
 
 module _ (line t : ℕ) where
@@ -87,7 +87,7 @@ module _ (line t : ℕ) where
 
   -- granted raw calls are refused neither by label nor by range, and no reply has a denial of them to tell
   none_refused : (r : Reply) (calls : List RawCall)
-      → (some_label_refusal (entries_of line t (all_granted calls)) ≡ false) × (some_range_refusal (entries_of line t (all_granted calls)) ≡ false) × AllByRecursion (λ (e : TraceEntry). IsDenialTold r e.denied) (entries_of line t (all_granted calls))
+      → (some_label_refusal (entries_of line t (all_granted calls)) ≡ false) × (some_range_refusal (entries_of line t (all_granted calls)) ≡ false) × AllByRecursion (λ (e : TraceEntry). IsReplyOfDenial r e.denied) (entries_of line t (all_granted calls))
   none_refused r [] = (refl, refl, tt)
   none_refused r (call ∷ calls) = let later = none_refused r calls in (later.0, later.1, (tt, later.2))
 
@@ -170,7 +170,7 @@ module _ (session : Session) (f : Flat) (me : ProcName) (caller : IsRunning f me
         permission = agrees.permission;
         denials = agrees.denials;
         once = agrees.once;
-        told = told;
+        ends_with_read = told;
         gone = λ e. absurd (lives e);
       } in (
         sym reply,

@@ -173,24 +173,24 @@ module _ (session : Session) where
   HasReadsOf s f None call reply entries = Unit {0}
   HasReadsOf s f (Some p) call reply entries = HasReads s f p call reply entries
 
--- a denial that the reply tells: EACCES one by label, EPERM one by range, EFBIG one of bytes that are too many; no other is told
-abbrev pub IsDenialTold : Reply → Option Denied → Type 0
-IsDenialTold reply None = Unit {0}
-IsDenialTold reply (Some denied) = option_map Refused (write_errno_of denied) ≡ Some reply
+-- the reply is that of a denial: EACCES of one by label, EPERM of one by range, EFBIG of bytes that are too many; no other has one
+abbrev pub IsReplyOfDenial : Reply → Option Denied → Type 0
+IsReplyOfDenial reply None = Unit {0}
+IsReplyOfDenial reply (Some denied) = option_map Refused (write_errno_of denied) ≡ Some reply
 
 -- The entries of a line that was answered so, between the state before the line and the one after it. They are a run of the
 -- kernel; each is of the line and of the thread that the process segment of the line's process names before it. Some is refused by
--- comparing labels exactly where the reply is EACCES, and by range exactly where it is EPERM; at most one is refused, the reply tells
--- it, and after it the thread is only given labels. What was read is what the last of them reads. A line that is answered `gone` has
+-- comparing labels exactly where the reply is EACCES, and by range exactly where it is EPERM; at most one is refused, the reply is
+-- that of the denial, and after it the thread is only given labels. What was read is what the last of them reads. A line that is answered `gone` has
 -- none.
 pub record IsLine (session : Session) (before : State) (line : ℕ) (process : ProcName) (reply : Reply) (entries : List TraceEntry) (after : State) : Type 0 where
   pub run : IsRun before entries after
   pub own : AllByRecursion (λ e. (e.line ≡ line) × IsThreadOf session before process e.thread) entries
   pub access : some_label_refusal entries ≡ is_no_access reply
   pub permission : some_range_refusal entries ≡ is_no_permission reply
-  pub denials : AllByRecursion (λ e. IsDenialTold reply e.denied) entries
+  pub denials : AllByRecursion (λ e. IsReplyOfDenial reply e.denied) entries
   pub once : IsRefusedOnce entries
-  pub told : (bytes : List ℕ) → reply ≡ Data bytes → EndsWithRead before entries bytes
+  pub ends_with_read : (bytes : List ℕ) → reply ≡ Data bytes → EndsWithRead before entries bytes
   pub gone : reply ≡ Gone → entries ≡ []
 
 -- The line is the row of its call: it is answered what the flat state says, it has the reads that the call cannot do without, and the
@@ -217,12 +217,12 @@ IsExhausted s None = Unit {0}
 IsExhausted s (Some denied) = (denied ≡ TooBig) × ((has_number s ≡ false) ⊎ (has_category s ≡ false))
 
 -- The entries are a run of the kernel that was broken off before this reply. A denial comes from a counter that has its greatest value;
--- or the reply tells it, and after it the thread is only given labels.
+-- or the reply is that of the denial, and after it the thread is only given labels.
 abbrev pub IsBrokenOff : Reply → State → List TraceEntry → State → Type 0
 IsBrokenOff reply s [] end = end ≡ s
 IsBrokenOff reply s (e ∷ entries) end =
     (mid : State) × (check s e.thread e.call ≡ e.denied) × Leaves e.denied s e.thread e.call mid
-    × (IsExhausted s e.denied ⊎ (IsDenialTold reply e.denied × AllByRecursion IsRestoring entries)) × IsBrokenOff reply mid entries end
+    × (IsExhausted s e.denied ⊎ (IsReplyOfDenial reply e.denied × AllByRecursion IsRestoring entries)) × IsBrokenOff reply mid entries end
 
 -- A call of a process has added these entries to the trace, on the line that was begun; they are the row of the call.
 pub record IsAnswered (session : Session) (f : Flat) (me : ProcName) (call : UnixCall) (old new : KernelModel) : Type 0 where

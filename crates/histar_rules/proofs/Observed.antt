@@ -21,27 +21,27 @@ use Rattle.histar_rules.specs.declared.raw.Denied.TheVariants.{NoThread, NoEntry
 use Rattle.histar_rules.specs.declared.raw.Refusal.{Refusal}
 use Rattle.histar_rules.specs.declared.raw.Refusal.TheVariants as refusals
 use Rattle.histar_rules.specs.Finds.{container_of, gate_of, state_shown}
-use Rattle.histar_rules.specs.Rules.{no_container, no_making, no_link, Tells, TellsUnlessExhausted}
+use Rattle.histar_rules.specs.Rules.{no_container, no_making, no_link, FailsAt, FailsAtUnlessExhausted}
 use Rattle.histar_rules.proofs.Passing.{unless_none}
 
 -- a check tells the denial that it answers
-pub told : {A : Type 0} (failing : Option Denied) (denied : Denied) (r : Result A Denied) → IsErrAnd r (λ e. e ≡ denied) → failing ≡ Some denied → Tells failing r
+pub told : {A : Type 0} (failing : Option Denied) (denied : Denied) (r : Result A Denied) → IsErrAnd r (λ e. e ≡ denied) → failing ≡ Some denied → FailsAt failing r
 told failing denied (Ok x) is e = absurd is
 told failing denied (Err other) is e = e ∙ ap (λ (d : Denied). Some d) (sym is)
 
 -- and where memory may run out too
-pub told_as_refusal : {A : Type 0} (failing : Option Denied) (denied : Denied) (r : Result A Refusal) → IsErrAnd r (λ e. e ≡ refusals.Denied denied) → failing ≡ Some denied → TellsUnlessExhausted failing r
+pub told_as_refusal : {A : Type 0} (failing : Option Denied) (denied : Denied) (r : Result A Refusal) → IsErrAnd r (λ e. e ≡ refusals.Denied denied) → failing ≡ Some denied → FailsAtUnlessExhausted failing r
 told_as_refusal failing denied (Ok x) is e = absurd is
-told_as_refusal {A} failing denied (Err other) is e = subst (λ (x : Refusal). TellsUnlessExhausted {A = A} failing (Err x)) (sym is) e
+told_as_refusal {A} failing denied (Err other) is e = subst (λ (x : Refusal). FailsAtUnlessExhausted {A = A} failing (Err x)) (sym is) e
 
 -- what an earlier check told is told
-pub told_on : {A : Type 0} (failing : Option Denied) (refusal : Refusal) (r : Result A Refusal) → IsErrAnd r (λ e. e ≡ refusal) → TellsUnlessExhausted {A = Unit {0}} failing (Err refusal) → TellsUnlessExhausted failing r
+pub told_on : {A : Type 0} (failing : Option Denied) (refusal : Refusal) (r : Result A Refusal) → IsErrAnd r (λ e. e ≡ refusal) → FailsAtUnlessExhausted {A = Unit {0}} failing (Err refusal) → FailsAtUnlessExhausted failing r
 told_on failing refusal (Ok x) is tells = absurd is
-told_on {A} failing (refusals.Denied denied) (Err other) is tells = subst (λ (x : Refusal). TellsUnlessExhausted {A = A} failing (Err x)) (sym is) tells
-told_on {A} failing refusals.OutOfMemory (Err other) is tells = subst (λ (x : Refusal). TellsUnlessExhausted {A = A} failing (Err x)) (sym is) tt
+told_on {A} failing (refusals.Denied denied) (Err other) is tells = subst (λ (x : Refusal). FailsAtUnlessExhausted {A = A} failing (Err x)) (sym is) tells
+told_on {A} failing refusals.OutOfMemory (Err other) is tells = subst (λ (x : Refusal). FailsAtUnlessExhausted {A = A} failing (Err x)) (sym is) tt
 
 -- what refuses first tells
-pub behind_refusal : {A : Type 0} (failing later : Option Denied) (denied : Denied) (r : Result A Denied) → failing ≡ Some denied → IsErrAnd r (λ e. e ≡ denied) → Tells (failing orelse later) r
+pub behind_refusal : {A : Type 0} (failing later : Option Denied) (denied : Denied) (r : Result A Denied) → failing ≡ Some denied → IsErrAnd r (λ e. e ≡ denied) → FailsAt (failing orelse later) r
 behind_refusal failing later denied (Ok x) e is = absurd is
 behind_refusal failing later denied (Err other) e is = ap (λ (f : Option Denied). f orelse later) e ∙ ap (λ (d : Denied). Some d) (sym is)
 

@@ -123,16 +123,16 @@ check s t (LabelOf d o) =
     no_link s t d o
     orelse unless (not (is_thread (s.objects o))) BadKind
 
--- a check tells the first of its tests that fails, or that none does
-abbrev pub Tells : {A : Type 0} → Option Denied → Result A Denied → Type 0
-Tells failing (Ok _) = failing ≡ None
-Tells failing (Err denied) = failing ≡ Some denied
+-- a check fails at the first of its tests that fails, and passes where none does
+abbrev pub FailsAt : {A : Type 0} → Option Denied → Result A Denied → Type 0
+FailsAt failing (Ok _) = failing ≡ None
+FailsAt failing (Err denied) = failing ≡ Some denied
 
--- a check that wants memory tells so too, unless memory ran out
-abbrev pub TellsUnlessExhausted : {A : Type 0} → Option Denied → Result A Refusal → Type 0
-TellsUnlessExhausted failing (Ok _) = failing ≡ None
-TellsUnlessExhausted failing (Err (refusals.Denied denied)) = failing ≡ Some denied
-TellsUnlessExhausted failing (Err refusals.OutOfMemory) = ⊤
+-- a check that wants memory does the same, unless memory ran out
+abbrev pub FailsAtUnlessExhausted : {A : Type 0} → Option Denied → Result A Refusal → Type 0
+FailsAtUnlessExhausted failing (Ok _) = failing ≡ None
+FailsAtUnlessExhausted failing (Err (refusals.Denied denied)) = failing ≡ Some denied
+FailsAtUnlessExhausted failing (Err refusals.OutOfMemory) = ⊤
 
 -- What a raw call that passes its checks leaves. A new object gets the next number, and the container links it; an object
 -- that is taken away goes with all that is reached from it by links.

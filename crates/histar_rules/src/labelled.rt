@@ -11,7 +11,7 @@ ghost use Rattle.histar_container.specs.ObjectsModel.{state_of, CutsOff};
 ghost use Rattle.histar_container.specs.Tree.{AreTree};
 ghost use Rattle.histar_rules.specs.Finds.{LendsThread};
 ghost use Rattle.histar_rules.specs.Rights.{kind_with_clearance, with_changed, with_clearance, with_label};
-ghost use Rattle.histar_rules.specs.Rules.{check, greatest, no_new, no_new_owner, Tells, TellsUnlessExhausted, Decides, AreBytesOf, IsLabelOf, IsEntryOf};
+ghost use Rattle.histar_rules.specs.Rules.{check, greatest, no_new, no_new_owner, FailsAt, FailsAtUnlessExhausted, Decides, AreBytesOf, IsLabelOf, IsEntryOf};
 ghost use Rattle.histar_rules.specs.declared.raw.RawCall.TheVariants as calls;
 
 use crate::limits::Next;
@@ -152,7 +152,7 @@ impl<S: LabelStore + Drop> LabelledObjects<S> {
         label: &Label,
         size: usize,
     ) -> Result<(), Denied>
-        ensures answer { Tells (no_new (state_of self.old) thread container label.now size) result }
+        ensures answer { FailsAt (no_new (state_of self.old) thread container label.now size) result }
         ensures unchanged { self.new ≡ self.old }
     {
         let next = self.next();
@@ -175,7 +175,7 @@ impl<S: LabelStore + Drop> LabelledObjects<S> {
         label: &Label,
         clearance: &Label,
     ) -> Result<(), Denied>
-        ensures answer { Tells (no_new_owner (state_of self.old) thread container label.now clearance.now) result }
+        ensures answer { FailsAt (no_new_owner (state_of self.old) thread container label.now clearance.now) result }
         ensures unchanged { self.new ≡ self.old }
     {
         let next = self.next();
@@ -200,7 +200,7 @@ impl<S: LabelStore + Drop> LabelledObjects<S> {
         clearance: &Label,
         shown: &Label,
     ) -> Result<Entry, Refusal>
-        ensures answer { TellsUnlessExhausted
+        ensures answer { FailsAtUnlessExhausted
             (check (state_of self.old) thread (calls.Enter container gate wanted.now clearance.now shown.now)) result }
         ensures entry { IfOk result (IsEntryOf self.old gate) }
         ensures unchanged { self.new ≡ self.old }
@@ -226,7 +226,7 @@ impl<S: LabelStore + Drop> LabelledObjects<S> {
         container: ObjId,
         segment: ObjId,
     ) -> Result<(), Denied>
-        ensures answer { Tells (check (state_of self.old) thread (calls.Read container segment)) result }
+        ensures answer { FailsAt (check (state_of self.old) thread (calls.Read container segment)) result }
         ensures unchanged { self.new ≡ self.old }
     {
         match read_in(&mut self.store, &self.table, thread, container, segment) {
@@ -243,7 +243,7 @@ impl<S: LabelStore + Drop> LabelledObjects<S> {
         container: ObjId,
         segment: ObjId,
     ) -> Result<Bytes, Refusal>
-        ensures answer { TellsUnlessExhausted (check (state_of self.old) thread (calls.Read container segment)) result }
+        ensures answer { FailsAtUnlessExhausted (check (state_of self.old) thread (calls.Read container segment)) result }
         ensures bytes { IfOk result (AreBytesOf self.old segment) }
         ensures unchanged { self.new ≡ self.old }
     {
@@ -260,7 +260,7 @@ impl<S: LabelStore + Drop> LabelledObjects<S> {
         keep: u32,
         bytes: &Bytes,
     ) -> Result<(), Denied>
-        ensures answer { Tells (check (state_of self.old) thread (calls.Write container segment keep bytes.now)) result }
+        ensures answer { FailsAt (check (state_of self.old) thread (calls.Write container segment keep bytes.now)) result }
         ensures unchanged { self.new ≡ self.old }
     {
         write_in(
@@ -281,7 +281,7 @@ impl<S: LabelStore + Drop> LabelledObjects<S> {
         container: ObjId,
         object: ObjId,
     ) -> Result<(), Denied>
-        ensures answer { Tells (check (state_of self.old) thread (calls.Unlink container object)) result }
+        ensures answer { FailsAt (check (state_of self.old) thread (calls.Unlink container object)) result }
         ensures unchanged { self.new ≡ self.old }
     {
         unlink_in(&mut self.store, &self.table, thread, container, object)

@@ -7,7 +7,7 @@ ghost use Rattle.histar_label.specs.Store.{label_at};
 ghost use Rattle.histar_object.specs.Objects.{objects_of, label_there, bytes_there, entry_there, is_segment, is_thread, is_gate};
 ghost use Rattle.histar_container.specs.Shown.{AllStand};
 ghost use Rattle.histar_rules.specs.Finds.{state_shown, state_with, segment_of, gate_of};
-ghost use Rattle.histar_rules.specs.Rules.{check, fits_segment, Tells, TellsUnlessExhausted};
+ghost use Rattle.histar_rules.specs.Rules.{check, fits_segment, FailsAt, FailsAtUnlessExhausted};
 ghost use Rattle.histar_rules.specs.declared.raw.RawCall.TheVariants as calls;
 ghost use Rattle.histar_rules.specs.declared.raw.Denied.TheVariants.{BadKind, Modify, TooBig};
 
@@ -22,7 +22,7 @@ use histar_object::{Entry, Kind, ObjId, Table};
 
 // The label of a segment, and its bytes.
 fn segment_in<L: Copy>(table: &Table<L>, segment: ObjId) -> Result<(L, &Bytes), Denied>
-    ensures answer { Tells (unless (is_segment (objects_of table.now segment)) BadKind) result }
+    ensures answer { FailsAt (unless (is_segment (objects_of table.now segment)) BadKind) result }
     ensures found { IfOk result (λ found. objects_of table.now segment ≡ Some (segment_of found.0 found.1.now)) }
 {
     match table.get(segment) {
@@ -36,7 +36,7 @@ fn segment_in<L: Copy>(table: &Table<L>, segment: ObjId) -> Result<(L, &Bytes), 
 
 // The label of a gate, its clearance, and what it gives to those who enter it.
 fn gate_in<L: Copy>(table: &Table<L>, gate: ObjId) -> Result<(L, L, Entry), Denied>
-    ensures answer { Tells (unless (is_gate (objects_of table.now gate)) BadKind) result }
+    ensures answer { FailsAt (unless (is_gate (objects_of table.now gate)) BadKind) result }
     ensures found { IfOk result (λ found. objects_of table.now gate ≡ Some (gate_of found.0 found.1 found.2)) }
 {
     match table.get(gate) {
@@ -57,7 +57,7 @@ pub(crate) fn read_in<'t, S: LabelStore>(
     segment: ObjId,
 ) -> Result<&'t Bytes, Denied>
     requires { AllStand (S.labels store.old) (objects_of table.now) }
-    ensures answer { Tells (check (state_shown (S.labels store.old) table.now) thread (calls.Read container segment)) result }
+    ensures answer { FailsAt (check (state_shown (S.labels store.old) table.now) thread (calls.Read container segment)) result }
     ensures bytes { IfOk result (λ bytes. bytes_there (objects_of table.now segment) ≡ Some bytes.now) }
     ensures unchanged { S.labels store.new ≡ S.labels store.old }
 {
@@ -83,7 +83,7 @@ fn modifies_by<S: LabelStore>(store: &mut S, own: S::Id, label: S::Id) -> bool
 
 // The last checks of a write: the thread modifies the segment, and what it is to hold fits it.
 fn check_change(modifies: bool, held: usize, keep: u32, more: usize) -> Result<(), Denied>
-    ensures { Tells (unless modifies Modify orelse unless (fits_segment (min keep held + more)) TooBig) result }
+    ensures { FailsAt (unless modifies Modify orelse unless (fits_segment (min keep held + more)) TooBig) result }
 {
     require(modifies, Denied::Modify)?;
     require(fits((keep as usize).min(held), more), Denied::TooBig)
@@ -100,7 +100,7 @@ pub(crate) fn write_in<S: LabelStore>(
     bytes: &Bytes,
 ) -> Result<(), Denied>
     requires { AllStand (S.labels store.old) (objects_of table.now) }
-    ensures answer { Tells (check (state_shown (S.labels store.old) table.now) thread (calls.Write container segment keep bytes.now)) result }
+    ensures answer { FailsAt (check (state_shown (S.labels store.old) table.now) thread (calls.Write container segment keep bytes.now)) result }
     ensures unchanged { S.labels store.new ≡ S.labels store.old }
 {
     let found = linked_in(store, table, thread, container, segment)?;
@@ -118,7 +118,7 @@ pub(crate) fn unlink_in<S: LabelStore>(
     object: ObjId,
 ) -> Result<(), Denied>
     requires { AllStand (S.labels store.old) (objects_of table.now) }
-    ensures answer { Tells (check (state_shown (S.labels store.old) table.now) thread (calls.Unlink container object)) result }
+    ensures answer { FailsAt (check (state_shown (S.labels store.old) table.now) thread (calls.Unlink container object)) result }
     ensures unchanged { S.labels store.new ≡ S.labels store.old }
 {
     let found = linked_in(store, table, thread, container, object)?;
@@ -138,7 +138,7 @@ pub(crate) fn label_in<S: LabelStore>(
     object: ObjId,
 ) -> Result<Option<S::Id>, Denied>
     requires { AllStand (S.labels store.old) (objects_of table.now) }
-    ensures answer { Tells (check (state_shown (S.labels store.old) table.now) thread (calls.LabelOf container object)) result }
+    ensures answer { FailsAt (check (state_shown (S.labels store.old) table.now) thread (calls.LabelOf container object)) result }
     ensures label { IfOk result (λ label. label ≡ label_there (objects_of table.now object)) }
     ensures unchanged { S.labels store.new ≡ S.labels store.old }
 {
@@ -148,7 +148,7 @@ pub(crate) fn label_in<S: LabelStore>(
 
 // The label of an object that is no thread, if it is there.
 fn label_unless_thread<L: Copy>(table: &Table<L>, object: ObjId) -> Result<Option<L>, Denied>
-    ensures answer { Tells (unless (not (is_thread (objects_of table.now object))) BadKind) result }
+    ensures answer { FailsAt (unless (not (is_thread (objects_of table.now object))) BadKind) result }
     ensures label { IfOk result (λ label. label ≡ label_there (objects_of table.now object)) }
 {
     match table.get(object) {
@@ -173,7 +173,7 @@ pub(crate) fn enter_in<S: LabelStore>(
     shown: &Label,
 ) -> Result<Entry, Refusal>
     requires { AllStand (S.labels store.old) (objects_of table.now) }
-    ensures answer { TellsUnlessExhausted
+    ensures answer { FailsAtUnlessExhausted
         (check (state_with (S.labels store.old) table.now next) thread (calls.Enter container gate wanted.now clearance.now shown.now)) result }
     ensures entry { IfOk result (λ entry. Some entry ≡ entry_there (objects_of table.now gate)) }
     ensures unchanged { S.labels store.new ≡ S.labels store.old }

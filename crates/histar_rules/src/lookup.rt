@@ -5,7 +5,7 @@ ghost use Rattle.histar_label.specs.Store.{label_at};
 ghost use Rattle.histar_object.specs.Objects.{objects_of, thread_of, is_there, is_container};
 ghost use Rattle.histar_container.specs.Shown.{AllStand};
 ghost use Rattle.histar_rules.specs.Finds.{FindsThread, container_of, state_shown, state_with};
-ghost use Rattle.histar_rules.specs.Rules.{no_container, no_making, no_new, no_new_owner, no_link, Tells};
+ghost use Rattle.histar_rules.specs.Rules.{no_container, no_making, no_new, no_new_owner, no_link, FailsAt};
 ghost use Rattle.histar_rules.specs.declared.raw.Denied.TheVariants.{NoEntry, BadKind};
 
 use crate::limits::Next;
@@ -45,7 +45,7 @@ pub(crate) fn container_in<L: Copy>(
     table: &Table<L>,
     container: ObjId,
 ) -> Result<(L, &Links), Denied>
-    ensures answer { Tells (unless (is_there (objects_of table.now container)) NoEntry
+    ensures answer { FailsAt (unless (is_there (objects_of table.now container)) NoEntry
         orelse unless (is_container (objects_of table.now container)) BadKind) result }
     ensures found { IfOk result (λ found. objects_of table.now container ≡ Some (container_of found.0 found.1.now)) }
 {
@@ -66,7 +66,7 @@ pub(crate) fn observed_in<'t, S: LabelStore>(
     container: ObjId,
 ) -> Result<Observed<'t, S::Id>, Denied>
     requires { AllStand (S.labels store.old) (objects_of table.now) }
-    ensures answer { Tells (no_container (state_shown (S.labels store.old) table.now) thread container) result }
+    ensures answer { FailsAt (no_container (state_shown (S.labels store.old) table.now) thread container) result }
     ensures thread { IfOk result (λ found. objects_of table.now thread ≡ Some (thread_of found.own found.own_clearance)) }
     ensures container { IfOk result (λ found. objects_of table.now container ≡ Some (container_of found.label found.links.now)) }
     ensures unchanged { S.labels store.new ≡ S.labels store.old }
@@ -95,7 +95,7 @@ pub(crate) fn modified_in<'t, S: LabelStore>(
     container: ObjId,
 ) -> Result<Observed<'t, S::Id>, Denied>
     requires { AllStand (S.labels store.old) (objects_of table.now) }
-    ensures answer { Tells (no_making (state_shown (S.labels store.old) table.now) thread container) result }
+    ensures answer { FailsAt (no_making (state_shown (S.labels store.old) table.now) thread container) result }
     ensures thread { IfOk result (λ found. objects_of table.now thread ≡ Some (thread_of found.own found.own_clearance)) }
     ensures unchanged { S.labels store.new ≡ S.labels store.old }
 {
@@ -128,7 +128,7 @@ pub(crate) fn new_in<S: LabelStore>(
     size: usize,
 ) -> Result<(), Denied>
     requires { AllStand (S.labels store.old) (objects_of table.now) }
-    ensures answer { Tells (no_new (state_with (S.labels store.old) table.now next) thread container label.now size) result }
+    ensures answer { FailsAt (no_new (state_with (S.labels store.old) table.now next) thread container label.now size) result }
     ensures unchanged { S.labels store.new ≡ S.labels store.old }
 {
     let found = modified_in(store, table, thread, container)?;
@@ -147,7 +147,7 @@ pub(crate) fn new_owner_in<S: LabelStore>(
     clearance: &Label,
 ) -> Result<(), Denied>
     requires { AllStand (S.labels store.old) (objects_of table.now) }
-    ensures answer { Tells (no_new_owner (state_with (S.labels store.old) table.now next) thread container label.now clearance.now) result }
+    ensures answer { FailsAt (no_new_owner (state_with (S.labels store.old) table.now next) thread container label.now clearance.now) result }
     ensures unchanged { S.labels store.new ≡ S.labels store.old }
 {
     let found = modified_in(store, table, thread, container)?;
@@ -164,7 +164,7 @@ pub(crate) fn linked_in<'t, S: LabelStore>(
     object: ObjId,
 ) -> Result<Observed<'t, S::Id>, Denied>
     requires { AllStand (S.labels store.old) (objects_of table.now) }
-    ensures answer { Tells (no_link (state_shown (S.labels store.old) table.now) thread container object) result }
+    ensures answer { FailsAt (no_link (state_shown (S.labels store.old) table.now) thread container object) result }
     ensures thread { IfOk result (λ found. objects_of table.now thread ≡ Some (thread_of found.own found.own_clearance)) }
     ensures container { IfOk result (λ found. objects_of table.now container ≡ Some (container_of found.label found.links.now)) }
     ensures unchanged { S.labels store.new ≡ S.labels store.old }

@@ -3,7 +3,7 @@ ghost use Rattle.std.specs.Prelude.{◌≡◌, ◌&&◌, not, nat_lt, IfOk};
 ghost use Rattle.histar_base.specs.Refusals.{unless, ◌orelse◌};
 ghost use Rattle.histar_label.specs.Levels.{is_below, is_made, has_star};
 ghost use Rattle.histar_rules.specs.Rights.{lies_between};
-ghost use Rattle.histar_rules.specs.Rules.{fits_segment, greatest, Tells, TellsUnlessExhausted};
+ghost use Rattle.histar_rules.specs.Rules.{fits_segment, greatest, FailsAt, FailsAtUnlessExhausted};
 ghost use Rattle.histar_rules.specs.declared.raw.Denied.TheVariants.{Range, Gate, TooBig};
 
 use crate::checks::require;
@@ -61,7 +61,7 @@ pub(crate) fn check_new(
     size: usize,
     next: Next,
 ) -> Result<(), Denied>
-    ensures { Tells (unless (is_below own.now label.now && is_below label.now own_clearance.now) Range
+    ensures { FailsAt (unless (is_below own.now label.now && is_below label.now own_clearance.now) Range
         orelse unless (is_made next.category label.now) Range
         orelse unless (not (has_star label.now)) Range
         orelse unless (fits_segment size) TooBig
@@ -83,7 +83,7 @@ pub(crate) fn check_new_owner(
     clearance: &Label,
     next: Next,
 ) -> Result<(), Denied>
-    ensures { Tells (unless (is_below own.now label.now && is_below label.now clearance.now && is_below clearance.now own_clearance.now) Range
+    ensures { FailsAt (unless (is_below own.now label.now && is_below label.now clearance.now && is_below clearance.now own_clearance.now) Range
         orelse unless (is_made next.category label.now) Range
         orelse unless (is_made next.category clearance.now) Range
         orelse unless (nat_lt next.object greatest) TooBig) result }
@@ -105,7 +105,7 @@ pub(crate) fn check_opening(
     shown: &Label,
     next: Next,
 ) -> Result<(), Refusal>
-    ensures { TellsUnlessExhausted (unless (is_below opening.entry.own.now opening.entry.gate_clearance.now) Gate
+    ensures { FailsAtUnlessExhausted (unless (is_below opening.entry.own.now opening.entry.gate_clearance.now) Gate
         orelse unless (is_below opening.entry.own.now shown.now) Gate
         orelse unless (lies_between opening.entry.own.now opening.entry.gate_label.now wanted.now clearance.now opening.entry.own_clearance.now opening.entry.gate_clearance.now) Range
         orelse unless (is_made next.category wanted.now) Range

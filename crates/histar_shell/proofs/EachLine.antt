@@ -14,7 +14,7 @@ use Rattle.histar_tree.specs.TreeLines.{line_at, lines_at}
 use Rattle.histar_shell.specs.declared.session.Options.{Options}
 use Rattle.histar_shell.specs.Machine.{MachineModel}
 use Rattle.histar_shell.specs.TreeText.{tree_line_text, tree_text}
-use Rattle.histar_shell.specs.Ending.{IsTreeIn, HasTree, TellsTree, IsAsked, AppendsTree, BeginsTree, AppendsEnding, BeginsTheEnding, asked_trace}
+use Rattle.histar_shell.specs.Ending.{IsTreeIn, HasTree, PrintsTree, IsAsked, AppendsTree, BeginsTree, AppendsEnding, BeginsTheEnding, asked_trace}
 use Rattle.histar_shell.proofs.AnswerLemmas.{front_after}
 
 -- the line of a file or a directory of a state
@@ -75,8 +75,8 @@ pub ending_written : (options : Options) (m : MachineModel) (old mid new : Optio
 ending_written options m old mid new trace same tree whole = (tree.0 ++ trace, record { tree = tree.0; tells = tree.1; parts = ap (λ (t : List ℕ). tree.0 ++ t) same }, Appends-trans old mid new tree.0 trace tree.2 whole)
 
 -- where the tree is asked for, the text of the machine's tree is the one that is
-pub tree_told : (b : Bool) (m : MachineModel) (tree : List TreeNode) → b ≡ true → IsTreeIn m tree → IsAsked b (TellsTree m) (tree_text (lines_at (state m.kernel) tree))
-tree_told b m tree asked is = subst (λ (x : Bool). IsAsked x (TellsTree m) (tree_text (lines_at (state m.kernel) tree))) (sym asked) (tree, is, refl)
+pub tree_told : (b : Bool) (m : MachineModel) (tree : List TreeNode) → b ≡ true → IsTreeIn m tree → IsAsked b (PrintsTree m) (tree_text (lines_at (state m.kernel) tree))
+tree_told b m tree asked is = subst (λ (x : Bool). IsAsked x (PrintsTree m) (tree_text (lines_at (state m.kernel) tree))) (sym asked) (tree, is, refl)
 
 -- nothing of the tree was written yet
 pub tree_unwritten : (options : Options) (m : MachineModel) (a : Option (List ℕ)) → options.tree ≡ true → HasTree m → BeginsTree options m a a

@@ -130,7 +130,7 @@ module _ (rows : LinesAreRows) (session : Session) (old new : MachineModel) (f :
     made_ends line call (Ok reply) can h =
         let row = row_of_made line call (Ok reply) can h in
         record {
-          told = row.0;
+          is_reply = row.0;
           entries = row.1.entries;
           trace = row.1.trace;
           row = row.1.row;
@@ -153,11 +153,11 @@ module _ (rows : LinesAreRows) (session : Session) (old new : MachineModel) (f :
         permission = refl;
         denials = tt;
         once = tt;
-        told = λ bytes e. absurd cc;
+        ends_with_read = λ bytes e. absurd cc;
         gone = λ e. refl;
       } in
       record {
-        told = sym still.0;
+        is_reply = sym still.0;
         entries = [];
         trace = sym (append-nil old.kernel.trace);
         row = record {

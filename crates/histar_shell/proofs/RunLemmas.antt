@@ -94,7 +94,7 @@ module _ (options : Options) where
     is_read = is_read;
     start = start;
     starts = starts;
-    begun = inr (record { end = end; replied = replied; answered = subst (λ (l : List CallLine). AnswersCalls start end old replied l) listed answered; ending = begun.0; ends = begun.1; told = begun.2 });
+    begun = inr (record { end = end; replied = replied; answered = subst (λ (l : List CallLine). AnswersCalls start end old replied l) listed answered; ending = begun.0; ends = begun.1; appended = begun.2 });
   }
 
   -- the calls of the script were answered, what stands behind the replies was written, and the trace is that of the machine at the end
@@ -110,7 +110,7 @@ module _ (options : Options) where
     answered = subst (λ (l : List CallLine). AnswersCalls start end old replied l) listed answered;
     ending = whole.0;
     ends = whole.1;
-    told = whole.2;
+    appended = whole.2;
     recorded = recorded;
   }
 

@@ -19,7 +19,7 @@ use Rattle.histar_calls.specs.Mkdir.{mkdir_program}
 use Rattle.histar_calls.specs.Parts.{◌>>=◌, ◌>>◌, ask, find_room, write_entries}
 use Rattle.histar_calls.specs.Programs.{Program}
 use Rattle.histar_calls.specs.Programs.Program.{Answers}
-use Rattle.histar_calls.specs.StatCall.{find_object, stat_program, told}
+use Rattle.histar_calls.specs.StatCall.{find_object, stat_program, class_reply}
 use Rattle.histar_calls.specs.UserTable.{without_passwords}
 use Rattle.histar_process.specs.declared.caller.Caller.{Caller}
 use Rattle.histar_process.specs.Birth.{birth}
@@ -55,7 +55,7 @@ abbrev stat_by : Places → Path → (Levels → Option Class) → Program
 stat_by places path class_of = do
   object ← find_object places path
   label ← ask (LabelOf object.container object.object)
-  told object.is_directory (class_of label)
+  class_reply object.is_directory (class_of label)
 
 abbrev spawn_by : ProcName → Home → (Levels → Kin) → Program
 spawn_by name me kin_of = do

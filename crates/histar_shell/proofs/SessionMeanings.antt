@@ -63,7 +63,7 @@ module _ (declared : Session) where
   session_first : (m mid : MachineModel) (f : Flat) (a : Answered) (answers : List Answered) (end : MachineModel) → AnswersAsMeant declared m mid f a.call a.reply
       → IsMeantSession declared mid (flat_after declared f a.call.process a.call.call) answers end → IsMeantSession declared m f (a ∷ answers) end
   session_first m mid f a answers end line later = record {
-    replies = λ i. record { call = a.call; reply = line.told i } ∷ later.replies i;
+    replies = λ i. record { call = a.call; reply = line.is_reply i } ∷ later.replies i;
     entries = line.entries ++ later.entries;
     trace = later.trace ∙ ap (λ (es : List TraceEntry). es ++ later.entries) line.trace ∙ append_assoc m.kernel.trace line.entries later.entries;
     rows = (line.entries, later.entries, state mid.kernel, refl, line.row, later.rows);
@@ -191,7 +191,7 @@ module _ (rows : LinesAreRows) (script : Reading) (declared : IsDeclared script.
       trace = begun.end.kernel.trace;
       recorded = trace_is old begun.replied begun.end begun.answered begun.end.kernel.trace refl;
       written = subst (AppendsFront old new) (ap (λ (t : List ℕ). answers_text begun.answered.answers ++ t) (append-nil begun.ending) ∙ whole_is old begun.replied begun.end begun.answered begun.ending begun.ends begun.end.kernel.trace refl)
-          (front_after old begun.replied new (answers_text begun.answered.answers) begun.ending [] begun.answered.written begun.told);
+          (front_after old begun.replied new (answers_text begun.answered.answers) begun.ending [] begun.answered.written begun.appended);
     }
 
     -- the first calls of a list that can all be said can be
@@ -239,7 +239,7 @@ meant_at_fault rows options old new text WriteFailed h = begun_script rows optio
 pub meant_run : (rows : LinesAreRows) (options : Options) (old new : Option (List ℕ)) (text : List ℕ) (result : Result (List TraceEntry) Fault) → WritesAnswers options old new (script_of text) result → RunsAsMeant options old new (script_of text) result
 meant_run rows options old new text (Ok trace) h =
     let says = script_says text h.script h.is_read in
-    writes_meaning rows h.script says.0 says.1 h.start h.starts options old h.replied new (script_of text) h.is_read trace h.end h.answered h.ending h.ends h.told h.recorded
+    writes_meaning rows h.script says.0 says.1 h.start h.starts options old h.replied new (script_of text) h.is_read trace h.end h.answered h.ending h.ends h.appended h.recorded
 meant_run rows options old new text (Err fault) h = meant_at_fault rows options old new text fault h
 
 -- a machine that answered all lines of a script has a tree

@@ -13,7 +13,7 @@ use Rattle.histar_tree.proofs.OneTree.{states_have_one_tree}
 use Rattle.histar_tree.proofs.TreeLaid.{flat_states_have_their_trees}
 use Rattle.histar_shell.specs.Machine.{MachineModel}
 use Rattle.histar_shell.specs.TreeText.{tree_text}
-use Rattle.histar_shell.specs.Ending.{IsTreeIn, HasTree, TellsTree, IsAsked}
+use Rattle.histar_shell.specs.Ending.{IsTreeIn, HasTree, PrintsTree, IsAsked}
 use Rattle.histar_shell.specs.Meaning.{Shows}
 use Rattle.histar_shell.proofs.SameUsers.{tree_unproved}
 
@@ -41,6 +41,6 @@ module _ (session : Session) (m : MachineModel) (f : Flat) (shows : Shows sessio
   same_lines tree is = ap (lines_at (state m.kernel)) (states_have_one_tree m.users (state m.kernel) m.places tree has_tree.tree is tree_here) ∙ has_tree.lines
 
   -- so where the tree is asked for, the text that tells it is that of the flat state
-  pub tree_asked : (b : Bool) (text : List ℕ) → IsAsked b (TellsTree m) text → text ≡ (if b then tree_text (flat_lines f) else [])
+  pub tree_asked : (b : Bool) (text : List ℕ) → IsAsked b (PrintsTree m) text → text ≡ (if b then tree_text (flat_lines f) else [])
   tree_asked true text tells = tells.2 ∙ ap tree_text (same_lines tells.0 tells.1)
   tree_asked false text tells = tells

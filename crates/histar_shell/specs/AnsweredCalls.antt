@@ -15,27 +15,27 @@ abbrev pub AnswersInTurn : MachineModel → List Answered → MachineModel → T
 AnswersInTurn m [] end = end ≡ m
 AnswersInTurn m (a ∷ answers) end = (mid : MachineModel) × AnswersLine m mid a.call.line a.call.process a.call.call (Ok a.reply) × AnswersInTurn mid answers end
 
--- the machine answered this call line with a reply, and the line that tells this reply was written
+-- the machine answered this call line with a reply, and the line of this reply was written
 pub record AnswersCall (before after : MachineModel) (old new : Option (List ℕ)) (call : CallLine) : Type 0 where
   pub reply : Reply
   pub answered : AnswersLine before after call.line call.process call.call (Ok reply)
   pub written : Appends old new (line_text call.line reply)
 
--- The machine was given this call line: where it answered with a reply, a beginning of the line that tells this reply was
+-- The machine was given this call line: where it answered with a reply, a beginning of the line of this reply was
 -- written, and where it stopped, nothing was.
 pub record BeginsAnswer (before after : MachineModel) (old new : Option (List ℕ)) (call : CallLine) : Type 0 where
   pub outcome : Result Reply Stopped
   pub answered : AnswersLine before after call.line call.process call.call outcome
   pub written : MatchResult outcome (λ reply. AppendsFront old new (line_text call.line reply)) (λ _. Keeps old new)
 
--- the machine answered each of these call lines, in their order, and the lines that tell its replies were written
+-- the machine answered each of these call lines, in their order, and the lines of its replies were written
 pub record AnswersCalls (before after : MachineModel) (old new : Option (List ℕ)) (calls : List CallLine) : Type 0 where
   pub answers : List Answered
   pub each : calls_of answers ≡ calls
   pub in_turn : AnswersInTurn before answers after
   pub written : Appends old new (answers_text answers)
 
--- the machine answered the first of these call lines, in their order, and a beginning of the lines that tell its replies was
+-- the machine answered the first of these call lines, in their order, and a beginning of the lines of its replies was
 -- written
 pub record BeginsAnswers (before : MachineModel) (old new : Option (List ℕ)) (calls : List CallLine) : Type 0 where
   pub answers : List Answered

@@ -10,7 +10,7 @@ use Rattle.histar_flat.specs.declared.calls.CallLine.{CallLine}
 abbrev pub line_text : ℕ → Reply → List ℕ
 line_text number reply = decimal number ++ codes " " ++ reply_text reply ++ codes "\n"
 
--- the line that tells the reply
+-- the line of the reply
 abbrev pub answer_text : Answered → List ℕ
 answer_text a = line_text a.call.line a.reply
 

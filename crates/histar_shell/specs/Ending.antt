@@ -20,9 +20,9 @@ IsTreeIn m tree = IsTreeOf m.users (state m.kernel) m.places tree
 abbrev pub HasTree : MachineModel → Type 0
 HasTree m = (tree : List TreeNode) × IsTreeIn m tree
 
--- the text tells the tree that they list
-abbrev pub TellsTree : MachineModel → List ℕ → Type 0
-TellsTree m text = (tree : List TreeNode) × IsTreeIn m tree × (text ≡ tree_text (lines_at (state m.kernel) tree))
+-- the text prints the tree that they list
+abbrev pub PrintsTree : MachineModel → List ℕ → Type 0
+PrintsTree m text = (tree : List TreeNode) × IsTreeIn m tree × (text ≡ tree_text (lines_at (state m.kernel) tree))
 
 -- the text is such a one where it is asked for, and else there is none
 abbrev pub IsAsked : Bool → (List ℕ → Type 0) → List ℕ → Type 0
@@ -36,16 +36,16 @@ asked_trace options trace = if options.trace then trace_text trace else []
 -- what stands behind the replies of a machine
 pub record IsEnding (options : Options) (m : MachineModel) (text : List ℕ) : Type 0 where
   pub tree : List ℕ
-  pub tells : IsAsked options.tree (TellsTree m) tree
+  pub tells : IsAsked options.tree (PrintsTree m) tree
   pub parts : text ≡ tree ++ asked_trace options m.kernel.trace
 
 -- the tree of a machine was written, where it is asked for
 abbrev pub AppendsTree : Options → MachineModel → Option (List ℕ) → Option (List ℕ) → Type 0
-AppendsTree options m old new = (text : List ℕ) × IsAsked options.tree (TellsTree m) text × Appends old new text
+AppendsTree options m old new = (text : List ℕ) × IsAsked options.tree (PrintsTree m) text × Appends old new text
 
 -- a beginning of it was written
 abbrev pub BeginsTree : Options → MachineModel → Option (List ℕ) → Option (List ℕ) → Type 0
-BeginsTree options m old new = (text : List ℕ) × IsAsked options.tree (TellsTree m) text × AppendsFront old new text
+BeginsTree options m old new = (text : List ℕ) × IsAsked options.tree (PrintsTree m) text × AppendsFront old new text
 
 -- what stands behind the replies of a machine was written
 abbrev pub AppendsEnding : Options → MachineModel → Option (List ℕ) → Option (List ℕ) → Type 0

@@ -58,7 +58,7 @@ pub record Shows (session : Session) (m : MachineModel) (f : Flat) : Type 0 wher
 -- The line was answered what the flat state says. The new end of the trace are its raw calls, which are its row, and the machine lays
 -- out the flat state after the call.
 pub record AnswersAsMeant (session : Session) (old new : MachineModel) (f : Flat) (asked : CallLine) (reply : Reply) : Type 0 where
-  pub told : reply ≡ reply_to session f asked.process asked.call
+  pub is_reply : reply ≡ reply_to session f asked.process asked.call
   pub entries : List TraceEntry
   pub trace : new.kernel.trace ≡ old.kernel.trace ++ entries
   pub row : IsRow session (state old.kernel) f asked entries (state new.kernel)

@@ -25,7 +25,7 @@ IsFaultAt read WriteFailed = IsOk read
 abbrev pub AgreesWith : {A : Type 0} → Result Reading Fault → Result A Fault → Type 0
 AgreesWith read result = MatchResult result (λ _. IsOk read) (IsFaultAt read)
 
--- The reading is of a script. A machine that was booted with its users and groups answered each of its call lines, the lines that tell the
+-- The reading is of a script. A machine that was booted with its users and groups answered each of its call lines, the lines of the
 -- replies were written and then what stands behind them, and the trace is the one that the machine has at the end.
 pub record AnswersScript (options : Options) (old new : Option (List ℕ)) (read : Result Reading Fault) (trace : List TraceEntry) : Type 0 where
   pub script : Reading
@@ -37,10 +37,10 @@ pub record AnswersScript (options : Options) (old new : Option (List ℕ)) (read
   pub answered : AnswersCalls start end old replied script.calls
   pub ending : List ℕ
   pub ends : IsEnding options end ending
-  pub told : Appends replied new ending
+  pub appended : Appends replied new ending
   pub recorded : trace ≡ end.kernel.trace
 
--- the machine answered each of these call lines, the lines that tell the replies were written, and then a beginning of what stands behind
+-- the machine answered each of these call lines, the lines of the replies were written, and then a beginning of what stands behind
 -- them
 pub record BeginsEnding (options : Options) (start : MachineModel) (old new : Option (List ℕ)) (calls : List CallLine) : Type 0 where
   pub end : MachineModel
@@ -48,10 +48,10 @@ pub record BeginsEnding (options : Options) (start : MachineModel) (old new : Op
   pub answered : AnswersCalls start end old replied calls
   pub ending : List ℕ
   pub ends : IsEnding options end ending
-  pub told : AppendsFront replied new ending
+  pub appended : AppendsFront replied new ending
 
 -- The reading is of a script. A machine that was booted with its users and groups answered the first of its call lines, and a beginning of
--- the lines that tell the replies was written; or it answered them all, and a beginning of what stands behind the replies was written.
+-- the lines of the replies was written; or it answered them all, and a beginning of what stands behind the replies was written.
 pub record BeginsScript (options : Options) (old new : Option (List ℕ)) (read : Result Reading Fault) : Type 0 where
   pub script : Reading
   pub is_read : read ≡ Ok script

@@ -1,4 +1,4 @@
--- The lines that tell a tree.
+-- The lines that print a tree.
 use Rattle.std.specs.Prelude.{ℕ, List, [], ◌++◌, codes, if◌then◌else◌}
 use Rattle.std.specs.List.{flat_map}
 use Rattle.histar_flat.specs.Texts.{path_text, stat_text}

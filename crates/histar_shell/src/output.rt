@@ -195,7 +195,7 @@ pub fn node_text(
     Ok(text)
 }
 
-/// The line that tells a file or a directory: what is printed of it, and a line end.
+/// The line of a file or a directory: what is printed of it, and a line end.
 pub fn tree_line(
     alloc: Global,
     path: &Path,

@@ -2,7 +2,7 @@
 ghost use Rattle.std.specs.Prelude.{◌≡◌, ◌<◌, IfOk, Some};
 ghost use Rattle.histar_object.specs.Objects.{objects_of, thread_of};
 ghost use Rattle.histar_container.specs.ObjectsModel.{state_of};
-ghost use Rattle.histar_rules.specs.Rules.{check, Tells, Decides, IsNextNumber, AreLabelsOf};
+ghost use Rattle.histar_rules.specs.Rules.{check, FailsAt, Decides, IsNextNumber, AreLabelsOf};
 ghost use Rattle.histar_rules.specs.declared.raw.RawCall.TheVariants as calls;
 
 use crate::ranges::may_clear;
@@ -30,7 +30,7 @@ fn check_make_category<S: LabelStore + Drop>(
     objects: &LabelledObjects<S>,
     thread: ObjId,
 ) -> Result<(&Label, &Label), Denied>
-    ensures answer { Tells (check (state_of objects.now) thread calls.MakeCategory) result }
+    ensures answer { FailsAt (check (state_of objects.now) thread calls.MakeCategory) result }
     ensures own { IfOk result (λ own. objects_of objects.now.objects thread ≡ Some (thread_of own.0.now own.1.now)) }
 {
     let Some(own) = objects.own(thread) else {
@@ -62,7 +62,7 @@ fn check_set_label<S: LabelStore + Drop>(
     thread: ObjId,
     label: &Label,
 ) -> Result<(), Denied>
-    ensures { Tells (check (state_of objects.now) thread (calls.SetLabel label.now)) result }
+    ensures { FailsAt (check (state_of objects.now) thread (calls.SetLabel label.now)) result }
 {
     let Some((own, most)) = objects.own(thread) else {
         return Err(Denied::NoThread);
@@ -94,7 +94,7 @@ fn check_set_clearance<S: LabelStore + Drop>(
     thread: ObjId,
     clearance: &Label,
 ) -> Result<(), Denied>
-    ensures { Tells (check (state_of objects.now) thread (calls.SetClearance clearance.now)) result }
+    ensures { FailsAt (check (state_of objects.now) thread (calls.SetClearance clearance.now)) result }
 {
     let Some((own, most)) = objects.own(thread) else {
         return Err(Denied::NoThread);

@@ -33,14 +33,14 @@ module _ (session : Session) (s : State) (f : Flat) (l : Laid session s f) where
   abbrev found : ProcName → Where
   found me = where_is session s f l me
 
-  -- processes at a name and below it, of which is told what the flat state has there, down to so many levels
+  -- processes at a name and below it, which shows what the flat state has there, down to so many levels
   record HasProcessesAt (levels : ℕ) (me : ProcName) : Type 0 where
     processes : List ProcessNode
     are : processes_at levels s me (found me) ≡ Some processes
     lines : map process_line processes ≡ flat_processes levels f me
 
   module _ (levels : ℕ) (me : ProcName) (p : Process) (here : f.processes me ≡ Some p) where
-    -- what is told of a child and below it
+    -- what is shown of a child and below it
     abbrev told : ℕ → List ProcessLine
     told n = flat_processes levels f (n ∷ me)
 
@@ -48,7 +48,7 @@ module _ (session : Session) (s : State) (f : Flat) (l : Laid session s f) where
     abbrev listed : List ℕ → List Listed
     listed ns = filter_map (child_of s (found me).segment) ns
 
-    -- processes of which is told what the flat state has at the children of these numbers and below them
+    -- processes which shows what the flat state has at the children of these numbers and below them
     record HaveProcesses (ns : List ℕ) : Type 0 where
       processes : List ProcessNode
       are : all_of (processes_at levels s) me (listed ns) ≡ Some processes

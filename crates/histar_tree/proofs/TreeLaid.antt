@@ -1,4 +1,4 @@
--- A state that lays out a flat state has the tree of that, and what is told of it is what the flat state has.
+-- A state that lays out a flat state has the tree of that, and what is shown of it is what the flat state has.
 use Rattle.std.specs.Prelude.{◌≡◌, ℕ, zero, suc, ◌+◌, ◌<◌, Bool, true, false, cond, T, List, [], ◌∷◌, ◌++◌, length, map, Option, Some, None, option_map, option_and_then, refl}
 use Rattle.std.specs.List.{filter_map, cons_option, flat_map}
 use Rattle.std.proofs.Common.{arith, ap, inl, inr, sym, ◌∙◌, subst}
@@ -30,9 +30,9 @@ use Rattle.histar_refinement.specs.Addresses.{address_of, slash_number, slash_li
 use Rattle.histar_refinement.specs.Addresses.Step.{Slash, Listing}
 use Rattle.histar_refinement.specs.Directories.{both_numbers, target_for, target_in, directory_of}
 use Rattle.histar_refinement.specs.LaysOut.{Laid}
-use Rattle.histar_refinement.proofs.ClassTold.{class_told}
+use Rattle.histar_refinement.proofs.ClassFound.{class_told}
 use Rattle.histar_refinement.proofs.DirectoryLaws.{sorted_listed}
-use Rattle.histar_refinement.proofs.LabelsTold.{label_at}
+use Rattle.histar_refinement.proofs.FileLabels.{label_at}
 use Rattle.histar_refinement.proofs.LinesLaid.{holds_directory}
 use Rattle.histar_refinement.proofs.Making.{entry_leads}
 use Rattle.histar_refinement.proofs.Standing.{some_unless_none, guard_at, file_found, root_is_dir, parent_is_dir}
@@ -70,7 +70,7 @@ module _ (session : Session) (s : State) (f : Flat) (l : Laid session s f) where
       let g = guard_at session s f l q (record { class = class; content = File bytes }) at in
       ap bytes_in (file_found session s f l q class bytes at g.0 g.1 o numbered)
 
-  -- a tree at a path, of which is told what the flat state has there and below it, down to so many levels
+  -- a tree at a path, which shows what the flat state has there and below it, down to so many levels
   record HasTreeAt (levels : ℕ) (q : Path) (node : Node) (target : Target) : Type 0 where
     tree : List TreeNode
     is_tree : IsTreeAt levels session s q target tree
@@ -111,7 +111,7 @@ module _ (session : Session) (s : State) (f : Flat) (l : Laid session s f) where
     abbrev walk : Name × Node → List (Path × Node)
     walk c = walked levels f.files.entries (c.0 ∷ q) c.1
 
-    -- trees of which is told what the flat state has at these entries and below them
+    -- trees which shows what the flat state has at these entries and below them
     record HasTrees (entries : List (Name × Target)) (nodes : List (Name × Node)) : Type 0 where
       trees : List TreeNode
       are_listed : AreListed (IsTreeAt levels session s) q entries trees

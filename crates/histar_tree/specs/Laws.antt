@@ -22,13 +22,13 @@ use Rattle.histar_tree.specs.ProcessLines.{process_line, flat_processes}
 abbrev pub AreShallow : Flat → Type 0
 AreShallow f = (q : Path) → is_there f q ≡ true → length q ≤ most_names
 
--- a state has a tree, of which is told what is told of this flat state
+-- a state has a tree, which shows what is shown of this flat state
 pub record HasTreeOf (session : Session) (s : State) (f : Flat) : Type 0 where
   pub tree : List TreeNode
   pub is_tree : IsTreeOf session s (places_of (length session.users)) tree
   pub lines : lines_at s tree ≡ flat_lines f
 
--- a state that lays out a flat state has the tree of that, and what is told of it is what the flat state has
+-- a state that lays out a flat state has the tree of that, and what is shown of it is what the flat state has
 abbrev pub FlatStatesHaveTheirTrees : Type 0
 FlatStatesHaveTheirTrees = (session : Session) (s : State) (f : Flat) → LaysOut session s f → AreShallow f → HasTreeOf session s f
 
@@ -53,16 +53,16 @@ FlatStatesAreResolved =
     (session : Session) (s : State) (f : Flat) → LaysOut session s f → (q : Path)
     → MatchOption (get f.files q) (LeadsNowhere s (places_of (length session.users)) q) (LeadsToNode s (places_of (length session.users)) q)
 
--- no process has more numbers in its name than can be told
+-- no process has more numbers in its name than can be shown
 abbrev pub AreNamed : Flat → Type 0
 AreNamed f = (me : ProcName) → is_some (f.processes me) ≡ true → length me ≤ most_numbers
 
--- a state has processes, of which is told what is told of those of this flat state
+-- a state has processes, which shows what is shown of those of this flat state
 pub record HasProcessesOf (session : Session) (s : State) (f : Flat) : Type 0 where
   pub processes : List ProcessNode
   pub are_processes : AreProcessesOf s (places_of (length session.users)) processes
   pub lines : map process_line processes ≡ flat_processes (levels_at []) f []
 
--- a state that lays out a flat state has the processes of that, and what is told of them is what the flat state has
+-- a state that lays out a flat state has the processes of that, and what is shown of them is what the flat state has
 abbrev pub FlatStatesHaveTheirProcesses : Type 0
 FlatStatesHaveTheirProcesses = (session : Session) (s : State) (f : Flat) → LaysOut session s f → AreNamed f → HasProcessesOf session s f

@@ -45,7 +45,7 @@ processes_at (suc levels) s me home = do
   below ← all_of (processes_at levels s) me (children_of s home.segment status.born)
   Some (record { name = me; home = home; head = head_of status } ∷ below)
 
--- how many levels of processes stand at a name and below it, where no name has more numbers than can be told
+-- how many levels of processes stand at a name and below it, where no name has more numbers than can be shown
 abbrev pub levels_at : ProcName → ℕ
 levels_at me = suc (most_numbers - length me)
 

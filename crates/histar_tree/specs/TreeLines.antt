@@ -1,4 +1,4 @@
--- What is told of a tree, line by line.
+-- What is shown of a tree, line by line.
 use Rattle.std.specs.Prelude.{ℕ, List, [], map, Some}
 use Rattle.histar_flat.specs.Words.{Path}
 use Rattle.histar_flat.specs.declared.replies.Stat.{Stat}
@@ -10,13 +10,13 @@ use Rattle.histar_layout.specs.declared.entry.Target.{Target}
 use Rattle.histar_layout.specs.declared.entry.Target.TheVariants.{File, Directory}
 use Rattle.histar_tree.specs.declared.tree.TreeNode.{TreeNode}
 
--- what is told of what stands at a path: its kind, its owner and its mode, and the bytes of a file
+-- what is shown of what stands at a path: its kind, its owner and its mode, and the bytes of a file
 pub record TreeLine : Type 0 where
   pub path : Path
   pub stat : Stat
   pub bytes : List ℕ
 
--- what is told of what a flat state has at a path
+-- what is shown of what a flat state has at a path
 abbrev pub flat_line : Path × Node → TreeLine
 flat_line e = record {
   path = e.0;
@@ -24,19 +24,19 @@ flat_line e = record {
   bytes = bytes_of (Some e.1);
 }
 
--- what is told of all that a flat state has, by rising paths
+-- what is shown of all that a flat state has, by rising paths
 abbrev pub flat_lines : Flat → List TreeLine
 flat_lines f = map flat_line f.files.entries
 
--- the bytes that an entry leads to; of a directory none are told
+-- the bytes that an entry leads to; of a directory there are none
 abbrev pub bytes_at : State → Target → List ℕ
 bytes_at s (File file) = bytes_in (s.objects file)
 bytes_at s (Directory container listing) = []
 
--- what is told of a file or a directory of a state
+-- what is shown of a file or a directory of a state
 abbrev pub line_at : State → TreeNode → TreeLine
 line_at s node = record { path = node.path; stat = node.stat; bytes = bytes_at s node.target }
 
--- what is told of these, one after another
+-- what is shown of these, one after another
 abbrev pub lines_at : State → List TreeNode → List TreeLine
 lines_at s tree = map (line_at s) tree

@@ -22,7 +22,7 @@ const MOST_NAMES: usize = 8;
 #[derive(Clone, Copy)]
 pub struct TreeNode {
     pub path: Path,
-    /// What is told of it: its kind, its owner and its mode.
+    /// What is shown of it: its kind, its owner and its mode.
     pub stat: Stat,
     /// Where its entry leads.
     pub target: Target,

@@ -2,7 +2,7 @@
 ghost use Rattle.histar_tree.specs.Laws.{FlatStatesAreResolved, FlatStatesHaveTheirProcesses};
 ghost use Rattle.histar_tree.specs.Laws.{FlatStatesHaveTheirTrees, PathsLeadToOneTarget, StatesHaveOneTree};
 
-/// A state that lays out a flat state has a tree, of which is told what the flat state has: path by path
+/// A state that lays out a flat state has a tree, which shows what the flat state has: path by path
 /// its kind, its owner, its mode and its bytes.
 pub fn flat_states_have_their_trees()
     ensures { FlatStatesHaveTheirTrees }
@@ -24,7 +24,7 @@ pub fn flat_states_are_resolved()
     ensures { FlatStatesAreResolved }
 {}
 
-/// A state that lays out a flat state has processes, of which is told what the flat state has: name by
+/// A state that lays out a flat state has processes, which shows what the flat state has: name by
 /// name whether it runs, or what it has exited with, and how many children were born to it.
 pub fn flat_states_have_their_processes()
     ensures { FlatStatesHaveTheirProcesses }

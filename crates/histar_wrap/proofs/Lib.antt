@@ -1,4 +1,4 @@
 pub mod GivingBack
 pub mod Scratching
 pub mod Wrapping
-pub mod WrapTelling
+pub mod RepliesOfWraps

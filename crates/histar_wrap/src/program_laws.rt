@@ -1,8 +1,8 @@
 //! What the kernel's refusals come to in the program of a wrap: the contract of a function that does
 //! nothing.
-ghost use Rattle.histar_wrap.specs.Laws.{WrapsTellRefusals};
+ghost use Rattle.histar_wrap.specs.Laws.{WrapsReplyToRefusals};
 
-/// The program of a wrap tells its refusals.
-pub fn wraps_tell_refusals()
-    ensures { WrapsTellRefusals }
+/// The program of a wrap replies to its refusals.
+pub fn wraps_reply_to_refusals()
+    ensures { WrapsReplyToRefusals }
 {}

@@ -30,7 +30,7 @@ use Rattle.histar_wrap.specs.Scratch.{or_stops, give_back, gives_back_with, or_g
 use Rattle.histar_refinement.specs.LaysOut.{LaysOut}
 use Rattle.histar_refinement.specs.Lines.{IsThreadOf}
 use Rattle.histar_refinement.proofs.Beside.{own_set}
-use Rattle.histar_rows.specs.Rows.{IsRunning, IsDenialTold, DoesItsRow}
+use Rattle.histar_rows.specs.Rows.{IsRunning, IsReplyOfDenial, DoesItsRow}
 use Rattle.histar_rows.proofs.Chains.{Step, all_granted, Chain, chain_after, refused_broken_off}
 use Rattle.histar_rows.proofs.Endings.{ReadsAmong, reply_is, told_shown, chain_unanswered, given_back_row}
 use Rattle.histar_rows.proofs.Steps.{EndsHere, Goal, replied, granted_so, denied_step}
@@ -46,7 +46,7 @@ module _ (session : Session) (f : Flat) (me : ProcName) (caller : IsRunning f me
     steps restoring = all_granted calls ++ (last, Some denied) ∷ all_granted restoring
 
     -- the reply of the flat rules tells the denial
-    tells : IsDenialTold (reply_to session f me call) (Some denied)
+    tells : IsReplyOfDenial (reply_to session f me call) (Some denied)
     tells = ap (option_map Refused) told ∙ ap Some (sym (reply_is session f me caller call old new t named (Some errno) is))
 
     -- Behind the refused one the thread was given labels.

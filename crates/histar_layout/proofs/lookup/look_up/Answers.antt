@@ -20,13 +20,13 @@ entries-preserved c =
 
 pub returns-then-is_same-clause-found : goal.returns-then-is_same-clause-found
 returns-then-is_same-clause-found c =
-    c.told_by.ensures
+    c.target_from.ensures
     ∙ sym (found_here c.entries.rest.now c.args.name.now _ c.in-Some.ensures c.args.bytes.now c.entries.invariant
     (same_test c.args.name.now c.as_bytes-wanted.result.now c.in-Some.text.now c.is_same.result c.as_bytes-wanted.ensures.value c.is_same.ensures ∙ c.if-is_same.true))
 
 pub returns-then-is_same-clause-entry : goal.returns-then-is_same-clause-entry
 returns-then-is_same-clause-entry c dir is =
-    c.told_by.ensures
+    c.target_from.ensures
     ∙ sym (found_here c.entries.rest.now c.args.name.now _ c.in-Some.ensures c.args.bytes.now c.entries.invariant
     (same_test c.args.name.now c.as_bytes-wanted.result.now c.in-Some.text.now c.is_same.result c.as_bytes-wanted.ensures.value c.is_same.ensures ∙ c.if-is_same.true))
     ∙ found_in_directory c.args.bytes.now dir c.args.name.now is

@@ -4,7 +4,7 @@ use Rattle.histar_label.specs.Store.{label_at}
 use Rattle.histar_object.specs.Objects.{thread_of}
 use Rattle.histar_rules.specs.declared.raw.Denied.{Denied}
 use Rattle.histar_rules.specs.Finds.{segment_of}
-use Rattle.histar_rules.specs.Rules.{Tells}
+use Rattle.histar_rules.specs.Rules.{FailsAt}
 use Rattle.histar_rules.proofs.Observed.{told, label_stands}
 use Rattle.histar_rules.proofs.LinkedObjects.{segment_missing, write_found}
 use Rattle.histar_rules.proofs.linked.write_in.Goals as goal
@@ -28,7 +28,7 @@ pub returns-clause-answer : goal.returns-clause-answer
 returns-clause-answer g c =
     let found = c.in_ok-found.found in
     let label = c.in_ok-label.label in
-    subst (λ (f : Option Denied). Tells f c.check_change.result) (sym
+    subst (λ (f : Option Denied). FailsAt f c.check_change.result) (sym
     (write_found (g.S.LabelStore.labels c.args.store.now) c.args.table.now c.args.thread c.args.container c.args.segment c.in_ok-found.ensures.answer found.own found.own_clearance c.in_ok-found.ensures.thread c.args.keep c.args.bytes.now label c.in_ok-label.held.now c.modifies_by-modifies.result c.len.result c.len-2.result c.in_ok-label.ensures.found
     (c.modifies_by-modifies.ensures.answer ∙ ap (λ (labels : g.row.S-Id.Denot → Option Levels). is_below (label_at labels found.own) (label_at labels label) && is_below_raised (label_at labels label) (label_at labels found.own)) c.in_ok-found.ensures.unchanged)
     c.len.ensures c.len-2.ensures)) c.check_change.ensures

@@ -3,7 +3,7 @@ use Rattle.histar_label.specs.Levels.{Levels}
 use Rattle.histar_label.specs.Store.{label_at}
 use Rattle.histar_object.specs.Objects.{thread_of}
 use Rattle.histar_rules.specs.declared.raw.Denied.{Denied}
-use Rattle.histar_rules.specs.Rules.{Tells}
+use Rattle.histar_rules.specs.Rules.{FailsAt}
 use Rattle.histar_rules.proofs.Observed.{label_stands, clearance_stands}
 use Rattle.histar_rules.proofs.LinkedObjects.{new_found}
 use Rattle.histar_rules.proofs.lookup.new_in.Goals as goal
@@ -22,7 +22,7 @@ pub returns-clause-answer : goal.returns-clause-answer
 returns-clause-answer g c =
     let found = c.in_ok-found.found in
     let same = c.in_ok-found.ensures.unchanged in
-    subst (λ (f : Option Denied). Tells f c.check_new.result) (sym
+    subst (λ (f : Option Denied). FailsAt f c.check_new.result) (sym
     (new_found (g.S.LabelStore.labels c.args.store.now) c.args.table.now c.args.thread c.args.container found.own found.own_clearance c.in_ok-found.ensures.answer c.in_ok-found.ensures.thread c.args.next c.args.label.now c.args.size c.labels_in.result.0.now c.labels_in.result.1.now
     (c.labels_in.ensures.first ∙ ap (λ (labels : g.row.S-Id.Denot → Option Levels). label_at labels found.own) same)
     (c.labels_in.ensures.second ∙ ap (λ (labels : g.row.S-Id.Denot → Option Levels). label_at labels found.own_clearance) same))) c.check_new.ensures

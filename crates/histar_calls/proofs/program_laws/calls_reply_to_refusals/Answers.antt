@@ -1,0 +1,5 @@
+use Rattle.histar_calls.proofs.RepliesOfPrograms as replies
+use Rattle.histar_calls.proofs.program_laws.calls_reply_to_refusals.Goals as goal
+
+pub returns : goal.returns
+returns c = replies.calls_reply_to_refusals

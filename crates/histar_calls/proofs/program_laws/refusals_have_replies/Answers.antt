@@ -1,0 +1,5 @@
+use Rattle.histar_calls.proofs.DenialReplies.{replies}
+use Rattle.histar_calls.proofs.program_laws.refusals_have_replies.Goals as goal
+
+pub returns : goal.returns
+returns c = replies

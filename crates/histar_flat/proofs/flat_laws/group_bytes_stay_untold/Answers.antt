@@ -1,5 +1,0 @@
-use Rattle.histar_flat.proofs.Secrecy.{group_bytes_stay_untold}
-use Rattle.histar_flat.proofs.flat_laws.group_bytes_stay_untold.Goals as goal
-
-pub returns : goal.returns
-returns c = group_bytes_stay_untold

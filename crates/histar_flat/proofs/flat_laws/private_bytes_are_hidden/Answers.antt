@@ -1,0 +1,5 @@
+use Rattle.histar_flat.proofs.Secrecy.{private_bytes_are_hidden}
+use Rattle.histar_flat.proofs.flat_laws.private_bytes_are_hidden.Goals as goal
+
+pub returns : goal.returns
+returns c = private_bytes_are_hidden

@@ -1,5 +1,0 @@
-use Rattle.histar_flat.proofs.Secrecy.{private_bytes_are_untold}
-use Rattle.histar_flat.proofs.flat_laws.private_bytes_are_untold.Goals as goal
-
-pub returns : goal.returns
-returns c = private_bytes_are_untold

@@ -1,0 +1,41 @@
+-- The programs of logins reply to their refusals.
+use Rattle.std.proofs.Common.{ℕ, ◌+◌, Bool, true, false, List, Option, None, Some, refl}
+use Rattle.std.specs.Str.{bytes_eq}
+use Rattle.histar_rules.specs.declared.raw.RawCall.TheVariants.{OwnLabel, SetLabel, SetClearance, Read}
+use Rattle.histar_rules.specs.Sound.{root_number}
+use Rattle.histar_flat.specs.Sessions.{Session}
+use Rattle.histar_flat.specs.Words.{Name}
+use Rattle.histar_calls.specs.Categories.{owners_of}
+use Rattle.histar_calls.specs.Laws.{RepliesToRefusals}
+use Rattle.histar_calls.specs.Programs.Program.{Answers}
+use Rattle.histar_calls.proofs.RepliesOfPrograms.{told_for}
+use Rattle.histar_process.specs.declared.caller.Caller.{Caller}
+use Rattle.histar_login.specs.Login.{place_of, password_of, entering, label_if, clearance_if, reply_if, login_as_program, login_at, LoginsReplyToRefusals}
+
+-- behind the gate no refusal is left to tell
+replied : (right : Bool) → RepliesToRefusals (Answers (reply_if right))
+replied true = (refl, refl)
+replied false = (refl, refl)
+
+as_program : (caller : Caller) (i : ℕ) (owners password : List ℕ) → RepliesToRefusals (login_as_program caller i owners password)
+unfolding login_as_program
+as_program caller i owners password = (
+  (λ own. (
+    (λ entry. (
+      (λ kept. (
+        (λ label. ((λ clearance. replied (bytes_eq kept password)), told_for (SetClearance (clearance_if (bytes_eq kept password) caller owners own.1)))),
+        told_for (SetLabel (label_if (bytes_eq kept password) caller owners own.0)),
+      )),
+      told_for (Read root_number (password_of i)),
+    )),
+    told_for (entering owners i own.0 own.1),
+  )),
+  told_for OwnLabel,
+)
+
+at_place : (session : Session) (caller : Caller) (name : Name) (password : List ℕ) (place : Option ℕ) → RepliesToRefusals (login_at session caller name password place)
+at_place session caller name password None = (refl, refl)
+at_place session caller name password (Some place) = as_program caller (place + 1) (owners_of session (place + 1) name) password
+
+pub logins_reply_to_refusals : LoginsReplyToRefusals
+logins_reply_to_refusals session caller name password = at_place session caller name password (place_of session.users name)

@@ -1,0 +1,5 @@
+use Rattle.histar_moves.proofs.RepliesOfMoves as replies
+use Rattle.histar_moves.proofs.program_laws.moves_reply_to_refusals.Goals as goal
+
+pub returns : goal.returns
+returns c = replies.moves_reply_to_refusals

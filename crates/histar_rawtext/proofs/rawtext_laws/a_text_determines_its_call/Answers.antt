@@ -1,0 +1,5 @@
+use Rattle.histar_rawtext.proofs.CallTexts.{texts_determine_calls}
+use Rattle.histar_rawtext.proofs.rawtext_laws.a_text_determines_its_call.Goals as goal
+
+pub returns : goal.returns
+returns c = texts_determine_calls

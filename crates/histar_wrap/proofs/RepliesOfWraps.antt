@@ -1,0 +1,94 @@
+-- The program of a wrap replies to its refusals.
+use Rattle.std.proofs.Common.{ℕ, ◌+◌, [], ◌∷◌, refl}
+use Rattle.std.specs.FinMap as map
+use Rattle.histar_flat.specs.Sessions.{Session}
+use Rattle.histar_flat.specs.Words.{Path, ProcName}
+use Rattle.histar_flat.specs.declared.replies.Reply.TheVariants.{Child}
+use Rattle.histar_label.specs.declared.levels.Level.TheVariants.{Star, L3}
+use Rattle.histar_label.specs.Levels.{Levels, with_level}
+use Rattle.histar_rules.specs.declared.raw.Denied.{Denied}
+use Rattle.histar_rules.specs.declared.raw.Denied.TheVariants.{Observe, Modify, Range, Gate, NoEntry, NoThread, BadKind, TooBig}
+use Rattle.histar_rules.specs.declared.raw.RawCall.TheVariants.{MakeCategory, MakeSegment, OwnLabel, SetLabel, SetClearance, Write}
+use Rattle.histar_layout.specs.Directory.{spelling}
+use Rattle.histar_layout.specs.Status.{ProcessStatus}
+use Rattle.histar_layout.specs.declared.entry.Target.TheVariants.{Directory}
+use Rattle.histar_calls.specs.Laws.{RepliesToDenial, RepliesToRefusals}
+use Rattle.histar_calls.specs.Parts.{ask, find_room, write_entries}
+use Rattle.histar_calls.specs.Programs.{Program}
+use Rattle.histar_calls.specs.Programs.Program.{Answers}
+use Rattle.histar_calls.specs.Refusals.{errno_of}
+use Rattle.histar_calls.specs.declared.find.Room.{Room}
+use Rattle.histar_calls.specs.declared.places.Home.{Home}
+use Rattle.histar_calls.specs.declared.places.Places.{Places}
+use Rattle.histar_calls.proofs.RepliesOfPrograms.{ask_tells, room_tells}
+use Rattle.histar_process.specs.Birth.{birth}
+use Rattle.histar_process.proofs.RepliesOfProcessCalls.{birth_tells, child_tells}
+use Rattle.histar_wrap.specs.Laws.{WrapsReplyToRefusals}
+use Rattle.histar_wrap.specs.Scratch.{directory_label, gives_back_with, hold_job, kin_in, make_scratch}
+use Rattle.histar_wrap.specs.WrapCall.{wrap_program}
+
+-- a denial is told after what was taken is given back
+told_back : (own : Levels × Levels) (denied : Denied) → RepliesToDenial denied (gives_back_with own (errno_of denied))
+told_back own Observe = (refl, (λ _. (refl, (λ _. (refl, refl)), (λ _. refl))), (λ _. refl))
+told_back own Modify = (refl, (λ _. (refl, (λ _. (refl, refl)), (λ _. refl))), (λ _. refl))
+told_back own Range = (refl, (λ _. (refl, (λ _. (refl, refl)), (λ _. refl))), (λ _. refl))
+told_back own Gate = (refl, (λ _. (refl, (λ _. (refl, refl)), (λ _. refl))), (λ _. refl))
+told_back own NoEntry = tt
+told_back own NoThread = tt
+told_back own BadKind = tt
+told_back own TooBig = tt
+
+module _ (own : Levels × Levels) (rest : Program) (tells : RepliesToRefusals rest) where
+  module _ (label : Levels) (room : Room) where
+    -- what comes after the directory segment of a scratch directory
+    abbrev listed : ℕ → ℕ → Program
+    listed container listing = write_entries room.place (map.insert room.entries room.name (Directory container listing)) (λ _. rest)
+
+    -- the making of a scratch directory tells, where what comes after it does
+    scratch_tells : RepliesToRefusals (make_scratch own label room (λ _. rest))
+    unfolding make_scratch
+    scratch_tells = (
+      (λ container. ask_tells (MakeSegment container label []) (listed container) (λ listing.
+          ask_tells (Write room.place.container room.place.listing 0 (spelling (map.insert room.entries room.name (Directory container listing)))) (λ _. rest) (λ _. tells))),
+      told_back own,
+    )
+
+  -- and so does the holding of a job
+  hold_tells : (job : ℕ) → RepliesToRefusals (hold_job own job (λ _. rest))
+  unfolding hold_job
+  hold_tells job =
+      ask_tells (SetLabel (with_level own.0 job Star)) (λ _. ask (SetClearance (with_level own.1 job L3)) (λ _. rest)) (λ _.
+      ask_tells (SetClearance (with_level own.1 job L3)) (λ _. rest) (λ _. tells))
+
+module _ (session : Session) (places : Places) (name : ProcName) (me : Home) (path : Path) where
+  -- what comes after the birth
+  abbrev held : ProcessStatus → Levels × Levels → ℕ → Program
+  held status own job = hold_job own job (λ _. Answers (Child ((status.born + 1) ∷ name)))
+
+  -- what comes after the scratch directory
+  abbrev born : ProcessStatus → Levels × Levels → ℕ → Program
+  born status own job = birth me status (kin_in session own.0 job) (λ _. held status own job)
+
+  -- what comes after the category
+  abbrev scratched : ProcessStatus → Room → Levels × Levels → ℕ → Program
+  scratched status room own job = make_scratch own (directory_label session own.0 job) room (λ _. born status own job)
+
+  -- and after there is room for a child
+  abbrev found : ProcessStatus → Program
+  found status = find_room places path (λ room. ask OwnLabel (λ own. ask MakeCategory (scratched status room own)))
+
+  job_tells : (status : ProcessStatus) (room : Room) (own : Levels × Levels) (job : ℕ) → RepliesToRefusals (scratched status room own job)
+  job_tells status room own job =
+      scratch_tells own (born status own job) (birth_tells me status (kin_in session own.0 job) (λ _. held status own job) (hold_tells own (Answers (Child ((status.born + 1) ∷ name))) (refl, refl) job)) (directory_label session own.0 job) room
+
+  found_tells : (status : ProcessStatus) → RepliesToRefusals (found status)
+  found_tells status =
+      room_tells places path _ (λ room. ask_tells OwnLabel (λ own. ask MakeCategory (scratched status room own)) (λ own. ask_tells MakeCategory (scratched status room own) (λ job. job_tells status room own job)))
+
+  wrap_tells : RepliesToRefusals (wrap_program session places name me path)
+  unfolding wrap_program
+  wrap_tells = child_tells name me found found_tells
+
+-- wraps reply to their refusals
+pub wraps_reply_to_refusals : WrapsReplyToRefusals
+wraps_reply_to_refusals = wrap_tells
