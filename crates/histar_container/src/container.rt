@@ -1,9 +1,23 @@
 //! Links of containers.
 ghost use Rattle.std.specs.Prelude.{◌≡◌, None, OnOk, OnErr};
-ghost use Rattle.histar_object.specs.Objects.{objects_of, put, changed_at, linking, unlinking, with_new};
+ghost use Rattle.std.specs.FinSet as set;
+ghost use Rattle.histar_object.specs.Objects.{objects_of, put, changed_at, linking, unlinking, with_new, links_in};
 
 use histar_object::{Kind, ObjId, Object, Table};
 use std::alloc::AllocError;
+
+/// Whether the container links the object.
+pub fn linked<L>(table: &Table<L>, container: ObjId, object: ObjId) -> bool
+    ensures { result ≡ set.contains (links_in (objects_of table.now container)) object }
+{
+    match table.get(container) {
+        Some(holder) => match &holder.kind {
+            Kind::Container(links) => links.contains(object),
+            _ => false,
+        },
+        None => false,
+    }
+}
 
 /// Keeps a new object under a number, and links it in a container. Both may want memory: where one
 /// gets none, the table is as it was.

@@ -4,7 +4,7 @@
 mod container;
 mod removal;
 
-pub use container::link_new;
+pub use container::{link_new, linked};
 pub use removal::remove_tree;
 
 #[cfg(test)]

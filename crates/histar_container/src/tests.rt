@@ -1,6 +1,6 @@
 ghost use Rattle.std.specs.Prelude.{◌≡◌, ℕ, ◌+◌, ◌<◌, ◌≤◌, false, IfOk, OnOk};
 ghost use Rattle.std.specs.FinSet as set;
-ghost use Rattle.histar_object.specs.Objects.{objects_of, kind_links, links_in, is_container};
+ghost use Rattle.histar_object.specs.Objects.{objects_of, kind_links, is_container};
 ghost use Rattle.histar_container.specs.Tree.{IsTree, AreTree};
 
 use super::*;
@@ -44,19 +44,6 @@ fn is_container(table: &Table<u8>, object: ObjId) -> bool
 {
     match table.get(object) {
         Some(object) => matches!(object.kind, Kind::Container(_)),
-        None => false,
-    }
-}
-
-// Whether the container links the object.
-fn linked<L>(table: &Table<L>, container: ObjId, object: ObjId) -> bool
-    ensures { result ≡ set.contains (links_in (objects_of table.now container)) object }
-{
-    match table.get(container) {
-        Some(holder) => match &holder.kind {
-            Kind::Container(links) => links.contains(object),
-            _ => false,
-        },
         None => false,
     }
 }

@@ -2,7 +2,7 @@ use Rattle.std.proofs.Common.{rules, ap, ◌∙◌}
 use Rattle.std.specs.FinSet as set
 use Rattle.histar_object.specs.Objects.{links_in}
 use Rattle.histar_container.proofs.Links.{absent_links, kind_links_none}
-use Rattle.histar_container.proofs.tests.linked.Goals as goal
+use Rattle.histar_container.proofs.container.linked.Goals as goal
 
 pub returns-in_default : goal.returns-in_default
 returns-in_default g c =
