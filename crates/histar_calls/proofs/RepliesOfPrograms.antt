@@ -35,80 +35,80 @@ use Rattle.histar_calls.specs.ClassOf.{class_of}
 use Rattle.histar_calls.specs.StatCall.{find_object, class_reply, stat_program}
 use Rattle.histar_calls.specs.Laws.{RepliesToDenial, RepliesToRefusals, CallsReplyToRefusals}
 
--- each denial is told by its errno
-told : (d : Denied) → RepliesToDenial d (refused_with (errno_of d))
-told Observe = (refl, refl)
-told Modify = (refl, refl)
-told Range = (refl, refl)
-told Gate = (refl, refl)
-told NoEntry = tt
-told NoThread = tt
-told BadKind = tt
-told TooBig = tt
+-- the reply to each denial is its errno
+denial_has_reply : (d : Denied) → RepliesToDenial d (refused_with (errno_of d))
+denial_has_reply Observe = (refl, refl)
+denial_has_reply Modify = (refl, refl)
+denial_has_reply Range = (refl, refl)
+denial_has_reply Gate = (refl, refl)
+denial_has_reply NoEntry = tt
+denial_has_reply NoThread = tt
+denial_has_reply BadKind = tt
+denial_has_reply TooBig = tt
 
-told_of_write : (d : Denied) → RepliesToDenial d (refused_with (write_errno_of d))
-told_of_write Observe = (refl, refl)
-told_of_write Modify = (refl, refl)
-told_of_write Range = (refl, refl)
-told_of_write Gate = (refl, refl)
-told_of_write NoEntry = tt
-told_of_write NoThread = tt
-told_of_write BadKind = tt
-told_of_write TooBig = (refl, refl)
+denial_of_write_has_reply : (d : Denied) → RepliesToDenial d (refused_with (write_errno_of d))
+denial_of_write_has_reply Observe = (refl, refl)
+denial_of_write_has_reply Modify = (refl, refl)
+denial_of_write_has_reply Range = (refl, refl)
+denial_of_write_has_reply Gate = (refl, refl)
+denial_of_write_has_reply NoEntry = tt
+denial_of_write_has_reply NoThread = tt
+denial_of_write_has_reply BadKind = tt
+denial_of_write_has_reply TooBig = (refl, refl)
 
-pub told_for : (call : RawCall) (d : Denied) → RepliesToDenial d (refused_with (errno_for call d))
-told_for MakeCategory d = told d
-told_for OwnLabel d = told d
-told_for (SetLabel label) d = told d
-told_for (SetClearance clearance) d = told d
-told_for (MakeSegment container label bytes) d = told d
-told_for (MakeContainer container label) d = told d
-told_for (MakeThread container label clearance) d = told d
-told_for (MakeGate container label clearance entry) d = told d
-told_for (Enter container gate wanted clearance shown) d = told d
-told_for (Read container segment) d = told d
-told_for (Write container segment keep bytes) d = told_of_write d
-told_for (Unlink container object) d = told d
-told_for (LabelOf container object) d = told d
+pub denial_of_call_has_reply : (call : RawCall) (d : Denied) → RepliesToDenial d (refused_with (errno_for call d))
+denial_of_call_has_reply MakeCategory d = denial_has_reply d
+denial_of_call_has_reply OwnLabel d = denial_has_reply d
+denial_of_call_has_reply (SetLabel label) d = denial_has_reply d
+denial_of_call_has_reply (SetClearance clearance) d = denial_has_reply d
+denial_of_call_has_reply (MakeSegment container label bytes) d = denial_has_reply d
+denial_of_call_has_reply (MakeContainer container label) d = denial_has_reply d
+denial_of_call_has_reply (MakeThread container label clearance) d = denial_has_reply d
+denial_of_call_has_reply (MakeGate container label clearance entry) d = denial_has_reply d
+denial_of_call_has_reply (Enter container gate wanted clearance shown) d = denial_has_reply d
+denial_of_call_has_reply (Read container segment) d = denial_has_reply d
+denial_of_call_has_reply (Write container segment keep bytes) d = denial_of_write_has_reply d
+denial_of_call_has_reply (Unlink container object) d = denial_has_reply d
+denial_of_call_has_reply (LabelOf container object) d = denial_has_reply d
 
 -- a raw call that is asked, where what follows its answer replies to its refusals
-pub ask_tells : (call : RawCall) (rest : AnswerOf call → Program) → ((answer : AnswerOf call) → RepliesToRefusals (rest answer)) → RepliesToRefusals (ask call rest)
-ask_tells call rest tells = (tells, told_for call)
+pub ask_replies : (call : RawCall) (rest : AnswerOf call → Program) → ((answer : AnswerOf call) → RepliesToRefusals (rest answer)) → RepliesToRefusals (ask call rest)
+ask_replies call rest tells = (tells, denial_of_call_has_reply call)
 
-pub read_tells : (place : Place) (rest : Directory → Program) → ((directory : Directory) → RepliesToRefusals (rest directory)) → RepliesToRefusals (read_directory place rest)
+pub read_replies : (place : Place) (rest : Directory → Program) → ((directory : Directory) → RepliesToRefusals (rest directory)) → RepliesToRefusals (read_directory place rest)
 unfolding read_directory
-read_tells place rest tells = ((λ bytes listed. by listed), told_for (Read place.container place.listing))
+read_replies place rest tells = ((λ bytes listed. by listed), denial_of_call_has_reply (Read place.container place.listing))
   where
     by : (listed : Option Entries) → RepliesToRefusals (if_there (λ (entries : Entries). rest (record { place = place; entries = entries })) listed)
     by None = tt
     by (Some entries) = tells (record { place = place; entries = entries })
 
 -- a look-up replies to its refusals
-pub look_tells : (place : Place) (name : Name) (rest : Option Target → Program) → ((target : Option Target) → RepliesToRefusals (rest target)) → RepliesToRefusals (look_in place name rest)
+pub look_replies : (place : Place) (name : Name) (rest : Option Target → Program) → ((target : Option Target) → RepliesToRefusals (rest target)) → RepliesToRefusals (look_in place name rest)
 unfolding look_in
-look_tells place name rest tells = ((λ bytes. tells (found_in bytes name)), told_for (Read place.container place.listing))
+look_replies place name rest tells = ((λ bytes. tells (found_in bytes name)), denial_of_call_has_reply (Read place.container place.listing))
 
-into_tells : (target : Option Target) (rest : Place → Program) → ((place : Place) → RepliesToRefusals (rest place)) → RepliesToRefusals (given (directory_at target) rest)
-into_tells None rest tells = (refl, refl)
-into_tells (Some (targets.File file)) rest tells = (refl, refl)
-into_tells (Some (targets.Directory container listing)) rest tells = tells (record { container = container; listing = listing })
+into_replies : (target : Option Target) (rest : Place → Program) → ((place : Place) → RepliesToRefusals (rest place)) → RepliesToRefusals (given (directory_at target) rest)
+into_replies None rest tells = (refl, refl)
+into_replies (Some (targets.File file)) rest tells = (refl, refl)
+into_replies (Some (targets.Directory container listing)) rest tells = tells (record { container = container; listing = listing })
 
 -- and so does the search for the place of a directory
-pub place_tells : (places : Places) (path : Path) (rest : Place → Program) → ((place : Place) → RepliesToRefusals (rest place)) → RepliesToRefusals (find_place places path rest)
+pub place_replies : (places : Places) (path : Path) (rest : Place → Program) → ((place : Place) → RepliesToRefusals (rest place)) → RepliesToRefusals (find_place places path rest)
 unfolding find_place
-place_tells places [] rest tells = tells places.slash
-place_tells places (name ∷ parent) rest tells = place_tells places parent _ (λ above. look_tells above name _ (λ target. into_tells target rest tells))
+place_replies places [] rest tells = tells places.slash
+place_replies places (name ∷ parent) rest tells = place_replies places parent _ (λ above. look_replies above name _ (λ target. into_replies target rest tells))
 
 -- a walk replies to its refusals
-pub walk_tells : (places : Places) (path : Path) (rest : Directory → Program) → ((directory : Directory) → RepliesToRefusals (rest directory)) → RepliesToRefusals (walk places path rest)
+pub walk_replies : (places : Places) (path : Path) (rest : Directory → Program) → ((directory : Directory) → RepliesToRefusals (rest directory)) → RepliesToRefusals (walk places path rest)
 unfolding walk
-walk_tells places path rest tells = place_tells places path _ (λ place. read_tells place rest tells)
+walk_replies places path rest tells = place_replies places path _ (λ place. read_replies place rest tells)
 
 -- and so does the search for a file
-pub file_tells : (places : Places) (path : Path) (rest : FoundFile → Program) → ((file : FoundFile) → RepliesToRefusals (rest file)) → RepliesToRefusals (find_file places path rest)
+pub file_replies : (places : Places) (path : Path) (rest : FoundFile → Program) → ((file : FoundFile) → RepliesToRefusals (rest file)) → RepliesToRefusals (find_file places path rest)
 unfolding find_file
-file_tells places [] rest tells = (refl, refl)
-file_tells places (name ∷ parent) rest tells = place_tells places parent _ (λ place. look_tells place name _ (λ target. by place target))
+file_replies places [] rest tells = (refl, refl)
+file_replies places (name ∷ parent) rest tells = place_replies places parent _ (λ place. look_replies place name _ (λ target. by place target))
   where
     by : (place : Place) (target : Option Target) → RepliesToRefusals (given (file_at target) (λ segment. rest (record { container = place.container; segment = segment })))
     by place None = (refl, refl)
@@ -116,10 +116,10 @@ file_tells places (name ∷ parent) rest tells = place_tells places parent _ (λ
     by place (Some (targets.Directory container listing)) = (refl, refl)
 
 -- and for room
-pub room_tells : (places : Places) (path : Path) (rest : Room → Program) → ((room : Room) → RepliesToRefusals (rest room)) → RepliesToRefusals (find_room places path rest)
+pub room_replies : (places : Places) (path : Path) (rest : Room → Program) → ((room : Room) → RepliesToRefusals (rest room)) → RepliesToRefusals (find_room places path rest)
 unfolding find_room
-room_tells places [] rest tells = (refl, refl)
-room_tells places (name ∷ parent) rest tells = walk_tells places parent _ (λ directory. by directory (target_of directory name) (map.len directory.entries == most_entries))
+room_replies places [] rest tells = (refl, refl)
+room_replies places (name ∷ parent) rest tells = walk_replies places parent _ (λ directory. by directory (target_of directory name) (map.len directory.entries == most_entries))
   where
     by : (directory : Directory) (target : Option Target) (full : Bool) → RepliesToRefusals (given (room_at target full) (λ _. rest (record { place = directory.place; entries = directory.entries; name = name })))
     by directory (Some target) full = (refl, refl)
@@ -127,56 +127,56 @@ room_tells places (name ∷ parent) rest tells = walk_tells places parent _ (λ 
     by directory None false = tells (record { place = directory.place; entries = directory.entries; name = name })
 
 -- and for an object
-object_tells : (places : Places) (path : Path) (rest : FoundObject → Program) → ((object : FoundObject) → RepliesToRefusals (rest object)) → RepliesToRefusals (find_object places path rest)
+object_replies : (places : Places) (path : Path) (rest : FoundObject → Program) → ((object : FoundObject) → RepliesToRefusals (rest object)) → RepliesToRefusals (find_object places path rest)
 unfolding find_object
-object_tells places [] rest tells = tells (record { container = root_number; object = places.slash.container; is_directory = true })
-object_tells places (name ∷ parent) rest tells = place_tells places parent _ (λ place. look_tells place name _ (λ target. by place target))
+object_replies places [] rest tells = tells (record { container = root_number; object = places.slash.container; is_directory = true })
+object_replies places (name ∷ parent) rest tells = place_replies places parent _ (λ place. look_replies place name _ (λ target. by place target))
   where
     by : (place : Place) (target : Option Target) → RepliesToRefusals (given (entry_at target) (λ found. rest (record { container = place.container; object = object_of found; is_directory = is_directory found })))
     by place None = (refl, refl)
     by place (Some target) = tells (record { container = place.container; object = object_of target; is_directory = is_directory target })
 
--- what is told of a class is no refusal
-class_tells : (is_directory : Bool) (class : Option Class) → RepliesToRefusals (class_reply is_directory class)
-class_tells is_directory None = tt
-class_tells is_directory (Some class) = (refl, refl)
+-- what is denial_has_reply of a class is no refusal
+class_replies : (is_directory : Bool) (class : Option Class) → RepliesToRefusals (class_reply is_directory class)
+class_replies is_directory None = tt
+class_replies is_directory (Some class) = (refl, refl)
 
-read_program_tells : (places : Places) (path : Path) → RepliesToRefusals (read_program places path)
+read_program_replies : (places : Places) (path : Path) → RepliesToRefusals (read_program places path)
 unfolding read_program
-read_program_tells places path = file_tells places path _ (λ file. ((λ bytes. (refl, refl)), told))
+read_program_replies places path = file_replies places path _ (λ file. ((λ bytes. (refl, refl)), denial_has_reply))
 
-write_program_tells : (places : Places) (path : Path) (bytes : List ℕ) → RepliesToRefusals (write_program places path bytes)
+write_program_replies : (places : Places) (path : Path) (bytes : List ℕ) → RepliesToRefusals (write_program places path bytes)
 unfolding write_program
-write_program_tells places path bytes = file_tells places path _ (λ file. ((λ done. (refl, refl)), told_of_write))
+write_program_replies places path bytes = file_replies places path _ (λ file. ((λ done. (refl, refl)), denial_of_write_has_reply))
 
-create_program_tells : (session : Session) (places : Places) (path : Path) (mode : Mode) → RepliesToRefusals (create_program session places path mode)
+create_program_replies : (session : Session) (places : Places) (path : Path) (mode : Mode) → RepliesToRefusals (create_program session places path mode)
 unfolding create_program
-create_program_tells session places path mode = room_tells places path _ (λ room. ((λ own. ((λ file. ((λ done. (refl, refl)), told_of_write)), told)), told))
+create_program_replies session places path mode = room_replies places path _ (λ room. ((λ own. ((λ file. ((λ done. (refl, refl)), denial_of_write_has_reply)), denial_has_reply)), denial_has_reply))
 
-append_program_tells : (places : Places) (path : Path) (bytes : List ℕ) → RepliesToRefusals (append_program places path bytes)
+append_program_replies : (places : Places) (path : Path) (bytes : List ℕ) → RepliesToRefusals (append_program places path bytes)
 unfolding append_program
-append_program_tells places path bytes = file_tells places path _ (λ file. ((λ done. (refl, refl)), told_of_write))
+append_program_replies places path bytes = file_replies places path _ (λ file. ((λ done. (refl, refl)), denial_of_write_has_reply))
 
-mkdir_program_tells : (session : Session) (places : Places) (path : Path) (mode : Mode) → RepliesToRefusals (mkdir_program session places path mode)
+mkdir_program_replies : (session : Session) (places : Places) (path : Path) (mode : Mode) → RepliesToRefusals (mkdir_program session places path mode)
 unfolding mkdir_program
-mkdir_program_tells session places path mode = room_tells places path _ (λ room. ((λ own. ((λ container. ((λ listing. ((λ done. (refl, refl)), told_of_write)), told)), told)), told))
+mkdir_program_replies session places path mode = room_replies places path _ (λ room. ((λ own. ((λ container. ((λ listing. ((λ done. (refl, refl)), denial_of_write_has_reply)), denial_has_reply)), denial_has_reply)), denial_has_reply))
 
-list_program_tells : (places : Places) (path : Path) → RepliesToRefusals (list_program places path)
+list_program_replies : (places : Places) (path : Path) → RepliesToRefusals (list_program places path)
 unfolding list_program
-list_program_tells places path = walk_tells places path _ (λ directory. (refl, refl))
+list_program_replies places path = walk_replies places path _ (λ directory. (refl, refl))
 
-stat_program_tells : (session : Session) (places : Places) (path : Path) → RepliesToRefusals (stat_program session places path)
+stat_program_replies : (session : Session) (places : Places) (path : Path) → RepliesToRefusals (stat_program session places path)
 unfolding stat_program
-stat_program_tells session places path = object_tells places path _ (λ object. ((λ label. class_tells object.is_directory (class_of session label)), told))
+stat_program_replies session places path = object_replies places path _ (λ object. ((λ label. class_replies object.is_directory (class_of session label)), denial_has_reply))
 
 -- the programs of the calls reply to their refusals
 pub calls_reply_to_refusals : CallsReplyToRefusals
 calls_reply_to_refusals = record {
-  read = read_program_tells;
-  write = write_program_tells;
-  create = create_program_tells;
-  append = append_program_tells;
-  mkdir = mkdir_program_tells;
-  list = list_program_tells;
-  stat = stat_program_tells;
+  read = read_program_replies;
+  write = write_program_replies;
+  create = create_program_replies;
+  append = append_program_replies;
+  mkdir = mkdir_program_replies;
+  list = list_program_replies;
+  stat = stat_program_replies;
 }

@@ -15,12 +15,12 @@ inner x y e = cc
 
 module _ {X : Type 0} (same_step : X → X → Bool) (tells : TestsEquality same_step) where
   -- whether two addresses are the same tells whether they are equal
-  pub same_tells : TestsEquality (same same_step)
-  same_tells [] [] = inl (refl, refl)
-  same_tells [] (y ∷ b) = inr (refl, λ e. cc)
-  same_tells (x ∷ a) [] = inr (refl, λ e. cc)
-  same_tells (x ∷ a) (y ∷ b) = elim (tells x y) [
-    | inl e ↦ elim (same_tells a b) [
+  pub same_tests_equality : TestsEquality (same same_step)
+  same_tests_equality [] [] = inl (refl, refl)
+  same_tests_equality [] (y ∷ b) = inr (refl, λ e. cc)
+  same_tests_equality (x ∷ a) [] = inr (refl, λ e. cc)
+  same_tests_equality (x ∷ a) (y ∷ b) = elim (tells x y) [
+    | inl e ↦ elim (same_tests_equality a b) [
       | inl r ↦ inl (rw (e.0, r.0) refl, rw (e.1, r.1) refl)
       | inr r ↦ inr (rw (e.0, r.0) refl, λ i. let k : a ≡ b = cc in r.1 k)
     ]
@@ -28,13 +28,13 @@ module _ {X : Type 0} (same_step : X → X → Bool) (tells : TestsEquality same
   ]
 
   pub same_itself : (a : Address X) → same same_step a a ≡ true
-  same_itself a = elim (same_tells a a) [ inl e ↦ e.0 | inr e ↦ absurd (e.1 refl) ]
+  same_itself a = elim (same_tests_equality a a) [ inl e ↦ e.0 | inr e ↦ absurd (e.1 refl) ]
 
   pub same_is : (a b : Address X) → same same_step a b ≡ true → a ≡ b
-  same_is a b h = elim (same_tells a b) [ inl e ↦ e.1 | inr e ↦ absurd (true≢false (sym h ∙ e.0)) ]
+  same_is a b h = elim (same_tests_equality a b) [ inl e ↦ e.1 | inr e ↦ absurd (true≢false (sym h ∙ e.0)) ]
 
   pub same_other : (a b : Address X) → a ≢ b → same same_step a b ≡ false
-  same_other a b other = elim (same_tells a b) [ inl e ↦ absurd (other e.1) | inr e ↦ e.0 ]
+  same_other a b other = elim (same_tests_equality a b) [ inl e ↦ absurd (other e.1) | inr e ↦ e.0 ]
 
   -- an address is at or below itself
   pub under_itself : (a : Address X) → under same_step a a ≡ true
@@ -48,7 +48,7 @@ module _ {X : Type 0} (same_step : X → X → Bool) (tells : TestsEquality same
   -- what lies below an address has no fewer steps
   pub under_long : (a b : Address X) → under same_step a b ≡ true → length a ≤ length b
   under_long a [] h = omega (arith, ap length (same_is a [] h))
-  under_long a (y ∷ b) h = elim (same_tells a (y ∷ b)) [
+  under_long a (y ∷ b) h = elim (same_tests_equality a (y ∷ b)) [
     | inl e ↦ omega (arith, ap length e.1)
     | inr e ↦ let u : under same_step a b ≡ true = sym (ap (λ t. t || under same_step a b) e.0) ∙ h in omega (arith, under_long a b u)
   ]

@@ -9,7 +9,7 @@ use Rattle.histar_object.specs.declared.objects.Object.{Object}
 use Rattle.histar_object.specs.Objects.{Objects, links_in}
 use Rattle.histar_container.specs.Tree.{Address, Naming, wanted, same, under, is_child, is_under, without_below, set_at, cut, IsLaid, IsCut}
 use Rattle.histar_container.proofs.Links.{unlinked_links}
-use Rattle.histar_container.proofs.Addresses.{TestsEquality, inner, same_tells, same_itself, same_other, under_itself, under_child, under_other, above}
+use Rattle.histar_container.proofs.Addresses.{TestsEquality, inner, same_tests_equality, same_itself, same_other, under_itself, under_child, under_other, above}
 use Rattle.histar_container.proofs.Reaching.{same_number, not_reached, is_reached}
 
 -- what is left of a value that may be taken away is that value
@@ -90,7 +90,7 @@ module _ {X : Type 0} (same_step : X → X → Bool) (tells : TestsEquality same
       by : (y : Option (Address X)) → is_child same_step b (if is_under same_step (x ∷ a) y then None else y) ≡ is_child same_step b y
       by None = refl
       by (Some []) = elim (same same_step (x ∷ a) []) as (λ t. is_child same_step b (if t then None else Some []) ≡ false) [ true ↦ refl | false ↦ refl ]
-      by (Some (z ∷ e)) = elim (same_tells same_step tells b e) [
+      by (Some (z ∷ e)) = elim (same_tests_equality same_step tells b e) [
         | inl k ↦ ap (λ t. is_child same_step b (if t then None else Some (z ∷ e))) (apart e z (subst (λ y. under same_step (x ∷ a) y ≡ false) k.1 u) (λ j. other (k.1 ∙ sym j)))
         | inr k ↦ elim (under same_step (x ∷ a) (z ∷ e)) as (λ t. is_child same_step b (if t then None else Some (z ∷ e)) ≡ same same_step b e) [ true ↦ sym k.0 | false ↦ refl ]
       ]
@@ -110,7 +110,7 @@ module _ {X : Type 0} (same_step : X → X → Bool) (tells : TestsEquality same
       by : c ≢ o → (y : Option (Address X)) → naming.address c ≡ y → is_child same_step a y ≡ is_child same_step a (if is_under same_step (x ∷ a) y then None else y)
       by other None i = refl
       by other (Some []) i = elim (same same_step (x ∷ a) []) as (λ t. false ≡ is_child same_step a (if t then None else Some [])) [ true ↦ refl | false ↦ refl ]
-      by other (Some (z ∷ e)) i = elim (same_tells same_step tells a e) [
+      by other (Some (z ∷ e)) i = elim (same_tests_equality same_step tells a e) [
         | inl k ↦ sym (ap (λ t. is_child same_step a (if t then None else Some (z ∷ e))) (other_step z e k.1 (λ j. other (one_number c o (x ∷ a) (i ∙ (λ n. Some (j n ∷ sym k.1 n))) at_o))))
         | inr k ↦ elim (under same_step (x ∷ a) (z ∷ e)) as (λ t. same same_step a e ≡ is_child same_step a (if t then None else Some (z ∷ e))) [ true ↦ k.0 | false ↦ refl ]
       ]

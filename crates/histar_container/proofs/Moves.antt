@@ -8,7 +8,7 @@ use Rattle.std.proofs.lemmas.Bool.Decides.{eqb_tells}
 use Rattle.histar_object.specs.declared.objects.Object.{Object}
 use Rattle.histar_object.specs.Objects.{Objects, links_in}
 use Rattle.histar_container.specs.Tree.{Address, Naming, wanted, same, is_child, with_number, set_at, IsLaid}
-use Rattle.histar_container.proofs.Addresses.{TestsEquality, inner, same_tells, same_itself, same_other, longer}
+use Rattle.histar_container.proofs.Addresses.{TestsEquality, inner, same_tests_equality, same_itself, same_other, longer}
 use Rattle.histar_container.proofs.Reaching.{same_number}
 
 -- what has an address is not the next number
@@ -109,7 +109,7 @@ module _ {X : Type 0} (same_step : X → X → Bool) (tells : TestsEquality same
 
     added_addressed : (b : Address X) (q : ℕ) → grown.number b ≡ Some q → grown.address q ≡ Some b
     unfolding grown
-    added_addressed b q i = elim (same_tells same_step tells (x ∷ a) b) [
+    added_addressed b q i = elim (same_tests_equality same_step tells (x ∷ a) b) [
       | inl e ↦ let k : next ≡ q = inner next q (sym (ap (λ t. if t then Some next else naming.number b) e.0) ∙ i) in
           ap grown.address (sym k) ∙ new_here ∙ ap Some e.1
       | inr e ↦ let j = laid.addressed b q (sym (ap (λ t. if t then Some next else naming.number b) e.0) ∙ i) in
@@ -122,7 +122,7 @@ module _ {X : Type 0} (same_step : X → X → Bool) (tells : TestsEquality same
 
     added_held : (y : X) (b : Address X) → is_some (grown.number (y ∷ b)) ≡ true → is_some (grown.number b) ≡ true
     unfolding grown
-    added_held y b i = elim (same_tells same_step tells (x ∷ a) (y ∷ b)) [
+    added_held y b i = elim (same_tests_equality same_step tells (x ∷ a) (y ∷ b)) [
       | inl e ↦ let k : a ≡ b = cc in number_stays b (same same_step (x ∷ a) b) (ap (λ (z : Address X). is_some (naming.number z)) (sym k) ∙ ap is_some (laid.numbered d a at_d))
       | inr e ↦ number_stays b (same same_step (x ∷ a) b) (laid.held y b (sym (ap (λ t. is_some (if t then Some next else naming.number (y ∷ b))) e.0) ∙ i))
     ]
@@ -141,7 +141,7 @@ module _ {X : Type 0} (same_step : X → X → Bool) (tells : TestsEquality same
         by : (y : Option (Address X)) → naming.address c ≡ y → is_child same_step (x ∷ a) y ≡ false
         by None i = refl
         by (Some []) i = refl
-        by (Some (z ∷ b)) i = elim (same_tells same_step tells (x ∷ a) b) [
+        by (Some (z ∷ b)) i = elim (same_tests_equality same_step tells (x ∷ a) b) [
           | inl e ↦ let k : is_some (naming.number b) ≡ true = laid.held z b (ap is_some (laid.numbered c (z ∷ b) i)) in
               absurd (true≢false (sym k ∙ ap (λ (y : Address X). is_some (naming.number y)) (sym e.1) ∙ ap is_some free))
           | inr e ↦ e.0

@@ -12,7 +12,7 @@ use Rattle.histar_object.specs.declared.objects.Object.{Object}
 use Rattle.histar_object.specs.Objects.{Objects, put, no_objects, with_new, links_in, kind_links, is_there}
 use Rattle.histar_object.specs.State.{root_object, boot_thread, empty_state}
 use Rattle.histar_container.specs.Tree.{Address, Naming, wanted, same, is_child, IsTree}
-use Rattle.histar_container.proofs.Addresses.{inner, same_tells}
+use Rattle.histar_container.proofs.Addresses.{inner, same_tests_equality}
 use Rattle.histar_container.proofs.TableMoves.{put_here, put_other}
 use Rattle.histar_container.proofs.Trees.{laid_itself, tree_new}
 
@@ -54,7 +54,7 @@ module _ {L : Type 0} (root next : ℕ) (o : Object L) (below : root < next) (le
 
   root_addressed : (a : Address ℕ) (q : ℕ) → root_naming.number a ≡ Some q → root_naming.address q ≡ Some a
   unfolding root_naming
-  root_addressed a q i = elim (same_tells nat_eq eqb_tells a []) [
+  root_addressed a q i = elim (same_tests_equality nat_eq eqb_tells a []) [
     | inl e ↦
         let k : root ≡ q = inner root q (sym (ap (λ b. if b then Some root else None) e.0) ∙ i) in
         ap root_naming.address (sym k) ∙ at_root ∙ ap Some (sym e.1)

@@ -33,7 +33,7 @@ use Rattle.histar_refinement.specs.Directories.{directory_of}
 use Rattle.histar_refinement.specs.Expected.{expected}
 use Rattle.histar_refinement.specs.LaysOut.{Laid}
 use Rattle.histar_refinement.specs.Processes.{or_zero}
-use Rattle.histar_refinement.proofs.Steps.{step_tells}
+use Rattle.histar_refinement.proofs.Steps.{step_tests_equality}
 use Rattle.histar_refinement.proofs.Moving.{number_below}
 use Rattle.histar_refinement.proofs.RawChecks.{object}
 use Rattle.histar_refinement.proofs.FileChecks.{read_file_said, write_file_said, make_segment_said, segment_out_of_range, make_container_said, container_out_of_range}
@@ -67,7 +67,7 @@ module _ (session : Session) (ok : IsSession session) (s : State) (f : Flat) (me
 
   -- a number that is given is below the next one
   pub below : (a : Address Step) (q : ℕ) → l.naming.number a ≡ Some q → q < s.next_object
-  below a q at = number_below same_step step_tells s l.naming (expected session l.category f l.naming.number) l.stands a q at
+  below a q at = number_below same_step step_tests_equality s l.naming (expected session l.category f l.naming.number) l.stands a q at
 
   pub thread_below : t < s.next_object
   thread_below = below runner t (runs session ok s f me t ready).2

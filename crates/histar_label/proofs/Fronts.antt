@@ -6,8 +6,8 @@ use mathlib.Core.Bool.{false≢true}
 use Rattle.std.specs.FinMap.{find}
 use Rattle.std.proofs.lemmas.Bool.Decides.{nat_tests}
 use Rattle.histar_label.specs.declared.levels.Level.{Level}
-use Rattle.histar_label.specs.declared.levels.Reading.{Reading}
-use Rattle.histar_label.specs.Level.{rank, read}
+use Rattle.histar_label.specs.declared.levels.Test.{Test}
+use Rattle.histar_label.specs.Level.{Passes}
 use Rattle.histar_label.specs.Levels.{Levels, level_of, default_of, exceptions_of, level_of-exceptions, beyond, level_of-beyond, Fits}
 use Rattle.histar_label.specs.Exceptions.{Exceptions, IsRising}
 use Rattle.histar_label.specs.Front.{first_category, earlier, lower, lowest, level_at, after}
@@ -124,34 +124,34 @@ module _ (A B C : Exceptions) where
       (empty_from_none A first.0, others.0, others.1)
 
 -- three lists fit at a category, where else three labels have their defaults
-abbrev pub FitsAt : Reading → Levels → Levels → Levels → Exceptions → Exceptions → Exceptions → ℕ → Type 0
-FitsAt reading L F S A B C q = rank (looked (default_of L) A q) ≤ max (rank (looked (default_of F) B q)) (read reading (looked (default_of S) C q))
+abbrev pub FitsAt : Test → Levels → Levels → Levels → Exceptions → Exceptions → Exceptions → ℕ → Type 0
+FitsAt test L F S A B C q = Passes test (looked (default_of L) A q) (looked (default_of F) B q) (looked (default_of S) C q)
 
 -- the defaults of three labels fit
-abbrev pub DefaultsFit : Reading → Levels → Levels → Levels → Type 0
-DefaultsFit reading L F S = rank (default_of L) ≤ max (rank (default_of F)) (read reading (default_of S))
+abbrev pub DefaultsFit : Test → Levels → Levels → Levels → Type 0
+DefaultsFit test L F S = Passes test (default_of L) (default_of F) (default_of S)
 
 -- the levels at the front of three lists fit
-abbrev pub FrontFits : Reading → Levels → Levels → Levels → Exceptions → Exceptions → Exceptions → ℕ → Type 0
-FrontFits reading L F S A B C c = rank (level_at A c (default_of L)) ≤ max (rank (level_at B c (default_of F))) (read reading (level_at C c (default_of S)))
+abbrev pub FrontFits : Test → Levels → Levels → Levels → Exceptions → Exceptions → Exceptions → ℕ → Type 0
+FrontFits test L F S A B C c = Passes test (level_at A c (default_of L)) (level_at B c (default_of F)) (level_at C c (default_of S))
 
 -- Of the exceptions of three labels these are left, which fit everywhere exactly where the labels do.
-pub record IsLeft (reading : Reading) (L F S : Levels) (A B C : Exceptions) : Type 0 where
+pub record IsLeft (test : Test) (L F S : Levels) (A B C : Exceptions) : Type 0 where
   pub first_rises : IsRising A
   pub second_rises : IsRising B
   pub third_rises : IsRising C
-  pub whole : ((q : ℕ) → FitsAt reading L F S A B C q) → (q : ℕ) → Fits L F S reading q
-  pub part : ((q : ℕ) → Fits L F S reading q) → (q : ℕ) → FitsAt reading L F S A B C q
+  pub whole : ((q : ℕ) → FitsAt test L F S A B C q) → (q : ℕ) → Fits L F S test q
+  pub part : ((q : ℕ) → Fits L F S test q) → (q : ℕ) → FitsAt test L F S A B C q
 
-module _ (reading : Reading) (L F S : Levels) where
+module _ (test : Test) (L F S : Levels) where
   -- where the labels fit everywhere, their defaults do
-  pub defaults_fit : ((q : ℕ) → Fits L F S reading q) → DefaultsFit reading L F S
+  pub defaults_fit : ((q : ℕ) → Fits L F S test q) → DefaultsFit test L F S
   defaults_fit all =
       let far = max (beyond L) (max (beyond F) (beyond S)) in
       rw (sym (level_of-beyond L far (omega arith)), sym (level_of-beyond F far (omega arith)), sym (level_of-beyond S far (omega arith))) (all far)
 
   -- before the pass everything is left
-  pub left_at_first : (A B C : Exceptions) → IsRising A → IsRising B → IsRising C → A ≡ exceptions_of L → B ≡ exceptions_of F → C ≡ exceptions_of S → IsLeft reading L F S A B C
+  pub left_at_first : (A B C : Exceptions) → IsRising A → IsRising B → IsRising C → A ≡ exceptions_of L → B ≡ exceptions_of F → C ≡ exceptions_of S → IsLeft test L F S A B C
   left_at_first A B C a b c l f s = record {
     first_rises = a;
     second_rises = b;
@@ -169,42 +169,42 @@ module _ (reading : Reading) (L F S : Levels) where
       at_s : (q : ℕ) → level_of S q ≡ looked (default_of S) C q
       at_s q = level_of-exceptions S q ∙ ap (λ es. looked (default_of S) es q) (sym s)
 
-  module _ (A B C : Exceptions) (left : IsLeft reading L F S A B C) where
+  module _ (A B C : Exceptions) (left : IsLeft test L F S A B C) where
     -- where nothing is left, the labels fit everywhere
-    pub all_fit : lowest A B C ≡ None → DefaultsFit reading L F S → (q : ℕ) → Fits L F S reading q
+    pub all_fit : lowest A B C ≡ None → DefaultsFit test L F S → (q : ℕ) → Fits L F S test q
     all_fit none default_fits =
         let empty = lowest_none A B C none in
         left.whole (λ q. rw (empty.0, empty.1, empty.2) default_fits)
 
     module _ (c : ℕ) (low : lowest A B C ≡ Some c) where
       -- the levels at the front are those that the lists give the category
-      front_is : FitsAt reading L F S A B C c ≡ FrontFits reading L F S A B C c
+      front_is : FitsAt test L F S A B C c ≡ FrontFits test L F S A B C c
       front_is =
           let under = lowest_under A B C c low in
           rw (level_at_front (default_of L) A left.first_rises c under.0, level_at_front (default_of F) B left.second_rises c under.1, level_at_front (default_of S) C left.third_rises c under.2) refl
 
       -- after the front the category has the defaults
-      gone_is : FitsAt reading L F S (after A c) (after B c) (after C c) c ≡ DefaultsFit reading L F S
+      gone_is : FitsAt test L F S (after A c) (after B c) (after C c) c ≡ DefaultsFit test L F S
       gone_is =
           let under = lowest_under A B C c low in
           rw (level_gone (default_of L) A left.first_rises c under.0, level_gone (default_of F) B left.second_rises c under.1, level_gone (default_of S) C left.third_rises c under.2) refl
 
       -- another category has the levels that it had
-      other_is : (q : ℕ) → c ≢ q → FitsAt reading L F S (after A c) (after B c) (after C c) q ≡ FitsAt reading L F S A B C q
+      other_is : (q : ℕ) → c ≢ q → FitsAt test L F S (after A c) (after B c) (after C c) q ≡ FitsAt test L F S A B C q
       other_is q other = rw (level_after (default_of L) A c q other, level_after (default_of F) B c q other, level_after (default_of S) C c q other) refl
 
       -- where the labels fit everywhere, the levels at the front do
-      pub front_fits : ((q : ℕ) → Fits L F S reading q) → FrontFits reading L F S A B C c
+      pub front_fits : ((q : ℕ) → Fits L F S test q) → FrontFits test L F S A B C c
       front_fits all = subst (λ T. T) front_is (left.part all c)
 
       -- where the defaults and the levels at the front fit, what is left after these is as good
-      pub left_after : DefaultsFit reading L F S → FrontFits reading L F S A B C c → IsLeft reading L F S (after A c) (after B c) (after C c)
+      pub left_after : DefaultsFit test L F S → FrontFits test L F S A B C c → IsLeft test L F S (after A c) (after B c) (after C c)
       left_after default_fits fits = record {
         first_rises = rising_after A c left.first_rises;
         second_rises = rising_after B c left.second_rises;
         third_rises = rising_after C c left.third_rises;
-        whole = λ all. left.whole (λ q. at_each q (FitsAt reading L F S A B C) (subst (λ T. T) (sym front_is) fits) (λ other. subst (λ T. T) (other_is q other) (all q)));
-        part = λ all q. at_each q (FitsAt reading L F S (after A c) (after B c) (after C c)) (subst (λ T. T) (sym gone_is) default_fits) (λ other. subst (λ T. T) (sym (other_is q other)) (left.part all q));
+        whole = λ all. left.whole (λ q. at_each q (FitsAt test L F S A B C) (subst (λ T. T) (sym front_is) fits) (λ other. subst (λ T. T) (other_is q other) (all q)));
+        part = λ all q. at_each q (FitsAt test L F S (after A c) (after B c) (after C c)) (subst (λ T. T) (sym gone_is) default_fits) (λ other. subst (λ T. T) (sym (other_is q other)) (left.part all q));
       }
         where
           -- what holds at the category and at each other holds at each

@@ -6,6 +6,7 @@ use Rattle.std.proofs.lemmas.Option.{slice_get-get_or}
 use Rattle.indexmap.specs.IndexSet.{insert_key}
 use Rattle.histar_label.specs.declared.levels.Level.TheVariants.{L1}
 use Rattle.histar_label.specs.declared.levels.Reading.{Reading}
+use Rattle.histar_label.specs.declared.levels.Test.TheVariants.{BelowJoin}
 use Rattle.histar_label.specs.declared.intern_store.Comparison.{Comparison}
 use Rattle.histar_label.specs.Levels.{Levels, constant, is_within}
 use Rattle.histar_label.specs.Store.{label_at, Keeps, HasOneId}
@@ -44,7 +45,7 @@ module _ (eq : Levels → Levels → Bool) (ks : List Levels) (L : Levels) where
   IsRight-insert_key c answer right = record {
     lower_stands = omega (arith, right.lower_stands, longer);
     upper_stands = omega (arith, right.upper_stands, longer);
-    right = right.right ∙ sym (λ i. is_within (same_label_at c.lower right.lower_stands i) (same_label_at c.upper right.upper_stands i) (same_label_at c.upper right.upper_stands i) c.reading);
+    right = right.right ∙ sym (λ i. is_within (same_label_at c.lower right.lower_stands i) (same_label_at c.upper right.upper_stands i) (same_label_at c.upper right.upper_stands i) (BelowJoin c.reading));
   }
 
 module _ (eq : Levels → Levels → Bool) (own : (L : Levels) → eq L L ≡ true) where
@@ -81,5 +82,5 @@ module _ (eq : Levels → Levels → Bool) (own : (L : Levels) → eq L L ≡ tr
   ]
 
 -- a label is below itself, however its star is read
-pub is_within-refl : (L : Levels) (reading : Reading) → is_within L L L reading ≡ true
-is_within-refl L reading = (is_within-law L L L reading).1 (λ c. omega arith)
+pub is_within-refl : (L : Levels) (reading : Reading) → is_within L L L (BelowJoin reading) ≡ true
+is_within-refl L reading = (is_within-law L L L (BelowJoin reading)).1 (λ c. omega arith)

@@ -1,14 +1,16 @@
 -- The comparisons of labels at every category, and the laws of orders that follow.
-use Rattle.std.proofs.Common.{◌≤◌, IsTrue, ◌↔◌, arith, ap}
+use Rattle.std.proofs.Common.{◌≡◌, ◌≤◌, IsTrue, ◌↔◌, sym, arith, ap}
+use Rattle.std.proofs.lemmas.Bool.Decides.{same_from_decides}
 use Rattle.histar_label.specs.declared.levels.Level.{Level}
 use Rattle.histar_label.specs.declared.levels.Level.TheVariants.{Star, L0, L1, L2, L3}
 use Rattle.histar_label.specs.declared.levels.Reading.TheVariants.{Plain, Raised}
+use Rattle.histar_label.specs.declared.levels.Test.TheVariants.{BelowJoin, FloorBelow}
 use Rattle.histar_label.specs.Level.{rank, raised, same_level}
-use Rattle.histar_label.specs.Levels.{Levels, level_of, grades, raised_grades, joined, IsBelow, same_levels, is_below, is_below_raised, is_below_join, is_below_join_raised}
-use Rattle.histar_label.specs.Floors.{join_of}
+use Rattle.histar_label.specs.Levels.{Levels, level_of, grades, raised_grades, joined, floor_grades, IsBelow, is_within, same_levels, is_below, is_below_raised, is_below_join, is_below_join_raised}
+use Rattle.histar_label.specs.Floors.{join_of, floor_of}
 use Rattle.histar_label.specs.Same.{is_same, same_label, own_label}
 use Rattle.histar_label.specs.Laws.{IsSameFunction, ComparesFunctions, IsListed, TestsArePointwise, IsPartialOrder, IsLeastUpperBound}
-use Rattle.histar_label.proofs.Floors.{grades-join_of}
+use Rattle.histar_label.proofs.Floors.{grades-join_of, grades-floor_of}
 use Rattle.histar_label.proofs.Listed.{IsDefault-default_of, IsRising-exceptions_of, ListsExceptions-exceptions_of}
 use Rattle.histar_label.proofs.Made.{is_made-law}
 use Rattle.histar_label.proofs.Stars.{has_star-law}
@@ -25,24 +27,35 @@ rank-raised L3 = omega arith
 -- `below` says that the first label is above the second at no category
 pub is_below-law : (L M : Levels) → IsTrue (is_below L M) ↔ IsBelow (grades L) (grades M)
 is_below-law L M = (
-  λ below c. omega (arith, (is_within-law L M M Plain).0 below c),
-  λ all. (is_within-law L M M Plain).1 (λ c. omega (arith, all c)),
+  λ below c. omega (arith, (is_within-law L M M (BelowJoin Plain)).0 below c),
+  λ all. (is_within-law L M M (BelowJoin Plain)).1 (λ c. omega (arith, all c)),
 )
 
 -- `below_raised` says so where star in the second is read as J
 pub is_below_raised-law : (L M : Levels) → IsTrue (is_below_raised L M) ↔ IsBelow (grades L) (raised_grades M)
 is_below_raised-law L M = (
-  λ below c. omega (arith, (is_within-law L M M Raised).0 below c, rank-raised (level_of M c)),
-  λ all. (is_within-law L M M Raised).1 (λ c. omega (arith, all c)),
+  λ below c. omega (arith, (is_within-law L M M (BelowJoin Raised)).0 below c, rank-raised (level_of M c)),
+  λ all. (is_within-law L M M (BelowJoin Raised)).1 (λ c. omega (arith, all c)),
 )
 
 -- `below_join` says so of the greater of two
 pub is_below_join-law : (L F S : Levels) → IsTrue (is_below_join L F S) ↔ IsBelow (grades L) (joined (grades F) (grades S))
-is_below_join-law L F S = is_within-law L F S Plain
+is_below_join-law L F S = is_within-law L F S (BelowJoin Plain)
 
 -- `below_join_raised` says so of the greater of two where star in the second is read as J
 pub is_below_join_raised-law : (L F S : Levels) → IsTrue (is_below_join_raised L F S) ↔ IsBelow (grades L) (joined (grades F) (raised_grades S))
-is_below_join_raised-law L F S = is_within-law L F S Raised
+is_below_join_raised-law L F S = is_within-law L F S (BelowJoin Raised)
+
+-- `floor_below` says so of the floor of two
+pub is_floor_below-law : (L M N : Levels) → IsTrue (is_within L N M FloorBelow) ↔ IsBelow (floor_grades L M) (grades N)
+is_floor_below-law L M N = is_within-law L N M FloorBelow
+
+-- it is `below` of the floor
+pub is_floor_below : (L M N : Levels) → is_within L N M FloorBelow ≡ is_below (floor_of L M) N
+is_floor_below L M N = same_from_decides _ _ (is_floor_below-law L M N) (
+  λ below c. rw (sym (grades-floor_of L M c)) ((is_below-law (floor_of L M) N).0 below c),
+  λ all. (is_below-law (floor_of L M) N).1 (λ c. rw (grades-floor_of L M c) (all c)),
+)
 
 -- each test says what holds at every category
 pub tests_pointwise : TestsArePointwise

@@ -39,12 +39,16 @@ struct Comparison {
 /// Keeps each label once, so that equal labels have one Id, and remembers the answers of the latest
 /// comparisons of two labels. It forgets no label, so it grows with each new one.
 ///
+/// The very latest answer has a place of its own: a walk asks of a container and of a segment in it
+/// one after the other, and mostly they have one label.
+///
 /// A put of a label that is there already needs no memory. A comparison whose answer finds no memory
 /// is answered, and made anew the next time.
 #[derive(Debug, Drop)]
 pub struct InternStore {
     labels: IndexSet<Label>,
     answers: LruCache<Comparison, bool>,
+    latest: Option<(Comparison, bool)>,
 }
 
 impl Model for InternStore {
@@ -59,7 +63,7 @@ impl Model for InternStore {
 
     ghost view = { λ s. s.labels.keys };
 
-    ghost invariant = { λ s. IsInterned s.labels.keys s.answers.entries };
+    ghost invariant = { λ s. IsInterned s.labels.keys s.answers.entries s.latest };
 }
 
 impl InternStore {
@@ -72,12 +76,30 @@ impl InternStore {
         Ok(InternStore {
             labels: IndexSet::new(alloc),
             answers: LruCache::new(alloc, capacity)?,
+            latest: None,
         })
+    }
+
+    // The answer of a comparison. The latest is at hand.
+    fn answer(&mut self, comparison: Comparison) -> bool
+        requires lower_stands { comparison.lower < length self.old }
+        requires upper_stands { comparison.upper < length self.old }
+        ensures answer { result ≡ answer_of self.old comparison }
+        ensures unchanged { self.new ≡ self.old }
+    {
+        if let Some((latest, answer)) = self.latest {
+            if latest == comparison {
+                return answer;
+            }
+        }
+        let answer = self.recall_or_compare(comparison);
+        self.latest = Some((comparison, answer));
+        answer
     }
 
     // The answer of a comparison, as it was remembered, or made now and remembered. A label is
     // below itself, however star is read.
-    fn answer(&mut self, comparison: Comparison) -> bool
+    fn recall_or_compare(&mut self, comparison: Comparison) -> bool
         requires lower_stands { comparison.lower < length self.old }
         requires upper_stands { comparison.upper < length self.old }
         ensures answer { result ≡ answer_of self.old comparison }

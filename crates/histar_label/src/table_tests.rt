@@ -46,6 +46,9 @@ const ROWS: [Row; 25] = [
     (Level::L3, Level::L3, true, true, Level::L3, Level::L3),
 ];
 
+/// The levels, from the lowest to the highest.
+const LEVELS: [Level; 5] = [Level::Star, Level::L0, Level::L1, Level::L2, Level::L3];
+
 /// The category at which the labels of the tests differ.
 fn seven() -> Category {
     Category::new(7)
@@ -66,12 +69,30 @@ fn agrees(rt: &impl Abort, first: &Label, second: &Label, row: Row) -> Result<()
     Ok(())
 }
 
+/// The floor of two labels is below those with its level or a higher one.
+fn floor_agrees(
+    rt: &impl Abort,
+    alloc: Global,
+    first: &Label,
+    second: &Label,
+    floor: Level,
+) -> Result<(), OutOfMemory> {
+    let mut reached = false;
+    for &level in &LEVELS {
+        reached = reached || level == floor;
+        let third = at_seven(alloc, level)?;
+        assert_eq!(rt; first.floor_below(second, &third), reached);
+    }
+    Ok(())
+}
+
 #[test]
 fn pairs_of_levels(rt: HostRuntime) -> Result<(), Fail> {
     for &row in &ROWS {
         let first = at_seven(rt.alloc(), row.0)?;
         let second = at_seven(rt.alloc(), row.1)?;
         agrees(&rt, &first, &second, row)?;
+        floor_agrees(&rt, rt.alloc(), &first, &second, row.5)?;
         let first = Label::new(rt.alloc(), row.0);
         let second = Label::new(rt.alloc(), row.1);
         agrees(&rt, &first, &second, row)?;

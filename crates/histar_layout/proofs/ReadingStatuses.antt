@@ -1,9 +1,10 @@
 -- Going over the bytes of a process segment, child by child.
-use Rattle.std.proofs.Common.{◌≡◌, ℕ, zero, suc, ◌-◌, ◌<◌, ◌≤◌, Bool, true, false, cond, eqb, leb, List, [], ◌∷◌, length, take, drop, Option, Some, None, Result, Ok, Err, refl, sym, ap, ◌∙◌, length-drop, eq-eqb, arith}
+use Rattle.std.proofs.Common.{◌≡◌, ℕ, zero, suc, ◌-◌, ◌<◌, ◌≤◌, Bool, true, false, cond, eqb, leb, List, [], ◌∷◌, length, take, drop, Option, Some, None, Result, Ok, refl, sym, ap, ◌∙◌, length-drop, eq-eqb, get_or, arith}
+use Rattle.std.proofs.lemmas.List.{drop-drop}
 use Rattle.std.specs.Prelude.{option_map, is_some}
 use Rattle.std.specs.Int.{w64, from_be_bytes}
 use Rattle.std.proofs.lemmas.Bool.Decides.{nat_tests}
-use Rattle.std.proofs.lemmas.Option.{cond_some, same_Some}
+use Rattle.std.proofs.lemmas.Option.{same_Some}
 use Rattle.histar_flat.specs.Words.{most_children}
 use Rattle.histar_flat.proofs.Options.{bind_some}
 use Rattle.histar_layout.specs.Reading.{◌>>=◌, front_at, number_at}
@@ -13,28 +14,49 @@ use Rattle.histar_layout.specs.declared.status.Child.{Child}
 use Rattle.histar_layout.specs.declared.status.StatusHead.{StatusHead}
 use Rattle.histar_layout.specs.declared.status.NotAStatus.{NotAStatus}
 use Rattle.histar_layout.proofs.EntryLemmas.{IsBytes, bind_at}
-use Rattle.histar_layout.proofs.Statuses.{told_of, status_split}
+use Rattle.histar_layout.proofs.Statuses.{status_of, status_split}
 
--- ---- each child takes bytes
+-- ---- any bytes of its length are a child
 
--- what a number takes is not in the rest
-number_shorter : (bytes : List ℕ) (x : ℕ × List ℕ) → number_at bytes ≡ Some x → length x.1 ≤ length bytes
+-- eight bytes are a number
+number_there : (bytes : List ℕ) → 8 ≤ length bytes → number_at bytes ≡ Some (from_be_bytes w64 (take 8 bytes), drop 8 bytes)
 unfolding number_at front_at
-number_shorter bytes x e =
-    let a = bind_some (front_at 8 bytes) (λ front. Some (from_be_bytes w64 front.0, front.1)) x e in
-    let g = cond_some (leb 8 (length bytes)) (take 8 bytes, drop 8 bytes) a.0 a.1 in
-    let rest : drop 8 bytes ≡ x.1 = ap (λ (y : List ℕ × List ℕ). y.1) g.1 ∙ ap (λ (y : ℕ × List ℕ). y.1) (same_Some (from_be_bytes w64 a.0.0, a.0.1) x a.2) in
-    omega (arith, ap length rest, length-drop 8 bytes)
+number_there bytes long =
+    let enough : leb 8 (length bytes) ≡ true = grind (arith, nat_tests) in
+    ap (λ (b : Bool). cond b (Some (take 8 bytes, drop 8 bytes)) None >>= λ (front : List ℕ × List ℕ). Some (from_be_bytes w64 front.0, front.1)) enough
 
--- nor is what a child takes
-pub child_shorter : (bytes : List ℕ) (child : Child) (after : List ℕ) → child_in bytes ≡ Some (child, after) → length after < length bytes
+-- fewer are none
+number_short : (bytes : List ℕ) → length bytes < 8 → number_at bytes ≡ None
+unfolding number_at front_at
+number_short bytes short =
+    let few : leb 8 (length bytes) ≡ false = grind (arith, nat_tests) in
+    ap (λ (b : Bool). cond b (Some (take 8 bytes, drop 8 bytes)) None >>= λ (front : List ℕ × List ℕ). Some (from_be_bytes w64 front.0, front.1)) few
+
+-- the first byte and two numbers are a child
+child_there : (number : ℕ) (bytes : List ℕ) → 16 ≤ length bytes
+    → child_in (number ∷ bytes) ≡ Some (record { number = number; container = from_be_bytes w64 (take 8 bytes); segment = from_be_bytes w64 (take 8 (drop 8 bytes)) }, drop 16 bytes)
 unfolding child_in
-child_shorter [] child after e = absurd cc
-child_shorter (number ∷ bytes) child after e =
-    let a = bind_some (number_at bytes) (λ container. number_at container.1 >>= λ segment. Some (record { number = number; container = container.0; segment = segment.0 }, segment.1)) (child, after) e in
-    let b = bind_some (number_at a.0.1) (λ segment. Some (record { number = number; container = a.0.0; segment = segment.0 }, segment.1)) (child, after) a.2 in
-    let rest : b.0.1 ≡ after = ap (λ (y : Child × List ℕ). y.1) (same_Some (record { number = number; container = a.0.0; segment = b.0.0 }, b.0.1) (child, after) b.2) in
-    omega (arith, ap length rest, number_shorter bytes a.0 a.1, number_shorter a.0.1 b.0 b.1)
+child_there number bytes long =
+    let child : Child = record { number = number; container = from_be_bytes w64 (take 8 bytes); segment = from_be_bytes w64 (take 8 (drop 8 bytes)) } in
+    bind_at (number_at bytes) (λ container. number_at container.1 >>= λ segment. Some (record { number = number; container = container.0; segment = segment.0 }, segment.1)) _ (number_there bytes (omega arith))
+    ∙ bind_at (number_at (drop 8 bytes)) (λ segment. Some (record { number = number; container = from_be_bytes w64 (take 8 bytes); segment = segment.0 }, segment.1)) _ (number_there (drop 8 bytes) (omega (arith, length-drop 8 bytes)))
+    ∙ ap (λ (after : List ℕ). Some (child, after)) (drop-drop 8 8 bytes)
+
+-- seventeen bytes are a child, with the first as its number
+pub whole_child : (rest : List ℕ) → 17 ≤ length rest → (child : Child) × (child_in rest ≡ Some (child, drop 17 rest)) × (child.number ≡ get_or (take 17 rest) 0 0)
+whole_child [] long = absurd (omega arith)
+whole_child (number ∷ bytes) long = (_, child_there number bytes (omega arith), refl)
+
+-- fewer are none
+pub short_child : (rest : List ℕ) → length rest < 17 → child_in rest ≡ None
+unfolding child_in
+short_child [] short = refl
+short_child (number ∷ bytes) short = elim (leb 8 (length bytes)) as (λ b. leb 8 (length bytes) ≡ b → child_in (number ∷ bytes) ≡ None) [
+  | true ↦ λ enough.
+      bind_at (number_at bytes) (λ container. number_at container.1 >>= λ segment. Some (record { number = number; container = container.0; segment = segment.0 }, segment.1)) _ (number_there bytes (grind (arith, nat_tests)))
+      ∙ ap (λ o. o >>= λ (segment : ℕ × List ℕ). Some (record { number = number; container = from_be_bytes w64 (take 8 bytes); segment = segment.0 }, segment.1)) (number_short (drop 8 bytes) (omega (arith, length-drop 8 bytes)))
+  | false ↦ λ few. ap (λ o. o >>= λ (container : ℕ × List ℕ). number_at container.1 >>= λ segment. Some (record { number = number; container = container.0; segment = segment.0 }, segment.1)) (number_short bytes (grind (arith, nat_tests)))
+] refl
 
 -- ---- the children of the rest
 
@@ -79,73 +101,83 @@ some_more child (Some cs) = refl
 pub list_on : (left : ℕ) (rest after : List ℕ) (child : Child) (all : Bool) → all ≡ is_some (children_in left rest) → 0 < left → child_in rest ≡ Some (child, after) → all ≡ is_some (children_in (left - 1) after)
 list_on left rest after child all so_far room e = so_far ∙ ap is_some (next_child left rest after child room e) ∙ some_more child (children_in (left - 1) after)
 
--- ---- looking for a child
+-- bytes too short for a child list children where there are none
+pub list_end : (left : ℕ) (rest : List ℕ) (all empty : Bool) → all ≡ is_some (children_in left rest) → length rest < 17 → eqb (length rest) 0 ≡ empty → empty ≡ all
+list_end left [] all empty so_far short is =
+    let none : true ≡ empty = is in
+    let lists : all ≡ true = so_far ∙ ap is_some (no_children left [] refl) in
+    sym (lists ∙ none)
+list_end left (b ∷ rest) all empty so_far short is =
+    let some : eqb (length (b ∷ rest)) 0 ≡ false = grind (arith, nat_tests) in
+    let lists : all ≡ false = so_far ∙ ap is_some (no_child left (b ∷ rest) (omega arith) (short_child (b ∷ rest) short)) in
+    sym (lists ∙ sym some ∙ is)
 
--- the child that was found, or the one that the rest lists
-abbrev pub found_in : Option Child → ℕ → Option (List Child) → Result (Option Child) NotAStatus
-found_in found number None = Err (record {})
-found_in None number (Some children) = Ok (child_at children number)
-found_in (Some child) number (Some children) = Ok (Some child)
+-- ---- looking for a child
 
 -- other numbers fail the test
 pub differs : (a b : ℕ) → (a ≡ b → ⊥) → eqb a b ≡ false
 differs a b other = grind (arith, nat_tests)
 
--- whether the child is the first one of this number
-abbrev pub or_this : Option Child → ℕ → Child → Option Child
-or_this None number child = cond (eqb child.number number) (Some child) None
-or_this (Some other) number child = Some other
+-- the rest lists children, and the one that is due is the first of this number among them
+abbrev pub IsSought : Result (Option Child) NotAStatus → ℕ → List ℕ → Type 0
+IsSought due number rest = (left : ℕ) × (children : List Child) × (children_in left rest ≡ Some children) × (due ≡ Ok (child_at children number))
 
--- it is, where none was found and it has the number
-pub it_is : (found : Option Child) (number : ℕ) (child : Child) → is_some found ≡ false → child.number ≡ number → Some child ≡ or_this found number child
-it_is None number child none same = ap (λ (b : Bool). cond b (Some child) None) (sym (eq-eqb child.number number same))
-it_is (Some other) number child none same = absurd cc
+-- at the front of bytes that are long enough there is one of them
+front_child : (left : ℕ) (rest : List ℕ) (children : List Child) → children_in left rest ≡ Some children → 17 ≤ length rest
+    → (child : Child) × (more : List Child) × (children ≡ child ∷ more) × (children_in (left - 1) (drop 17 rest) ≡ Some more) × (child_in rest ≡ Some (child, drop 17 rest)) × (child.number ≡ get_or (take 17 rest) 0 0)
+front_child zero rest children is long =
+    let none : ◌≡◌ {A = Option (List Child)} None (Some children) = sym (no_room zero rest (omega arith) refl) ∙ is in
+    absurd cc
+front_child (suc left) rest children is long =
+    let child = whole_child rest long in
+    let more = bind_some (children_in (suc left - 1) (drop 17 rest)) (λ more. Some (child.0 ∷ more)) children (sym (next_child (suc left) rest (drop 17 rest) child.0 (omega arith) child.1) ∙ is) in
+    (child.0, more.0, sym (same_Some (child.0 ∷ more.0) children more.2), more.1, child.1, child.2)
 
--- and isn't, where one was found
-pub one_was : (found : Option Child) (number : ℕ) (child : Child) → is_some found ≡ true → found ≡ or_this found number child
-one_was None number child some = absurd cc
-one_was (Some other) number child some = refl
+-- where it has another number, the one that is due is in the bytes behind it
+pub seek_on : (due : Result (Option Child) NotAStatus) (number : ℕ) (rest front after : List ℕ) → IsSought due number rest → 17 ≤ length rest → front ≡ take 17 rest → after ≡ drop 17 rest → (get_or front 0 0 ≡ number → ⊥) → IsSought due number after
+seek_on due number rest front after (left, children, is, due_is) long front_is after_is other =
+    let at = front_child left rest children is long in
+    let differ : eqb at.0.number number ≡ false = differs at.0.number number (λ same. other (ap (λ (t : List ℕ). get_or t 0 0) front_is ∙ sym at.5 ∙ same)) in
+    (left - 1, at.1, ap (children_in (left - 1)) after_is ∙ at.3, due_is ∙ ap (λ cs. Ok (child_at cs number)) at.2 ∙ ap (λ (b : Bool). Ok (cond b (Some at.0) (child_at at.1 number))) differ)
 
--- or where it has another number
-pub it_isnt : (found : Option Child) (number : ℕ) (child : Child) → (child.number ≡ number → ⊥) → found ≡ or_this found number child
-it_isnt None number child other = ap (λ (b : Bool). cond b (Some child) None) (sym (differs child.number number other))
-it_isnt (Some other) number child differ = refl
+-- where it has the number, it is the one
+pub sought_here : (due : Result (Option Child) NotAStatus) (number : ℕ) (rest front : List ℕ) → IsSought due number rest → 17 ≤ length rest → front ≡ take 17 rest → get_or front 0 0 ≡ number → due ≡ Ok (option_map (λ (found : Child × List ℕ). found.0) (child_in rest))
+sought_here due number rest front (left, children, is, due_is) long front_is same =
+    let at = front_child left rest children is long in
+    let it : eqb at.0.number number ≡ true = eq-eqb at.0.number number (at.5 ∙ ap (λ (t : List ℕ). get_or t 0 0) (sym front_is) ∙ same) in
+    due_is ∙ ap (λ cs. Ok (child_at cs number)) at.2 ∙ ap (λ (b : Bool). Ok (cond b (Some at.0) (child_at at.1 number))) it
+    ∙ ap (λ o. Ok (option_map (λ (found : Child × List ℕ). found.0) o)) (sym at.4)
 
--- the next child is it, or isn't
-found_more : (found : Option Child) (number : ℕ) (child : Child) (more : Option (List Child)) → found_in found number (more >>= λ cs. Some (child ∷ cs)) ≡ found_in (or_this found number child) number more
-found_more found number child None = refl
-found_more (Some other) number child (Some cs) = refl
-found_more None number child (Some cs) = by (eqb child.number number)
-  where
-    by : (b : Bool) → Ok (cond b (Some child) (child_at cs number)) ≡ found_in (cond b (Some child) None) number (Some cs)
-    by true = refl
-    by false = refl
-
--- what is looked for in the bytes is looked for in the rest
-pub look_on : (left : ℕ) (rest after : List ℕ) (child : Child) (found : Option Child) (number : ℕ) (due : Result (Option Child) NotAStatus) → due ≡ found_in found number (children_in left rest) → 0 < left → child_in rest ≡ Some (child, after)
-    → due ≡ found_in (or_this found number child) number (children_in (left - 1) after)
-look_on left rest after child found number due so_far room e =
-    so_far ∙ ap (found_in found number) (next_child left rest after child room e) ∙ found_more found number child (children_in (left - 1) after)
-
--- at the end it is what was found
-pub looked : (found : Option Child) (number : ℕ) → found_in found number (Some []) ≡ Ok found
-looked None number = refl
-looked (Some child) number = refl
+-- where the bytes are too short for one, there is none
+pub sought_nowhere : (due : Result (Option Child) NotAStatus) (number : ℕ) (rest : List ℕ) → IsSought due number rest → length rest < 17 → due ≡ Ok None
+sought_nowhere due number [] (left, children, is, due_is) short =
+    due_is ∙ ap (λ cs. Ok (child_at cs number)) (sym (same_Some [] children (sym (no_children left [] refl) ∙ is)))
+sought_nowhere due number (b ∷ rest) (left, children, is, due_is) short =
+    let none : ◌≡◌ {A = Option (List Child)} None (Some children) = sym (no_child left (b ∷ rest) (omega arith) (short_child (b ∷ rest) short)) ∙ is in
+    absurd cc
 
 -- where bytes have a head, what is looked for is looked for in the bytes of the children
-pub look_behind : (bytes : List ℕ) (head : StatusHead) (rest : List ℕ) (number : ℕ) → head_in bytes ≡ Some (head, rest) → look_for (status_in bytes) number ≡ found_in None number (children_in most_children rest)
+look_behind : (bytes : List ℕ) (head : StatusHead) (rest : List ℕ) (number : ℕ) → head_in bytes ≡ Some (head, rest) → (o : Option (List Child)) → children_in most_children rest ≡ o → look_for (status_in bytes) number ≡ look_for (option_map (status_of head) o) number
 unfolding status_in
-look_behind bytes head rest number h =
-    ap (λ o. look_for o number) (bind_at (head_in bytes) (λ head. children_in most_children head.1 >>= λ children. Some (told_of head.0 children)) (head, rest) h) ∙ by (children_in most_children rest)
+look_behind bytes head rest number h o is =
+    ap (λ o. look_for o number) (bind_at (head_in bytes) (λ head. children_in most_children head.1 >>= λ children. Some (status_of head.0 children)) (head, rest) h) ∙ ap (λ x. look_for (x >>= λ children. Some (status_of head children)) number) is ∙ by o
   where
-    by : (o : Option (List Child)) → look_for (o >>= λ children. Some (told_of head children)) number ≡ found_in None number o
+    by : (o : Option (List Child)) → look_for (o >>= λ children. Some (status_of head children)) number ≡ look_for (option_map (status_of head) o) number
     by None = refl
     by (Some children) = refl
+
+-- they list the one that is due
+pub sought_first : (bytes : List ℕ) (head : StatusHead) (rest : List ℕ) (number : ℕ) → head_in bytes ≡ Some (head, rest) → is_some (children_in most_children rest) ≡ true → IsSought (look_for (status_in bytes) number) number rest
+sought_first bytes head rest number h some = by (children_in most_children rest) refl some
+  where
+    by : (o : Option (List Child)) → children_in most_children rest ≡ o → is_some o ≡ true → IsSought (look_for (status_in bytes) number) number rest
+    by None is none = absurd cc
+    by (Some children) is some = (most_children, children, is, look_behind bytes head rest number h (Some children) is)
 
 -- where they have none, they tell nothing
 pub no_head : (bytes : List ℕ) → head_in bytes ≡ None → status_in bytes ≡ None
 unfolding status_in
-no_head bytes none = ap (λ o. o >>= λ (head : StatusHead × List ℕ). children_in most_children head.1 >>= λ children. Some (told_of head.0 children)) none
+no_head bytes none = ap (λ o. o >>= λ (head : StatusHead × List ℕ). children_in most_children head.1 >>= λ children. Some (status_of head.0 children)) none
 
 -- ---- the head and the bytes of the children
 
@@ -153,9 +185,9 @@ no_head bytes none = ap (λ o. o >>= λ (head : StatusHead × List ℕ). childre
 pub not_split : (bytes : List ℕ) (head : StatusHead) (rest : List ℕ) → head_in bytes ≡ Some (head, rest) → is_some (children_in most_children rest) ≡ false → status_in bytes ≡ None
 unfolding status_in
 not_split bytes head rest h none =
-    bind_at (head_in bytes) (λ head. children_in most_children head.1 >>= λ children. Some (told_of head.0 children)) (head, rest) h ∙ by (children_in most_children rest) none
+    bind_at (head_in bytes) (λ head. children_in most_children head.1 >>= λ children. Some (status_of head.0 children)) (head, rest) h ∙ by (children_in most_children rest) none
   where
-    by : (o : Option (List Child)) → is_some o ≡ false → (o >>= λ children. Some (told_of head children)) ≡ None
+    by : (o : Option (List Child)) → is_some o ≡ false → (o >>= λ children. Some (status_of head children)) ≡ None
     by None is = refl
     by (Some children) is = absurd cc
 
@@ -169,4 +201,4 @@ is_split bytes head rest fits h some = by (children_in most_children rest) refl 
 
 -- what is split tells the head
 pub head_told : (bytes : List ℕ) (head : StatusHead) (rest : List ℕ) → IsSplit bytes head rest → Some head ≡ option_map head_of (status_in bytes)
-head_told bytes head rest split = ap Some split.head_is ∙ ap (option_map head_of) (sym split.told)
+head_told bytes head rest split = ap Some split.head_is ∙ ap (option_map head_of) (sym split.status_is)

@@ -111,33 +111,33 @@ status_parts status = by status.exited
     by (Some number) = refl
 
 -- what is told of the head and of the children
-abbrev pub told_of : StatusHead → List Child → ProcessStatus
-told_of head children = record { exited = head.exited; born = head.born; internal = head.internal; thread = head.thread; children = children }
+abbrev pub status_of : StatusHead → List Child → ProcessStatus
+status_of head children = record { exited = head.exited; born = head.born; internal = head.internal; thread = head.thread; children = children }
 
 -- what bytes tell stands in them
-pub record IsTold (bytes : List ℕ) (status : ProcessStatus) : Type 0 where
+pub record HasParts (bytes : List ℕ) (status : ProcessStatus) : Type 0 where
   pub rest : List ℕ
   pub head : head_in bytes ≡ Some (head_of status, rest)
   pub listed : children_in most_children rest ≡ Some status.children
 
-pub told_parts : (bytes : List ℕ) (status : ProcessStatus) → status_in bytes ≡ Some status → IsTold bytes status
+pub parts_of : (bytes : List ℕ) (status : ProcessStatus) → status_in bytes ≡ Some status → HasParts bytes status
 unfolding status_in
-told_parts bytes status e =
-    let h = bind_some (head_in bytes) (λ head. children_in most_children head.1 >>= λ children. Some (told_of head.0 children)) status e in
-    let c = bind_some (children_in most_children h.0.1) (λ children. Some (told_of h.0.0 children)) status h.2 in
-    subst (IsTold bytes) {x = told_of h.0.0 c.0} (same_Some (told_of h.0.0 c.0) status c.2) (record { rest = h.0.1; head = h.1; listed = c.1 })
+parts_of bytes status e =
+    let h = bind_some (head_in bytes) (λ head. children_in most_children head.1 >>= λ children. Some (status_of head.0 children)) status e in
+    let c = bind_some (children_in most_children h.0.1) (λ children. Some (status_of h.0.0 children)) status h.2 in
+    subst (HasParts bytes) {x = status_of h.0.0 c.0} (same_Some (status_of h.0.0 c.0) status c.2) (record { rest = h.0.1; head = h.1; listed = c.1 })
 
 -- a head and children are what bytes tell
-pub told_by : (bytes : List ℕ) (head : StatusHead) (rest : List ℕ) (children : List Child) → head_in bytes ≡ Some (head, rest) → children_in most_children rest ≡ Some children → status_in bytes ≡ Some (told_of head children)
+pub status_read : (bytes : List ℕ) (head : StatusHead) (rest : List ℕ) (children : List Child) → head_in bytes ≡ Some (head, rest) → children_in most_children rest ≡ Some children → status_in bytes ≡ Some (status_of head children)
 unfolding status_in
-told_by bytes head rest children h c =
-    bind_at (head_in bytes) (λ head. children_in most_children head.1 >>= λ children. Some (told_of head.0 children)) (head, rest) h
-    ∙ bind_at (children_in most_children rest) (λ children. Some (told_of head children)) children c
+status_read bytes head rest children h c =
+    bind_at (head_in bytes) (λ head. children_in most_children head.1 >>= λ children. Some (status_of head.0 children)) (head, rest) h
+    ∙ bind_at (children_in most_children rest) (λ children. Some (status_of head children)) children c
 
 -- what bytes tell was written so
 pub status_takes : (bytes : List ℕ) (status : ProcessStatus) → IsBytes bytes → status_in bytes ≡ Some status → IsStatus bytes status
 status_takes bytes status fits e =
-    let told = told_parts bytes status e in
+    let told = parts_of bytes status e in
     let head = head_takes bytes (head_of status, told.rest) fits told.head in
     let children = children_takes most_children told.rest status.children head.taken.rest_fits told.listed in
     record {
@@ -150,8 +150,8 @@ status_takes bytes status fits e =
 -- bytes with a head and children are split into these
 pub status_split : (bytes : List ℕ) (head : StatusHead) (rest : List ℕ) (children : List Child) → IsBytes bytes → head_in bytes ≡ Some (head, rest) → children_in most_children rest ≡ Some children → IsSplit bytes head rest
 status_split bytes head rest children fits h c = record {
-  status = told_of head children;
-  told = told_by bytes head rest children h c;
+  status = status_of head children;
+  status_is = status_read bytes head rest children h c;
   head_is = refl;
   children_are = (children_takes most_children rest children (head_takes bytes (head, rest) fits h).taken.rest_fits c).0;
 }
@@ -196,9 +196,9 @@ children_again (suc most) (child ∷ children) each few =
 pub status_again : (bytes : List ℕ) (status : ProcessStatus) → IsStatus bytes status → length status.children ≤ most_children → status_in bytes ≡ Some status
 status_again bytes status is few =
     ap status_in (is.spelled ∙ sym (status_parts status))
-    ∙ told_by (head_bytes (head_of status) ++ flat_map child_bytes status.children) (head_of status) (flat_map child_bytes status.children) status.children
+    ∙ status_read (head_bytes (head_of status) ++ flat_map child_bytes status.children) (head_of status) (flat_map child_bytes status.children) status.children
     (head_again (head_of status) (flat_map child_bytes status.children) is.internal is.thread) (children_again most_children status.children is.each few)
 
 -- both
 pub statuses_are_spelled : StatusesAreSpelled
-statuses_are_spelled = record { told = status_takes; spelled = status_again }
+statuses_are_spelled = record { read_is_spelled = status_takes; spelled_is_read = status_again }

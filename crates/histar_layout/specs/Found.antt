@@ -14,8 +14,8 @@ unfoldable pub slot_at : List ℕ → Option ((List ℕ × List ℕ) × List ℕ
 slot_at [] = None
 slot_at (len ∷ bytes) = do
   text ← front_at len bytes
-  told ← front_at target_length text.1
-  Some ((text.0, told.0), told.1)
+  target ← front_at target_length text.1
+  Some ((text.0, target.0), target.1)
 
 -- where these bytes tell that an entry leads
 unfoldable pub target_from : List ℕ → Option Target

@@ -14,7 +14,7 @@ head_bytes head = life_bytes head.exited ++ (head.born ∷ to_be_bytes w64 head.
 -- the bytes tell something, this at the head, and list its children in these bytes
 pub record IsSplit (bytes : List ℕ) (head : StatusHead) (children : List ℕ) : Type 0 where
   pub status : ProcessStatus
-  pub told : status_in bytes ≡ Some status
+  pub status_is : status_in bytes ≡ Some status
   pub head_is : head ≡ head_of status
   pub children_are : children ≡ flat_map child_bytes status.children
 
@@ -30,7 +30,7 @@ AppendsOthers number listed old new = (children : List Child) → listed ≡ fla
 abbrev pub HasRoomForChild : List ℕ → Type 0
 HasRoomForChild bytes = (status : ProcessStatus) → status_in bytes ≡ Some status → status.born < most_children
 
--- What bytes tell of a process is spelled by them; and what is spelled, with no more children than a process can have, is told.
+-- What is read in bytes of a process is spelled by them; and what is spelled, with no more children than a process can have, is read.
 pub record StatusesAreSpelled : Type 0 where
-  pub told : (bytes : List ℕ) (status : ProcessStatus) → ((i : ℕ) → slice_index bytes i < 256) → status_in bytes ≡ Some status → IsStatus bytes status
-  pub spelled : (bytes : List ℕ) (status : ProcessStatus) → IsStatus bytes status → length status.children ≤ most_children → status_in bytes ≡ Some status
+  pub read_is_spelled : (bytes : List ℕ) (status : ProcessStatus) → ((i : ℕ) → slice_index bytes i < 256) → status_in bytes ≡ Some status → IsStatus bytes status
+  pub spelled_is_read : (bytes : List ℕ) (status : ProcessStatus) → IsStatus bytes status → length status.children ≤ most_children → status_in bytes ≡ Some status

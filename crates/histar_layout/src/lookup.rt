@@ -18,9 +18,9 @@ pub fn look_up(bytes: &[u8], name: &Name) -> Option<Target>
 {
     let wanted = name.as_bytes();
     let mut rest = bytes;
-    'entries: while let Some((text, told, after)) = read_slot(rest) {
+    'entries: while let Some((text, target, after)) = read_slot(rest) {
         if is_same(wanted, text) {
-            return target_from(told);
+            return target_from(target);
         }
         rest = after;
     }

@@ -55,8 +55,8 @@ pub fn read_slot(bytes: &[u8]) -> Option<(&[u8], &[u8], &[u8])>
         return None;
     }
     let (text, rest) = rest.split_at(len);
-    let (told, after) = rest.split_at(TARGET_LENGTH);
-    Some((text, told, after))
+    let (target, after) = rest.split_at(TARGET_LENGTH);
+    Some((text, target, after))
 }
 
 /// Where these bytes tell that an entry leads.

@@ -58,30 +58,25 @@ pub fn read_status(bytes: &[u8]) -> Option<StatusHead>
     Some(head)
 }
 
-/// The child of this number that a process segment lists. It goes over the bytes once, and takes no memory.
+/// The child of this number that a process segment lists. It steps from child to child by their length,
+/// up to the one that has the number, and takes no memory.
 pub fn find_child(bytes: &[u8], number: u8) -> Result<Option<Child>, NotAStatus>
     ensures { result ≡ look_for (status_in bytes.now) number }
 {
     let Some((_, children)) = read_head(bytes) else {
         return Err(NotAStatus);
     };
-    let mut found = None;
-    let mut left = MOST_CHILDREN;
+    if !are_children(children) {
+        return Err(NotAStatus);
+    }
     let mut rest = children;
-    'children: while !rest.is_empty() {
-        let Some((child, after)) = read_child(rest) else {
-            return Err(NotAStatus);
-        };
-        if left == 0 {
-            return Err(NotAStatus);
+    'children: while let Some((front, after)) = rest.split_first_chunk::<CHILD_LEN>() {
+        if front[0] == number {
+            return Ok(first_child(rest));
         }
-        if found.is_none() && child.number == number {
-            found = Some(child);
-        }
-        left -= 1;
         rest = after;
     }
-    Ok(found)
+    Ok(None)
 }
 
 /// The bytes of the segment of a process that has just started.
@@ -168,7 +163,7 @@ pub fn remove_child(alloc: Global, bytes: &[u8], number: u8) -> Result<Bytes, Al
     Ok(Bytes::from_vec(out))
 }
 
-/// What is told is spelled, and what is spelled is told.
+/// What is read is spelled, and what is spelled is read.
 pub fn statuses_are_spelled()
     ensures { StatusesAreSpelled }
 {}
@@ -186,23 +181,20 @@ fn split_status(bytes: &[u8]) -> Option<(StatusHead, &[u8])>
     Some((head, children))
 }
 
-// Whether bytes list children, no more than a process can have.
+// Whether bytes list children, no more than a process can have. Any bytes of its length are a child.
 fn are_children(bytes: &[u8]) -> bool
     ensures { result ≡ is_some (children_in most_children bytes.now) }
 {
     let mut left = MOST_CHILDREN;
     let mut rest = bytes;
-    'children: while !rest.is_empty() {
-        let Some((_, after)) = read_child(rest) else {
-            return false;
-        };
+    'children: while let Some((_, after)) = rest.split_first_chunk::<CHILD_LEN>() {
         if left == 0 {
             return false;
         }
         left -= 1;
         rest = after;
     }
-    true
+    rest.is_empty()
 }
 
 #[tactic(auto, unfolding(crate::specs::Status::head_in))]
@@ -235,21 +227,21 @@ fn read_life(letter: u8, number: u8) -> Option<Option<u8>>
     }
 }
 
+// The child at the front.
 #[tactic(auto, unfolding(crate::specs::Status::child_in))]
-fn read_child(bytes: &[u8]) -> Option<(Child, &[u8])>
-    ensures { Gives (λ found. (found.0, found.1.now)) result (child_in bytes.now) }
+fn first_child(bytes: &[u8]) -> Option<Child>
+    ensures { result ≡ option_map (λ found. found.0) (child_in bytes.now) }
 {
     let [number, rest @ ..] = bytes else {
         return None;
     };
     let (container, rest) = read_number(rest)?;
-    let (segment, rest) = read_number(rest)?;
-    let child = Child {
+    let (segment, _) = read_number(rest)?;
+    Some(Child {
         number: *number,
         container: ObjId::new(container),
         segment: ObjId::new(segment),
-    };
-    Some((child, rest))
+    })
 }
 
 // Writes what stands at the head of a process segment at the end.

@@ -8,7 +8,7 @@ use Rattle.histar_flat.specs.Words.{Name}
 use Rattle.histar_calls.specs.Categories.{owners_of}
 use Rattle.histar_calls.specs.Laws.{RepliesToRefusals}
 use Rattle.histar_calls.specs.Programs.Program.{Answers}
-use Rattle.histar_calls.proofs.RepliesOfPrograms.{told_for}
+use Rattle.histar_calls.proofs.RepliesOfPrograms.{denial_of_call_has_reply}
 use Rattle.histar_process.specs.declared.caller.Caller.{Caller}
 use Rattle.histar_login.specs.Login.{place_of, password_of, entering, label_if, clearance_if, reply_if, login_as_program, login_at, LoginsReplyToRefusals}
 
@@ -23,14 +23,14 @@ as_program caller i owners password = (
   (λ own. (
     (λ entry. (
       (λ kept. (
-        (λ label. ((λ clearance. replied (bytes_eq kept password)), told_for (SetClearance (clearance_if (bytes_eq kept password) caller owners own.1)))),
-        told_for (SetLabel (label_if (bytes_eq kept password) caller owners own.0)),
+        (λ label. ((λ clearance. replied (bytes_eq kept password)), denial_of_call_has_reply (SetClearance (clearance_if (bytes_eq kept password) caller owners own.1)))),
+        denial_of_call_has_reply (SetLabel (label_if (bytes_eq kept password) caller owners own.0)),
       )),
-      told_for (Read root_number (password_of i)),
+      denial_of_call_has_reply (Read root_number (password_of i)),
     )),
-    told_for (entering owners i own.0 own.1),
+    denial_of_call_has_reply (entering owners i own.0 own.1),
   )),
-  told_for OwnLabel,
+  denial_of_call_has_reply OwnLabel,
 )
 
 at_place : (session : Session) (caller : Caller) (name : Name) (password : List ℕ) (place : Option ℕ) → RepliesToRefusals (login_at session caller name password place)

@@ -48,7 +48,7 @@ use Rattle.histar_refinement.specs.Directories.{directory_of}
 use Rattle.histar_refinement.specs.Expected.{expected}
 use Rattle.histar_refinement.specs.LaysOut.{Laid, LaysOut}
 use Rattle.histar_refinement.specs.Laws.{RunsAs}
-use Rattle.histar_refinement.proofs.Steps.{step_tells}
+use Rattle.histar_refinement.proofs.Steps.{step_tests_equality}
 use Rattle.histar_refinement.proofs.Moving.{one_address}
 use Rattle.histar_refinement.proofs.ClassTests.{observes_class, modifies_class}
 use Rattle.histar_refinement.proofs.DirectoryLaws.{spelling_fits}
@@ -98,7 +98,7 @@ module _ (session : Session) (s : State) (f : Flat) (l : Laid session s f) (ok :
   -- what lies elsewhere is as it was, but for the directory's container
   stays : (b : Address Step) (q : ℕ) → l.naming.number b ≡ Some q → under same_step top b ≡ false → q ≢ D → mid.objects q ≡ s.objects q
   stays b q at_q outside other =
-      cuts.is_cut.stays q (not_reached same_step step_tells s.objects s.next_object (objects_at s.objects l.naming) l.naming l.stands.tree O top (l.stands.tree.addressed top O at_entry) q
+      cuts.is_cut.stays q (not_reached same_step step_tests_equality s.objects s.next_object (objects_at s.objects l.naming) l.naming l.stands.tree O top (l.stands.tree.addressed top O at_entry) q
       (ap (is_under same_step top) (l.stands.tree.addressed b q at_q) ∙ outside)) other
 
   other_thread : t ≢ D
@@ -112,14 +112,14 @@ module _ (session : Session) (s : State) (f : Flat) (l : Laid session s f) (ok :
   thread_then = stays (Runner ∷ Inside ∷ home_of me) t runs.2 (under_home (m ∷ d) me) other_thread ∙ thread
 
   listing_then : mid.objects N ≡ object due (Segment (spelling (directory_of f.files l.naming.number d)))
-  listing_then = stays (Listing ∷ address_of d) N at_listing (above same_step step_tells (address_of d) (Named m)) other_listing ∙ segment
+  listing_then = stays (Listing ∷ address_of d) N at_listing (above same_step step_tests_equality (address_of d) (Named m)) other_listing ∙ segment
 
   holder_then : mid.objects D ≡ object due (Container (set.remove links O))
   holder_then = cuts.is_cut.unlinked ∙ ap (option_map (unlinking O)) holder
 
   -- the directory segment is another object than the one that was unlinked
   other_object : N ≢ O
-  other_object e = let same = one_address same_step step_tells s l.naming (expected session l.category f l.naming.number) l.stands (Listing ∷ address_of d) top N at_listing (at_entry ∙ ap Some (sym e)) in absurd cc
+  other_object e = let same = one_address same_step step_tests_equality s l.naming (expected session l.category f l.naming.number) l.stands (Listing ∷ address_of d) top N at_listing (at_entry ∙ ap Some (sym e)) in absurd cc
 
   -- and is still linked
   linked_then : set.contains (set.remove links O) N ≡ true

@@ -17,7 +17,7 @@ use Rattle.histar_calls.specs.Laws.{RepliesToRefusals}
 use Rattle.histar_calls.specs.Parts.{given, entry_at, read_directory, target_of, write_entries}
 use Rattle.histar_calls.specs.Programs.{Program}
 use Rattle.histar_calls.specs.Programs.Program.{Answers}
-use Rattle.histar_calls.proofs.RepliesOfPrograms.{ask_tells, read_tells, walk_tells}
+use Rattle.histar_calls.proofs.RepliesOfPrograms.{ask_replies, read_replies, walk_replies}
 use Rattle.histar_moves.specs.declared.entry.FoundEntry.{FoundEntry}
 use Rattle.histar_moves.specs.Laws.{MovesReplyToRefusals}
 use Rattle.histar_moves.specs.Parts.{find_entry, must_be_file, must_be_directory, must_be_empty, must_be_free, take_away}
@@ -27,62 +27,62 @@ use Rattle.histar_moves.specs.Rmtree.{rmtree_program}
 use Rattle.histar_moves.specs.Unlink.{unlink_program}
 
 -- the search for an entry replies to its refusals
-entry_tells : (places : Places) (path : Path) (rest : FoundEntry → Program) → ((entry : FoundEntry) → RepliesToRefusals (rest entry)) → RepliesToRefusals (find_entry places path rest)
+entry_replies : (places : Places) (path : Path) (rest : FoundEntry → Program) → ((entry : FoundEntry) → RepliesToRefusals (rest entry)) → RepliesToRefusals (find_entry places path rest)
 unfolding find_entry
-entry_tells places [] rest tells = (refl, refl)
-entry_tells places (name ∷ parent) rest tells = walk_tells places parent _ (λ directory. by directory (target_of directory name))
+entry_replies places [] rest tells = (refl, refl)
+entry_replies places (name ∷ parent) rest tells = walk_replies places parent _ (λ directory. by directory (target_of directory name))
   where
     by : (directory : Directory) (target : Option Target) → RepliesToRefusals (given (entry_at target) (λ found. rest (record { place = directory.place; entries = directory.entries; name = name; target = found })))
     by directory None = (refl, refl)
     by directory (Some target) = tells (record { place = directory.place; entries = directory.entries; name = name; target = target })
 
 -- and so does the last part of a call, which writes a directory and is done
-written_tells : (place : Place) (entries : Entries) → RepliesToRefusals (write_entries place entries (λ _. Answers Done))
-written_tells place entries = ask_tells (Write place.container place.listing 0 (spelling entries)) (λ _. Answers Done) (λ done. (refl, refl))
+written_replies : (place : Place) (entries : Entries) → RepliesToRefusals (write_entries place entries (λ _. Answers Done))
+written_replies place entries = ask_replies (Write place.container place.listing 0 (spelling entries)) (λ _. Answers Done) (λ done. (refl, refl))
 
 -- and that which takes an entry away
-away_tells : (entry : FoundEntry) → RepliesToRefusals (take_away entry (λ _. Answers Done))
+away_replies : (entry : FoundEntry) → RepliesToRefusals (take_away entry (λ _. Answers Done))
 unfolding take_away
-away_tells entry = ask_tells (Unlink entry.place.container (object_of entry.target)) (λ gone. write_entries entry.place (map.remove entry.entries entry.name) (λ _. Answers Done)) (λ gone. written_tells entry.place (map.remove entry.entries entry.name))
+away_replies entry = ask_replies (Unlink entry.place.container (object_of entry.target)) (λ gone. write_entries entry.place (map.remove entry.entries entry.name) (λ _. Answers Done)) (λ gone. written_replies entry.place (map.remove entry.entries entry.name))
 
-unlink_program_tells : (places : Places) (path : Path) → RepliesToRefusals (unlink_program places path)
+unlink_program_replies : (places : Places) (path : Path) → RepliesToRefusals (unlink_program places path)
 unfolding unlink_program
-unlink_program_tells places path = entry_tells places path _ (λ entry. by entry entry.target)
+unlink_program_replies places path = entry_replies places path _ (λ entry. by entry entry.target)
   where
     by : (entry : FoundEntry) (target : Target) → RepliesToRefusals (given (must_be_file target) (λ _. take_away entry (λ _. Answers Done)))
-    by entry (targets.File file) = away_tells entry
+    by entry (targets.File file) = away_replies entry
     by entry (targets.Directory container listing) = (refl, refl)
 
-rmtree_program_tells : (places : Places) (path : Path) → RepliesToRefusals (rmtree_program places path)
+rmtree_program_replies : (places : Places) (path : Path) → RepliesToRefusals (rmtree_program places path)
 unfolding rmtree_program
-rmtree_program_tells places path = entry_tells places path _ away_tells
+rmtree_program_replies places path = entry_replies places path _ away_replies
 
-rename_program_tells : (places : Places) (path : Path) (name : Name) → RepliesToRefusals (rename_program places path name)
+rename_program_replies : (places : Places) (path : Path) (name : Name) → RepliesToRefusals (rename_program places path name)
 unfolding rename_program
-rename_program_tells places path name = entry_tells places path _ (λ entry. by entry (map.get entry.entries name))
+rename_program_replies places path name = entry_replies places path _ (λ entry. by entry (map.get entry.entries name))
   where
     by : (entry : FoundEntry) (target : Option Target) → RepliesToRefusals (given (must_be_free target) (λ _. write_entries entry.place (map.insert (map.remove entry.entries entry.name) name entry.target) (λ _. Answers Done)))
-    by entry None = written_tells entry.place (map.insert (map.remove entry.entries entry.name) name entry.target)
+    by entry None = written_replies entry.place (map.insert (map.remove entry.entries entry.name) name entry.target)
     by entry (Some target) = (refl, refl)
 
 -- and that which does so where a directory is empty
-empty_tells : (entry : FoundEntry) (empty : Bool) → RepliesToRefusals (given {A = Unit {0}} (if empty then Ok tt else Err ENOTEMPTY) (λ _. take_away entry (λ _. Answers Done)))
-empty_tells entry true = away_tells entry
-empty_tells entry false = (refl, refl)
+empty_replies : (entry : FoundEntry) (empty : Bool) → RepliesToRefusals (given {A = Unit {0}} (if empty then Ok tt else Err ENOTEMPTY) (λ _. take_away entry (λ _. Answers Done)))
+empty_replies entry true = away_replies entry
+empty_replies entry false = (refl, refl)
 
-rmdir_program_tells : (places : Places) (path : Path) → RepliesToRefusals (rmdir_program places path)
+rmdir_program_replies : (places : Places) (path : Path) → RepliesToRefusals (rmdir_program places path)
 unfolding rmdir_program
-rmdir_program_tells places path = entry_tells places path _ (λ entry. by entry entry.target)
+rmdir_program_replies places path = entry_replies places path _ (λ entry. by entry entry.target)
   where
     by : (entry : FoundEntry) (target : Target) → RepliesToRefusals (given (must_be_directory target) (λ place. read_directory place (λ directory. given (must_be_empty directory.entries) (λ _. take_away entry (λ _. Answers Done)))))
     by entry (targets.File file) = (refl, refl)
-    by entry (targets.Directory container listing) = read_tells (record { container = container; listing = listing }) _ (λ directory. empty_tells entry (map.len directory.entries == 0))
+    by entry (targets.Directory container listing) = read_replies (record { container = container; listing = listing }) _ (λ directory. empty_replies entry (map.len directory.entries == 0))
 
 -- the programs of the calls reply to their refusals
 pub moves_reply_to_refusals : MovesReplyToRefusals
 moves_reply_to_refusals = record {
-  unlink = unlink_program_tells;
-  rmdir = rmdir_program_tells;
-  rmtree = rmtree_program_tells;
-  rename = rename_program_tells;
+  unlink = unlink_program_replies;
+  rmdir = rmdir_program_replies;
+  rmtree = rmtree_program_replies;
+  rename = rename_program_replies;
 }

@@ -16,7 +16,7 @@ use Rattle.histar_calls.specs.Programs.{Program}
 use Rattle.histar_calls.specs.Programs.Program.{Answers}
 use Rattle.histar_calls.specs.declared.places.Home.{Home}
 use Rattle.histar_calls.specs.declared.places.Places.{Places}
-use Rattle.histar_calls.proofs.RepliesOfPrograms.{ask_tells}
+use Rattle.histar_calls.proofs.RepliesOfPrograms.{ask_replies}
 use Rattle.histar_process.specs.Birth.{birth, inner_label, outer_label, thread_clearance, thread_label}
 use Rattle.histar_process.specs.ExitCall.{exit_program}
 use Rattle.histar_process.specs.KillCall.{kill_program}
@@ -29,58 +29,58 @@ use Rattle.histar_process.specs.StatusCall.{status_reply, status_program}
 use Rattle.histar_process.specs.Whoami.{whoami_program}
 
 -- what comes after a process segment was read tells, where what comes after what it tells does
-status_tells : (home : Home) (rest : ProcessStatus → Program) → ((status : ProcessStatus) → RepliesToRefusals (rest status)) → RepliesToRefusals (read_status home rest)
+status_replies : (home : Home) (rest : ProcessStatus → Program) → ((status : ProcessStatus) → RepliesToRefusals (rest status)) → RepliesToRefusals (read_status home rest)
 unfolding read_status
-status_tells home rest tells = ask_tells (Read home.container home.segment) (λ bytes. if_there rest (status_in bytes)) (λ bytes. by (status_in bytes))
+status_replies home rest tells = ask_replies (Read home.container home.segment) (λ bytes. if_there rest (status_in bytes)) (λ bytes. by (status_in bytes))
   where
     by : (found : Option ProcessStatus) → RepliesToRefusals (if_there rest found)
     by None = tt
     by (Some status) = tells status
 
 -- the same of a process that is found
-home_tells : (first : Home) (name : ProcName) (rest : Home → Program) → ((home : Home) → RepliesToRefusals (rest home)) → RepliesToRefusals (find_home first name rest)
+home_replies : (first : Home) (name : ProcName) (rest : Home → Program) → ((home : Home) → RepliesToRefusals (rest home)) → RepliesToRefusals (find_home first name rest)
 unfolding find_home
-home_tells first [] rest tells = tells first
-home_tells first (n ∷ above) rest tells = home_tells first above _ (λ home. status_tells home _ (λ status. by (child_at status.children n)))
+home_replies first [] rest tells = tells first
+home_replies first (n ∷ above) rest tells = home_replies first above _ (λ home. status_replies home _ (λ status. by (child_at status.children n)))
   where
     by : (found : Option Child) → RepliesToRefusals (given (must_be_there found) (λ child. rest (home_of child)))
     by None = (refl, refl)
     by (Some child) = tells (home_of child)
 
 -- of a process segment that is written, and of an object that is taken away
-written_tells : (home : Home) (status : ProcessStatus) (rest : Program) → RepliesToRefusals rest → RepliesToRefusals (write_status home status (λ _. rest))
-written_tells home status rest tells = ask_tells (Write home.container home.segment 0 (status_bytes status)) (λ _. rest) (λ _. tells)
+written_replies : (home : Home) (status : ProcessStatus) (rest : Program) → RepliesToRefusals rest → RepliesToRefusals (write_status home status (λ _. rest))
+written_replies home status rest tells = ask_replies (Write home.container home.segment 0 (status_bytes status)) (λ _. rest) (λ _. tells)
 
-unlinked_tells : (container object : ℕ) (rest : Program) → RepliesToRefusals rest → RepliesToRefusals (ask (Unlink container object) (λ _. rest))
-unlinked_tells container object rest tells = ask_tells (Unlink container object) (λ _. rest) (λ _. tells)
+unlinked_replies : (container object : ℕ) (rest : Program) → RepliesToRefusals rest → RepliesToRefusals (ask (Unlink container object) (λ _. rest))
+unlinked_replies container object rest tells = ask_replies (Unlink container object) (λ _. rest) (λ _. tells)
 
-whoami_tells : (session : Session) → RepliesToRefusals (whoami_program session)
+whoami_replies : (session : Session) → RepliesToRefusals (whoami_program session)
 unfolding whoami_program
-whoami_tells session = ask_tells OwnLabel (λ own. Answers (replies.User (user_name session.users (user_of own.0 (length session.users))) (not (is_empty (jobs_in own.0))))) (λ own. (refl, refl))
+whoami_replies session = ask_replies OwnLabel (λ own. Answers (replies.User (user_name session.users (user_of own.0 (length session.users))) (not (is_empty (jobs_in own.0))))) (λ own. (refl, refl))
 
-life_tells : (life : Option ℕ) → RepliesToRefusals (Answers (status_reply life))
-life_tells None = (refl, refl)
-life_tells (Some number) = (refl, refl)
+life_replies : (life : Option ℕ) → RepliesToRefusals (Answers (status_reply life))
+life_replies None = (refl, refl)
+life_replies (Some number) = (refl, refl)
 
-status_program_tells : (places : Places) (name : ProcName) → RepliesToRefusals (status_program places name)
+status_program_replies : (places : Places) (name : ProcName) → RepliesToRefusals (status_program places name)
 unfolding status_program
-status_program_tells places name = home_tells places.home name _ (λ home. status_tells home _ (λ status. life_tells status.exited))
+status_program_replies places name = home_replies places.home name _ (λ home. status_replies home _ (λ status. life_replies status.exited))
 
-kill_program_tells : (places : Places) (name : ProcName) → RepliesToRefusals (kill_program places name)
+kill_program_replies : (places : Places) (name : ProcName) → RepliesToRefusals (kill_program places name)
 unfolding kill_program
-kill_program_tells places [] = status_tells places.home _ (λ status. unlinked_tells root_number places.home.container (Answers replies.Done) (refl, refl))
-kill_program_tells places (n ∷ above) = home_tells places.home above _ (λ home. status_tells home _ (λ status. by home status (child_at status.children n)))
+kill_program_replies places [] = status_replies places.home _ (λ status. unlinked_replies root_number places.home.container (Answers replies.Done) (refl, refl))
+kill_program_replies places (n ∷ above) = home_replies places.home above _ (λ home. status_replies home _ (λ status. by home status (child_at status.children n)))
   where
     by : (home : Home) (status : ProcessStatus) (found : Option Child)
         → RepliesToRefusals (given (must_be_there found) (λ child. read_status (home_of child) (λ _. ask (Unlink home.container child.container) (λ _. write_status home (without_child n status) (λ _. Answers replies.Done)))))
     by home status None = (refl, refl)
-    by home status (Some child) = status_tells (home_of child) _ (λ its.
-        unlinked_tells home.container child.container (write_status home (without_child n status) (λ _. Answers replies.Done)) (written_tells home (without_child n status) (Answers replies.Done) (refl, refl)))
+    by home status (Some child) = status_replies (home_of child) _ (λ its.
+        unlinked_replies home.container child.container (write_status home (without_child n status) (λ _. Answers replies.Done)) (written_replies home (without_child n status) (Answers replies.Done) (refl, refl)))
 
-exit_program_tells : (me : Home) (number : ℕ) → RepliesToRefusals (exit_program me number)
+exit_program_replies : (me : Home) (number : ℕ) → RepliesToRefusals (exit_program me number)
 unfolding exit_program
-exit_program_tells me number = status_tells me _ (λ status.
-    written_tells me (once_exited number status) (ask (Unlink me.container status.internal) (λ _. Answers replies.Done)) (unlinked_tells me.container status.internal (Answers replies.Done) (refl, refl)))
+exit_program_replies me number = status_replies me _ (λ status.
+    written_replies me (once_exited number status) (ask (Unlink me.container status.internal) (λ _. Answers replies.Done)) (unlinked_replies me.container status.internal (Answers replies.Done) (refl, refl)))
 
 -- ---- a birth
 
@@ -104,58 +104,58 @@ module _ (parent : Home) (status : ProcessStatus) (kin : Kin) (rest : Unit {0} �
   at_read read = ask MakeCategory (at_write read)
 
   -- a birth tells, where what comes after it does
-  pub birth_tells : RepliesToRefusals (rest tt) → RepliesToRefusals (birth parent status kin rest)
+  pub birth_replies : RepliesToRefusals (rest tt) → RepliesToRefusals (birth parent status kin rest)
   unfolding birth
-  birth_tells tells =
-      ask_tells MakeCategory at_read (λ read. ask_tells MakeCategory (at_write read) (λ write.
-      ask_tells (MakeContainer parent.container (outer_label kin write)) (at_container read write) (λ container.
-      ask_tells (MakeContainer container (inner_label kin read write)) (at_internal read write container) (λ internal.
-      ask_tells (MakeThread internal (thread_label kin read write) (thread_clearance kin read write)) (at_thread write container internal) (λ thread.
-      ask_tells (MakeSegment container (outer_label kin write) (status_bytes (started internal thread))) (at_segment container) (λ segment.
-      written_tells parent (with_child container segment status) (rest tt) tells))))))
+  birth_replies tells =
+      ask_replies MakeCategory at_read (λ read. ask_replies MakeCategory (at_write read) (λ write.
+      ask_replies (MakeContainer parent.container (outer_label kin write)) (at_container read write) (λ container.
+      ask_replies (MakeContainer container (inner_label kin read write)) (at_internal read write container) (λ internal.
+      ask_replies (MakeThread internal (thread_label kin read write) (thread_clearance kin read write)) (at_thread write container internal) (λ thread.
+      ask_replies (MakeSegment container (outer_label kin write) (status_bytes (started internal thread))) (at_segment container) (λ segment.
+      written_replies parent (with_child container segment status) (rest tt) tells))))))
 
 -- ---- room for a child
 
 module _ (name : ProcName) (me : Home) (rest : ProcessStatus → Program) (tells : (status : ProcessStatus) → RepliesToRefusals (rest status)) where
-  children_tell : (status : ProcessStatus) (room : Bool) → RepliesToRefusals (given (must_have_room room) (λ _. rest status))
-  children_tell status false = (refl, refl)
-  children_tell status true = tells status
+  children_replies : (status : ProcessStatus) (room : Bool) → RepliesToRefusals (given (must_have_room room) (λ _. rest status))
+  children_replies status false = (refl, refl)
+  children_replies status true = tells status
 
-  depth_tells : (room : Bool) → RepliesToRefusals (given (must_have_room room) (λ _. read_status me (λ status. given (must_have_room (nat_lt status.born most_children)) (λ _. rest status))))
-  depth_tells false = (refl, refl)
-  depth_tells true = status_tells me _ (λ status. children_tell status (nat_lt status.born most_children))
+  depth_replies : (room : Bool) → RepliesToRefusals (given (must_have_room room) (λ _. read_status me (λ status. given (must_have_room (nat_lt status.born most_children)) (λ _. rest status))))
+  depth_replies false = (refl, refl)
+  depth_replies true = status_replies me _ (λ status. children_replies status (nat_lt status.born most_children))
 
   -- what looks for room for a child tells, where what comes after it does
-  pub child_tells : RepliesToRefusals (room_for_child name me rest)
-  child_tells = depth_tells (nat_lt (length name) most_numbers)
+  pub child_replies : RepliesToRefusals (room_for_child name me rest)
+  child_replies = depth_replies (nat_lt (length name) most_numbers)
 
 module _ (session : Session) (name : ProcName) (me : Home) where
   -- what comes after the birth
   abbrev restored : ProcessStatus → Levels × Levels → Program
   restored status own = ask (SetLabel own.0) (λ _. ask (SetClearance own.1) (λ _. Answers (replies.Child ((status.born + 1) ∷ name))))
 
-  restored_tells : (status : ProcessStatus) (own : Levels × Levels) → RepliesToRefusals (restored status own)
-  restored_tells status own =
-      ask_tells (SetLabel own.0) (λ _. ask (SetClearance own.1) (λ _. Answers (replies.Child ((status.born + 1) ∷ name)))) (λ _.
-      ask_tells (SetClearance own.1) (λ _. Answers (replies.Child ((status.born + 1) ∷ name))) (λ _. (refl, refl)))
+  restored_replies : (status : ProcessStatus) (own : Levels × Levels) → RepliesToRefusals (restored status own)
+  restored_replies status own =
+      ask_replies (SetLabel own.0) (λ _. ask (SetClearance own.1) (λ _. Answers (replies.Child ((status.born + 1) ∷ name)))) (λ _.
+      ask_replies (SetClearance own.1) (λ _. Answers (replies.Child ((status.born + 1) ∷ name))) (λ _. (refl, refl)))
 
   -- what comes after the thread's own labels
   abbrev born : ProcessStatus → Levels × Levels → Program
   born status own = birth me status (kin_of session own.0) (λ _. restored status own)
 
-  born_tells : (status : ProcessStatus) → RepliesToRefusals (ask OwnLabel (born status))
-  born_tells status = ask_tells OwnLabel (born status) (λ own. birth_tells me status (kin_of session own.0) (λ _. restored status own) (restored_tells status own))
+  born_replies : (status : ProcessStatus) → RepliesToRefusals (ask OwnLabel (born status))
+  born_replies status = ask_replies OwnLabel (born status) (λ own. birth_replies me status (kin_of session own.0) (λ _. restored status own) (restored_replies status own))
 
-  spawn_program_tells : RepliesToRefusals (spawn_program session name me)
+  spawn_program_replies : RepliesToRefusals (spawn_program session name me)
   unfolding spawn_program
-  spawn_program_tells = child_tells name me (λ status. ask OwnLabel (born status)) born_tells
+  spawn_program_replies = child_replies name me (λ status. ask OwnLabel (born status)) born_replies
 
 -- the programs of the calls reply to their refusals
 pub process_calls_reply_to_refusals : ProcessCallsReplyToRefusals
 process_calls_reply_to_refusals = record {
-  whoami = whoami_tells;
-  status = status_program_tells;
-  kill = kill_program_tells;
-  exit = exit_program_tells;
-  spawn = spawn_program_tells;
+  whoami = whoami_replies;
+  status = status_program_replies;
+  kill = kill_program_replies;
+  exit = exit_program_replies;
+  spawn = spawn_program_replies;
 }

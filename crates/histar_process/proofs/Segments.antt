@@ -97,15 +97,15 @@ module _ (t : ℕ) (old new : KernelModel) (home : Home) where
     -- this head is told
     pub segment_read : (head : StatusHead) → Some head ≡ option_map head_of (status_in bytes) → RunsReading home old new t (Ok (record { head = head; bytes = bytes }))
     segment_read head is =
-        let told = head_told (status_in bytes) head is in
-        (told.0, record { told = told.1; head = told.2 }, reads told.0 told.1)
+        let status_is = head_told (status_in bytes) head is in
+        (status_is.0, record { status_is = status_is.1; head = status_is.2 }, reads status_is.0 status_is.1)
 
     pub head_read : (head : StatusHead) → Some head ≡ option_map head_of (status_in bytes) → RunsPart (read_head home) old new t (Ok head)
     unfolding read_head
     head_read head is =
-        let told = head_told (status_in bytes) head is in
-        subst (λ (h : StatusHead). RunsPart (read_head home) old new t (Ok h)) (sym told.2)
-        (then_part t (read_status home) old new (λ (status : ProcessStatus) (rest : StatusHead → Program). rest (head_of status)) new told.0 (reads told.0 told.1) (Ok (head_of told.0)) (hands t new (head_of told.0)))
+        let status_is = head_told (status_in bytes) head is in
+        subst (λ (h : StatusHead). RunsPart (read_head home) old new t (Ok h)) (sym status_is.2)
+        (then_part t (read_status home) old new (λ (status : ProcessStatus) (rest : StatusHead → Program). rest (head_of status)) new status_is.0 (reads status_is.0 status_is.1) (Ok (head_of status_is.0)) (hands t new (head_of status_is.0)))
 
     -- no child is looked for
     pub look_none : (number : ℕ) (fault : NotAStatus) → Err fault ≡ look_for (status_in bytes) number → RunsPart (look_up home number) old new t (Err Stopped)
@@ -117,9 +117,9 @@ module _ (t : ℕ) (old new : KernelModel) (home : Home) where
     pub looks : (number : ℕ) (found : Option Child) → Ok found ≡ look_for (status_in bytes) number → RunsPart (look_up home number) old new t (Ok found)
     unfolding look_up
     looks number found is =
-        let told = child_looked (status_in bytes) number found is in
-        subst (λ (o : Option Child). RunsPart (look_up home number) old new t (Ok o)) (sym told.2)
-        (then_part t (read_status home) old new (λ (status : ProcessStatus) (rest : Option Child → Program). rest (child_at status.children number)) new told.0 (reads told.0 told.1) (Ok (child_at told.0.children number)) (hands t new (child_at told.0.children number)))
+        let status_is = child_looked (status_in bytes) number found is in
+        subst (λ (o : Option Child). RunsPart (look_up home number) old new t (Ok o)) (sym status_is.2)
+        (then_part t (read_status home) old new (λ (status : ProcessStatus) (rest : Option Child → Program). rest (child_at status.children number)) new status_is.0 (reads status_is.0 status_is.1) (Ok (child_at status_is.0.children number)) (hands t new (child_at status_is.0.children number)))
 
 -- an error that came by `?` from a process segment
 pub reading_fails : (t : ℕ) (home : Home) (old new : KernelModel) (ending : Ending) (result : Result Segment Ending) → IsErrAnd result (λ e. e ≡ ending) → RunsPart (read_status home) old new t (Err ending) → RunsReading home old new t result

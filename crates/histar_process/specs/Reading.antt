@@ -28,7 +28,7 @@ look_up home number rest = do
 
 -- a segment that was read has the bytes that tell this
 pub record IsSegment (segment : Segment) (status : ProcessStatus) : Type 0 where
-  pub told : status_in segment.bytes ≡ Some status
+  pub status_is : status_in segment.bytes ≡ Some status
   pub head : segment.head ≡ head_of status
 
 -- a process segment is read, and the code has what it tells

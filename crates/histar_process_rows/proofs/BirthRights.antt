@@ -31,7 +31,7 @@ use Rattle.histar_refinement.proofs.Ranges.{grown, own_modified, outer_above, ou
 use Rattle.histar_refinement.proofs.RawChecks.{object}
 use Rattle.histar_refinement.proofs.Spawning.{after, no_child, with_reads, different_reads, category, different, keeps_first, keeps, made_then, at_child, at_me}
 use Rattle.histar_refinement.proofs.Standing.{bare_container_is, thread_found, step_linked}
-use Rattle.histar_refinement.proofs.Steps.{step_tells}
+use Rattle.histar_refinement.proofs.Steps.{step_tests_equality}
 use Rattle.histar_refinement.proofs.Tested.{AreMade, guard_made, rights_made, clearance_made, guard_owns_nothing}
 use Rattle.histar_refinement.proofs.Uses.{process_used, inside_used, rights_used, keep_process_label}
 use Rattle.histar_process_rows.proofs.BirthObjects.{Around, around_category}
@@ -47,7 +47,7 @@ module _ (session : Session) (s : State) (f : Flat) (l : Laid session s f) (me :
 
   home_found : (links : Links) × (s.objects C ≡ object old_label (Container links))
   home_found = bare_container_is (s.objects C) old_label
-      (at_number same_step step_tells s l.naming (expected session l.category f l.naming.number) l.stands (home_of me) C at_home
+      (at_number same_step step_tests_equality s l.naming (expected session l.category f l.naming.number) l.stands (home_of me) C at_home
       ∙ asked_home session l.category f l.naming.number me ∙ ap (home_object session l.category me) here)
 
   -- the thread, its container and its process segment in it
@@ -56,11 +56,11 @@ module _ (session : Session) (s : State) (f : Flat) (l : Laid session s f) (me :
     thread = thread_found session s f l me p here runs T at_thread;
     home = (home_found.0, home_found.1, sym (ap (λ (o : Found). set.contains (links_in o) S) home_found.1) ∙ step_linked session s f l Status (home_of me) C S at_home at_status);
     segment = bare_is (s.objects S) (record { label = old_label; kind = Segment held }) refl
-        (at_number same_step step_tells s l.naming (expected session l.category f l.naming.number) l.stands (Status ∷ home_of me) S at_status
+        (at_number same_step step_tests_equality s l.naming (expected session l.category f l.naming.number) l.stands (Status ∷ home_of me) S at_status
         ∙ asked_status session l.category f l.naming.number me ∙ ap (λ o. status_object session l.category (bytes_for session l.category f l.naming.number me o) me o) here);
-    thread_below = number_below same_step step_tells s l.naming (expected session l.category f l.naming.number) l.stands (Runner ∷ Inside ∷ home_of me) T at_thread;
-    home_below = number_below same_step step_tells s l.naming (expected session l.category f l.naming.number) l.stands (home_of me) C at_home;
-    segment_below = number_below same_step step_tells s l.naming (expected session l.category f l.naming.number) l.stands (Status ∷ home_of me) S at_status;
+    thread_below = number_below same_step step_tests_equality s l.naming (expected session l.category f l.naming.number) l.stands (Runner ∷ Inside ∷ home_of me) T at_thread;
+    home_below = number_below same_step step_tests_equality s l.naming (expected session l.category f l.naming.number) l.stands (home_of me) C at_home;
+    segment_below = number_below same_step step_tests_equality s l.naming (expected session l.category f l.naming.number) l.stands (Status ∷ home_of me) S at_status;
   }
 
 module _ (session : Session) (s : State) (f : Flat) (l : Laid session s f) (me : ProcName) (p : Process) (here : f.processes me ≡ Some p) (runs : p.exited ≡ None) (room : p.born < 64)

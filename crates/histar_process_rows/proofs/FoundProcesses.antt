@@ -29,7 +29,7 @@ use Rattle.histar_refinement.specs.Laws.{RunsAs}
 use Rattle.histar_refinement.specs.Lines.{IsStatusSegment}
 use Rattle.histar_refinement.specs.Processes.{or_zero, process_bytes}
 use Rattle.histar_refinement.proofs.CallerFound.{where_is}
-use Rattle.histar_refinement.proofs.Steps.{step_tells}
+use Rattle.histar_refinement.proofs.Steps.{step_tests_equality}
 use Rattle.histar_refinement.proofs.ClassTests.{sees_process, below_process}
 use Rattle.histar_refinement.proofs.MakingRanges.{all_had}
 use Rattle.histar_refinement.proofs.Moving.{bare_is, at_number}
@@ -70,12 +70,12 @@ module _ (session : Session) (s : State) (f : Flat) (l : Laid session s f) where
 
     pub container_found : (links : Links) × (s.objects (where_is session s f l name).container ≡ object (guard_label l.category (process_guard name other)) (Container links))
     container_found = bare_container_is (s.objects container) due
-        (at_number same_step step_tells s l.naming (expected session l.category f l.naming.number) l.stands (home_of name) container at_container
+        (at_number same_step step_tests_equality s l.naming (expected session l.category f l.naming.number) l.stands (home_of name) container at_container
         ∙ asked_home session l.category f l.naming.number name ∙ ap (home_object session l.category name) here)
 
     pub segment_found : s.objects (where_is session s f l name).segment ≡ object (guard_label l.category (process_guard name other)) (Segment (process_bytes f.processes l.naming.number name other))
     segment_found = bare_is (s.objects segment) (record { label = due; kind = Segment (process_bytes f.processes l.naming.number name other) }) refl
-        (at_number same_step step_tells s l.naming (expected session l.category f l.naming.number) l.stands (Status ∷ home_of name) segment at_segment
+        (at_number same_step step_tests_equality s l.naming (expected session l.category f l.naming.number) l.stands (Status ∷ home_of name) segment at_segment
         ∙ asked_status session l.category f l.naming.number name ∙ ap (λ (x : Option Process). status_object session l.category (bytes_for session l.category f l.naming.number name x) name x) here)
 
     -- what stands one step below its container is linked there

@@ -57,7 +57,7 @@ use Rattle.histar_refinement.proofs.LeftObjects.{root_found, root_label}
 use Rattle.histar_refinement.proofs.RawChecks.{object, unlink_check}
 use Rattle.histar_refinement.proofs.SessionLemmas.{equal_names}
 use Rattle.histar_refinement.proofs.Standing.{thread_found, step_linked}
-use Rattle.histar_refinement.proofs.Steps.{step_tells}
+use Rattle.histar_refinement.proofs.Steps.{step_tests_equality}
 use Rattle.histar_refinement.proofs.Tested.{below_by_names}
 use Rattle.histar_rows.specs.Rows.{IsReady}
 use Rattle.histar_rows.proofs.Chains.{all_granted, Chain}
@@ -199,7 +199,7 @@ module _ (session : Session) (ok : IsSession session) (old new : KernelModel) (f
       module _ (mine : same above me ≡ true) (cut : KernelModel) (cuts : CutsOff (state old) C o (state cut)) (so_far : Chain old t (all_granted (calls_to name ++ unlinking ∷ [])) cut) where
         -- the caller is not below its child
         outside : under same_step (home_of (n ∷ above)) (home_of me) ≡ false
-        outside = ap (λ (x : ProcName). under same_step (home_of (n ∷ above)) (home_of x)) (sym (equal_names above me mine)) ∙ not_above same_step step_tells (home_of above) (Child n)
+        outside = ap (λ (x : ProcName). under same_step (home_of (n ∷ above)) (home_of x)) (sym (equal_names above me mine)) ∙ not_above same_step step_tests_equality (home_of above) (Child n)
 
         abbrev own : Levels
         own = rights_label l.category (thread_rights session me p)

@@ -35,7 +35,7 @@ use Rattle.histar_refinement.proofs.CallerFound.{where_is}
 use Rattle.histar_refinement.proofs.Moving.{one_address}
 use Rattle.histar_refinement.proofs.Places.{same_home}
 use Rattle.histar_refinement.proofs.RawChecks.{object}
-use Rattle.histar_refinement.proofs.Steps.{step_tells}
+use Rattle.histar_refinement.proofs.Steps.{step_tests_equality}
 use Rattle.histar_process_rows.proofs.FoundProcesses.{at_container, at_segment, container_found, segment_found, step_below, thread}
 use Rattle.histar_process_rows.proofs.OwnSegment.{status_few, listed_few, thread_apart, segment_apart}
 
@@ -92,10 +92,10 @@ module _ (session : Session) (s : State) (f : Flat) (l : Laid session s f) (me :
 
   -- neither the parent nor another child lies below it
   parent_outside : under same_step (home_of top) (home_of me) ≡ false
-  parent_outside = above same_step step_tells (home_of me) (Below n)
+  parent_outside = above same_step step_tests_equality (home_of me) (Below n)
 
   child_outside : (k : ℕ) → k ≢ n → under same_step (home_of top) (home_of (k ∷ me)) ≡ false
-  child_outside k other = λ i. same_other same_step step_tells (home_of top) (home_of (k ∷ me)) apart i || parent_outside i
+  child_outside k other = λ i. same_other same_step step_tests_equality (home_of top) (home_of (k ∷ me)) apart i || parent_outside i
     where
       apart : home_of top ≢ home_of (k ∷ me)
       apart e = let names : n ∷ me ≡ k ∷ me = same_home (n ∷ me) (k ∷ me) e in let is : n ≡ k = cc in other (sym is)
@@ -165,7 +165,7 @@ module _ (session : Session) (s : State) (f : Flat) (l : Laid session s f) (me :
     -- what lies elsewhere is as it was, but for the container
     remains : (b : Address Step) (k : ℕ) → l.naming.number b ≡ Some k → under same_step (home_of top) b ≡ false → k ≢ C → cut.objects k ≡ s.objects k
     remains b k at_k out other =
-        cuts.is_cut.stays k (not_reached same_step step_tells s.objects s.next_object (objects_at s.objects l.naming) l.naming l.stands.tree o (home_of top) (l.stands.tree.addressed (home_of top) o at_victim) k
+        cuts.is_cut.stays k (not_reached same_step step_tests_equality s.objects s.next_object (objects_at s.objects l.naming) l.naming l.stands.tree o (home_of top) (l.stands.tree.addressed (home_of top) o at_victim) k
         (ap (is_under same_step (home_of top)) (l.stands.tree.addressed b k at_k) ∙ out)) other
 
     pub thread_then : cut.objects t ≡ object (rights_label l.category (thread_rights session caller q)) (Thread (rights_clearance l.category (thread_rights session caller q)))
@@ -179,7 +179,7 @@ module _ (session : Session) (s : State) (f : Flat) (l : Laid session s f) (me :
 
     -- the parent's segment is another object than the child's container, and is still linked
     segment_other : S ≢ o
-    segment_other e = let same = one_address same_step step_tells s l.naming (expected session l.category f l.naming.number) l.stands (Status ∷ home_of me) (home_of top) S (at_segment session s f l me p here) (at_victim ∙ ap Some (sym e)) in absurd cc
+    segment_other e = let same = one_address same_step step_tests_equality s l.naming (expected session l.category f l.naming.number) l.stands (Status ∷ home_of me) (home_of top) S (at_segment session s f l me p here) (at_victim ∙ ap Some (sym e)) in absurd cc
 
     pub linked_then : set.contains (set.remove (container_found session s f l me p here).0 (where_is session s f l (n ∷ me)).container) (where_is session s f l me).segment ≡ true
     linked_then =

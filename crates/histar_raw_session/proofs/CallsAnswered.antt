@@ -43,27 +43,27 @@ front_after a b c text next whole begun = (
 )
 
 -- one more call
-tells_more : (first mid last : State) (calls : List RawLine) (asked : RawLine) (text line : List ℕ) → PrintsCalls first calls text mid → PrintsCall mid last asked line → PrintsCalls first (calls ++ asked ∷ []) (text ++ line) last
-tells_more first mid last [] asked text line done one =
+prints_more : (first mid last : State) (calls : List RawLine) (asked : RawLine) (text line : List ℕ) → PrintsCalls first calls text mid → PrintsCall mid last asked line → PrintsCalls first (calls ++ asked ∷ []) (text ++ line) last
+prints_more first mid last [] asked text line done one =
     (last, line, [], subst (λ (s : State). PrintsCall s last asked line) done.1 one, ap (λ (l : List ℕ). l ++ line) done.0 ∙ sym (append-nil line), (refl, refl))
-tells_more first mid last (b ∷ calls) asked text line done one = (
+prints_more first mid last (b ∷ calls) asked text line done one = (
   done.0,
   done.1,
   done.2 ++ line,
   done.3,
   ap (λ (l : List ℕ). l ++ line) done.4 ∙ append_assoc done.1 done.2 line,
-  tells_more done.0 mid last calls asked done.2 line done.5 one,
+  prints_more done.0 mid last calls asked done.2 line done.5 one,
 )
 
 -- before the first call nothing is written
 pub answers_none : (s : State) (a : Option (List ℕ)) → AnswersCalls s s a a []
-answers_none s a = record { text = []; tells = (refl, refl); written = Appends-nil a }
+answers_none s a = record { text = []; prints = (refl, refl); written = Appends-nil a }
 
 -- one more call is answered
 pub answers_more : (first mid last : State) (a b c : Option (List ℕ)) (calls : List RawLine) (asked : RawLine) → AnswersCalls first mid a b calls → AnswersCall mid last b c asked → AnswersCalls first last a c (calls ++ asked ∷ [])
 answers_more first mid last a b c calls asked done one = record {
   text = done.text ++ one.line;
-  tells = tells_more first mid last calls asked done.text one.line done.tells one.tells;
+  prints = prints_more first mid last calls asked done.text one.line done.prints one.prints;
   written = Appends-trans a b c done.text one.line done.written one.written;
 }
 
@@ -75,7 +75,7 @@ begins_more first mid last a b c calls front rest asked parts done (inl keeps) =
   parts = parts;
   text = done.text;
   last = mid;
-  tells = done.tells;
+  prints = done.prints;
   written = whole_front a c done.text (Appends-kept a b c done.text done.written keeps);
 }
 begins_more first mid last a b c calls front rest asked parts done (inr begun) = record {
@@ -84,7 +84,7 @@ begins_more first mid last a b c calls front rest asked parts done (inr begun) =
   parts = parts ∙ sym (append_assoc front (asked ∷ []) rest);
   text = done.text ++ begun.0;
   last = last;
-  tells = tells_more first mid last front asked done.text begun.0 done.tells begun.1;
+  prints = prints_more first mid last front asked done.text begun.0 done.prints begun.1;
   written = front_after a b c done.text begun.0 done.written begun.2;
 }
 

@@ -14,12 +14,12 @@ use Rattle.histar_raw_session.specs.declared.read_session.RawLine.{RawLine}
 -- By the rules a call of a thread has this outcome and leaves this state: where no check fails, the answer that the state gives and
 -- what the call changes; and else the first failing check and the state before.
 abbrev pub HasOutcome : State → ℕ → RawCall → Result Answer Denied → State → Type 0
-HasOutcome s t call (Ok told) new = (check s t call ≡ None) × (answer s t call ≡ Some told) × Changes s t call new
+HasOutcome s t call (Ok answered) new = (check s t call ≡ None) × (answer s t call ≡ Some answered) × Changes s t call new
 HasOutcome s t call (Err denied) new = (check s t call ≡ Some denied) × (new ≡ s)
 
 -- the line of an outcome: the number of the call line, and an equals sign and the answer, or the denial's name
 abbrev pub line_text : ℕ → Result Answer Denied → List ℕ
-line_text number (Ok told) = decimal number ++ codes " = " ++ answer_text told ++ codes "\n"
+line_text number (Ok answered) = decimal number ++ codes " = " ++ answer_text answered ++ codes "\n"
 line_text number (Err denied) = decimal number ++ codes " " ++ denied_text denied ++ codes "\n"
 
 -- the call has an outcome by the rules, and the line prints it
@@ -38,7 +38,7 @@ PrintsCalls s (asked ∷ calls) text last =
 -- the call has an outcome by the rules, and the line that prints it was written
 pub record AnswersCall (before after : State) (old new : Option (List ℕ)) (asked : RawLine) : Type 0 where
   pub line : List ℕ
-  pub tells : PrintsCall before after asked line
+  pub prints : PrintsCall before after asked line
   pub written : Appends old new line
 
 -- nothing was written, or the call has an outcome by the rules and a beginning of the line that prints it was written
@@ -48,7 +48,7 @@ BeginsAnswer before after old new asked = Keeps old new ⊎ ((line : List ℕ) �
 -- each of the calls has its outcome by the rules, and the lines that print them were written
 pub record AnswersCalls (before after : State) (old new : Option (List ℕ)) (calls : List RawLine) : Type 0 where
   pub text : List ℕ
-  pub tells : PrintsCalls before calls text after
+  pub prints : PrintsCalls before calls text after
   pub written : Appends old new text
 
 -- the first of the calls have their outcomes by the rules, and a beginning of the lines that print them was written
@@ -58,5 +58,5 @@ pub record BeginsAnswers (before : State) (old new : Option (List ℕ)) (calls :
   pub parts : calls ≡ first ++ rest
   pub text : List ℕ
   pub last : State
-  pub tells : PrintsCalls before first text last
+  pub prints : PrintsCalls before first text last
   pub written : AppendsFront old new text

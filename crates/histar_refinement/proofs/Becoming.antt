@@ -14,7 +14,7 @@ use Rattle.histar_object.specs.Objects.{changed_at, kind_links, thread_of}
 use Rattle.histar_rules.specs.Rights.{with_label, with_clearance, kind_with_clearance}
 use Rattle.histar_object.specs.State.{State, Found, with_own}
 use Rattle.histar_container.specs.Tree.{Address, set_at}
-use Rattle.histar_container.proofs.Addresses.{same_tells}
+use Rattle.histar_container.proofs.Addresses.{same_tests_equality}
 use Rattle.histar_container.proofs.TableMoves.{put_here, put_other, changed_here, changed_other}
 use Rattle.histar_rules.specs.Rules.{greatest}
 use Rattle.histar_login.specs.Boot.{boot_thread_number}
@@ -33,7 +33,7 @@ use Rattle.histar_refinement.specs.Expected.{segment, home_object, status_object
 use Rattle.histar_refinement.specs.LaysOut.{AreInOrder, IsProcess, Laid}
 use Rattle.histar_refinement.proofs.ProcessBytes.{alike_bytes}
 use Rattle.histar_refinement.proofs.Places.{AsksAlike, asked_alike, asked_runner}
-use Rattle.histar_refinement.proofs.Steps.{step_tells}
+use Rattle.histar_refinement.proofs.Steps.{step_tests_equality}
 use Rattle.histar_refinement.proofs.Moving.{at_number, bare_is, stands_changed, stands_same}
 
 -- a thread is given another label and another clearance
@@ -105,7 +105,7 @@ module _ (session : Session) (s : State) (f : Flat) (l : Laid session s f) (me :
       ∙ ap (λ (e : Option ℕ). elim e as (λ _. Found) [ None ↦ Some (thread_of label clearance) | Some n ↦ None ]) runs
 
   pub thread_stands : s.objects T ≡ Some old_thread
-  thread_stands = bare_is (s.objects T) old_thread refl (at_number same_step step_tells s l.naming old_asked l.stands runner T at_thread ∙ old_runner)
+  thread_stands = bare_is (s.objects T) old_thread refl (at_number same_step step_tests_equality s l.naming old_asked l.stands runner T at_thread ∙ old_runner)
 
   there_alike : (x : ProcName) → is_some (f.processes x) ≡ is_some (after.processes x)
   there_alike x = elim (which x) [
@@ -145,7 +145,7 @@ module _ (session : Session) (s : State) (f : Flat) (l : Laid session s f) (me :
   })
 
   asks : (a : Address Step) → set_at same_step old_asked runner (option_map (becoming label clearance) (old_asked runner)) a ≡ wish a
-  asks a = elim (same_tells same_step step_tells runner a) [
+  asks a = elim (same_tests_equality same_step step_tests_equality runner a) [
     | inl e ↦ ap (λ (t : Bool). if t then option_map (becoming label clearance) (old_asked runner) else old_asked a) e.0 ∙ ap (option_map (becoming label clearance)) old_runner ∙ sym new_runner ∙ ap wish e.1
     | inr e ↦ ap (λ (t : Bool). if t then option_map (becoming label clearance) (old_asked runner) else old_asked a) e.0 ∙ wish_other a e.1
   ]
@@ -212,7 +212,7 @@ module _ (session : Session) (s : State) (f : Flat) (l : Laid session s f) (me :
       naming = l.naming;
       category = l.category;
       stands = stands_same same_step _ new l.naming _ wish
-          (stands_changed same_step step_tells s l.naming old_asked l.stands T runner (becoming label clearance) at_thread (same_links label clearance) (bared label clearance)) asks (λ q. objects q ∙ same_objects q) next_is;
+          (stands_changed same_step step_tests_equality s l.naming old_asked l.stands T runner (becoming label clearance) at_thread (same_links label clearance) (bared label clearance)) asks (λ q. objects q ∙ same_objects q) next_is;
       numbered = subst (λ (m : ℕ). m ≤ greatest) (sym next_is) l.numbered;
       as_booted = l.as_booted;
       different = l.different;

@@ -10,21 +10,21 @@ use Rattle.histar_object.specs.declared.objects.Object.{Object}
 use Rattle.histar_object.specs.Objects.{Objects, put, changed_at, linking, thread_of, holding, is_there, is_container}
 use Rattle.histar_object.specs.State.{State, Found, with_object, with_bytes}
 use Rattle.histar_container.specs.Tree.{Address, Naming, with_number, set_at}
-use Rattle.histar_container.proofs.Addresses.{same_tells, same_itself, same_other, longer}
+use Rattle.histar_container.proofs.Addresses.{same_tests_equality, same_itself, same_other, longer}
 use Rattle.histar_container.proofs.TableMoves.{put_other}
 use Rattle.histar_container.proofs.Trees.{kind_held_links}
 use Rattle.histar_refinement.specs.Addresses.{Step, same_step, home_of}
 use Rattle.histar_refinement.specs.Addresses.Step.{Status, Inside, Runner, Child}
 use Rattle.histar_refinement.specs.Stands.{Stands}
-use Rattle.histar_refinement.proofs.Steps.{step_tells}
+use Rattle.histar_refinement.proofs.Steps.{step_tests_equality}
 use Rattle.histar_refinement.proofs.Moving.{bare_held, stands_added, stands_changed}
 
 -- the number that an address was given, and the others
 pub given : (naming : Naming Step) (k : ℕ) (a : Address Step) → (with_number same_step naming k a).number a ≡ Some k
-given naming k a = ap (λ (t : Bool). if t then Some k else naming.number a) (same_itself same_step step_tells a)
+given naming k a = ap (λ (t : Bool). if t then Some k else naming.number a) (same_itself same_step step_tests_equality a)
 
 pub given_other : (naming : Naming Step) (k : ℕ) (a b : Address Step) → a ≢ b → (with_number same_step naming k a).number b ≡ naming.number b
-given_other naming k a b other = ap (λ (t : Bool). if t then Some k else naming.number b) (same_other same_step step_tells a b other)
+given_other naming k a b other = ap (λ (t : Bool). if t then Some k else naming.number b) (same_other same_step step_tests_equality a b other)
 
 module _ (s : State) (naming : Naming Step) (asked : Address Step → Found) (stands : Stands same_step s naming asked) (me : ProcName) (n C S : ℕ)
     (at_home : naming.number (home_of me) ≡ Some C) (at_status : naming.number (Status ∷ home_of me) ≡ Some S) (holder : is_container (asked (home_of me)) ≡ true)
@@ -93,33 +93,33 @@ module _ (s : State) (naming : Naming Step) (asked : Address Step → Found) (st
   empty_links c = set.contains-empty nat_cmp c
 
   home_holds : is_container (asked_first home) ≡ true
-  home_holds = ap (λ (t : Bool). is_container (if t then Some container else asked home)) (same_itself same_step step_tells home)
+  home_holds = ap (λ (t : Bool). is_container (if t then Some container else asked home)) (same_itself same_step step_tests_equality home)
 
   inside_holds : is_container (asked_second (Inside ∷ home)) ≡ true
-  inside_holds = ap (λ (t : Bool). is_container (if t then Some internal else asked_first (Inside ∷ home))) (same_itself same_step step_tells (Inside ∷ home))
+  inside_holds = ap (λ (t : Bool). is_container (if t then Some internal else asked_first (Inside ∷ home))) (same_itself same_step step_tests_equality (Inside ∷ home))
 
   stands_first : Stands same_step first naming_first asked_first
-  stands_first = stands_added same_step step_tells s naming asked stands C (home_of me) (Child n) container at_home holder no_home empty_links
+  stands_first = stands_added same_step step_tests_equality s naming asked stands C (home_of me) (Child n) container at_home holder no_home empty_links
 
   stands_second : Stands same_step second naming_second asked_second
-  stands_second = stands_added same_step step_tells first naming_first asked_first stands_first s.next_object home Inside internal (given naming s.next_object home) home_holds no_inside empty_links
+  stands_second = stands_added same_step step_tests_equality first naming_first asked_first stands_first s.next_object home Inside internal (given naming s.next_object home) home_holds no_inside empty_links
 
   stands_third : Stands same_step third naming_third asked_third
-  stands_third = stands_added same_step step_tells second naming_second asked_second stands_second (s.next_object + 1) (Inside ∷ home) Runner (thread_of label clearance)
+  stands_third = stands_added same_step step_tests_equality second naming_second asked_second stands_second (s.next_object + 1) (Inside ∷ home) Runner (thread_of label clearance)
       (given naming_first (s.next_object + 1) (Inside ∷ home)) inside_holds no_runner empty_links
 
   stands_fourth : Stands same_step fourth born_naming asked_fourth
-  stands_fourth = stands_added same_step step_tells third naming_third asked_third stands_third s.next_object home Status segment (given naming s.next_object home) home_holds no_status empty_links
+  stands_fourth = stands_added same_step step_tests_equality third naming_third asked_third stands_third s.next_object home Status segment (given naming s.next_object home) home_holds no_status empty_links
 
   -- the child's process segment is not its parent's
   apart_status : Status ∷ home ≢ Status ∷ home_of me
-  apart_status e = let k : home ≡ home_of me = cc in longer same_step step_tells (Child n) (home_of me) k
+  apart_status e = let k : home ≡ home_of me = cc in longer same_step step_tests_equality (Child n) (home_of me) k
 
   status_stays : born_naming.number (Status ∷ home_of me) ≡ Some S
   status_stays = given_other naming_third (s.next_object + 1 + 1 + 1) (Status ∷ home) (Status ∷ home_of me) apart_status ∙ at_status
 
   pub stands_born : Stands same_step born_state born_naming born_asked
-  stands_born = stands_changed same_step step_tells fourth born_naming asked_fourth stands_fourth S (Status ∷ home_of me) (holding own_bytes) status_stays (λ o. kind_held_links own_bytes o.kind) (bare_held own_bytes)
+  stands_born = stands_changed same_step step_tests_equality fourth born_naming asked_fourth stands_fourth S (Status ∷ home_of me) (holding own_bytes) status_stays (λ o. kind_held_links own_bytes o.kind) (bare_held own_bytes)
 
   -- the numbers that the new objects have
   pub at_new_home : born_naming.number home ≡ Some s.next_object
@@ -165,24 +165,24 @@ module _ (s : State) (naming : Naming Step) (asked : Address Step → Found) (st
       (wish_status : Some segment ≡ wish (Status ∷ home)) (wish_own : option_map (holding own_bytes) (asked (Status ∷ home_of me)) ≡ wish (Status ∷ home_of me))
       (wish_other : (a : Address Step) → home ≢ a → Inside ∷ home ≢ a → Runner ∷ Inside ∷ home ≢ a → Status ∷ home ≢ a → Status ∷ home_of me ≢ a → asked a ≡ wish a) where
     own_before : asked_fourth (Status ∷ home_of me) ≡ asked (Status ∷ home_of me)
-    own_before = ap (λ (t : Bool). if t then Some segment else asked_third (Status ∷ home_of me)) (same_other same_step step_tells (Status ∷ home) (Status ∷ home_of me) apart_status)
+    own_before = ap (λ (t : Bool). if t then Some segment else asked_third (Status ∷ home_of me)) (same_other same_step step_tests_equality (Status ∷ home) (Status ∷ home_of me) apart_status)
 
     pub asks_born : (a : Address Step) → born_asked a ≡ wish a
-    asks_born a = elim (same_tells same_step step_tells (Status ∷ home_of me) a) [
+    asks_born a = elim (same_tests_equality same_step step_tests_equality (Status ∷ home_of me) a) [
       | inl e ↦
           ap (λ (t : Bool). if t then option_map (holding own_bytes) (asked_fourth (Status ∷ home_of me)) else asked_fourth a) e.0
           ∙ ap (option_map (holding own_bytes)) own_before ∙ wish_own ∙ ap wish e.1
       | inr not_own ↦ ap (λ (t : Bool). if t then option_map (holding own_bytes) (asked_fourth (Status ∷ home_of me)) else asked_fourth a) not_own.0
-          ∙ elim (same_tells same_step step_tells (Status ∷ home) a) [
+          ∙ elim (same_tests_equality same_step step_tests_equality (Status ∷ home) a) [
             | inl e ↦ ap (λ (t : Bool). if t then Some segment else asked_third a) e.0 ∙ wish_status ∙ ap wish e.1
             | inr not_status ↦ ap (λ (t : Bool). if t then Some segment else asked_third a) not_status.0
-                ∙ elim (same_tells same_step step_tells (Runner ∷ Inside ∷ home) a) [
+                ∙ elim (same_tests_equality same_step step_tests_equality (Runner ∷ Inside ∷ home) a) [
                   | inl e ↦ ap (λ (t : Bool). if t then Some (thread_of label clearance) else asked_second a) e.0 ∙ wish_runner ∙ ap wish e.1
                   | inr not_runner ↦ ap (λ (t : Bool). if t then Some (thread_of label clearance) else asked_second a) not_runner.0
-                      ∙ elim (same_tells same_step step_tells (Inside ∷ home) a) [
+                      ∙ elim (same_tests_equality same_step step_tests_equality (Inside ∷ home) a) [
                         | inl e ↦ ap (λ (t : Bool). if t then Some internal else asked_first a) e.0 ∙ wish_inside ∙ ap wish e.1
                         | inr not_inside ↦ ap (λ (t : Bool). if t then Some internal else asked_first a) not_inside.0
-                            ∙ elim (same_tells same_step step_tells home a) [
+                            ∙ elim (same_tests_equality same_step step_tests_equality home a) [
                               | inl e ↦ ap (λ (t : Bool). if t then Some container else asked a) e.0 ∙ wish_home ∙ ap wish e.1
                               | inr not_home ↦ ap (λ (t : Bool). if t then Some container else asked a) not_home.0 ∙ wish_other a not_home.1 not_inside.1 not_runner.1 not_status.1 not_own.1
                             ]

@@ -38,7 +38,7 @@ use Rattle.histar_refinement.proofs.Places.{asked_home, asked_inside}
 use Rattle.histar_refinement.proofs.Standing.{some_of}
 use Rattle.histar_refinement.proofs.StatusFound.{child_range, listed_there, listed_back, numbered_home, numbered_status, numbered_runner}
 use Rattle.histar_refinement.proofs.StatusLaid.{holds_status}
-use Rattle.histar_refinement.proofs.Steps.{step_tells}
+use Rattle.histar_refinement.proofs.Steps.{step_tests_equality}
 
 -- a number that is there
 pub is_or_zero : (o : Option ℕ) → is_some o ≡ true → o ≡ Some (or_zero o)
@@ -136,7 +136,7 @@ module _ (session : Session) (s : State) (f : Flat) (l : Laid session s f) where
     outer_label : label_there (s.objects (where_is me).container) ≡ Some (guard_label l.category (process_guard me p))
     outer_label =
         sym (label_bare (s.objects (where_is me).container))
-        ∙ ap label_there (at_number same_step step_tells s l.naming (expected session l.category f l.naming.number) l.stands (home_of me) (where_is me).container (is_or_zero _ (numbered_home session s f l me ∙ ap is_some here)))
+        ∙ ap label_there (at_number same_step step_tests_equality s l.naming (expected session l.category f l.naming.number) l.stands (home_of me) (where_is me).container (is_or_zero _ (numbered_home session s f l me ∙ ap is_some here)))
         ∙ ap label_there (asked_home session l.category f l.naming.number me ∙ ap (home_object session l.category me) here)
 
     abbrev of_inner : ProcessStatus → Levels → Levels → Option Caller
@@ -154,7 +154,7 @@ module _ (session : Session) (s : State) (f : Flat) (l : Laid session s f) where
       inner_label : label_there (s.objects (or_zero (l.naming.number (Inside ∷ home_of me)))) ≡ Some (guard_label l.category (inside_guard me p))
       inner_label =
           sym (label_bare (s.objects (or_zero (l.naming.number (Inside ∷ home_of me)))))
-          ∙ ap label_there (at_number same_step step_tells s l.naming (expected session l.category f l.naming.number) l.stands (Inside ∷ home_of me) (or_zero (l.naming.number (Inside ∷ home_of me))) (is_or_zero _ inner_there))
+          ∙ ap label_there (at_number same_step step_tests_equality s l.naming (expected session l.category f l.naming.number) l.stands (Inside ∷ home_of me) (or_zero (l.naming.number (Inside ∷ home_of me))) (is_or_zero _ inner_there))
           ∙ ap label_there (asked_inside session l.category f l.naming.number me ∙ ap (inside_object session l.category me) here)
           ∙ ap (λ (e : Option ℕ). label_there (inside_object session l.category me (Some (record p { exited = e })))) runs
 

@@ -47,8 +47,8 @@ pub same_split : (c d : CategoryName) → (split_category c).0 ≡ (split_catego
 same_split c d kind rest = sym (join_split c) ∙ (λ i. join_category (kind i) (rest i)) ∙ join_split d
 
 -- whether two names are the same tells whether they are equal
-pub category_tells : TestsEquality same_category
-category_tells x y = elim (eqb_tells (split_category x).0 (split_category y).0) [
+pub category_tests_equality : TestsEquality same_category
+category_tests_equality x y = elim (eqb_tells (split_category x).0 (split_category y).0) [
   | inl kind ↦ elim (same_name_found (split_category x).1 (split_category y).1) [
     | inl rest ↦ inl (and_from _ _ kind.0 rest.0, sym (join_split x) ∙ (λ i. join_category (kind.1 i) (rest.1 i)) ∙ join_split y)
     | inr rest ↦ inr (and_right _ _ rest.0, λ same. rest.1 (ap (λ z. (split_category z).1) same))
@@ -57,10 +57,10 @@ category_tells x y = elim (eqb_tells (split_category x).0 (split_category y).0) 
 ]
 
 pub same_itself : (c : CategoryName) → same_category c c ≡ true
-same_itself c = elim (category_tells c c) [ inl e ↦ e.0 | inr e ↦ absurd (e.1 refl) ]
+same_itself c = elim (category_tests_equality c c) [ inl e ↦ e.0 | inr e ↦ absurd (e.1 refl) ]
 
 pub same_told : (c d : CategoryName) → same_category c d ≡ true → c ≡ d
-same_told c d e = elim (category_tells c d) [ inl k ↦ k.1 | inr k ↦ absurd (true≢false (sym e ∙ k.0)) ]
+same_told c d e = elim (category_tests_equality c d) [ inl k ↦ k.1 | inr k ↦ absurd (true≢false (sym e ∙ k.0)) ]
 
 -- what is among names before others
 pub among-append : (xs ys : List CategoryName) (c : CategoryName) → among (xs ++ ys) c ≡ (among xs c || among ys c)
@@ -81,7 +81,7 @@ among_jobs (j ∷ jobs) job = ap (λ b. same job j || b) (among_jobs jobs job)
 module _ (category : Categories) (different : AreDifferent category) where
   -- the numbers of two names are equal exactly where the names are the same
   pub same_number : (c d : CategoryName) → (category c == category d) ≡ same_category c d
-  same_number c d = elim (category_tells c d) [
+  same_number c d = elim (category_tests_equality c d) [
     | inl e ↦ ap (λ x. category c == category x) (sym e.1) ∙ equal_itself (category c) ∙ sym e.0
     | inr e ↦ by (eqb_tells (category c) (category d)) e.1 ∙ sym e.0
   ]

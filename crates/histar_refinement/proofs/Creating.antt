@@ -32,7 +32,7 @@ use Rattle.histar_refinement.specs.Directories.{both_numbers, directory_of}
 use Rattle.histar_refinement.specs.Stands.{Stands}
 use Rattle.histar_refinement.specs.Expected.{container, segment, guarded_object, node_object, listing_object, expected}
 use Rattle.histar_refinement.specs.LaysOut.{Laid}
-use Rattle.histar_refinement.proofs.Steps.{step_tells}
+use Rattle.histar_refinement.proofs.Steps.{step_tests_equality}
 use Rattle.histar_refinement.proofs.Moving.{number_below, stands_added, number_new, number_old}
 use Rattle.histar_refinement.proofs.Places.{asked_path, asked_listing}
 use Rattle.histar_refinement.proofs.FileRows.{SameNumbers, ClassFits}
@@ -78,16 +78,16 @@ module _ (session : Session) (s : State) (f : Flat) (l : Laid session s f) (d : 
   parent_is_dir = ap (λ (o : Option Node). is_some_and o is_dir) at_parent
 
   below : D < s.next_object
-  below = number_below same_step step_tells s l.naming old_asked l.stands (address_of d) D at_directory
+  below = number_below same_step step_tests_equality s l.naming old_asked l.stands (address_of d) D at_directory
 
   not_boot : boot_thread_number ≢ s.next_object
   not_boot e = let low = boot_thread_below session s f l in absurd (omega (arith, low, e))
 
   other_set : (asked : Address Step → Found) (a b : Address Step) (o : Found) → a ≢ b → set_at same_step asked a o b ≡ asked b
-  other_set asked a b o other = ap (λ (t : Bool). if t then o else asked b) (same_other same_step step_tells a b other)
+  other_set asked a b o other = ap (λ (t : Bool). if t then o else asked b) (same_other same_step step_tests_equality a b other)
 
   itself_set : (asked : Address Step → Found) (a : Address Step) (o : Found) → set_at same_step asked a o a ≡ o
-  itself_set asked a o = ap (λ (t : Bool). if t then o else asked a) (same_itself same_step step_tells a)
+  itself_set asked a o = ap (λ (t : Bool). if t then o else asked a) (same_itself same_step step_tests_equality a)
 
   -- ---- a file
 
@@ -106,10 +106,10 @@ module _ (session : Session) (s : State) (f : Flat) (l : Laid session s f) (d : 
 
   file_stands : s.next_object < greatest → Standing session s f l d m class (File []) absent fits with_file file_naming file_asked
   file_stands few = record {
-    stands = stands_added same_step step_tells s l.naming old_asked l.stands D (address_of d) (Named m) empty_segment at_directory holder free (λ c. sym (none_linked c));
-    elsewhere = λ a not_here not_inner. number_old same_step step_tells s l.naming old_asked l.stands D (address_of d) (Named m) empty_segment at_directory holder free (λ c. sym (none_linked c)) a not_here;
+    stands = stands_added same_step step_tests_equality s l.naming old_asked l.stands D (address_of d) (Named m) empty_segment at_directory holder free (λ c. sym (none_linked c));
+    elsewhere = λ a not_here not_inner. number_old same_step step_tests_equality s l.naming old_asked l.stands D (address_of d) (Named m) empty_segment at_directory holder free (λ c. sym (none_linked c)) a not_here;
     asked_new = itself_set old_asked here (segment label []) ∙ sym (ap (guarded_object session l.category (Segment [])) class_has);
-    asked_inner = other_set old_asked here (Listing ∷ here) (segment label []) (λ e. longer same_step step_tells Listing here (sym e)) ∙ nothing_inner;
+    asked_inner = other_set old_asked here (Listing ∷ here) (segment label []) (λ e. longer same_step step_tests_equality Listing here (sym e)) ∙ nothing_inner;
     asked_old = λ a not_here not_inner. other_set old_asked here a (segment label []) not_here;
     numbered = omega (arith, few);
     same_next = refl;
@@ -120,7 +120,7 @@ module _ (session : Session) (s : State) (f : Flat) (l : Laid session s f) (d : 
   pub laid_created : IsTrue (is_name m) → length (entries_in f d) < most_entries → s.next_object < greatest
       → (later : Laid session (with_bytes with_file N (spelling (map.insert (directory_of f.files l.naming.number d) m (targets.File s.next_object)))) (with_node f (m ∷ d) class (File []))) × (later.naming ≡ file_naming) × (later.category ≡ l.category)
   laid_created name room few = laid_made session s f l d m class (File []) absent fits with_file file_naming file_asked (file_stands few) N at_listing (targets.File s.next_object)
-      (ap (option_map targets.File) (number_new same_step step_tells s l.naming old_asked l.stands D (address_of d) (Named m) empty_segment at_directory holder free (λ c. sym (none_linked c))))
+      (ap (option_map targets.File) (number_new same_step step_tests_equality s l.naming old_asked l.stands D (address_of d) (Named m) empty_segment at_directory holder free (λ c. sym (none_linked c))))
       name (omega (arith, below), omega (arith, few)) parent_is_dir room
 
   -- ---- a directory
@@ -148,26 +148,26 @@ module _ (session : Session) (s : State) (f : Flat) (l : Laid session s f) (d : 
   directory_asked = set_at same_step container_asked (Listing ∷ here) (segment label [])
 
   container_stands : Stands same_step with_container container_naming container_asked
-  container_stands = stands_added same_step step_tells s l.naming old_asked l.stands D (address_of d) (Named m) empty_container at_directory holder free (λ c. sym (none_linked c))
+  container_stands = stands_added same_step step_tests_equality s l.naming old_asked l.stands D (address_of d) (Named m) empty_container at_directory holder free (λ c. sym (none_linked c))
 
   number_here : container_naming.number here ≡ Some s.next_object
-  number_here = number_new same_step step_tells s l.naming old_asked l.stands D (address_of d) (Named m) empty_container at_directory holder free (λ c. sym (none_linked c))
+  number_here = number_new same_step step_tests_equality s l.naming old_asked l.stands D (address_of d) (Named m) empty_container at_directory holder free (λ c. sym (none_linked c))
 
   holder_here : is_container (container_asked here) ≡ true
   holder_here = ap is_container (itself_set old_asked here (container label))
 
   inner_other : here ≢ Listing ∷ here
-  inner_other e = longer same_step step_tells Listing here (sym e)
+  inner_other e = longer same_step step_tests_equality Listing here (sym e)
 
   free_here : is_there (container_asked (Listing ∷ here)) ≡ false
   free_here = ap is_there (other_set old_asked here (Listing ∷ here) (container label) inner_other ∙ nothing_inner)
 
   directory_stands : s.next_object + 1 < greatest → Standing session s f l d m class Dir absent fits with_directory directory_naming directory_asked
   directory_stands few = record {
-    stands = stands_added same_step step_tells with_container container_naming container_asked container_stands s.next_object here Listing empty_segment number_here holder_here free_here (λ c. sym (none_linked c));
+    stands = stands_added same_step step_tests_equality with_container container_naming container_asked container_stands s.next_object here Listing empty_segment number_here holder_here free_here (λ c. sym (none_linked c));
     elsewhere = λ a not_here not_inner.
-        number_old same_step step_tells with_container container_naming container_asked container_stands s.next_object here Listing empty_segment number_here holder_here free_here (λ c. sym (none_linked c)) a not_inner
-        ∙ number_old same_step step_tells s l.naming old_asked l.stands D (address_of d) (Named m) empty_container at_directory holder free (λ c. sym (none_linked c)) a not_here;
+        number_old same_step step_tests_equality with_container container_naming container_asked container_stands s.next_object here Listing empty_segment number_here holder_here free_here (λ c. sym (none_linked c)) a not_inner
+        ∙ number_old same_step step_tests_equality s l.naming old_asked l.stands D (address_of d) (Named m) empty_container at_directory holder free (λ c. sym (none_linked c)) a not_here;
     asked_new = other_set container_asked (Listing ∷ here) here (segment label []) (λ e. inner_other (sym e)) ∙ itself_set old_asked here (container label) ∙ sym (ap (guarded_object session l.category (Container set.empty)) class_has);
     asked_inner = itself_set container_asked (Listing ∷ here) (segment label []) ∙ sym (ap (guarded_object session l.category (Segment [])) class_has);
     asked_old = λ a not_here not_inner. other_set container_asked (Listing ∷ here) a (segment label []) not_inner ∙ other_set old_asked here a (container label) not_here;
@@ -189,7 +189,7 @@ module _ (session : Session) (s : State) (f : Flat) (l : Laid session s f) (d : 
       name ((omega (arith, below), omega (arith, few)), (omega (arith, below), omega (arith, few))) parent_is_dir room
     where
       here_then : directory_naming.number here ≡ Some s.next_object
-      here_then = number_old same_step step_tells with_container container_naming container_asked container_stands s.next_object here Listing empty_segment number_here holder_here free_here (λ c. sym (none_linked c)) here (λ e. inner_other (sym e)) ∙ number_here
+      here_then = number_old same_step step_tests_equality with_container container_naming container_asked container_stands s.next_object here Listing empty_segment number_here holder_here free_here (λ c. sym (none_linked c)) here (λ e. inner_other (sym e)) ∙ number_here
 
       inner_then : directory_naming.number (Listing ∷ here) ≡ Some (s.next_object + 1)
-      inner_then = number_new same_step step_tells with_container container_naming container_asked container_stands s.next_object here Listing empty_segment number_here holder_here free_here (λ c. sym (none_linked c))
+      inner_then = number_new same_step step_tests_equality with_container container_naming container_asked container_stands s.next_object here Listing empty_segment number_here holder_here free_here (λ c. sym (none_linked c))

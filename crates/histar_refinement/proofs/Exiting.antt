@@ -13,7 +13,7 @@ use Rattle.histar_object.specs.Objects.{holding}
 use Rattle.histar_object.specs.State.{State, Found, with_bytes}
 use Rattle.histar_container.specs.ObjectsModel.{CutsOff}
 use Rattle.histar_container.specs.Tree.{Address, Naming, wanted, without_below, under, is_under, set_at, cut, objects_at}
-use Rattle.histar_container.proofs.Addresses.{same_tells, same_itself, same_other}
+use Rattle.histar_container.proofs.Addresses.{same_tests_equality, same_itself, same_other}
 use Rattle.histar_container.proofs.Trees.{kind_held_links}
 use Rattle.histar_rules.specs.Rules.{greatest}
 use Rattle.histar_login.specs.Boot.{boot_thread_number}
@@ -34,7 +34,7 @@ use Rattle.histar_refinement.specs.Expected.{segment, listing_object, home_objec
 use Rattle.histar_refinement.specs.LaysOut.{IsProcess, AreJobsGiven, Laid, LaysOut}
 use Rattle.histar_refinement.proofs.ProcessBytes.{alike_bytes}
 use Rattle.histar_refinement.proofs.Places.{address_path, address_process, address_inside, same_home, same_directory, AsksAlike, asked_alike, asked_status}
-use Rattle.histar_refinement.proofs.Steps.{step_tells}
+use Rattle.histar_refinement.proofs.Steps.{step_tests_equality}
 use Rattle.histar_refinement.proofs.Moving.{bare_held, stands_changed, stands_cut, stands_same, no_address}
 
 module _ (session : Session) (s : State) (f : Flat) (l : Laid session s f) (me : ProcName) (p : Process) (here : f.processes me ≡ Some p) (n : ℕ) (small : n ≤ greatest_status) (C S o : ℕ)
@@ -91,7 +91,7 @@ module _ (session : Session) (s : State) (f : Flat) (l : Laid session s f) (me :
 
   -- an internal container does where it is this one
   inside_other : (q : ProcName) → q ≢ me → under same_step top (Inside ∷ home_of q) ≡ false
-  inside_other q other = λ i. same_other same_step step_tells top (Inside ∷ home_of q) apart i || under_home q i
+  inside_other q other = λ i. same_other same_step step_tests_equality top (Inside ∷ home_of q) apart i || under_home q i
     where
       apart : top ≢ Inside ∷ home_of q
       apart e = let same_place : home_of me ≡ home_of q = cc in other (sym (same_home me q same_place))
@@ -103,7 +103,7 @@ module _ (session : Session) (s : State) (f : Flat) (l : Laid session s f) (me :
   asked_first = set_at same_step old_asked (Status ∷ home_of me) (option_map (holding written) (old_asked (Status ∷ home_of me)))
 
   stands_first : Stands same_step state_written l.naming asked_first
-  stands_first = stands_changed same_step step_tells s l.naming old_asked l.stands S (Status ∷ home_of me) (holding written) at_own (λ x. kind_held_links written x.kind) (bare_held written)
+  stands_first = stands_changed same_step step_tests_equality s l.naming old_asked l.stands S (Status ∷ home_of me) (holding written) at_own (λ x. kind_held_links written x.kind) (bare_held written)
 
   -- no path leads below it
   no_path : (a : Address Step) → under same_step top a ≡ true → path_at a ≡ None
@@ -191,7 +191,7 @@ module _ (session : Session) (s : State) (f : Flat) (l : Laid session s f) (me :
       by (Some x) = ap (segment (guard_label l.category (process_guard q x))) (same_bytes q x other)
 
   not_this : (a : Address Step) (q : ProcName) → under same_step top a ≡ false → under same_step top a ≡ under same_step top (Inside ∷ home_of q) → q ≢ me
-  not_this a q e is same_one = true≢false (sym (ap (λ (t : Bool). t || under same_step top (home_of me)) (same_itself same_step step_tells top)) ∙ ap (λ (x : ProcName). under same_step top (Inside ∷ home_of x)) (sym same_one) ∙ sym is ∙ e)
+  not_this a q e is same_one = true≢false (sym (ap (λ (t : Bool). t || under same_step top (home_of me)) (same_itself same_step step_tests_equality top)) ∙ ap (λ (x : ProcName). under same_step top (Inside ∷ home_of x)) (sym same_one) ∙ sym is ∙ e)
 
   wish_other : (a : Address Step) → under same_step top a ≡ false → Status ∷ home_of me ≢ a → old_asked a ≡ wish a
   wish_other a e not_own = asked_alike session l.category l.category f after l.naming.number naming.number files_alike a (record {
@@ -210,7 +210,7 @@ module _ (session : Session) (s : State) (f : Flat) (l : Laid session s f) (me :
   asks a = by (under same_step top a) refl
     where
       outside : under same_step top a ≡ false → asked_first a ≡ wish a
-      outside e = elim (same_tells same_step step_tells (Status ∷ home_of me) a) [
+      outside e = elim (same_tests_equality same_step step_tests_equality (Status ∷ home_of me) a) [
         | inl k ↦ ap (λ (t : Bool). if t then option_map (holding written) (old_asked (Status ∷ home_of me)) else old_asked a) k.0 ∙ wish_own ∙ ap wish k.1
         | inr k ↦ ap (λ (t : Bool). if t then option_map (holding written) (old_asked (Status ∷ home_of me)) else old_asked a) k.0 ∙ wish_other a e k.1
       ]
@@ -224,7 +224,7 @@ module _ (session : Session) (s : State) (f : Flat) (l : Laid session s f) (me :
   number_gone b e = ap (λ (t : Bool). if t then None else l.naming.number b) e
 
   top_under : under same_step top top ≡ true
-  top_under = ap (λ (t : Bool). t || under same_step top (home_of me)) (same_itself same_step step_tells top)
+  top_under = ap (λ (t : Bool). t || under same_step top (home_of me)) (same_itself same_step step_tests_equality top)
 
   -- what is written: the old status, with the number that the process has exited with, and no internal container and no thread
   pub written_is : written ≡ status_bytes (record { exited = Some n; born = p.born; internal = 0; thread = 0; children = map (listed_by l.naming.number me) (children f.processes me p.born) })
@@ -291,14 +291,14 @@ module _ (session : Session) (s : State) (f : Flat) (l : Laid session s f) (me :
   not_boot (Left k ∷ x ∷ a) e = refl
   not_boot (Slash ∷ []) e = absurd (true≢false (sym e))
   not_boot (Slash ∷ x ∷ a) e = refl
-  not_boot (Listing ∷ a) e = elim (same_tells same_step step_tells (Slash ∷ []) a) [
+  not_boot (Listing ∷ a) e = elim (same_tests_equality same_step step_tests_equality (Slash ∷ []) a) [
     | inl i ↦ absurd (true≢false (sym e ∙ ap (under same_step top) (sym i.1)))
     | inr i ↦ ap (λ t. cond t (Some (5 + 2 * length session.users)) None) i.0
   ]
   not_boot (Named m ∷ a) e = refl
   not_boot (Home ∷ []) e = absurd (true≢false (sym e))
   not_boot (Home ∷ x ∷ a) e = refl
-  not_boot (Status ∷ a) e = elim (same_tells same_step step_tells (Home ∷ []) a) [
+  not_boot (Status ∷ a) e = elim (same_tests_equality same_step step_tests_equality (Home ∷ []) a) [
     | inl i ↦ absurd (true≢false (sym e ∙ ap (under same_step top) (sym i.1)))
     | inr i ↦ ap (λ t. cond t (Some (9 + 2 * length session.users)) None) i.0
   ]
@@ -315,7 +315,7 @@ module _ (session : Session) (s : State) (f : Flat) (l : Laid session s f) (me :
 
   module _ (new : State) (cuts : CutsOff state_written C o new) where
     stands_then : Stands same_step new naming (cut same_step asked_first top)
-    stands_then = stands_cut same_step step_tells state_written l.naming asked_first stands_first new C o (home_of me) Inside cuts at_inside at_home
+    stands_then = stands_cut same_step step_tests_equality state_written l.naming asked_first stands_first new C o (home_of me) Inside cuts at_inside at_home
 
     gone_then : new.objects boot_thread_number ≡ None
     gone_then =

@@ -19,7 +19,7 @@ use Rattle.histar_object.specs.declared.objects.Kind.TheVariants.{Segment}
 use Rattle.histar_object.specs.Objects.{Objects, changed_at, holding, is_there}
 use Rattle.histar_object.specs.State.{State, Found, with_bytes}
 use Rattle.histar_container.specs.Tree.{Address, Naming, set_at, same}
-use Rattle.histar_container.proofs.Addresses.{same_tells}
+use Rattle.histar_container.proofs.Addresses.{same_tests_equality}
 use Rattle.histar_container.proofs.Trees.{kind_held_links}
 use Rattle.histar_rules.specs.Rules.{greatest}
 use Rattle.histar_login.specs.Boot.{boot_thread_number}
@@ -41,7 +41,7 @@ use Rattle.histar_refinement.specs.Expected.{segment, guarded_object, content_ki
 use Rattle.histar_refinement.specs.LaysOut.{IsInOrder, AreJobsGiven, Laid}
 use Rattle.histar_refinement.proofs.ProcessBytes.{alike_status}
 use Rattle.histar_refinement.proofs.Places.{path_address, AsksAlikeAt, asked_alike_at, asked_path, asked_listing}
-use Rattle.histar_refinement.proofs.Steps.{step_tells}
+use Rattle.histar_refinement.proofs.Steps.{step_tests_equality}
 use Rattle.histar_refinement.proofs.Moving.{bare_held, stands_changed, stands_same}
 use Rattle.histar_refinement.proofs.DirectoryLaws.{get_directory}
 
@@ -286,7 +286,7 @@ module _ (session : Session) (s : State) (f : Flat) (l : Laid session s f) where
           booted listable same_next (by_bytes mid.objects N boot_thread_number gone)
         where
           written : Stands same_step (with_bytes mid N (spelling (directory_of files naming.number d))) naming (set_at same_step asked (Listing ∷ address_of d) (option_map (holding (spelling (directory_of files naming.number d))) (asked (Listing ∷ address_of d))))
-          written = stands_changed same_step step_tells mid naming asked stands N (Listing ∷ address_of d) (holding (spelling (directory_of files naming.number d))) at_listing
+          written = stands_changed same_step step_tests_equality mid naming asked stands N (Listing ∷ address_of d) (holding (spelling (directory_of files naming.number d))) at_listing
               (λ x. kind_held_links (spelling (directory_of files naming.number d)) x.kind) (bare_held (spelling (directory_of files naming.number d)))
 
           wish_here : option_map (holding (spelling (directory_of files naming.number d))) (asked (Listing ∷ address_of d)) ≡ expected session l.category refiled naming.number (Listing ∷ address_of d)
@@ -296,7 +296,7 @@ module _ (session : Session) (s : State) (f : Flat) (l : Laid session s f) where
               ∙ sym (asked_listing session l.category refiled naming.number d)
 
           asks : (a : Address Step) → set_at same_step asked (Listing ∷ address_of d) (option_map (holding (spelling (directory_of files naming.number d))) (asked (Listing ∷ address_of d))) a ≡ expected session l.category refiled naming.number a
-          asks a = elim (same_tells same_step step_tells (Listing ∷ address_of d) a) [
+          asks a = elim (same_tests_equality same_step step_tests_equality (Listing ∷ address_of d) a) [
             | inl e ↦ ap (λ (t : Bool). if t then option_map (holding (spelling (directory_of files naming.number d))) (asked (Listing ∷ address_of d)) else asked a) e.0
                 ∙ wish_here ∙ ap (expected session l.category refiled naming.number) e.1
             | inr e ↦ ap (λ (t : Bool). if t then option_map (holding (spelling (directory_of files naming.number d))) (asked (Listing ∷ address_of d)) else asked a) e.0 ∙ asked_else a e.1

@@ -14,7 +14,7 @@ use Rattle.histar_object.specs.Objects.{Objects, changed_at, holding}
 use Rattle.histar_object.specs.State.{State, Found, with_bytes}
 use Rattle.histar_container.specs.ObjectsModel.{CutsOff}
 use Rattle.histar_container.specs.Tree.{Address, Naming, wanted, without_below, under, is_under, set_at, cut, same, objects_at}
-use Rattle.histar_container.proofs.Addresses.{same_tells, same_itself, same_other, above}
+use Rattle.histar_container.proofs.Addresses.{same_tests_equality, same_itself, same_other, above}
 use Rattle.histar_container.proofs.Trees.{kind_held_links}
 use Rattle.histar_rules.specs.Rules.{greatest}
 use Rattle.histar_login.specs.Boot.{boot_thread_number}
@@ -35,7 +35,7 @@ use Rattle.histar_refinement.specs.LaysOut.{AreJobsGiven, Laid, LaysOut}
 use Rattle.histar_refinement.proofs.ProcessBytes.{alike_bytes}
 use Rattle.histar_refinement.proofs.Members.{first_of, second_of}
 use Rattle.histar_refinement.proofs.Places.{address_path, address_process, address_inside, same_home, same_directory, AsksAlike, asked_alike, asked_status}
-use Rattle.histar_refinement.proofs.Steps.{step_tells}
+use Rattle.histar_refinement.proofs.Steps.{step_tests_equality}
 use Rattle.histar_refinement.proofs.Moving.{bare_held, stands_changed, stands_cut, stands_same, no_address}
 
 module _ (session : Session) (s : State) (f : Flat) (l : Laid session s f) (me : ProcName) (p : Process) (here : f.processes me ≡ Some p) (n C S o : ℕ)
@@ -56,8 +56,8 @@ module _ (session : Session) (s : State) (f : Flat) (l : Laid session s f) (me :
   -- what is below the victim's address is what is below its name
   same_homes : (x y : ProcName) → same same_step (home_of x) (home_of y) ≡ same_name x y
   same_homes x y = elim (same_name_found x y) [
-    | inl e ↦ ap (λ (z : ProcName). same same_step (home_of x) (home_of z)) (sym e.1) ∙ same_itself same_step step_tells (home_of x) ∙ sym e.0
-    | inr e ↦ same_other same_step step_tells (home_of x) (home_of y) (λ k. e.1 (same_home x y k)) ∙ sym e.0
+    | inl e ↦ ap (λ (z : ProcName). same same_step (home_of x) (home_of z)) (sym e.1) ∙ same_itself same_step step_tests_equality (home_of x) ∙ sym e.0
+    | inr e ↦ same_other same_step step_tests_equality (home_of x) (home_of y) (λ k. e.1 (same_home x y k)) ∙ sym e.0
   ]
 
   under_home : (q : ProcName) → under same_step (home_of top) (home_of q) ≡ under_process top q
@@ -75,7 +75,7 @@ module _ (session : Session) (s : State) (f : Flat) (l : Laid session s f) (me :
   stays q e = ap (λ b. cond b None (f.processes q)) e
 
   own_outside : under same_step (home_of top) (Status ∷ home_of me) ≡ false
-  own_outside = above same_step step_tells (home_of me) (Child n)
+  own_outside = above same_step step_tests_equality (home_of me) (Child n)
 
   kept : (b : Address Step) → under same_step (home_of top) b ≡ false → l.naming.number b ≡ naming.number b
   kept b e = sym (ap (λ (t : Bool). if t then None else l.naming.number b) e)
@@ -94,10 +94,10 @@ module _ (session : Session) (s : State) (f : Flat) (l : Laid session s f) (me :
   state_left = with_bytes mid S own_written
 
   stands_mid : Stands same_step mid naming (cut same_step old_asked (home_of top))
-  stands_mid = stands_cut same_step step_tells s l.naming old_asked l.stands mid C o (home_of me) (Child n) cuts at_victim at_home
+  stands_mid = stands_cut same_step step_tests_equality s l.naming old_asked l.stands mid C o (home_of me) (Child n) cuts at_victim at_home
 
   stands_left : Stands same_step state_left naming (set_at same_step (cut same_step old_asked (home_of top)) (Status ∷ home_of me) (option_map (holding own_written) (cut same_step old_asked (home_of top) (Status ∷ home_of me))))
-  stands_left = stands_changed same_step step_tells mid naming (cut same_step old_asked (home_of top)) stands_mid S (Status ∷ home_of me) (holding own_written)
+  stands_left = stands_changed same_step step_tests_equality mid naming (cut same_step old_asked (home_of top)) stands_mid S (Status ∷ home_of me) (holding own_written)
       (sym (kept (Status ∷ home_of me) own_outside) ∙ at_own) (λ x. kind_held_links own_written x.kind) (bare_held own_written)
 
   abbrev wish : Address Step → Found
@@ -196,7 +196,7 @@ module _ (session : Session) (s : State) (f : Flat) (l : Laid session s f) (me :
       ∙ sym (asked_status session l.category after naming.number me ∙ ap (λ (x : Option Process). status_object session l.category (bytes_for session l.category after naming.number me x) me x) (stays me me_out ∙ here))
 
   left_asks : (a : Address Step) → set_at same_step (cut same_step old_asked (home_of top)) (Status ∷ home_of me) (option_map (holding own_written) (cut same_step old_asked (home_of top) (Status ∷ home_of me))) a ≡ wish a
-  left_asks a = elim (same_tells same_step step_tells (Status ∷ home_of me) a) [
+  left_asks a = elim (same_tests_equality same_step step_tests_equality (Status ∷ home_of me) a) [
     | inl e ↦
         ap (λ (t : Bool). if t then option_map (holding own_written) (cut same_step old_asked (home_of top) (Status ∷ home_of me)) else cut same_step old_asked (home_of top) a) e.0
         ∙ ap (λ (t : Bool). option_map (holding own_written) (if t then None else old_asked (Status ∷ home_of me))) own_outside
@@ -251,14 +251,14 @@ module _ (session : Session) (s : State) (f : Flat) (l : Laid session s f) (me :
   not_boot (Left k ∷ x ∷ a) e = refl
   not_boot (Slash ∷ []) e = absurd (true≢false (sym e))
   not_boot (Slash ∷ x ∷ a) e = refl
-  not_boot (Listing ∷ a) e = elim (same_tells same_step step_tells (Slash ∷ []) a) [
+  not_boot (Listing ∷ a) e = elim (same_tests_equality same_step step_tests_equality (Slash ∷ []) a) [
     | inl i ↦ absurd (true≢false (sym e ∙ ap (under same_step (home_of top)) (sym i.1)))
     | inr i ↦ ap (λ t. cond t (Some (5 + 2 * length session.users)) None) i.0
   ]
   not_boot (Named m ∷ a) e = refl
   not_boot (Home ∷ []) e = absurd (true≢false (sym e))
   not_boot (Home ∷ x ∷ a) e = refl
-  not_boot (Status ∷ a) e = elim (same_tells same_step step_tells (Home ∷ []) a) [
+  not_boot (Status ∷ a) e = elim (same_tests_equality same_step step_tests_equality (Home ∷ []) a) [
     | inl i ↦ absurd (true≢false (sym e ∙ ap (under same_step (home_of top)) (sym i.1)))
     | inr i ↦ ap (λ t. cond t (Some (9 + 2 * length session.users)) None) i.0
   ]

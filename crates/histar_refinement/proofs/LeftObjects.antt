@@ -36,7 +36,7 @@ use Rattle.histar_refinement.proofs.Members.{mapped_from}
 use Rattle.histar_refinement.proofs.SessionLemmas.{placed, equal_names, user_range}
 use Rattle.histar_refinement.proofs.Growing.{GuardHas, RightsHave, KeepsNumber, same_guard_label, same_rights_label, same_rights_clearance}
 use Rattle.histar_refinement.proofs.Uses.{group_among, groups_within}
-use Rattle.histar_refinement.proofs.Steps.{step_tells}
+use Rattle.histar_refinement.proofs.Steps.{step_tests_equality}
 use Rattle.histar_refinement.proofs.Moving.{bare_is, at_number}
 use Rattle.histar_refinement.proofs.Standing.{bare_container_is, step_linked}
 
@@ -130,7 +130,7 @@ module _ (session : Session) (s : State) (f : Flat) (l : Laid session s f) where
   -- the root container
   pub root_found : (links : Links) × (s.objects root_number ≡ Some (record { label = guard_label (booted session) boot_guard; kind = Container links }))
   root_found = bare_container_is (s.objects root_number) (guard_label (booted session) boot_guard)
-      (at_number same_step step_tells s l.naming (expected session l.category f l.naming.number) l.stands [] root_number (l.as_booted [] root_number refl))
+      (at_number same_step step_tests_equality s l.naming (expected session l.category f l.naming.number) l.stands [] root_number (l.as_booted [] root_number refl))
 
   -- what boot left has the numbers that boot gave
   left_number : (q : ℕ) → first_left ≤ q → q ≤ table_number (length session.users) → l.naming.number (Left q ∷ []) ≡ Some q
@@ -140,7 +140,7 @@ module _ (session : Session) (s : State) (f : Flat) (l : Laid session s f) where
       l.as_booted (Left q ∷ []) q (rw (a, b) refl)
 
   left_bare : (q : ℕ) → first_left ≤ q → q ≤ table_number (length session.users) → bare (s.objects q) ≡ left_by_boot session q
-  left_bare q low high = at_number same_step step_tells s l.naming (expected session l.category f l.naming.number) l.stands (Left q ∷ []) q (left_number q low high)
+  left_bare q low high = at_number same_step step_tests_equality s l.naming (expected session l.category f l.naming.number) l.stands (Left q ∷ []) q (left_number q low high)
 
   left_linked : (q : ℕ) → first_left ≤ q → q ≤ table_number (length session.users) → set.contains (links_in (s.objects root_number)) q ≡ true
   left_linked q low high = step_linked session s f l (Left q) [] root_number q (l.as_booted [] root_number refl) (left_number q low high)

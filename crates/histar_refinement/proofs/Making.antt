@@ -17,7 +17,7 @@ use Rattle.histar_layout.specs.declared.entry.Target.TheVariants as targets
 use Rattle.histar_layout.proofs.MapLemmas.{by_bytes, antisymmetric, listable_insert, listable_empty, entries-empty}
 use Rattle.histar_object.specs.State.{State, Found, with_bytes}
 use Rattle.histar_container.specs.Tree.{Address, Naming}
-use Rattle.histar_container.proofs.Addresses.{same_tells}
+use Rattle.histar_container.proofs.Addresses.{same_tests_equality}
 use Rattle.histar_rules.specs.Rules.{greatest}
 use Rattle.histar_login.specs.Boot.{boot_thread_number}
 use Rattle.histar_flat.specs.Sessions.{Session}
@@ -32,7 +32,7 @@ use Rattle.histar_refinement.specs.Stands.{Stands}
 use Rattle.histar_refinement.specs.Expected.{node_object, listing_object, listing_at, expected}
 use Rattle.histar_refinement.specs.LaysOut.{AreJobsGiven, Laid}
 use Rattle.histar_refinement.proofs.Places.{process_address, asked_path, asked_listing}
-use Rattle.histar_refinement.proofs.Steps.{step_tells}
+use Rattle.histar_refinement.proofs.Steps.{step_tests_equality}
 use Rattle.histar_refinement.proofs.Moving.{number_below}
 use Rattle.histar_refinement.proofs.DirectoryLaws.{get_directory, len_directory}
 use Rattle.histar_refinement.proofs.FileRows.{SameNumbers, not_home, not_begun, same_address_path, asked_same, leads_at, directories_alike, same_leads, numbered_path, numbered_listing, nothing_in, ClassFits, AreKnown, old_known, old_fits, jobs_kept, laid_listed}
@@ -72,7 +72,7 @@ module _ (session : Session) (s : State) (f : Flat) (l : Laid session s f) where
   -- the boot thread's number is below the next one
   pub boot_thread_below : boot_thread_number < s.next_object
   boot_thread_below =
-      let below = number_below same_step step_tells s l.naming (expected session l.category f l.naming.number) l.stands (Slash ∷ []) (4 + 2 * length session.users) (l.as_booted (Slash ∷ []) (4 + 2 * length session.users) refl) in
+      let below = number_below same_step step_tests_equality s l.naming (expected session l.category f l.naming.number) l.stands (Slash ∷ []) (4 + 2 * length session.users) (l.as_booted (Slash ∷ []) (4 + 2 * length session.users) refl) in
       omega (arith, below)
 
   module _ (d : Path) (m : Name) (class : Class) (content : Content) (absent : get f.files (m ∷ d) ≡ None) (fits : ClassFits session s f l class) where
@@ -153,9 +153,9 @@ module _ (session : Session) (s : State) (f : Flat) (l : Laid session s f) where
           get_directory f.files l.naming.number (m ∷ d) n ∙ ap (option_and_then (λ (there : Node). target_for l.naming.number (n ∷ m ∷ d, there))) (nothing_in session s f l n (m ∷ d) absent) ∙ sym (map.get-empty by_bytes n))
 
       asked_else : (a : Address Step) → Listing ∷ address_of d ≢ a → asked a ≡ expected session l.category after naming.number a
-      asked_else a other = elim (same_tells same_step step_tells new_address a) [
+      asked_else a other = elim (same_tests_equality same_step step_tests_equality new_address a) [
         | inl e ↦ ap asked (sym e.1) ∙ st.asked_new ∙ sym (ap (expected session l.category after naming.number) (sym e.1) ∙ asked_path session l.category after naming.number (m ∷ d) ∙ ap (node_object session l.category) got_new)
-        | inr e ↦ elim (same_tells same_step step_tells (Listing ∷ new_address) a) [
+        | inr e ↦ elim (same_tests_equality same_step step_tests_equality (Listing ∷ new_address) a) [
           | inl t ↦
               ap asked (sym t.1) ∙ st.asked_inner
               ∙ sym (ap (expected session l.category after naming.number) (sym t.1) ∙ asked_listing session l.category after naming.number (m ∷ d)

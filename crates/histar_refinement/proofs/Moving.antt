@@ -14,7 +14,7 @@ use Rattle.histar_object.specs.Objects.{Objects, changed_at, linking, kind_linki
 use Rattle.histar_object.specs.State.{State, Found, with_object}
 use Rattle.histar_container.specs.ObjectsModel.{CutsOff}
 use Rattle.histar_container.specs.Tree.{Address, Naming, with_number, without_below, under, is_under, set_at, cut, same, IsLaid, objects_at}
-use Rattle.histar_container.proofs.Addresses.{TestsEquality, same_tells, same_itself, same_other}
+use Rattle.histar_container.proofs.Addresses.{TestsEquality, same_tests_equality, same_itself, same_other}
 use Rattle.histar_container.proofs.Reaching.{not_reached}
 use Rattle.histar_container.proofs.TableMoves.{changed_here, changed_other, new_there, new_holder, new_other, laid_new, laid_changed, laid_without}
 use Rattle.histar_container.proofs.Trees.{laid_itself}
@@ -126,7 +126,7 @@ module _ {X : Type 0} (same_step : X → X → Bool) (tells : TestsEquality same
     apart e = let below = number_below a d at_d in absurd (omega (arith, below, e))
 
     added_objects : (b : Address X) → bare (objects_at (with_object s d o).objects grown_naming b) ≡ set_at same_step asked (x ∷ a) (bare (Some o)) b
-    added_objects b = elim (same_tells same_step tells (x ∷ a) b) [
+    added_objects b = elim (same_tests_equality same_step tells (x ∷ a) b) [
       | inl e ↦
           ap (λ (t : Bool). bare (option_and_then (with_object s d o).objects (if t then Some s.next_object else naming.number b))) e.0
           ∙ ap bare (new_there s.objects s.next_object d o apart)
@@ -169,7 +169,7 @@ module _ {X : Type 0} (same_step : X → X → Bool) (tells : TestsEquality same
     changed_state = record { objects = changed_at s.objects q change; next_object = s.next_object; next_category = s.next_category }
 
     changed_objects : (b : Address X) → bare (objects_at changed_state.objects naming b) ≡ set_at same_step asked a (option_map change (asked a)) b
-    changed_objects b = elim (same_tells same_step tells a b) [
+    changed_objects b = elim (same_tests_equality same_step tells a b) [
       | inl e ↦
           ap (λ (k : Option ℕ). bare (option_and_then changed_state.objects k)) (ap naming.number (sym e.1) ∙ at_q)
           ∙ ap bare (changed_here s.objects q change) ∙ bared (s.objects q) ∙ ap (option_map change) (at_number a q at_q)
@@ -180,7 +180,7 @@ module _ {X : Type 0} (same_step : X → X → Bool) (tells : TestsEquality same
     ]
 
     changed_named : (b : Address X) → is_some (naming.number b) ≡ is_there (set_at same_step asked a (option_map change (asked a)) b)
-    changed_named b = elim (same_tells same_step tells a b) [
+    changed_named b = elim (same_tests_equality same_step tells a b) [
       | inl e ↦ ap (λ (y : Address X). is_some (naming.number y)) (sym e.1) ∙ stands.named a ∙ sym (there_mapped change (asked a)) ∙ sym (ap (λ (t : Bool). is_there (if t then option_map change (asked a) else asked b)) e.0)
       | inr e ↦ stands.named b ∙ sym (ap (λ (t : Bool). is_there (if t then option_map change (asked a) else asked b)) e.0)
     ]

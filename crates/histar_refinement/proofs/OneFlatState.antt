@@ -30,7 +30,7 @@ use Rattle.histar_refinement.specs.Expected.{content_kind, home_object, expected
 use Rattle.histar_refinement.specs.LaysOut.{IsInOrder, IsProcess, Laid}
 use Rattle.histar_refinement.specs.Laws.{AreAlike}
 use Rattle.histar_refinement.specs.Processes.{or_zero, status_by}
-use Rattle.histar_refinement.proofs.Steps.{step_tells}
+use Rattle.histar_refinement.proofs.Steps.{step_tests_equality}
 use Rattle.histar_refinement.proofs.Moving.{at_number}
 use Rattle.histar_refinement.proofs.Places.{asked_home}
 use Rattle.histar_refinement.proofs.DirectoryLaws.{get_directory}
@@ -173,7 +173,7 @@ module _ (session : Session) (s : State) (f g : Flat) (l : Laid session s f) (m 
     of_q = subst (λ (category : Categories). IsProcess session category q) (sym same_categories) (m.processes me q at_q)
 
     homes : (h : Flat) (j : Laid session s h) (x : Process) → h.processes me ≡ Some x → j.naming.number (home_of me) ≡ Some c → label_there (bare (s.objects c)) ≡ Some (guard_label j.category (process_guard me x))
-    homes h j x at home = ap label_there (at_number same_step step_tells s j.naming (expected session j.category h j.naming.number) j.stands (home_of me) c home
+    homes h j x at home = ap label_there (at_number same_step step_tests_equality s j.naming (expected session j.category h j.naming.number) j.stands (home_of me) c home
         ∙ asked_home session j.category h j.naming.number me ∙ ap (home_object session j.category me) at)
 
     guards : guard_label l.category (process_guard me p) ≡ guard_label l.category (process_guard me q)

@@ -10,7 +10,7 @@ use Rattle.histar_container.proofs.Reaching.{under_reached}
 use Rattle.histar_rules.specs.Sound.{root_number}
 use Rattle.histar_refinement.specs.Addresses.{Step, same_step}
 use Rattle.histar_refinement.specs.LaysOut.{Laid}
-use Rattle.histar_refinement.proofs.Steps.{step_tells}
+use Rattle.histar_refinement.proofs.Steps.{step_tests_equality}
 
 -- each address lies at or below that of the root container
 below_root : (a : Address Step) → under same_step [] a ≡ true
@@ -24,5 +24,5 @@ objects_reached session s f l q is = by (l.naming.address q) refl
     by : (a : Option (Address Step)) → l.naming.address q ≡ a → Reached s.objects root_number q
     by None e = absurd (false≢true (sym (ap is_there (l.stands.tree.as_expected q ∙ ap (wanted (objects_at s.objects l.naming)) e)) ∙ is))
     by (Some a) e =
-        under_reached same_step step_tells s.objects s.next_object (objects_at s.objects l.naming) l.naming l.stands.tree
+        under_reached same_step step_tests_equality s.objects s.next_object (objects_at s.objects l.naming) l.naming l.stands.tree
         root_number [] (l.stands.tree.addressed [] root_number (l.as_booted [] root_number refl)) a q e (below_root a)

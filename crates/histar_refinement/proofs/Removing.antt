@@ -18,7 +18,7 @@ use Rattle.histar_layout.proofs.MapLemmas.{by_bytes, antisymmetric, listable_rem
 use Rattle.histar_object.specs.State.{State, Found, with_bytes}
 use Rattle.histar_container.specs.ObjectsModel.{CutsOff}
 use Rattle.histar_container.specs.Tree.{Address, Naming, wanted, without_below, under, is_under, cut, same, objects_at}
-use Rattle.histar_container.proofs.Addresses.{same_tells, same_itself, same_other, above}
+use Rattle.histar_container.proofs.Addresses.{same_tests_equality, same_itself, same_other, above}
 use Rattle.histar_rules.specs.Rules.{greatest}
 use Rattle.histar_login.specs.Boot.{boot_thread_number}
 use Rattle.histar_flat.specs.Sessions.{Session}
@@ -31,7 +31,7 @@ use Rattle.histar_refinement.specs.Stands.{Stands}
 use Rattle.histar_refinement.specs.Expected.{node_object, listing_object, node_at, listing_at, home_at, status_at, container_inside, thread_at, expected}
 use Rattle.histar_refinement.specs.LaysOut.{AreJobsGiven, Laid, LaysOut}
 use Rattle.histar_refinement.proofs.Places.{address_path, address_process, address_inside, asked_listing}
-use Rattle.histar_refinement.proofs.Steps.{step_tells}
+use Rattle.histar_refinement.proofs.Steps.{step_tests_equality}
 use Rattle.histar_refinement.proofs.Moving.{stands_cut, no_address}
 use Rattle.histar_refinement.proofs.DirectoryLaws.{get_directory}
 use Rattle.histar_refinement.proofs.FileRows.{SameNumbers, not_begun, same_address_path, asked_same, leads_at, directories_alike, same_leads, old_known, old_fits, ClassFits, laid_listed, jobs_kept}
@@ -41,12 +41,12 @@ use Rattle.histar_refinement.proofs.FileRows.{SameNumbers, not_begun, same_addre
 module _ (q : Path) where
   -- the first step of an address decides nothing where no path begins with it
   under_step : (x : Step) (a : Address Step) → path_at (x ∷ a) ≡ None → under same_step (address_of q) (x ∷ a) ≡ under same_step (address_of q) a
-  under_step x a nothing = ap (λ t. t || under same_step (address_of q) a) (same_other same_step step_tells (address_of q) (x ∷ a) (not_begun q a x nothing))
+  under_step x a nothing = ap (λ t. t || under same_step (address_of q) a) (same_other same_step step_tests_equality (address_of q) (x ∷ a) (not_begun q a x nothing))
 
   same_addresses : (r : Path) → same same_step (address_of q) (address_of r) ≡ same_path q r
   same_addresses r = elim (same_path_found q r) [
-    | inl e ↦ ap (λ (z : Path). same same_step (address_of q) (address_of z)) (sym e.1) ∙ same_itself same_step step_tells (address_of q) ∙ sym e.0
-    | inr e ↦ same_other same_step step_tells (address_of q) (address_of r) (λ k. e.1 (same_address_path q r k)) ∙ sym e.0
+    | inl e ↦ ap (λ (z : Path). same same_step (address_of q) (address_of z)) (sym e.1) ∙ same_itself same_step step_tests_equality (address_of q) ∙ sym e.0
+    | inr e ↦ same_other same_step step_tests_equality (address_of q) (address_of r) (λ k. e.1 (same_address_path q r k)) ∙ sym e.0
   ]
 
   not_root : same same_step (address_of q) [] ≡ false
@@ -106,10 +106,10 @@ module _ (session : Session) (s : State) (f : Flat) (l : Laid session s f) (m : 
   }
 
   directory_outside : under_path (m ∷ d) d ≡ false
-  directory_outside = sym (under_address (m ∷ d) d) ∙ above same_step step_tells (address_of d) (Named m)
+  directory_outside = sym (under_address (m ∷ d) d) ∙ above same_step step_tests_equality (address_of d) (Named m)
 
   stands_mid : Stands same_step mid naming (cut same_step old_asked top)
-  stands_mid = stands_cut same_step step_tells s l.naming old_asked l.stands mid D o (address_of d) (Named m) cuts at_entry at_directory
+  stands_mid = stands_cut same_step step_tests_equality s l.naming old_asked l.stands mid D o (address_of d) (Named m) cuts at_entry at_directory
 
   leads_kept : (p : Path) → under_path (m ∷ d) p ≡ false → leads_at f.files l.naming.number p ≡ leads_at after.files naming.number p
   leads_kept p out = same_leads f.files after.files l.naming.number naming.number p p (sym (got_kept p out)) (kept (address_of p) (under_address (m ∷ d) p ∙ out)) (kept (Listing ∷ address_of p) (under_listing (m ∷ d) p ∙ out))
@@ -196,14 +196,14 @@ module _ (session : Session) (s : State) (f : Flat) (l : Laid session s f) (m : 
   not_boot (Left k ∷ x ∷ a) e = refl
   not_boot (Slash ∷ []) e = absurd (true≢false (sym e))
   not_boot (Slash ∷ x ∷ a) e = refl
-  not_boot (Listing ∷ a) e = elim (same_tells same_step step_tells (Slash ∷ []) a) [
+  not_boot (Listing ∷ a) e = elim (same_tests_equality same_step step_tests_equality (Slash ∷ []) a) [
     | inl i ↦ absurd (true≢false (sym e ∙ ap (λ (b : Address Step). under same_step top (Listing ∷ b)) (sym i.1)))
     | inr i ↦ ap (λ t. cond t (Some (5 + 2 * length session.users)) None) i.0
   ]
   not_boot (Named n ∷ a) e = refl
   not_boot (Home ∷ []) e = absurd (true≢false (sym e))
   not_boot (Home ∷ x ∷ a) e = refl
-  not_boot (Status ∷ a) e = elim (same_tells same_step step_tells (Home ∷ []) a) [
+  not_boot (Status ∷ a) e = elim (same_tests_equality same_step step_tests_equality (Home ∷ []) a) [
     | inl i ↦ absurd (true≢false (sym e ∙ ap (λ (b : Address Step). under same_step top (Status ∷ b)) (sym i.1)))
     | inr i ↦ ap (λ t. cond t (Some (9 + 2 * length session.users)) None) i.0
   ]

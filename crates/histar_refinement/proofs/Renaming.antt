@@ -26,7 +26,7 @@ use Rattle.histar_refinement.specs.Stands.{Stands}
 use Rattle.histar_refinement.specs.Expected.{node_object, listing_object, node_at, listing_at, home_at, status_at, container_inside, thread_at, expected}
 use Rattle.histar_refinement.specs.LaysOut.{AreJobsGiven, Laid, LaysOut}
 use Rattle.histar_refinement.proofs.Places.{address_path, asked_listing}
-use Rattle.histar_refinement.proofs.Steps.{step_tells}
+use Rattle.histar_refinement.proofs.Steps.{step_tests_equality}
 use Rattle.histar_refinement.proofs.DirectoryLaws.{get_directory}
 use Rattle.histar_refinement.proofs.Renamings.{renamed_naming, stands_renamed}
 use Rattle.histar_refinement.proofs.FileRows.{SameNumbers, same_status, leads_at, directories_alike, same_leads, nothing_in, old_known, old_fits, ClassFits, laid_listed, jobs_kept}
@@ -60,13 +60,13 @@ module _ (session : Session) (s : State) (f : Flat) (l : Laid session s f) where
     turn = turned_address n k d
 
     abbrev pub naming : Naming Step
-    naming = renamed_naming same_step step_tells (turned_address n k d) (turned_address n k d) (address_back n k d) (address_back n k d) refl (λ x a. (turned_step n k (same_address (address_of d) a) x, refl)) l.naming
+    naming = renamed_naming same_step step_tests_equality (turned_address n k d) (turned_address n k d) (address_back n k d) (address_back n k d) refl (λ x a. (turned_step n k (same_address (address_of d) a) x, refl)) l.naming
 
     abbrev pub asked : Address Step → Found
     asked = λ a. expected session l.category f l.naming.number (turned_address n k d a)
 
     stands_turned : Stands same_step s naming asked
-    stands_turned = stands_renamed same_step step_tells (turned_address n k d) (turned_address n k d) (address_back n k d) (address_back n k d) refl (λ x a. (turned_step n k (same_address (address_of d) a) x, refl)) s l.naming (expected session l.category f l.naming.number) l.stands
+    stands_turned = stands_renamed same_step step_tests_equality (turned_address n k d) (turned_address n k d) (address_back n k d) (address_back n k d) refl (λ x a. (turned_step n k (same_address (address_of d) a) x, refl)) s l.naming (expected session l.category f l.naming.number) l.stands
 
     got : (q : Path) → get after.files q ≡ get f.files (turned n k d q)
     got q = get_renamed n k d f.files (not_under (k ∷ d) absent) q

@@ -4,16 +4,16 @@ use Rattle.std.specs.Prelude.{is_some, option_map}
 use Rattle.std.proofs.lemmas.Option.{none-some, same_Some}
 use Rattle.histar_object.specs.State.{State, Found}
 use Rattle.histar_container.specs.Tree.{Address, Naming, wanted, is_child, same, objects_at}
-use Rattle.histar_container.proofs.Addresses.{TestsEquality, same_tells}
+use Rattle.histar_container.proofs.Addresses.{TestsEquality, same_tests_equality}
 use Rattle.histar_refinement.specs.Stands.{Stands}
 
 module _ {X : Type 0} (same_step : X → X → Bool) (tells : TestsEquality same_step) (to from : Address X → Address X) (there : (a : Address X) → to (from a) ≡ a) (back : (a : Address X) → from (to a) ≡ a)
     (root : from [] ≡ []) (below : (x : X) (a : Address X) → (y : X) × (from (x ∷ a) ≡ y ∷ from a)) where
   -- the test of one address against a new name of another is that of its old name against the other
   pub same_through : (a b : Address X) → same same_step a (to b) ≡ same same_step (from a) b
-  same_through a b = elim (same_tells same_step tells a (to b)) [
-    | inl e ↦ e.0 ∙ by_equal (ap from e.1 ∙ back b) (same_tells same_step tells (from a) b)
-    | inr e ↦ e.0 ∙ by_other (λ k. e.1 (sym (there a) ∙ ap to k)) (same_tells same_step tells (from a) b)
+  same_through a b = elim (same_tests_equality same_step tells a (to b)) [
+    | inl e ↦ e.0 ∙ by_equal (ap from e.1 ∙ back b) (same_tests_equality same_step tells (from a) b)
+    | inr e ↦ e.0 ∙ by_other (λ k. e.1 (sym (there a) ∙ ap to k)) (same_tests_equality same_step tells (from a) b)
   ]
     where
       by_equal : from a ≡ b → (((same same_step (from a) b ≡ true) × (from a ≡ b)) ⊎ ((same same_step (from a) b ≡ false) × (from a ≢ b))) → true ≡ same same_step (from a) b

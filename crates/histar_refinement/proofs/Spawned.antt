@@ -24,7 +24,7 @@ use Rattle.histar_refinement.specs.Expected.{thread_object, expected}
 use Rattle.histar_refinement.specs.LaysOut.{LaysOut, Laid}
 use Rattle.histar_rules.specs.Rules.{greatest}
 use Rattle.histar_refinement.proofs.Places.{asked_runner}
-use Rattle.histar_refinement.proofs.Steps.{step_tells}
+use Rattle.histar_refinement.proofs.Steps.{step_tests_equality}
 use Rattle.histar_refinement.proofs.Moving.{number_below, at_number, bare_is}
 use Rattle.histar_refinement.proofs.Beside.{Beside, beside_itself, beside_added, beside_written, beside_uncounted, own_set, back}
 use Rattle.histar_refinement.proofs.Spawning.{outer, inner, label, clearance, child_written, own_written, laid_born, job_used, given_then}
@@ -39,12 +39,12 @@ module _ (session : Session) (s : State) (f : Flat) (l : Laid session s f) (me :
 
   pub thread_stands : s.objects T ≡ Some (thread_of own_label own_clearance)
   thread_stands = bare_is (s.objects T) (thread_of own_label own_clearance) refl
-      (at_number same_step step_tells s l.naming (expected session l.category f l.naming.number) l.stands (Runner ∷ Inside ∷ home_of me) T at_thread
+      (at_number same_step step_tests_equality s l.naming (expected session l.category f l.naming.number) l.stands (Runner ∷ Inside ∷ home_of me) T at_thread
       ∙ asked_runner session l.category f l.naming.number me ∙ ap (thread_object session l.category me) here
       ∙ ap (λ (e : Option ℕ). elim e as (λ _. Found) [ None ↦ Some (thread_of own_label own_clearance) | Some n ↦ None ]) runs)
 
   pub below_next : T < s.next_object
-  below_next = number_below same_step step_tells s l.naming (expected session l.category f l.naming.number) l.stands (Runner ∷ Inside ∷ home_of me) T at_thread
+  below_next = number_below same_step step_tests_equality s l.naming (expected session l.category f l.naming.number) l.stands (Runner ∷ Inside ∷ home_of me) T at_thread
 
   pub beside_start : Beside T own_label own_clearance s s
   beside_start = beside_itself T own_label own_clearance s below_next thread_stands

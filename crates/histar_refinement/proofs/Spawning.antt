@@ -38,7 +38,7 @@ use Rattle.histar_refinement.proofs.Growing.{new_number, old_number, still_diffe
 use Rattle.histar_refinement.proofs.Places.{path_address, same_home, same_directory, AsksAlike, asked_alike, asked_home, asked_status, asked_inside, asked_runner}
 use Rattle.histar_refinement.proofs.Moving.{number_below, stands_same}
 use Rattle.histar_refinement.proofs.Counting.{boot_used}
-use Rattle.histar_refinement.proofs.Steps.{step_tells}
+use Rattle.histar_refinement.proofs.Steps.{step_tests_equality}
 use Rattle.histar_refinement.proofs.Uses.{keep_node, keep_listing, keep_process_label, keep_home, keep_inside, keep_runner, keep_order}
 use Rattle.histar_refinement.proofs.Birth.{born_state, born_naming, stands_born, number_kept, asks_born, gone_born}
 
@@ -456,7 +456,7 @@ module _ (session : Session) (s : State) (f : Flat) (l : Laid session s f) (me :
   -- the boot thread stays gone
   boot_below : boot_thread_number < s.next_object
   boot_below =
-      let below = number_below same_step step_tells s l.naming old_asked l.stands (Slash ∷ []) (4 + 2 * length session.users) (l.as_booted (Slash ∷ []) (4 + 2 * length session.users) refl) in
+      let below = number_below same_step step_tests_equality s l.naming old_asked l.stands (Slash ∷ []) (4 + 2 * length session.users) (l.as_booted (Slash ∷ []) (4 + 2 * length session.users) refl) in
       omega (arith, below)
 
   gone_then : state_born.objects boot_thread_number ≡ None

@@ -27,7 +27,7 @@ use Rattle.histar_refinement.specs.Directories.{directory_of}
 use Rattle.histar_refinement.specs.Stands.{kind_bare, bare}
 use Rattle.histar_refinement.specs.Expected.{container, segment, content_kind, guarded_object, node_object, listing_object, thread_object, expected}
 use Rattle.histar_refinement.specs.LaysOut.{Laid}
-use Rattle.histar_refinement.proofs.Steps.{step_tells}
+use Rattle.histar_refinement.proofs.Steps.{step_tests_equality}
 use Rattle.histar_refinement.proofs.Moving.{bare_is, at_number}
 use Rattle.histar_refinement.proofs.Places.{asked_runner, asked_path, asked_listing}
 use Rattle.histar_refinement.proofs.FileRows.{numbered_path, nothing_in}
@@ -63,7 +63,7 @@ module _ (session : Session) (s : State) (f : Flat) (l : Laid session s f) where
   pub thread_found : (me : ProcName) (p : Process) → f.processes me ≡ Some p → p.exited ≡ None → (t : ℕ) → l.naming.number (Runner ∷ Inside ∷ home_of me) ≡ Some t
       → s.objects t ≡ Some (thread_of (rights_label l.category (thread_rights session me p)) (rights_clearance l.category (thread_rights session me p)))
   thread_found me p here running t at_thread = bare_is (s.objects t) (thread_of (rights_label l.category (thread_rights session me p)) (rights_clearance l.category (thread_rights session me p))) refl
-      (at_number same_step step_tells s l.naming asked l.stands (Runner ∷ Inside ∷ home_of me) t at_thread
+      (at_number same_step step_tests_equality s l.naming asked l.stands (Runner ∷ Inside ∷ home_of me) t at_thread
       ∙ asked_runner session l.category f l.naming.number me ∙ ap (thread_object session l.category me) here
       ∙ (λ i. elim (running i) as (λ _. Found) [ None ↦ Some (thread_of (rights_label l.category (thread_rights session me p)) (rights_clearance l.category (thread_rights session me p))) | Some n ↦ None ]))
 
@@ -75,7 +75,7 @@ module _ (session : Session) (s : State) (f : Flat) (l : Laid session s f) where
   pub path_stands : (q : Path) (there : Node) → get f.files q ≡ Some there → (g : Guard) → class_guard session there.class ≡ Some g → (o : ℕ) → l.naming.number (address_of q) ≡ Some o
       → bare (s.objects o) ≡ Some (record { label = guard_label l.category g; kind = content_kind there.content })
   path_stands q there at g is o at_object =
-      at_number same_step step_tells s l.naming asked l.stands (address_of q) o at_object
+      at_number same_step step_tests_equality s l.naming asked l.stands (address_of q) o at_object
       ∙ asked_path session l.category f l.naming.number q ∙ ap (node_object session l.category) at ∙ ap (guarded_object session l.category (content_kind there.content)) is
 
   -- a file
@@ -91,7 +91,7 @@ module _ (session : Session) (s : State) (f : Flat) (l : Laid session s f) where
     -- its directory segment
     pub listing_found : (N : ℕ) → l.naming.number (Listing ∷ address_of d) ≡ Some N → s.objects N ≡ segment (guard_label l.category g) (spelling (directory_of f.files l.naming.number d))
     listing_found N at_listing = bare_is (s.objects N) (record { label = guard_label l.category g; kind = Segment (spelling (directory_of f.files l.naming.number d)) }) refl
-        (at_number same_step step_tells s l.naming asked l.stands (Listing ∷ address_of d) N at_listing
+        (at_number same_step step_tests_equality s l.naming asked l.stands (Listing ∷ address_of d) N at_listing
         ∙ asked_listing session l.category f l.naming.number d ∙ ap (listing_object session l.category (spelling (directory_of f.files l.naming.number d))) at
         ∙ ap (guarded_object session l.category (Segment (spelling (directory_of f.files l.naming.number d)))) is)
 
@@ -100,7 +100,7 @@ module _ (session : Session) (s : State) (f : Flat) (l : Laid session s f) where
   step_linked x a above below at_above at_below =
       l.stands.tree.links above below a (l.stands.tree.addressed a above at_above)
       ∙ ap (is_child same_step a) (l.stands.tree.addressed (x ∷ a) below at_below)
-      ∙ same_itself same_step step_tells a
+      ∙ same_itself same_step step_tests_equality a
 
   -- what has a directory segment is a directory
   pub listed_is_dir : (d : Path) → is_some (l.naming.number (Listing ∷ address_of d)) ≡ true → (class : Class) × (get f.files d ≡ Some (record { class = class; content = Dir }))

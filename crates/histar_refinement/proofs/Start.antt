@@ -22,7 +22,7 @@ use Rattle.histar_object.specs.declared.objects.Entry.TheVariants.{Login}
 use Rattle.histar_object.specs.Objects.{Objects, is_there, thread_of}
 use Rattle.histar_object.specs.State.{Found}
 use Rattle.histar_container.specs.Tree.{Address, objects_at}
-use Rattle.histar_container.proofs.Addresses.{same_tells}
+use Rattle.histar_container.proofs.Addresses.{same_tests_equality}
 use Rattle.histar_calls.specs.Categories.{write_category}
 use Rattle.histar_calls.specs.Labelling.{written_by, guarded_by, owner_label, cleared_at}
 use Rattle.histar_login.specs.Start.{numbered, declared, of_user, of_users, of_directory, of_process, user_table, start_objects, start_state, object_at, process_bytes, own_read_category, own_write_category}
@@ -43,7 +43,7 @@ use Rattle.histar_refinement.specs.Directories.{directory_of}
 use Rattle.histar_refinement.specs.Stands.{bare, Stands}
 use Rattle.histar_refinement.specs.Expected.{container, segment, node_object, listing_object, guarded_object, node_at, listing_at, home_at, status_at, container_inside, thread_at, expected}
 use Rattle.histar_refinement.specs.LaysOut.{IsInOrder, IsProcess, Laid, LaysOut}
-use Rattle.histar_refinement.proofs.Steps.{step_tells}
+use Rattle.histar_refinement.proofs.Steps.{step_tests_equality}
 use Rattle.histar_refinement.proofs.Places.{address_process, address_inside}
 use Rattle.histar_refinement.proofs.StartNumbers.{is_left, process_address, inside_address, start_number}
 use Rattle.histar_refinement.proofs.StartNames.{place_of_number}
@@ -224,7 +224,7 @@ module _ (session : Session) (some_user : 0 < length session.users) where
 
   -- what is asked for at process 0, and nothing at any other
   process_wish : (ask : Option ProcName → Found) (y : Found) → ask None ≡ None → ask (Some []) ≡ y → ((n : ℕ) (q : ProcName) → ask (Some (n ∷ q)) ≡ None) → (a : Address Step) → ask (process_at a) ≡ if_at process_address a y
-  process_wish ask y nowhere here others a = elim (same_tells same_step step_tells process_address a) [
+  process_wish ask y nowhere here others a = elim (same_tests_equality same_step step_tests_equality process_address a) [
     | inl e ↦ ap (λ (b : Address Step). ask (process_at b)) (sym e.1) ∙ here ∙ sym (ap (λ t. cond t y None) e.0)
     | inr e ↦ by (process_at a) refl e.1 ∙ sym (ap (λ t. cond t y None) e.0)
   ]
@@ -235,7 +235,7 @@ module _ (session : Session) (some_user : 0 < length session.users) where
       by (Some (n ∷ q)) is other = others n q
 
   inside_wish : (ask : Option ProcName → Found) (y : Found) → ask None ≡ None → ask (Some []) ≡ y → ((n : ℕ) (q : ProcName) → ask (Some (n ∷ q)) ≡ None) → (a : Address Step) → ask (inside_at a) ≡ if_at inside_address a y
-  inside_wish ask y nowhere here others a = elim (same_tells same_step step_tells inside_address a) [
+  inside_wish ask y nowhere here others a = elim (same_tests_equality same_step step_tests_equality inside_address a) [
     | inl e ↦ ap (λ (b : Address Step). ask (inside_at b)) (sym e.1) ∙ here ∙ sym (ap (λ t. cond t y None) e.0)
     | inr e ↦ by (inside_at a) refl e.1 ∙ sym (ap (λ t. cond t y None) e.0)
   ]

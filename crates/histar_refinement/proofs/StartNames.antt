@@ -4,11 +4,11 @@ use Rattle.std.specs.Prelude.{nat_le}
 use Rattle.std.proofs.lemmas.Bool.Decides.{leb_tells, nat_tests}
 use Rattle.std.proofs.lemmas.Option.{same_Some}
 use Rattle.histar_container.specs.Tree.{Address}
-use Rattle.histar_container.proofs.Addresses.{same_tells}
+use Rattle.histar_container.proofs.Addresses.{same_tests_equality}
 use Rattle.histar_refinement.specs.Addresses.{Step, same_step, if_at}
 use Rattle.histar_refinement.proofs.StartNumbers.{is_left, process_address, inside_address, start_number}
 use Rattle.histar_refinement.specs.Addresses.Step.{Left, Slash, Listing, Named, Home, Status, Inside, Runner, Child}
-use Rattle.histar_refinement.proofs.Steps.{step_tells}
+use Rattle.histar_refinement.proofs.Steps.{step_tests_equality}
 
 -- the addresses of `/`, its directory segment, and what makes up process 0, one after another
 abbrev pub later_address : ℕ → Option (Address Step)
@@ -125,7 +125,7 @@ module _ (n : ℕ) where
 
   -- what is at an address is there under no other address, and has its value
   at_here : {A : Type 0} (here a : Address Step) (x : Option A) (q : A) → if_at here a x ≡ Some q → (here ≡ a) × (x ≡ Some q)
-  at_here here a x q h = elim (same_tells same_step step_tells here a) [
+  at_here here a x q h = elim (same_tests_equality same_step step_tests_equality here a) [
     | inl e ↦ (e.1, sym (ap (λ b. if b then x else None) e.0) ∙ h)
     | inr e ↦ let k : None ≡ Some q = sym (ap (λ b. if b then x else None) e.0) ∙ h in absurd cc
   ]

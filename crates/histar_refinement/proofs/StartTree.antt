@@ -17,7 +17,7 @@ use Rattle.histar_login.specs.Start.{start_objects, start_state, object_at}
 use Rattle.histar_refinement.specs.Addresses.{Step, same_step}
 use Rattle.histar_refinement.proofs.StartNumbers.{process_address, inside_address, start_number}
 use Rattle.histar_refinement.specs.Addresses.Step.{Left, Slash, Listing, Status, Runner}
-use Rattle.histar_refinement.proofs.Steps.{step_tells}
+use Rattle.histar_refinement.proofs.Steps.{step_tests_equality}
 use Rattle.histar_refinement.proofs.StartNames.{start_address, Place, on_root, on_left, on_slash, on_listing, on_home, on_inside, on_runner, on_status, IsFree, Seen, placed, unplaced, seen, place_of_address, address_of_place, number_of_place, place_of_number}
 use Rattle.histar_refinement.proofs.StartTable.{left_plain, slash_stands, listing_stands, home_stands, inside_stands, runner_stands, status_stands, none_behind, length_start}
 
@@ -43,13 +43,13 @@ module _ (n : ℕ) where
   -- a number is the one of an address exactly where it has this address
   number_is : (m c : ℕ) (here : Address Step) → Place n here m → nat_eq m c ≡ is_this here (start_address n c)
   number_is m c here p = elim (eqb_tells m c) [
-    | inl e ↦ e.0 ∙ sym (ap (is_this here) (sym (ap (start_address n) e.1) ∙ address_of_place n m here p) ∙ same_itself same_step step_tells here)
+    | inl e ↦ e.0 ∙ sym (ap (is_this here) (sym (ap (start_address n) e.1) ∙ address_of_place n m here p) ∙ same_itself same_step step_tests_equality here)
     | inr e ↦ e.0 ∙ sym (by e.1 (start_address n c) refl)
   ]
     where
       by : m ≢ c → (found : Option (Address Step)) → start_address n c ≡ found → is_this here found ≡ false
       by other None e = refl
-      by other (Some b) e = same_other same_step step_tells here b (λ r.
+      by other (Some b) e = same_other same_step step_tests_equality here b (λ r.
           let numbers : Some m ≡ Some c = sym (number_of_place n m here p) ∙ ap (start_number n) r ∙ number_of_place n c b (place_of_address n c b e) in
           other (same_Some m c numbers))
 

@@ -36,8 +36,8 @@ join_split Runner = refl
 join_split (Child n) = refl
 
 -- whether two steps are the same tells whether they are equal
-pub step_tells : TestsEquality same_step
-step_tells x y = elim (eqb_tells (split_step x).0 (split_step y).0) [
+pub step_tests_equality : TestsEquality same_step
+step_tests_equality x y = elim (eqb_tells (split_step x).0 (split_step y).0) [
   | inl kind ↦ elim (same_name_found (split_step x).1 (split_step y).1) [
     | inl rest ↦ inl (and_from _ _ kind.0 rest.0, sym (join_split x) ∙ (λ i. join_step (kind.1 i) (rest.1 i)) ∙ join_split y)
     | inr rest ↦ inr (and_right _ _ rest.0, λ same. rest.1 (ap (λ z. (split_step z).1) same))

@@ -12,11 +12,11 @@ use Rattle.histar_flat.specs.Files.{Files, get, from_list}
 use Rattle.histar_flat.proofs.FileLemmas.{same_name_found, same_path_found, get-insert, ties}
 use Rattle.histar_flat.proofs.Finding.{first, second, find_first, find_later}
 use Rattle.histar_container.specs.Tree.{Address}
-use Rattle.histar_container.proofs.Addresses.{same_tells, same_itself, same_other}
+use Rattle.histar_container.proofs.Addresses.{same_tests_equality, same_itself, same_other}
 use Rattle.histar_flat.specs.FlatState.{moved}
 use Rattle.histar_refinement.specs.Addresses.{Step, same_step, same_address, address_of, home_of, path_at, process_at, inside_at}
 use Rattle.histar_refinement.specs.Addresses.Step.{Left, Slash, Listing, Named, Home, Status, Inside, Runner, Child}
-use Rattle.histar_refinement.proofs.Steps.{step_tells}
+use Rattle.histar_refinement.proofs.Steps.{step_tests_equality}
 use Rattle.histar_refinement.proofs.Places.{address_path}
 use Rattle.histar_refinement.proofs.FileRows.{same_address_path}
 
@@ -157,22 +157,22 @@ module _ (n k : Name) where
     turned_address = turned_list same_address (address_of d) turned_step
 
     pub address_back : (a : Address Step) → turned_address (turned_address a) ≡ a
-    address_back = turned_back same_address (same_tells same_step step_tells) (address_of d) turned_step step_still step_back
+    address_back = turned_back same_address (same_tests_equality same_step step_tests_equality) (address_of d) turned_step step_still step_back
 
     pub directory_stays : turned d ≡ d
     directory_stays = top_stays same_path same_path_found d turned_name (λ m. refl) name_back
 
     pub address_stays : turned_address (address_of d) ≡ address_of d
-    address_stays = top_stays same_address (same_tells same_step step_tells) (address_of d) turned_step step_still step_back
+    address_stays = top_stays same_address (same_tests_equality same_step step_tests_equality) (address_of d) turned_step step_still step_back
 
     pub same_tests : (a b : Address Step) → same_address a (turned_address b) ≡ same_address (turned_address a) b
-    same_tests = turned_tests same_address (same_tells same_step step_tells) (address_of d) turned_step step_still step_back
+    same_tests = turned_tests same_address (same_tests_equality same_step step_tests_equality) (address_of d) turned_step step_still step_back
 
     -- a path's address turns with the path
     same_places : (e : Path) → same_address (address_of d) (address_of e) ≡ same_path d e
     same_places e = elim (same_path_found d e) [
-      | inl t ↦ ap (λ (z : Path). same_address (address_of d) (address_of z)) (sym t.1) ∙ same_itself same_step step_tells (address_of d) ∙ sym t.0
-      | inr t ↦ same_other same_step step_tells (address_of d) (address_of e) (λ i. t.1 (same_address_path d e i)) ∙ sym t.0
+      | inl t ↦ ap (λ (z : Path). same_address (address_of d) (address_of z)) (sym t.1) ∙ same_itself same_step step_tests_equality (address_of d) ∙ sym t.0
+      | inr t ↦ same_other same_step step_tests_equality (address_of d) (address_of e) (λ i. t.1 (same_address_path d e i)) ∙ sym t.0
     ]
 
     pub turned_path_address : (q : Path) → turned_address (address_of q) ≡ address_of (turned q)

@@ -11,7 +11,7 @@ use Rattle.histar_layout.specs.Directory.{IsListable, spelling}
 use Rattle.histar_object.specs.Objects.{Objects, changed_at, holding}
 use Rattle.histar_object.specs.State.{State, Found, with_bytes}
 use Rattle.histar_container.specs.Tree.{Address, set_at}
-use Rattle.histar_container.proofs.Addresses.{same_tells}
+use Rattle.histar_container.proofs.Addresses.{same_tests_equality}
 use Rattle.histar_container.proofs.Trees.{kind_held_links}
 use Rattle.histar_login.specs.Boot.{boot_thread_number}
 use Rattle.histar_flat.specs.Sessions.{Session}
@@ -23,7 +23,7 @@ use Rattle.histar_refinement.specs.Directories.{target_for, directory_of}
 use Rattle.histar_refinement.specs.Stands.{Stands}
 use Rattle.histar_refinement.specs.Expected.{node_object, listing_object, listing_at, expected}
 use Rattle.histar_refinement.specs.LaysOut.{AreJobsGiven, Laid, LaysOut}
-use Rattle.histar_refinement.proofs.Steps.{step_tells}
+use Rattle.histar_refinement.proofs.Steps.{step_tests_equality}
 use Rattle.histar_refinement.proofs.Moving.{bare_held, stands_changed, stands_same}
 use Rattle.histar_refinement.proofs.Places.{asked_path}
 use Rattle.histar_refinement.proofs.FileRows.{asked_same, held_node, leads_at, directories_alike, same_leads, ClassFits, AreKnown, old_known, old_fits, jobs_kept, laid_files}
@@ -60,10 +60,10 @@ module _ (session : Session) (s : State) (f : Flat) (l : Laid session s f) (q : 
   ]
 
   stands_then : Stands same_step (with_bytes s O bytes) l.naming (set_at same_step old_asked (address_of q) (option_map (holding bytes) (old_asked (address_of q))))
-  stands_then = stands_changed same_step step_tells s l.naming old_asked l.stands O (address_of q) (holding bytes) at_file (λ x. kind_held_links bytes x.kind) (bare_held bytes)
+  stands_then = stands_changed same_step step_tests_equality s l.naming old_asked l.stands O (address_of q) (holding bytes) at_file (λ x. kind_held_links bytes x.kind) (bare_held bytes)
 
   asks : (a : Address Step) → set_at same_step old_asked (address_of q) (option_map (holding bytes) (old_asked (address_of q))) a ≡ expected session l.category after l.naming.number a
-  asks a = elim (same_tells same_step step_tells (address_of q) a) [
+  asks a = elim (same_tests_equality same_step step_tests_equality (address_of q) a) [
     | inl e ↦
         ap (λ (t : Bool). if t then option_map (holding bytes) (old_asked (address_of q)) else old_asked a) e.0
         ∙ ap (option_map (holding bytes)) (asked_path session l.category f l.naming.number q ∙ ap (node_object session l.category) at) ∙ held_node session l.category old bytes class

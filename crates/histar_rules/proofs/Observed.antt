@@ -1,5 +1,5 @@
 -- What the checks of a call say of the thread and the container that were found.
-use Rattle.std.proofs.Common.{◌≡◌, ℕ, Bool, true, false, List, Option, None, Some, Result, Ok, Err, IsSome, refl, sym, ap, ◌∙◌, subst}
+use Rattle.std.proofs.Common.{◌≡◌, ℕ, Bool, true, false, List, Option, None, Some, Result, Ok, Err, IsSome, refl, sym, ap, ◌∙◌}
 use Rattle.std.specs.Prelude.{option_map, ◌&&◌}
 use Rattle.std.specs.FinSet as set
 use Rattle.std.specs.Result.{IsErrAnd}
@@ -18,29 +18,16 @@ use Rattle.histar_container.proofs.Shows.{shows}
 use Rattle.histar_container.proofs.KeepingTrees.{there_by}
 use Rattle.histar_rules.specs.declared.raw.Denied.{Denied}
 use Rattle.histar_rules.specs.declared.raw.Denied.TheVariants.{NoThread, NoEntry, BadKind, Observe, Modify}
-use Rattle.histar_rules.specs.declared.raw.Refusal.{Refusal}
-use Rattle.histar_rules.specs.declared.raw.Refusal.TheVariants as refusals
 use Rattle.histar_rules.specs.Finds.{container_of, gate_of, state_shown}
-use Rattle.histar_rules.specs.Rules.{no_container, no_making, no_link, FailsAt, FailsAtUnlessExhausted}
+use Rattle.histar_rules.specs.Rules.{no_container, no_making, no_link, FailsAt}
 use Rattle.histar_rules.proofs.Passing.{unless_none}
 
--- a check tells the denial that it answers
-pub told : {A : Type 0} (failing : Option Denied) (denied : Denied) (r : Result A Denied) → IsErrAnd r (λ e. e ≡ denied) → failing ≡ Some denied → FailsAt failing r
-told failing denied (Ok x) is e = absurd is
-told failing denied (Err other) is e = e ∙ ap (λ (d : Denied). Some d) (sym is)
+-- a check that answers the denial of its first failing part fails there
+pub fails_at_denial : {A : Type 0} (failing : Option Denied) (denied : Denied) (r : Result A Denied) → IsErrAnd r (λ e. e ≡ denied) → failing ≡ Some denied → FailsAt failing r
+fails_at_denial failing denied (Ok x) is e = absurd is
+fails_at_denial failing denied (Err other) is e = e ∙ ap (λ (d : Denied). Some d) (sym is)
 
--- and where memory may run out too
-pub told_as_refusal : {A : Type 0} (failing : Option Denied) (denied : Denied) (r : Result A Refusal) → IsErrAnd r (λ e. e ≡ refusals.Denied denied) → failing ≡ Some denied → FailsAtUnlessExhausted failing r
-told_as_refusal failing denied (Ok x) is e = absurd is
-told_as_refusal {A} failing denied (Err other) is e = subst (λ (x : Refusal). FailsAtUnlessExhausted {A = A} failing (Err x)) (sym is) e
-
--- what an earlier check told is told
-pub told_on : {A : Type 0} (failing : Option Denied) (refusal : Refusal) (r : Result A Refusal) → IsErrAnd r (λ e. e ≡ refusal) → FailsAtUnlessExhausted {A = Unit {0}} failing (Err refusal) → FailsAtUnlessExhausted failing r
-told_on failing refusal (Ok x) is tells = absurd is
-told_on {A} failing (refusals.Denied denied) (Err other) is tells = subst (λ (x : Refusal). FailsAtUnlessExhausted {A = A} failing (Err x)) (sym is) tells
-told_on {A} failing refusals.OutOfMemory (Err other) is tells = subst (λ (x : Refusal). FailsAtUnlessExhausted {A = A} failing (Err x)) (sym is) tt
-
--- what refuses first tells
+-- so does one with more parts behind it
 pub behind_refusal : {A : Type 0} (failing later : Option Denied) (denied : Denied) (r : Result A Denied) → failing ≡ Some denied → IsErrAnd r (λ e. e ≡ denied) → FailsAt (failing orelse later) r
 behind_refusal failing later denied (Ok x) e is = absurd is
 behind_refusal failing later denied (Err other) e is = ap (λ (f : Option Denied). f orelse later) e ∙ ap (λ (d : Denied). Some d) (sym is)

@@ -190,7 +190,7 @@ impl<S: LabelStore + Drop> LabelledObjects<S> {
         )
     }
 
-    /// The checks of entering a gate, which want memory: where they pass, what the gate gives.
+    /// The checks of entering a gate: where they pass, what the gate gives.
     pub fn check_enter(
         &mut self,
         thread: ObjId,
@@ -199,8 +199,8 @@ impl<S: LabelStore + Drop> LabelledObjects<S> {
         wanted: &Label,
         clearance: &Label,
         shown: &Label,
-    ) -> Result<Entry, Refusal>
-        ensures answer { FailsAtUnlessExhausted
+    ) -> Result<Entry, Denied>
+        ensures answer { FailsAt
             (check (state_of self.old) thread (calls.Enter container gate wanted.now clearance.now shown.now)) result }
         ensures entry { IfOk result (IsEntryOf self.old gate) }
         ensures unchanged { self.new ≡ self.old }

@@ -7,7 +7,7 @@ ghost use Rattle.histar_label.specs.Store.{label_at};
 ghost use Rattle.histar_object.specs.Objects.{objects_of, label_there, bytes_there, entry_there, is_segment, is_thread, is_gate};
 ghost use Rattle.histar_container.specs.Shown.{AllStand};
 ghost use Rattle.histar_rules.specs.Finds.{state_shown, state_with, segment_of, gate_of};
-ghost use Rattle.histar_rules.specs.Rules.{check, fits_segment, FailsAt, FailsAtUnlessExhausted};
+ghost use Rattle.histar_rules.specs.Rules.{check, fits_segment, FailsAt};
 ghost use Rattle.histar_rules.specs.declared.raw.RawCall.TheVariants as calls;
 ghost use Rattle.histar_rules.specs.declared.raw.Denied.TheVariants.{BadKind, Modify, TooBig};
 
@@ -15,7 +15,7 @@ use crate::checks::require;
 use crate::limits::{Next, fits};
 use crate::lookup::{labels_in, linked_in};
 use crate::ranges::{Opening, check_opening};
-use crate::raw::{Denied, Refusal};
+use crate::raw::Denied;
 use histar_base::Bytes;
 use histar_label::{Label, LabelStore};
 use histar_object::{Entry, Kind, ObjId, Table};
@@ -160,7 +160,7 @@ fn label_unless_thread<L: Copy>(table: &Table<L>, object: ObjId) -> Result<Optio
     }
 }
 
-/// The checks of entering a gate, which want memory: where they pass, what the gate gives.
+/// The checks of entering a gate: where they pass, what the gate gives.
 pub(crate) fn enter_in<S: LabelStore>(
     store: &mut S,
     table: &Table<S::Id>,
@@ -171,9 +171,9 @@ pub(crate) fn enter_in<S: LabelStore>(
     wanted: &Label,
     clearance: &Label,
     shown: &Label,
-) -> Result<Entry, Refusal>
+) -> Result<Entry, Denied>
     requires { AllStand (S.labels store.old) (objects_of table.now) }
-    ensures answer { FailsAtUnlessExhausted
+    ensures answer { FailsAt
         (check (state_with (S.labels store.old) table.now next) thread (calls.Enter container gate wanted.now clearance.now shown.now)) result }
     ensures entry { IfOk result (λ entry. Some entry ≡ entry_there (objects_of table.now gate)) }
     ensures unchanged { S.labels store.new ≡ S.labels store.old }

@@ -1,15 +1,15 @@
 //! The ranges in which a thread chooses labels, of itself, of what it makes, and behind a gate.
-ghost use Rattle.std.specs.Prelude.{◌≡◌, ◌&&◌, not, nat_lt, IfOk};
+ghost use Rattle.std.specs.Prelude.{◌≡◌, ◌&&◌, not, nat_lt};
 ghost use Rattle.histar_base.specs.Refusals.{unless, ◌orelse◌};
 ghost use Rattle.histar_label.specs.Levels.{is_below, is_made, has_star};
 ghost use Rattle.histar_rules.specs.Rights.{lies_between};
-ghost use Rattle.histar_rules.specs.Rules.{fits_segment, greatest, FailsAt, FailsAtUnlessExhausted};
+ghost use Rattle.histar_rules.specs.Rules.{fits_segment, greatest, FailsAt};
 ghost use Rattle.histar_rules.specs.declared.raw.Denied.TheVariants.{Range, Gate, TooBig};
 
 use crate::checks::require;
 use crate::limits::{Next, fits};
-use crate::raw::{Denied, Refusal};
-use histar_label::{Label, OutOfMemory};
+use crate::raw::Denied;
+use histar_label::Label;
 
 /// The labels of a thread that would enter a gate, and the gate's.
 #[derive(Clone, Copy)]
@@ -40,16 +40,12 @@ pub(crate) fn in_span(own: &Label, own_clearance: &Label, label: &Label, clearan
 
 /// Whether a label is above the floor of two labels, and a clearance between it and the join of two
 /// clearances.
-fn lies_between(opening: Opening, label: &Label, clearance: &Label) -> Result<bool, OutOfMemory>
-    ensures { IfOk result (λ passes. passes ≡
-        lies_between opening.entry.own.now opening.entry.gate_label.now label.now clearance.now opening.entry.own_clearance.now opening.entry.gate_clearance.now) }
+fn lies_between(opening: Opening, label: &Label, clearance: &Label) -> bool
+    ensures { result ≡ lies_between opening.entry.own.now opening.entry.gate_label.now label.now clearance.now opening.entry.own_clearance.now opening.entry.gate_clearance.now }
 {
-    let floor = opening.own.floor(opening.gate_label)?;
-    Ok(
-        floor.below(label)
-            && label.below(clearance)
-            && clearance.below_join(opening.own_clearance, opening.gate_clearance),
-    )
+    opening.own.floor_below(opening.gate_label, label)
+        && label.below(clearance)
+        && clearance.below_join(opening.own_clearance, opening.gate_clearance)
 }
 
 /// The last checks of the making of an object that owns nothing and holds so many bytes: its label,
@@ -97,15 +93,15 @@ pub(crate) fn check_new_owner(
 /// The last checks of entering a gate: whether the gate lets a thread in that shows a label, and gives
 /// it the label and the clearance that it wants. What the thread or the gate owns it may own;
 /// elsewhere the label is at least both labels, so that no taint is lost, and the clearance is at
-/// most the greater of both clearances. They want memory for the least such label.
+/// most the greater of both clearances.
 pub(crate) fn check_opening(
     opening: Opening,
     wanted: &Label,
     clearance: &Label,
     shown: &Label,
     next: Next,
-) -> Result<(), Refusal>
-    ensures { FailsAtUnlessExhausted (unless (is_below opening.entry.own.now opening.entry.gate_clearance.now) Gate
+) -> Result<(), Denied>
+    ensures { FailsAt (unless (is_below opening.entry.own.now opening.entry.gate_clearance.now) Gate
         orelse unless (is_below opening.entry.own.now shown.now) Gate
         orelse unless (lies_between opening.entry.own.now opening.entry.gate_label.now wanted.now clearance.now opening.entry.own_clearance.now opening.entry.gate_clearance.now) Range
         orelse unless (is_made next.category wanted.now) Range
@@ -114,9 +110,8 @@ pub(crate) fn check_opening(
 {
     require(opening.own.below(opening.gate_clearance), Denied::Gate)?;
     require(opening.own.below(shown), Denied::Gate)?;
-    require(lies_between(opening, wanted, clearance)?, Denied::Range)?;
+    require(lies_between(opening, wanted, clearance), Denied::Range)?;
     require(wanted.names_only_made(next.category), Denied::Range)?;
     require(clearance.names_only_made(next.category), Denied::Range)?;
-    require(shown.names_only_made(next.category), Denied::Range)?;
-    Ok(())
+    require(shown.names_only_made(next.category), Denied::Range)
 }

@@ -58,7 +58,7 @@ pub tree_begun : (options : Options) (m : MachineModel) (old new : Option (List 
 tree_begun options m old new begun =
     let trace = asked_trace options m.kernel.trace in (
       begun.0 ++ trace,
-      record { tree = begun.0; tells = begun.1; parts = refl },
+      record { tree = begun.0; prints = begun.1; parts = refl },
       (begun.2.0 ++ trace, record { front = begun.2.1.front; parts = ap (λ (t : List ℕ). t ++ trace) begun.2.1.parts ∙ simp append_assoc; appended = begun.2.1.appended }),
     )
 
@@ -66,13 +66,13 @@ tree_begun options m old new begun =
 pub trace_begun : (options : Options) (m : MachineModel) (old mid new : Option (List ℕ)) (trace : List ℕ) → trace ≡ asked_trace options m.kernel.trace → AppendsTree options m old mid → AppendsFront mid new trace → BeginsTheEnding options m old new
 trace_begun options m old mid new trace same tree begun = (
   tree.0 ++ trace,
-  record { tree = tree.0; tells = tree.1; parts = ap (λ (t : List ℕ). tree.0 ++ t) same },
+  record { tree = tree.0; prints = tree.1; parts = ap (λ (t : List ℕ). tree.0 ++ t) same },
   subst (AppendsFront old new) (ap (λ (t : List ℕ). tree.0 ++ t) (append-nil trace)) (front_after old mid new tree.0 trace [] tree.2 begun),
 )
 
 -- the tree, and then the trace
 pub ending_written : (options : Options) (m : MachineModel) (old mid new : Option (List ℕ)) (trace : List ℕ) → trace ≡ asked_trace options m.kernel.trace → AppendsTree options m old mid → Appends mid new trace → AppendsEnding options m old new
-ending_written options m old mid new trace same tree whole = (tree.0 ++ trace, record { tree = tree.0; tells = tree.1; parts = ap (λ (t : List ℕ). tree.0 ++ t) same }, Appends-trans old mid new tree.0 trace tree.2 whole)
+ending_written options m old mid new trace same tree whole = (tree.0 ++ trace, record { tree = tree.0; prints = tree.1; parts = ap (λ (t : List ℕ). tree.0 ++ t) same }, Appends-trans old mid new tree.0 trace tree.2 whole)
 
 -- where the tree is asked for, the text of the machine's tree is the one that is
 pub tree_told : (b : Bool) (m : MachineModel) (tree : List TreeNode) → b ≡ true → IsTreeIn m tree → IsAsked b (PrintsTree m) (tree_text (lines_at (state m.kernel) tree))

@@ -172,7 +172,7 @@ module _ (rows : LinesAreRows) (script : Reading) (declared : IsDeclared script.
     whole_is old replied end answered ending ends trace recorded =
         let of_trace = asked_trace options trace in
         (λ i. replies_are old replied end answered i ++ ends.parts i)
-        ∙ (λ i. answers_text (meaning script.session script.calls) ++ (tree_asked script.session end last (shows_last old replied end answered) shallow options.tree ends.tree ends.tells i ++ asked_trace options (sym recorded i)))
+        ∙ (λ i. answers_text (meaning script.session script.calls) ++ (tree_asked script.session end last (shows_last old replied end answered) shallow options.tree ends.tree ends.prints i ++ asked_trace options (sym recorded i)))
         ∙ sym (append_assoc (answers_text (meaning script.session script.calls)) (asked_tree options last) of_trace)
 
     -- all lines were answered

@@ -42,5 +42,5 @@ module _ (session : Session) (m : MachineModel) (f : Flat) (shows : Shows sessio
 
   -- so where the tree is asked for, the text that tells it is that of the flat state
   pub tree_asked : (b : Bool) (text : List ℕ) → IsAsked b (PrintsTree m) text → text ≡ (if b then tree_text (flat_lines f) else [])
-  tree_asked true text tells = tells.2 ∙ ap tree_text (same_lines tells.0 tells.1)
-  tree_asked false text tells = tells
+  tree_asked true text prints = prints.2 ∙ ap tree_text (same_lines prints.0 prints.1)
+  tree_asked false text prints = prints

@@ -36,7 +36,7 @@ asked_trace options trace = if options.trace then trace_text trace else []
 -- what stands behind the replies of a machine
 pub record IsEnding (options : Options) (m : MachineModel) (text : List ℕ) : Type 0 where
   pub tree : List ℕ
-  pub tells : IsAsked options.tree (PrintsTree m) tree
+  pub prints : IsAsked options.tree (PrintsTree m) tree
   pub parts : text ≡ tree ++ asked_trace options m.kernel.trace
 
 -- the tree of a machine was written, where it is asked for

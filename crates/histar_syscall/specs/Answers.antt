@@ -40,5 +40,5 @@ answer_before_lending s t call = answer s t call
 
 -- the answer is the one that the state gives, by how a read tells its bytes
 abbrev pub IsRightAnswer : Reading → State → ℕ → RawCall → Answer → Type 0
-IsRightAnswer Copied s t call told = answer s t call ≡ Some told
-IsRightAnswer Lent s t call told = answer_before_lending s t call ≡ Some told
+IsRightAnswer Copied s t call answered = answer s t call ≡ Some answered
+IsRightAnswer Lent s t call answered = answer_before_lending s t call ≡ Some answered

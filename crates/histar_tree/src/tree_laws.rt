@@ -24,7 +24,7 @@ pub fn flat_states_are_resolved()
     ensures { FlatStatesAreResolved }
 {}
 
-/// A state that lays out a flat state has processes, which shows what the flat state has: name by
+/// A state that lays out a flat state has processes, which show what the flat state has: name by
 /// name whether it runs, or what it has exited with, and how many children were born to it.
 pub fn flat_states_have_their_processes()
     ensures { FlatStatesHaveTheirProcesses }

@@ -20,23 +20,23 @@ use Rattle.histar_calls.specs.Refusals.{errno_of}
 use Rattle.histar_calls.specs.declared.find.Room.{Room}
 use Rattle.histar_calls.specs.declared.places.Home.{Home}
 use Rattle.histar_calls.specs.declared.places.Places.{Places}
-use Rattle.histar_calls.proofs.RepliesOfPrograms.{ask_tells, room_tells}
+use Rattle.histar_calls.proofs.RepliesOfPrograms.{ask_replies, room_replies}
 use Rattle.histar_process.specs.Birth.{birth}
-use Rattle.histar_process.proofs.RepliesOfProcessCalls.{birth_tells, child_tells}
+use Rattle.histar_process.proofs.RepliesOfProcessCalls.{birth_replies, child_replies}
 use Rattle.histar_wrap.specs.Laws.{WrapsReplyToRefusals}
 use Rattle.histar_wrap.specs.Scratch.{directory_label, gives_back_with, hold_job, kin_in, make_scratch}
 use Rattle.histar_wrap.specs.WrapCall.{wrap_program}
 
--- a denial is told after what was taken is given back
-told_back : (own : Levels × Levels) (denied : Denied) → RepliesToDenial denied (gives_back_with own (errno_of denied))
-told_back own Observe = (refl, (λ _. (refl, (λ _. (refl, refl)), (λ _. refl))), (λ _. refl))
-told_back own Modify = (refl, (λ _. (refl, (λ _. (refl, refl)), (λ _. refl))), (λ _. refl))
-told_back own Range = (refl, (λ _. (refl, (λ _. (refl, refl)), (λ _. refl))), (λ _. refl))
-told_back own Gate = (refl, (λ _. (refl, (λ _. (refl, refl)), (λ _. refl))), (λ _. refl))
-told_back own NoEntry = tt
-told_back own NoThread = tt
-told_back own BadKind = tt
-told_back own TooBig = tt
+-- a denial has its reply once what was taken is given back
+denial_has_reply : (own : Levels × Levels) (denied : Denied) → RepliesToDenial denied (gives_back_with own (errno_of denied))
+denial_has_reply own Observe = (refl, (λ _. (refl, (λ _. (refl, refl)), (λ _. refl))), (λ _. refl))
+denial_has_reply own Modify = (refl, (λ _. (refl, (λ _. (refl, refl)), (λ _. refl))), (λ _. refl))
+denial_has_reply own Range = (refl, (λ _. (refl, (λ _. (refl, refl)), (λ _. refl))), (λ _. refl))
+denial_has_reply own Gate = (refl, (λ _. (refl, (λ _. (refl, refl)), (λ _. refl))), (λ _. refl))
+denial_has_reply own NoEntry = tt
+denial_has_reply own NoThread = tt
+denial_has_reply own BadKind = tt
+denial_has_reply own TooBig = tt
 
 module _ (own : Levels × Levels) (rest : Program) (tells : RepliesToRefusals rest) where
   module _ (label : Levels) (room : Room) where
@@ -45,20 +45,20 @@ module _ (own : Levels × Levels) (rest : Program) (tells : RepliesToRefusals re
     listed container listing = write_entries room.place (map.insert room.entries room.name (Directory container listing)) (λ _. rest)
 
     -- the making of a scratch directory tells, where what comes after it does
-    scratch_tells : RepliesToRefusals (make_scratch own label room (λ _. rest))
+    scratch_replies : RepliesToRefusals (make_scratch own label room (λ _. rest))
     unfolding make_scratch
-    scratch_tells = (
-      (λ container. ask_tells (MakeSegment container label []) (listed container) (λ listing.
-          ask_tells (Write room.place.container room.place.listing 0 (spelling (map.insert room.entries room.name (Directory container listing)))) (λ _. rest) (λ _. tells))),
-      told_back own,
+    scratch_replies = (
+      (λ container. ask_replies (MakeSegment container label []) (listed container) (λ listing.
+          ask_replies (Write room.place.container room.place.listing 0 (spelling (map.insert room.entries room.name (Directory container listing)))) (λ _. rest) (λ _. tells))),
+      denial_has_reply own,
     )
 
   -- and so does the holding of a job
-  hold_tells : (job : ℕ) → RepliesToRefusals (hold_job own job (λ _. rest))
+  hold_replies : (job : ℕ) → RepliesToRefusals (hold_job own job (λ _. rest))
   unfolding hold_job
-  hold_tells job =
-      ask_tells (SetLabel (with_level own.0 job Star)) (λ _. ask (SetClearance (with_level own.1 job L3)) (λ _. rest)) (λ _.
-      ask_tells (SetClearance (with_level own.1 job L3)) (λ _. rest) (λ _. tells))
+  hold_replies job =
+      ask_replies (SetLabel (with_level own.0 job Star)) (λ _. ask (SetClearance (with_level own.1 job L3)) (λ _. rest)) (λ _.
+      ask_replies (SetClearance (with_level own.1 job L3)) (λ _. rest) (λ _. tells))
 
 module _ (session : Session) (places : Places) (name : ProcName) (me : Home) (path : Path) where
   -- what comes after the birth
@@ -77,18 +77,18 @@ module _ (session : Session) (places : Places) (name : ProcName) (me : Home) (pa
   abbrev found : ProcessStatus → Program
   found status = find_room places path (λ room. ask OwnLabel (λ own. ask MakeCategory (scratched status room own)))
 
-  job_tells : (status : ProcessStatus) (room : Room) (own : Levels × Levels) (job : ℕ) → RepliesToRefusals (scratched status room own job)
-  job_tells status room own job =
-      scratch_tells own (born status own job) (birth_tells me status (kin_in session own.0 job) (λ _. held status own job) (hold_tells own (Answers (Child ((status.born + 1) ∷ name))) (refl, refl) job)) (directory_label session own.0 job) room
+  job_replies : (status : ProcessStatus) (room : Room) (own : Levels × Levels) (job : ℕ) → RepliesToRefusals (scratched status room own job)
+  job_replies status room own job =
+      scratch_replies own (born status own job) (birth_replies me status (kin_in session own.0 job) (λ _. held status own job) (hold_replies own (Answers (Child ((status.born + 1) ∷ name))) (refl, refl) job)) (directory_label session own.0 job) room
 
-  found_tells : (status : ProcessStatus) → RepliesToRefusals (found status)
-  found_tells status =
-      room_tells places path _ (λ room. ask_tells OwnLabel (λ own. ask MakeCategory (scratched status room own)) (λ own. ask_tells MakeCategory (scratched status room own) (λ job. job_tells status room own job)))
+  found_replies : (status : ProcessStatus) → RepliesToRefusals (found status)
+  found_replies status =
+      room_replies places path _ (λ room. ask_replies OwnLabel (λ own. ask MakeCategory (scratched status room own)) (λ own. ask_replies MakeCategory (scratched status room own) (λ job. job_replies status room own job)))
 
-  wrap_tells : RepliesToRefusals (wrap_program session places name me path)
+  wrap_replies : RepliesToRefusals (wrap_program session places name me path)
   unfolding wrap_program
-  wrap_tells = child_tells name me found found_tells
+  wrap_replies = child_replies name me found found_replies
 
 -- wraps reply to their refusals
 pub wraps_reply_to_refusals : WrapsReplyToRefusals
-wraps_reply_to_refusals = wrap_tells
+wraps_reply_to_refusals = wrap_replies

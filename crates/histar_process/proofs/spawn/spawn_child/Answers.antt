@@ -96,13 +96,13 @@ returns-in_err-give_birth g c =
     let own = c.in_ok-own.own in
     let most = c.in_ok-own.most in
     let kin = kin_of session own in
-    let told = subst (λ (bytes : List ℕ). status_in bytes ≡ Some status) (sym c.as_slice.ensures) segment.told in
+    let status_is = subst (λ (bytes : List ℕ). status_in bytes ≡ Some status) (sym c.as_slice.ensures) segment.status_is in
     let kin_so = kin_is own session c.user_of.result c.is_in_job.result c.as_slice-2.result.now c.as_slice-3.result.now c.user_of.ensures c.is_in_job.ensures (c.as_slice-2.ensures.value ∙ c.in_ok-owned.ensures) (c.as_slice-3.ensures.value ∙ c.in_ok-jobs.ensures) in
     let k3 = c.give_birth.new.kernel in
     call_fails_so t (spawn_program session name me) old k3 c.in_err-give_birth.field-0.0 _ c.from_residual-in_err-give_birth.ensures.1
     (then_call t (room_for_child name me) old k3 _ k1 status c.in_ok-head.ensures.runs.2 _
     (then_call t (ask OwnLabel) k1 k3 _ k2 (own, most) (grants t OwnLabel k1 k2 (own, most) c.in_ok-own.ensures.0 c.in_ok-own.ensures.1) _
-    (call_fails t (birth me status kin) k2 k3 _ c.in_err-give_birth.field-0.0 (born_so t k2 k3 me status _ kin kin_so (Err c.in_err-give_birth.field-0.0) (c.in_err-give_birth.ensures status told)))))
+    (call_fails t (birth me status kin) k2 k3 _ c.in_err-give_birth.field-0.0 (born_so t k2 k3 me status _ kin kin_so (Err c.in_err-give_birth.field-0.0) (c.in_err-give_birth.ensures status status_is)))))
 
 pub returns-in_err-set_label : goal.returns-in_err-set_label
 unfolding spawn_program
@@ -119,14 +119,14 @@ returns-in_err-set_label g c =
     let own = c.in_ok-own.own in
     let most = c.in_ok-own.most in
     let kin = kin_of session own in
-    let told = subst (λ (bytes : List ℕ). status_in bytes ≡ Some status) (sym c.as_slice.ensures) segment.told in
+    let status_is = subst (λ (bytes : List ℕ). status_in bytes ≡ Some status) (sym c.as_slice.ensures) segment.status_is in
     let kin_so = kin_is own session c.user_of.result c.is_in_job.result c.as_slice-2.result.now c.as_slice-3.result.now c.user_of.ensures c.is_in_job.ensures (c.as_slice-2.ensures.value ∙ c.in_ok-owned.ensures) (c.as_slice-3.ensures.value ∙ c.in_ok-jobs.ensures) in
     let k3 = c.give_birth.new.kernel in
     let k4 = c.set_label.new.self in
     call_fails_so t (spawn_program session name me) old k4 _ _ c.from_residual-in_err-set_label.ensures.1
     (then_call t (room_for_child name me) old k4 _ k1 status c.in_ok-head.ensures.runs.2 _
     (then_call t (ask OwnLabel) k1 k4 _ k2 (own, most) (grants t OwnLabel k1 k2 (own, most) c.in_ok-own.ensures.0 c.in_ok-own.ensures.1) _
-    (then_call t (birth me status kin) k2 k4 _ k3 tt (born_so t k2 k3 me status _ kin kin_so (Ok tt) (c.in_ok-give_birth.ensures status told)) _
+    (then_call t (birth me status kin) k2 k4 _ k3 tt (born_so t k2 k3 me status _ kin kin_so (Ok tt) (c.in_ok-give_birth.ensures status status_is)) _
     (call_fails t (ask (SetLabel own)) k3 k4 (λ _. ask (SetClearance most) (λ _. Answers (Child ((status.born + 1) ∷ name)))) _ (refuses t (SetLabel own) k3 k4 _ c.in_err-set_label.field-0.0 c.in_err-set_label.ensures)))))
 
 pub returns-in_err-set_clearance : goal.returns-in_err-set_clearance
@@ -144,7 +144,7 @@ returns-in_err-set_clearance g c =
     let own = c.in_ok-own.own in
     let most = c.in_ok-own.most in
     let kin = kin_of session own in
-    let told = subst (λ (bytes : List ℕ). status_in bytes ≡ Some status) (sym c.as_slice.ensures) segment.told in
+    let status_is = subst (λ (bytes : List ℕ). status_in bytes ≡ Some status) (sym c.as_slice.ensures) segment.status_is in
     let kin_so = kin_is own session c.user_of.result c.is_in_job.result c.as_slice-2.result.now c.as_slice-3.result.now c.user_of.ensures c.is_in_job.ensures (c.as_slice-2.ensures.value ∙ c.in_ok-owned.ensures) (c.as_slice-3.ensures.value ∙ c.in_ok-jobs.ensures) in
     let k3 = c.give_birth.new.kernel in
     let k4 = c.set_label.new.self in
@@ -152,7 +152,7 @@ returns-in_err-set_clearance g c =
     call_fails_so t (spawn_program session name me) old k5 _ _ c.from_residual-in_err-set_clearance.ensures.1
     (then_call t (room_for_child name me) old k5 _ k1 status c.in_ok-head.ensures.runs.2 _
     (then_call t (ask OwnLabel) k1 k5 _ k2 (own, most) (grants t OwnLabel k1 k2 (own, most) c.in_ok-own.ensures.0 c.in_ok-own.ensures.1) _
-    (then_call t (birth me status kin) k2 k5 _ k3 tt (born_so t k2 k3 me status _ kin kin_so (Ok tt) (c.in_ok-give_birth.ensures status told)) _
+    (then_call t (birth me status kin) k2 k5 _ k3 tt (born_so t k2 k3 me status _ kin kin_so (Ok tt) (c.in_ok-give_birth.ensures status status_is)) _
     (then_call t (ask (SetLabel own)) k3 k5 (λ _. ask (SetClearance most) (λ _. Answers (Child ((status.born + 1) ∷ name)))) k4 tt (grants t (SetLabel own) k3 k4 tt c.in_ok-set_label.ensures.0 tt) _
     (call_fails t (ask (SetClearance most)) k4 k5 (λ _. Answers (Child ((status.born + 1) ∷ name))) _ (refuses t (SetClearance most) k4 k5 _ c.in_err-set_clearance.field-0.0 c.in_err-set_clearance.ensures))))))
 
@@ -171,7 +171,7 @@ returns g c =
     let own = c.in_ok-own.own in
     let most = c.in_ok-own.most in
     let kin = kin_of session own in
-    let told = subst (λ (bytes : List ℕ). status_in bytes ≡ Some status) (sym c.as_slice.ensures) segment.told in
+    let status_is = subst (λ (bytes : List ℕ). status_in bytes ≡ Some status) (sym c.as_slice.ensures) segment.status_is in
     let kin_so = kin_is own session c.user_of.result c.is_in_job.result c.as_slice-2.result.now c.as_slice-3.result.now c.user_of.ensures c.is_in_job.ensures (c.as_slice-2.ensures.value ∙ c.in_ok-owned.ensures) (c.as_slice-3.ensures.value ∙ c.in_ok-jobs.ensures) in
     let k3 = c.give_birth.new.kernel in
     let k4 = c.set_label.new.self in
@@ -179,7 +179,7 @@ returns g c =
     let reply_is = ap (λ (p : List ℕ). Child p) (c.child.ensures ∙ ap (λ (h : StatusHead). (h.born + 1) ∷ name) segment.head) in
     then_call t (room_for_child name me) old k5 _ k1 status c.in_ok-head.ensures.runs.2 _
     (then_call t (ask OwnLabel) k1 k5 _ k2 (own, most) (grants t OwnLabel k1 k2 (own, most) c.in_ok-own.ensures.0 c.in_ok-own.ensures.1) _
-    (then_call t (birth me status kin) k2 k5 _ k3 tt (born_so t k2 k3 me status _ kin kin_so (Ok tt) (c.in_ok-give_birth.ensures status told)) _
+    (then_call t (birth me status kin) k2 k5 _ k3 tt (born_so t k2 k3 me status _ kin kin_so (Ok tt) (c.in_ok-give_birth.ensures status status_is)) _
     (then_call t (ask (SetLabel own)) k3 k5 (λ _. ask (SetClearance most) (λ _. Answers (Child ((status.born + 1) ∷ name)))) k4 tt (grants t (SetLabel own) k3 k4 tt c.in_ok-set_label.ensures.0 tt) _
     (then_call t (ask (SetClearance most)) k4 k5 (λ _. Answers (Child ((status.born + 1) ∷ name))) k5 tt (grants t (SetClearance most) k4 k5 tt c.in_ok-set_clearance.ensures.0 tt) _
     (replies_so t k5 (Child ((status.born + 1) ∷ name)) (Child c.child.result) reply_is)))))

@@ -5,13 +5,13 @@ use Rattle.histar_label.specs.Store.{label_at}
 use Rattle.histar_object.specs.Objects.{thread_of}
 use Rattle.histar_rules.specs.declared.raw.Denied.TheVariants.{Observe}
 use Rattle.histar_rules.specs.Finds.{segment_of}
-use Rattle.histar_rules.proofs.Observed.{told, label_stands}
+use Rattle.histar_rules.proofs.Observed.{fails_at_denial, label_stands}
 use Rattle.histar_rules.proofs.LinkedObjects.{segment_missing, read_found}
 use Rattle.histar_rules.proofs.linked.read_in.Goals as goal
 
 pub returns-in_err-label-clause-answer : goal.returns-in_err-label-clause-answer
 returns-in_err-label-clause-answer g c =
-    told _ _ c.from_residual-in_err-label.result c.from_residual-in_err-label.ensures.1
+    fails_at_denial _ _ c.from_residual-in_err-label.result c.from_residual-in_err-label.ensures.1
     (segment_missing (g.S.LabelStore.labels c.args.store.now) c.args.table.now c.args.thread c.args.container c.args.segment c.in_ok-found.ensures.answer _ _ c.in_err-label.ensures.answer)
 
 pub below_raised-requires-clause-lower_stands : goal.below_raised-requires-clause-lower_stands

@@ -5,13 +5,13 @@ use Rattle.histar_object.specs.Objects.{thread_of}
 use Rattle.histar_rules.specs.declared.raw.Denied.{Denied}
 use Rattle.histar_rules.specs.Finds.{segment_of}
 use Rattle.histar_rules.specs.Rules.{FailsAt}
-use Rattle.histar_rules.proofs.Observed.{told, label_stands}
+use Rattle.histar_rules.proofs.Observed.{fails_at_denial, label_stands}
 use Rattle.histar_rules.proofs.LinkedObjects.{segment_missing, write_found}
 use Rattle.histar_rules.proofs.linked.write_in.Goals as goal
 
 pub returns-in_err-label-clause-answer : goal.returns-in_err-label-clause-answer
 returns-in_err-label-clause-answer g c =
-    told _ _ c.from_residual-in_err-label.result c.from_residual-in_err-label.ensures.1
+    fails_at_denial _ _ c.from_residual-in_err-label.result c.from_residual-in_err-label.ensures.1
     (segment_missing (g.S.LabelStore.labels c.args.store.now) c.args.table.now c.args.thread c.args.container c.args.segment c.in_ok-found.ensures.answer _ _ c.in_err-label.ensures.answer)
 
 pub modifies_by-modifies-requires-clause-own : goal.modifies_by-modifies-requires-clause-own

@@ -3,7 +3,7 @@ use Rattle.histar_object.specs.Objects.{thread_of}
 use Rattle.histar_rules.specs.declared.raw.Denied.TheVariants.{Observe}
 use Rattle.histar_base.specs.Refusals.{unless}
 use Rattle.histar_rules.specs.Finds.{container_of}
-use Rattle.histar_rules.proofs.Observed.{told, thread_missing, container_missing, container_found, label_stands}
+use Rattle.histar_rules.proofs.Observed.{fails_at_denial, thread_missing, container_missing, container_found, label_stands}
 use Rattle.histar_rules.proofs.lookup.observed_in.Goals as goal
 
 pub returns-in_default-clause-answer : goal.returns-in_default-clause-answer
@@ -11,7 +11,7 @@ returns-in_default-clause-answer g c = thread_missing (g.S.LabelStore.labels c.a
 
 pub returns-in_err-label-clause-answer : goal.returns-in_err-label-clause-answer
 returns-in_err-label-clause-answer g c =
-    told _ _ c.from_residual.result c.from_residual.ensures.1
+    fails_at_denial _ _ c.from_residual.result c.from_residual.ensures.1
     (container_missing (g.S.LabelStore.labels c.args.store.now) c.args.table.now c.args.thread c.args.container _ _ _ c.in-Some.ensures c.in_err-label.ensures.answer)
 
 pub below_raised-requires-clause-lower_stands : goal.below_raised-requires-clause-lower_stands

@@ -78,10 +78,10 @@ returns-in_err-job g c =
     let k3 = c.own_label.new.self in
     let own = c.in_ok-own.own in
     let most = c.in_ok-own.most in
-    let told = grants t OwnLabel k2 k3 (own, most) c.in_ok-own.ensures.0 c.in_ok-own.ensures.1 in
+    let granted = grants t OwnLabel k2 k3 (own, most) c.in_ok-own.ensures.0 c.in_ok-own.ensures.1 in
     let k4 = c.make_category.new.self in
     call_fails_so t (wrap_program session places name me path) old k4 _ _ c.from_residual-in_err-job.ensures.1
-    (no_category t session places name me path old k1 status roomy k2 room found k3 (own, most) told k4 _ (refuses t MakeCategory k3 k4 _ c.in_err-job.field-0.0 c.in_err-job.ensures))
+    (no_category t session places name me path old k1 status roomy k2 room found k3 (own, most) granted k4 _ (refuses t MakeCategory k3 k4 _ c.in_err-job.field-0.0 c.in_err-job.ensures))
 
 pub returns-in_err-jobs : goal.returns-in_err-jobs
 returns-in_err-jobs g c =
@@ -101,12 +101,12 @@ returns-in_err-jobs g c =
     let k3 = c.own_label.new.self in
     let own = c.in_ok-own.own in
     let most = c.in_ok-own.most in
-    let told = grants t OwnLabel k2 k3 (own, most) c.in_ok-own.ensures.0 c.in_ok-own.ensures.1 in
+    let granted = grants t OwnLabel k2 k3 (own, most) c.in_ok-own.ensures.0 c.in_ok-own.ensures.1 in
     let k4 = c.make_category.new.self in
     let job = c.in_ok-job.job in
     let made = grants t MakeCategory k3 k4 job c.in_ok-job.ensures.0 c.in_ok-job.ensures.1 in
     call_fails_so t (wrap_program session places name me path) old k4 Stopped _ c.from_residual-in_err-jobs.ensures.1
-    (no_scratch t session places name me path old k1 status roomy k2 room found k3 (own, most) told k4 job made k4 Stopped (before_scratch t (own, most) (directory_label session own job) room k4))
+    (no_scratch t session places name me path old k1 status roomy k2 room found k3 (own, most) granted k4 job made k4 Stopped (before_scratch t (own, most) (directory_label session own job) room k4))
 
 pub returns-in_err-label : goal.returns-in_err-label
 returns-in_err-label g c =
@@ -126,12 +126,12 @@ returns-in_err-label g c =
     let k3 = c.own_label.new.self in
     let own = c.in_ok-own.own in
     let most = c.in_ok-own.most in
-    let told = grants t OwnLabel k2 k3 (own, most) c.in_ok-own.ensures.0 c.in_ok-own.ensures.1 in
+    let granted = grants t OwnLabel k2 k3 (own, most) c.in_ok-own.ensures.0 c.in_ok-own.ensures.1 in
     let k4 = c.make_category.new.self in
     let job = c.in_ok-job.job in
     let made = grants t MakeCategory k3 k4 job c.in_ok-job.ensures.0 c.in_ok-job.ensures.1 in
     call_fails_so t (wrap_program session places name me path) old k4 Stopped _ c.from_residual-in_err-label.ensures.1
-    (no_scratch t session places name me path old k1 status roomy k2 room found k3 (own, most) told k4 job made k4 Stopped (before_scratch t (own, most) (directory_label session own job) room k4))
+    (no_scratch t session places name me path old k1 status roomy k2 room found k3 (own, most) granted k4 job made k4 Stopped (before_scratch t (own, most) (directory_label session own job) room k4))
 
 pub returns-in_err-make_scratch : goal.returns-in_err-make_scratch
 returns-in_err-make_scratch g c =
@@ -151,7 +151,7 @@ returns-in_err-make_scratch g c =
     let k3 = c.own_label.new.self in
     let own = c.in_ok-own.own in
     let most = c.in_ok-own.most in
-    let told = grants t OwnLabel k2 k3 (own, most) c.in_ok-own.ensures.0 c.in_ok-own.ensures.1 in
+    let granted = grants t OwnLabel k2 k3 (own, most) c.in_ok-own.ensures.0 c.in_ok-own.ensures.1 in
     let k4 = c.make_category.new.self in
     let job = c.in_ok-job.job in
     let made = grants t MakeCategory k3 k4 job c.in_ok-job.ensures.0 c.in_ok-job.ensures.1 in
@@ -160,7 +160,7 @@ returns-in_err-make_scratch g c =
     let jobs = c.in_ok-jobs.jobs.items in
     let label_is = directory_is session own job user jobs c.user_of-user.ensures c.in_ok-jobs.ensures c.in_ok-label.label (c.in_ok-label.ensures ∙ ap (scratch_label user) c.as_slice.ensures.value) in
     call_fails_so t (wrap_program session places name me path) old k5 c.in_err-make_scratch.field-0.0 _ c.from_residual-in_err-make_scratch.ensures.1
-    (no_scratch t session places name me path old k1 status roomy k2 room found k3 (own, most) told k4 job made k5 c.in_err-make_scratch.field-0.0 (scratch_so t k4 k5 (own, most) room c.in_ok-label.label (directory_label session own job) label_is (Err c.in_err-make_scratch.field-0.0) c.in_err-make_scratch.ensures))
+    (no_scratch t session places name me path old k1 status roomy k2 room found k3 (own, most) granted k4 job made k5 c.in_err-make_scratch.field-0.0 (scratch_so t k4 k5 (own, most) room c.in_ok-label.label (directory_label session own job) label_is (Err c.in_err-make_scratch.field-0.0) c.in_err-make_scratch.ensures))
 
 pub returns-in_err-owned : goal.returns-in_err-owned
 returns-in_err-owned g c =
@@ -180,7 +180,7 @@ returns-in_err-owned g c =
     let k3 = c.own_label.new.self in
     let own = c.in_ok-own.own in
     let most = c.in_ok-own.most in
-    let told = grants t OwnLabel k2 k3 (own, most) c.in_ok-own.ensures.0 c.in_ok-own.ensures.1 in
+    let granted = grants t OwnLabel k2 k3 (own, most) c.in_ok-own.ensures.0 c.in_ok-own.ensures.1 in
     let k4 = c.make_category.new.self in
     let job = c.in_ok-job.job in
     let made = grants t MakeCategory k3 k4 job c.in_ok-job.ensures.0 c.in_ok-job.ensures.1 in
@@ -190,7 +190,7 @@ returns-in_err-owned g c =
     let label_is = directory_is session own job user jobs c.user_of-user.ensures c.in_ok-jobs.ensures c.in_ok-label.label (c.in_ok-label.ensures ∙ ap (scratch_label user) c.as_slice.ensures.value) in
     let scratched = scratch_so t k4 k5 (own, most) room c.in_ok-label.label (directory_label session own job) label_is (Ok tt) c.in_ok-make_scratch.ensures in
     call_fails_so t (wrap_program session places name me path) old k5 Stopped _ c.from_residual-in_err-owned.ensures.1
-    (no_birth t session places name me path old k1 status roomy k2 room found k3 (own, most) told k4 job made k5 scratched k5 Stopped (before_birth t me status (kin_in session own job) k5))
+    (no_birth t session places name me path old k1 status roomy k2 room found k3 (own, most) granted k4 job made k5 scratched k5 Stopped (before_birth t me status (kin_in session own job) k5))
 
 pub returns-in_err-give_birth : goal.returns-in_err-give_birth
 returns-in_err-give_birth g c =
@@ -210,7 +210,7 @@ returns-in_err-give_birth g c =
     let k3 = c.own_label.new.self in
     let own = c.in_ok-own.own in
     let most = c.in_ok-own.most in
-    let told = grants t OwnLabel k2 k3 (own, most) c.in_ok-own.ensures.0 c.in_ok-own.ensures.1 in
+    let granted = grants t OwnLabel k2 k3 (own, most) c.in_ok-own.ensures.0 c.in_ok-own.ensures.1 in
     let k4 = c.make_category.new.self in
     let job = c.in_ok-job.job in
     let made = grants t MakeCategory k3 k4 job c.in_ok-job.ensures.0 c.in_ok-job.ensures.1 in
@@ -220,10 +220,10 @@ returns-in_err-give_birth g c =
     let label_is = directory_is session own job user jobs c.user_of-user.ensures c.in_ok-jobs.ensures c.in_ok-label.label (c.in_ok-label.ensures ∙ ap (scratch_label user) c.as_slice.ensures.value) in
     let scratched = scratch_so t k4 k5 (own, most) room c.in_ok-label.label (directory_label session own job) label_is (Ok tt) c.in_ok-make_scratch.ensures in
     let k6 = c.give_birth.new.kernel in
-    let bytes_tell = subst (λ (bytes : List ℕ). status_in bytes ≡ Some status) (sym c.as_slice-2.ensures) c.in_ok-head.ensures.runs.1.told in
+    let bytes_are = subst (λ (bytes : List ℕ). status_in bytes ≡ Some status) (sym c.as_slice-2.ensures) c.in_ok-head.ensures.runs.1.status_is in
     let kin_so = kin_is session own job user jobs c.user_of-user.ensures c.in_ok-jobs.ensures c.as_slice-3.result.now c.as_slice-4.result.now (c.as_slice-3.ensures.value ∙ c.in_ok-owned.ensures) c.as_slice-4.ensures.value in
     call_fails_so t (wrap_program session places name me path) old k6 c.in_err-give_birth.field-0.0 _ c.from_residual-in_err-give_birth.ensures.1
-    (no_birth t session places name me path old k1 status roomy k2 room found k3 (own, most) told k4 job made k5 scratched k6 c.in_err-give_birth.field-0.0 (born_so t k5 k6 me status _ (kin_in session own job) kin_so (Err c.in_err-give_birth.field-0.0) (c.in_err-give_birth.ensures status bytes_tell)))
+    (no_birth t session places name me path old k1 status roomy k2 room found k3 (own, most) granted k4 job made k5 scratched k6 c.in_err-give_birth.field-0.0 (born_so t k5 k6 me status _ (kin_in session own job) kin_so (Err c.in_err-give_birth.field-0.0) (c.in_err-give_birth.ensures status bytes_are)))
 
 pub returns-in_err-hold_job : goal.returns-in_err-hold_job
 returns-in_err-hold_job g c =
@@ -243,7 +243,7 @@ returns-in_err-hold_job g c =
     let k3 = c.own_label.new.self in
     let own = c.in_ok-own.own in
     let most = c.in_ok-own.most in
-    let told = grants t OwnLabel k2 k3 (own, most) c.in_ok-own.ensures.0 c.in_ok-own.ensures.1 in
+    let granted = grants t OwnLabel k2 k3 (own, most) c.in_ok-own.ensures.0 c.in_ok-own.ensures.1 in
     let k4 = c.make_category.new.self in
     let job = c.in_ok-job.job in
     let made = grants t MakeCategory k3 k4 job c.in_ok-job.ensures.0 c.in_ok-job.ensures.1 in
@@ -253,12 +253,12 @@ returns-in_err-hold_job g c =
     let label_is = directory_is session own job user jobs c.user_of-user.ensures c.in_ok-jobs.ensures c.in_ok-label.label (c.in_ok-label.ensures ∙ ap (scratch_label user) c.as_slice.ensures.value) in
     let scratched = scratch_so t k4 k5 (own, most) room c.in_ok-label.label (directory_label session own job) label_is (Ok tt) c.in_ok-make_scratch.ensures in
     let k6 = c.give_birth.new.kernel in
-    let bytes_tell = subst (λ (bytes : List ℕ). status_in bytes ≡ Some status) (sym c.as_slice-2.ensures) c.in_ok-head.ensures.runs.1.told in
+    let bytes_are = subst (λ (bytes : List ℕ). status_in bytes ≡ Some status) (sym c.as_slice-2.ensures) c.in_ok-head.ensures.runs.1.status_is in
     let kin_so = kin_is session own job user jobs c.user_of-user.ensures c.in_ok-jobs.ensures c.as_slice-3.result.now c.as_slice-4.result.now (c.as_slice-3.ensures.value ∙ c.in_ok-owned.ensures) c.as_slice-4.ensures.value in
-    let born = born_so t k5 k6 me status _ (kin_in session own job) kin_so (Ok tt) (c.in_ok-give_birth.ensures status bytes_tell) in
+    let born = born_so t k5 k6 me status _ (kin_in session own job) kin_so (Ok tt) (c.in_ok-give_birth.ensures status bytes_are) in
     let k7 = c.hold_job.new.kernel in
     call_fails_so t (wrap_program session places name me path) old k7 c.in_err-hold_job.field-0.0 _ c.from_residual-in_err-hold_job.ensures.1
-    (no_holder t session places name me path old k1 status roomy k2 room found k3 (own, most) told k4 job made k5 scratched k6 born k7 c.in_err-hold_job.field-0.0 c.in_err-hold_job.ensures)
+    (no_holder t session places name me path old k1 status roomy k2 room found k3 (own, most) granted k4 job made k5 scratched k6 born k7 c.in_err-hold_job.field-0.0 c.in_err-hold_job.ensures)
 
 pub returns : goal.returns
 returns g c =
@@ -278,7 +278,7 @@ returns g c =
     let k3 = c.own_label.new.self in
     let own = c.in_ok-own.own in
     let most = c.in_ok-own.most in
-    let told = grants t OwnLabel k2 k3 (own, most) c.in_ok-own.ensures.0 c.in_ok-own.ensures.1 in
+    let granted = grants t OwnLabel k2 k3 (own, most) c.in_ok-own.ensures.0 c.in_ok-own.ensures.1 in
     let k4 = c.make_category.new.self in
     let job = c.in_ok-job.job in
     let made = grants t MakeCategory k3 k4 job c.in_ok-job.ensures.0 c.in_ok-job.ensures.1 in
@@ -288,9 +288,9 @@ returns g c =
     let label_is = directory_is session own job user jobs c.user_of-user.ensures c.in_ok-jobs.ensures c.in_ok-label.label (c.in_ok-label.ensures ∙ ap (scratch_label user) c.as_slice.ensures.value) in
     let scratched = scratch_so t k4 k5 (own, most) room c.in_ok-label.label (directory_label session own job) label_is (Ok tt) c.in_ok-make_scratch.ensures in
     let k6 = c.give_birth.new.kernel in
-    let bytes_tell = subst (λ (bytes : List ℕ). status_in bytes ≡ Some status) (sym c.as_slice-2.ensures) c.in_ok-head.ensures.runs.1.told in
+    let bytes_are = subst (λ (bytes : List ℕ). status_in bytes ≡ Some status) (sym c.as_slice-2.ensures) c.in_ok-head.ensures.runs.1.status_is in
     let kin_so = kin_is session own job user jobs c.user_of-user.ensures c.in_ok-jobs.ensures c.as_slice-3.result.now c.as_slice-4.result.now (c.as_slice-3.ensures.value ∙ c.in_ok-owned.ensures) c.as_slice-4.ensures.value in
-    let born = born_so t k5 k6 me status _ (kin_in session own job) kin_so (Ok tt) (c.in_ok-give_birth.ensures status bytes_tell) in
+    let born = born_so t k5 k6 me status _ (kin_in session own job) kin_so (Ok tt) (c.in_ok-give_birth.ensures status bytes_are) in
     let k7 = c.hold_job.new.kernel in
     let reply_is = ap (λ (p : List ℕ). Child p) (c.child.ensures ∙ ap (λ (h : StatusHead). (h.born + 1) ∷ name) c.in_ok-head.ensures.runs.1.head) in
-    wrapped t session places name me path old k1 status roomy k2 room found k3 (own, most) told k4 job made k5 scratched k6 born k7 (Ok (Child c.child.result)) c.in_ok-hold_job.ensures (replies_so t k7 (Child ((status.born + 1) ∷ name)) (Child c.child.result) reply_is)
+    wrapped t session places name me path old k1 status roomy k2 room found k3 (own, most) granted k4 job made k5 scratched k6 born k7 (Ok (Child c.child.result)) c.in_ok-hold_job.ensures (replies_so t k7 (Child ((status.born + 1) ∷ name)) (Child c.child.result) reply_is)

@@ -3,7 +3,7 @@ use Rattle.std.proofs.lemmas.Bool.Decides.{nat_tests}
 use Rattle.std.specs.List.{slice_get}
 use Rattle.histar_label.specs.Store.{label_at}
 use Rattle.histar_label.proofs.Interned.{is_within-refl}
-use Rattle.histar_label.proofs.intern_store.InternStore.answer.Goals as goal
+use Rattle.histar_label.proofs.intern_store.InternStore.recall_or_compare.Goals as goal
 
 pub returns-then-eq-clause-answer : goal.returns-then-eq-clause-answer
 returns-then-eq-clause-answer c =
@@ -14,6 +14,7 @@ pub invariant_of-self : goal.invariant_of-self
 invariant_of-self c = record {
   one_id = c.self.invariant.one_id;
   right = λ e there. c.self.invariant.right e (c.in-Some.ensures.kept e there);
+  latest_is_right = c.self.invariant.latest_is_right;
 }
 
 pub invariant_of-self-2 : goal.invariant_of-self-2
@@ -23,4 +24,5 @@ invariant_of-self-2 c = record {
     | inl was ↦ c.self.invariant.right e (c.recall.ensures.kept e was)
     | inr new ↦ rw new (record { lower_stands = search rules; upper_stands = search rules; right = c.compare-answer.ensures })
   ];
+  latest_is_right = c.self.invariant.latest_is_right;
 }
