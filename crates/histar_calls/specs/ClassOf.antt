@@ -74,6 +74,6 @@ mode_of Open = modes.Open
 mode_of (Scratch owner) = modes.Scratch
 mode_of (classes.Group group) = modes.Group group
 
--- what is told of what is of a class
+-- what `stat` answers of what is of a class
 abbrev pub stat_of : Class → Bool → Stat
 stat_of class is_directory = record { is_directory = is_directory; owner = owner_of class; mode = mode_of class }

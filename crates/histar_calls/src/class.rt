@@ -24,7 +24,7 @@ pub enum Class {
 }
 
 impl Class {
-    /// What is told of a file or a directory of this class.
+    /// What `stat` answers of a file or a directory of this class.
     pub fn stat(self, is_directory: bool) -> Stat
         ensures { result ≡ stat_of self is_directory }
     {

@@ -114,7 +114,7 @@ abbrev pub Grants : {A E : Type 0} → KernelModel → KernelModel → RawCall �
 Grants old new call (Ok a) IsRight = Called old new boot_thread_number call None × IsRight a
 Grants old new call (Err stopped) IsRight = IsUnchanged old new
 
--- the boot thread made an object by this raw call and is told its number, or memory ran out and nothing has changed
+-- the boot thread made an object by this raw call and got its number, or memory ran out and nothing has changed
 abbrev pub MakesObject : {E : Type 0} → KernelModel → KernelModel → RawCall → Result ℕ E → Type 0
 MakesObject old new call result = Grants old new call result (IsNextNumber old.kept)
 

@@ -68,7 +68,8 @@ fn due_labels(
     own: Label,
     most: Label,
 ) -> Result<(Label, Label), AllocError>
-    ensures { IfOk result (λ due. (due.0 ≡ label_if right caller.now owners.now own) × (due.1 ≡ clearance_if right caller.now owners.now most)) }
+    ensures { IfOk result (λ due. (due.0 ≡ label_if right caller.now owners.now own)
+        × (due.1 ≡ clearance_if right caller.now owners.now most)) }
 {
     if right {
         return user_labels(alloc, caller, owners);

@@ -37,7 +37,7 @@ fn reply_status<S: LabelStore + Drop>(
     Ok(status_reply(head.exited))
 }
 
-/// What is told of a process that has exited with this number, or runs.
+/// What `status` answers of a process that has exited with this number, or runs.
 fn status_reply(exited: Option<u8>) -> Reply
     ensures { result ≡ status_reply exited }
 {

@@ -21,7 +21,7 @@ pub record BeginsSession (text : List ℕ) (old new : Option (List ℕ)) : Type 
   pub is : IsSession text calls
   pub begun : BeginsAnswers empty_state old new calls
 
--- The text was run as a raw session: its calls were answered, or its fault is told and nothing was written, or writing failed after a
+-- The text was run as a raw session: its calls were answered, or its fault is answered and nothing was written, or writing failed after a
 -- beginning, or memory ran out before it or after a beginning.
 abbrev pub RunsSession : List ℕ → Option (List ℕ) → Option (List ℕ) → Result (Unit {0}) Fault → Type 0
 RunsSession text old new (Ok done) = AnswersSession text old new

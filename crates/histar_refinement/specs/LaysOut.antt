@@ -38,7 +38,7 @@ IsInOrder category (Grouped group) = Unit {0}
 
 -- A process that can be laid out: its user is declared, or is nobody, who is in no job and holds none; it holds no job that it is
 -- in, its jobs stand in order, and its counts are those that its segment has room for. Of one that has exited neither the user nor
--- the held jobs can be told, and nothing is said of them.
+-- the held jobs can be known, and nothing is said of them.
 pub record IsProcess (session : Session) (category : Categories) (p : Process) : Type 0 where
   pub someone : p.exited ≡ None → (p.user ≡ nobody) ⊎ (is_some (user_number session p.user) ≡ true)
   pub free : p.exited ≡ None → is_some (user_number session p.user) ≡ false → (p.chain ≡ []) × (p.held ≡ [])

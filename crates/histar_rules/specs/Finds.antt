@@ -32,7 +32,7 @@ segment_of label bytes = record { label = label; kind = Segment bytes }
 abbrev pub gate_of : {L : Type 0} → L → L → Entry → Object L
 gate_of label clearance entry = record { label = label; kind = Gate clearance entry }
 
--- the objects that a table and its store show, as a state of which no next number is told
+-- the objects that a table and its store show, as a state whose next numbers are 0
 abbrev pub state_shown : {Id : Type 0} → (Id → Option Levels) → List (ℕ × Object Id) → State
 state_shown labels es = record { objects = objects_shown labels es; next_object = 0; next_category = 0 }
 

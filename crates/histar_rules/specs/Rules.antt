@@ -157,7 +157,7 @@ Leaves None s t call new = Changes s t call new
 Leaves (Some denied) s t call new = new ≡ s
 
 -- A call that was made on the state: it passed its checks, left what the rules say, and its answer is right; or its first
--- failing check is told, and the state is the old one; or memory ran out, and the state is the old one.
+-- failing check is answered, and the state is the old one; or memory ran out, and the state is the old one.
 abbrev pub Decides : {A : Type 0} → ObjectsModel → ObjectsModel → ℕ → RawCall → Result A Refusal → (A → Type 0) → Type 0
 Decides old new t call (Ok answer) IsRight = (check (state_of old) t call ≡ None) × Changes (state_of old) t call (state_of new) × IsRight answer
 Decides old new t call (Err (refusals.Denied denied)) IsRight = (check (state_of old) t call ≡ Some denied) × (state_of new ≡ state_of old)

@@ -41,7 +41,8 @@ pub(crate) fn in_span(own: &Label, own_clearance: &Label, label: &Label, clearan
 /// Whether a label is above the floor of two labels, and a clearance between it and the join of two
 /// clearances.
 fn lies_between(opening: Opening, label: &Label, clearance: &Label) -> bool
-    ensures { result ≡ lies_between opening.entry.own.now opening.entry.gate_label.now label.now clearance.now opening.entry.own_clearance.now opening.entry.gate_clearance.now }
+    ensures { result ≡ lies_between opening.entry.own.now opening.entry.gate_label.now label.now clearance.now
+        opening.entry.own_clearance.now opening.entry.gate_clearance.now }
 {
     opening.own.floor_below(opening.gate_label, label)
         && label.below(clearance)
@@ -103,7 +104,8 @@ pub(crate) fn check_opening(
 ) -> Result<(), Denied>
     ensures { FailsAt (unless (is_below opening.entry.own.now opening.entry.gate_clearance.now) Gate
         orelse unless (is_below opening.entry.own.now shown.now) Gate
-        orelse unless (lies_between opening.entry.own.now opening.entry.gate_label.now wanted.now clearance.now opening.entry.own_clearance.now opening.entry.gate_clearance.now) Range
+        orelse unless (lies_between opening.entry.own.now opening.entry.gate_label.now wanted.now clearance.now
+        opening.entry.own_clearance.now opening.entry.gate_clearance.now) Range
         orelse unless (is_made next.category wanted.now) Range
         orelse unless (is_made next.category clearance.now) Range
         orelse unless (is_made next.category shown.now) Range) result }

@@ -46,7 +46,7 @@ abbrev pub meaning_text : Options → Reading → List ℕ
 meaning_text options script = answers_text (meaning script.session script.calls) ++ asked_tree options (last_state script)
 
 -- A machine of these users and groups, which are those of a script, lays out a flat state, in which process 0 is in no job: its kernel
--- does, it has the names and the groups and no passwords, and it knows of `/` and of process 0 what boot told it.
+-- does, it has the names and the groups and no passwords, and it knows of `/` and of process 0 what boot answered.
 pub record Shows (session : Session) (m : MachineModel) (f : Flat) : Type 0 where
   pub declared : IsDeclared session
   pub users : m.users ≡ without_passwords session

@@ -66,7 +66,8 @@ fn write_nodes<S: LabelStore + Drop, W: Sink>(
     writer: &mut W,
 ) -> Result<(), Fault>
     ensures ok { OnOk result (Appends (W.written writer.old) (W.written writer.new) (tree_text (lines_at (state machine.now.kernel) nodes.now))) }
-    ensures err { OnErr result (AppendsFront (W.written writer.old) (W.written writer.new) (tree_text (lines_at (state machine.now.kernel) nodes.now))) }
+    ensures err { OnErr result (AppendsFront (W.written writer.old) (W.written writer.new)
+        (tree_text (lines_at (state machine.now.kernel) nodes.now))) }
     ensures faults { IfErr result IsOutputFault }
     ensures count { CountsFailure (W.failures writer.old) (W.failures writer.new) (is_write_failed result) }
 {
