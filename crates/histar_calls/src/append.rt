@@ -20,8 +20,8 @@ const MOST_BYTES: u32 = 4096;
 /// there, ENOTDIR where a file stands on the way, EACCES where the kernel doesn't let the thread observe
 /// a directory on the way or modify the file, EFBIG where it would hold more than 4,096 bytes.
 pub fn append<S: LabelStore + Drop>(
-    kernel: &mut Kernel<S>,
     alloc: Global,
+    kernel: &mut Kernel<S>,
     places: &Places,
     thread: ObjId,
     path: &[Name],
@@ -29,12 +29,12 @@ pub fn append<S: LabelStore + Drop>(
 ) -> Result<Reply, Stopped>
     ensures { Runs (append_program places.now path.now bytes) kernel.old kernel.new thread result }
 {
-    settle(append_file(kernel, alloc, places, thread, path, bytes))
+    settle(append_file(alloc, kernel, places, thread, path, bytes))
 }
 
 fn append_file<S: LabelStore + Drop>(
-    kernel: &mut Kernel<S>,
     alloc: Global,
+    kernel: &mut Kernel<S>,
     places: &Places,
     thread: ObjId,
     path: &[Name],

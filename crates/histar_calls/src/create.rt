@@ -22,8 +22,8 @@ use std::alloc::Global;
 /// thread observe a directory on the way or modify the last one, EPERM where it doesn't let it make a
 /// file of this mode, as for a group that the process's user is no member of.
 pub fn create<S: LabelStore + Drop>(
-    kernel: &mut Kernel<S>,
     alloc: Global,
+    kernel: &mut Kernel<S>,
     places: &Places,
     users: &UserTable,
     thread: ObjId,
@@ -32,12 +32,12 @@ pub fn create<S: LabelStore + Drop>(
 ) -> Result<Reply, Stopped>
     ensures { Runs (create_program users.now places.now path.now mode) kernel.old kernel.new thread result }
 {
-    settle(create_file(kernel, alloc, places, users, thread, path, mode))
+    settle(create_file(alloc, kernel, places, users, thread, path, mode))
 }
 
 fn create_file<S: LabelStore + Drop>(
-    kernel: &mut Kernel<S>,
     alloc: Global,
+    kernel: &mut Kernel<S>,
     places: &Places,
     users: &UserTable,
     thread: ObjId,
@@ -50,12 +50,12 @@ fn create_file<S: LabelStore + Drop>(
         place,
         mut entries,
         name,
-    } = find_room(kernel, alloc, places, thread, path)?;
+    } = find_room(alloc, kernel, places, thread, path)?;
     let (own, _) = kernel.own_label(thread)?;
     let label = label_made(alloc, &own, users, mode)?;
     let empty = Bytes::new(alloc);
     let file = kernel.make_segment(alloc, thread, place.container, label, empty)?;
     entries.insert(alloc, &name, Target::File(file))?;
-    write_entries(kernel, alloc, thread, place, entries)?;
+    write_entries(alloc, kernel, thread, place, entries)?;
     Ok(Reply::Done)
 }

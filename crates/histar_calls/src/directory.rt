@@ -45,8 +45,8 @@ impl Directory {
 
     /// Reads a directory: EACCES where the kernel doesn't let the thread observe its segment.
     pub fn read<S: LabelStore + Drop>(
-        kernel: &mut Kernel<S>,
         alloc: Global,
+        kernel: &mut Kernel<S>,
         thread: ObjId,
         place: Place,
     ) -> Result<Directory, Ending>
@@ -115,8 +115,8 @@ pub fn look_in<S: LabelStore + Drop>(
 /// Writes the directory segment of a directory, with these entries: EACCES where the kernel doesn't let
 /// the thread modify it.
 pub fn write_entries<S: LabelStore + Drop>(
-    kernel: &mut Kernel<S>,
     alloc: Global,
+    kernel: &mut Kernel<S>,
     thread: ObjId,
     place: Place,
     entries: Dir,
@@ -150,8 +150,8 @@ pub fn find_place<S: LabelStore + Drop>(
 /// Reads the directory of these names, of which the last stands first. It is refused where its place can't
 /// be found, and with EACCES where it may not be observed itself.
 pub fn walk<S: LabelStore + Drop>(
-    kernel: &mut Kernel<S>,
     alloc: Global,
+    kernel: &mut Kernel<S>,
     places: &Places,
     thread: ObjId,
     names: &[Name],
@@ -159,5 +159,5 @@ pub fn walk<S: LabelStore + Drop>(
     ensures { RunsPart (walk places.now names.now) kernel.old kernel.new thread result }
 {
     let place = find_place(kernel, places, thread, names)?;
-    Directory::read(kernel, alloc, thread, place)
+    Directory::read(alloc, kernel, thread, place)
 }

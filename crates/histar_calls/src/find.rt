@@ -55,8 +55,8 @@ pub fn find_file<S: LabelStore + Drop>(
 /// The place of a new entry: EEXIST where the path is `/` or something stands there, ENOSPC at 64
 /// entries, and what refuses the walk.
 pub fn find_room<S: LabelStore + Drop>(
-    kernel: &mut Kernel<S>,
     alloc: Global,
+    kernel: &mut Kernel<S>,
     places: &Places,
     thread: ObjId,
     path: &[Name],
@@ -67,7 +67,7 @@ pub fn find_room<S: LabelStore + Drop>(
     let [name, parent @ ..] = path else {
         return Err(Ending::Refused(Errno::EEXIST));
     };
-    let directory = walk(kernel, alloc, places, thread, parent)?;
+    let directory = walk(alloc, kernel, places, thread, parent)?;
     directory.room_at(name)?;
     let Directory { place, entries } = directory;
     Ok(Room {

@@ -17,20 +17,20 @@ use std::alloc::Global;
 /// stands there or on the way, EACCES where the kernel doesn't let the thread observe the directory or
 /// one on the way.
 pub fn list<S: LabelStore + Drop>(
-    kernel: &mut Kernel<S>,
     alloc: Global,
+    kernel: &mut Kernel<S>,
     places: &Places,
     thread: ObjId,
     path: &[Name],
 ) -> Result<Reply, Stopped>
     ensures { Runs (list_program places.now path.now) kernel.old kernel.new thread result }
 {
-    settle(list_entries(kernel, alloc, places, thread, path))
+    settle(list_entries(alloc, kernel, places, thread, path))
 }
 
 fn list_entries<S: LabelStore + Drop>(
-    kernel: &mut Kernel<S>,
     alloc: Global,
+    kernel: &mut Kernel<S>,
     places: &Places,
     thread: ObjId,
     path: &[Name],
@@ -39,7 +39,7 @@ fn list_entries<S: LabelStore + Drop>(
 {
     let mut entries = Vec::new(alloc);
     entries.reserve(MOST_ENTRIES)?;
-    let directory = walk(kernel, alloc, places, thread, path)?;
+    let directory = walk(alloc, kernel, places, thread, path)?;
     directory.entries.list(&mut entries);
     Ok(Reply::Entries(Listing::new(entries)))
 }

@@ -20,8 +20,8 @@ use std::alloc::Global;
 /// Makes an empty directory: a container and in it its directory segment, which has the container's
 /// label. It is refused as `create` is.
 pub fn mkdir<S: LabelStore + Drop>(
-    kernel: &mut Kernel<S>,
     alloc: Global,
+    kernel: &mut Kernel<S>,
     places: &Places,
     users: &UserTable,
     thread: ObjId,
@@ -30,12 +30,12 @@ pub fn mkdir<S: LabelStore + Drop>(
 ) -> Result<Reply, Stopped>
     ensures { Runs (mkdir_program users.now places.now path.now mode) kernel.old kernel.new thread result }
 {
-    settle(make_directory(kernel, alloc, places, users, thread, path, mode))
+    settle(make_directory(alloc, kernel, places, users, thread, path, mode))
 }
 
 fn make_directory<S: LabelStore + Drop>(
-    kernel: &mut Kernel<S>,
     alloc: Global,
+    kernel: &mut Kernel<S>,
     places: &Places,
     users: &UserTable,
     thread: ObjId,
@@ -48,7 +48,7 @@ fn make_directory<S: LabelStore + Drop>(
         place,
         mut entries,
         name,
-    } = find_room(kernel, alloc, places, thread, path)?;
+    } = find_room(alloc, kernel, places, thread, path)?;
     let (own, _) = kernel.own_label(thread)?;
     let label = label_made(alloc, &own, users, mode)?;
     let same = label.copy()?;
@@ -56,6 +56,6 @@ fn make_directory<S: LabelStore + Drop>(
     let empty = Bytes::new(alloc);
     let listing = kernel.make_segment(alloc, thread, container, same, empty)?;
     entries.insert(alloc, &name, Target::Directory(container, listing))?;
-    write_entries(kernel, alloc, thread, place, entries)?;
+    write_entries(alloc, kernel, thread, place, entries)?;
     Ok(Reply::Done)
 }

@@ -16,20 +16,20 @@ use std::alloc::Global;
 /// where a file stands on the way, EACCES where the kernel doesn't let the thread observe a directory
 /// on the way or the file.
 pub fn read<S: LabelStore + Drop>(
-    kernel: &mut Kernel<S>,
     alloc: Global,
+    kernel: &mut Kernel<S>,
     places: &Places,
     thread: ObjId,
     path: &[Name],
 ) -> Result<Reply, Stopped>
     ensures { Runs (read_program places.now path.now) kernel.old kernel.new thread result }
 {
-    settle(read_file(kernel, alloc, places, thread, path))
+    settle(read_file(alloc, kernel, places, thread, path))
 }
 
 fn read_file<S: LabelStore + Drop>(
-    kernel: &mut Kernel<S>,
     alloc: Global,
+    kernel: &mut Kernel<S>,
     places: &Places,
     thread: ObjId,
     path: &[Name],

@@ -17,8 +17,8 @@ use std::alloc::Global;
 /// nothing stands there, ENOTDIR where a file stands on the way, EACCES where the kernel doesn't let
 /// the thread observe a directory on the way or modify the file, EFBIG at more than 4,096 bytes.
 pub fn write<S: LabelStore + Drop>(
-    kernel: &mut Kernel<S>,
     alloc: Global,
+    kernel: &mut Kernel<S>,
     places: &Places,
     thread: ObjId,
     path: &[Name],
@@ -26,12 +26,12 @@ pub fn write<S: LabelStore + Drop>(
 ) -> Result<Reply, Stopped>
     ensures { Runs (write_program places.now path.now bytes) kernel.old kernel.new thread result }
 {
-    settle(write_file(kernel, alloc, places, thread, path, bytes))
+    settle(write_file(alloc, kernel, places, thread, path, bytes))
 }
 
 fn write_file<S: LabelStore + Drop>(
-    kernel: &mut Kernel<S>,
     alloc: Global,
+    kernel: &mut Kernel<S>,
     places: &Places,
     thread: ObjId,
     path: &[Name],

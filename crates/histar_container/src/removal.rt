@@ -12,8 +12,8 @@ use std::alloc::{AllocError, Global};
 /// Takes a container's link to an object away, with the object and all that is reached from it. It
 /// wants memory for the numbers of what goes, before it changes anything.
 pub fn remove_tree<L: Drop>(
-    table: &mut Table<L>,
     alloc: Global,
+    table: &mut Table<L>,
     container: ObjId,
     object: ObjId,
 ) -> Result<(), AllocError>
@@ -22,7 +22,7 @@ pub fn remove_tree<L: Drop>(
     ensures ok { OnOk result (IsCut (objects_of table.old) container object (objects_of table.new)) }
     ensures err { OnErr result (objects_of table.new ≡ objects_of table.old) }
 {
-    let gone = reached_from(table, alloc, container, object)?;
+    let gone = reached_from(alloc, table, container, object)?;
     unlink(table, container, object);
     for number in &gone {
         table.remove(*number);
@@ -33,8 +33,8 @@ pub fn remove_tree<L: Drop>(
 // The numbers that are reached from an object that a container links, each once: the object's own
 // first, and behind each what it links.
 fn reached_from<L>(
-    table: &Table<L>,
     alloc: Global,
+    table: &Table<L>,
     container: ObjId,
     object: ObjId,
 ) -> Result<Vec<ObjId>, AllocError>

@@ -82,7 +82,7 @@ fn cut(
     let container = ObjId::new(container);
     let object = ObjId::new(object);
     assert!(rt; linked(table, container, object));
-    remove_tree(table, alloc, container, object)?;
+    remove_tree(alloc, table, container, object)?;
     assert!(rt; !linked(table, container, object));
     Ok(())
 }

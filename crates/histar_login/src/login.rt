@@ -39,8 +39,8 @@ fn password_segment(number: u8) -> ObjId
 /// Enters the gate of a user with all that the thread owns and all that the gate gives. EACCES where
 /// the gate doesn't let it in.
 fn enter_gate<S: LabelStore + Drop>(
-    kernel: &mut Kernel<S>,
     alloc: Global,
+    kernel: &mut Kernel<S>,
     thread: ObjId,
     number: u8,
     owners: &[u8],
@@ -99,8 +99,8 @@ fn is_password(kept: &Bytes, password: Password) -> bool
 /// password is another; the thread has then its own label and clearance again. Who logs in owns the
 /// categories of the user and of its groups, those of no other user, and holds no job.
 pub fn login<S: LabelStore + Drop>(
-    kernel: &mut Kernel<S>,
     alloc: Global,
+    kernel: &mut Kernel<S>,
     users: &UserTable,
     caller: &Caller,
     name: Name,
@@ -112,13 +112,13 @@ pub fn login<S: LabelStore + Drop>(
         return Ok(Reply::Refused(Errno::ENOENT));
     };
     let owners = owners_of(alloc, users, number, name)?;
-    settle(login_as(kernel, alloc, caller, number, owners.as_slice(), password))
+    settle(login_as(alloc, kernel, caller, number, owners.as_slice(), password))
 }
 
 /// Logs in as the user of this number, who owns the categories of these users and groups.
 fn login_as<S: LabelStore + Drop>(
-    kernel: &mut Kernel<S>,
     alloc: Global,
+    kernel: &mut Kernel<S>,
     caller: &Caller,
     number: u8,
     owners: &[u8],
@@ -128,7 +128,7 @@ fn login_as<S: LabelStore + Drop>(
 {
     let thread = caller.thread;
     let (own, most) = kernel.own_label(thread)?;
-    enter_gate(kernel, alloc, thread, number, owners, &own, &most)?;
+    enter_gate(alloc, kernel, thread, number, owners, &own, &most)?;
     let kept = kernel.read_copy(alloc, thread, ObjId::new(1), password_segment(number))?;
     let right = is_password(&kept, password);
     let (label, clearance) = due_labels(alloc, right, caller, owners, own, most)?;

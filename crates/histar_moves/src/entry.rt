@@ -87,8 +87,8 @@ pub fn must_be_empty(entries: &Dir) -> Result<(), Errno>
 /// The entry of a path: EBUSY where the path is `/`, ENOENT where nothing stands there, and what refuses
 /// the walk.
 pub fn find_entry<S: LabelStore + Drop>(
-    kernel: &mut Kernel<S>,
     alloc: Global,
+    kernel: &mut Kernel<S>,
     places: &Places,
     thread: ObjId,
     path: &[Name],
@@ -99,7 +99,7 @@ pub fn find_entry<S: LabelStore + Drop>(
     let [name, parent @ ..] = path else {
         return Err(Ending::Refused(Errno::EBUSY));
     };
-    let directory = walk(kernel, alloc, places, thread, parent)?;
+    let directory = walk(alloc, kernel, places, thread, parent)?;
     let target = directory.entry_at(name)?;
     let Directory { place, entries } = directory;
     Ok(FoundEntry {
@@ -113,8 +113,8 @@ pub fn find_entry<S: LabelStore + Drop>(
 /// Takes the object of an entry out of its directory's container, with all below it, and writes the
 /// directory without the entry: EACCES where the kernel doesn't let the thread modify these.
 pub fn take_away<S: LabelStore + Drop>(
-    kernel: &mut Kernel<S>,
     alloc: Global,
+    kernel: &mut Kernel<S>,
     thread: ObjId,
     entry: FoundEntry,
 ) -> Result<(), Ending>
@@ -128,5 +128,5 @@ pub fn take_away<S: LabelStore + Drop>(
     } = entry;
     kernel.unlink(alloc, thread, place.container, target.object())?;
     entries.remove(&name);
-    write_entries(kernel, alloc, thread, place, entries)
+    write_entries(alloc, kernel, thread, place, entries)
 }

@@ -16,8 +16,8 @@ use std::alloc::Global;
 /// new name, be it this one, EACCES where the kernel doesn't let the thread observe a directory on the way
 /// or modify the last one.
 pub fn rename<S: LabelStore + Drop>(
-    kernel: &mut Kernel<S>,
     alloc: Global,
+    kernel: &mut Kernel<S>,
     places: &Places,
     thread: ObjId,
     path: &[Name],
@@ -25,12 +25,12 @@ pub fn rename<S: LabelStore + Drop>(
 ) -> Result<Reply, Stopped>
     ensures { Runs (rename_program places.now path.now name.now) kernel.old kernel.new thread result }
 {
-    settle(rename_entry(kernel, alloc, places, thread, path, name))
+    settle(rename_entry(alloc, kernel, places, thread, path, name))
 }
 
 fn rename_entry<S: LabelStore + Drop>(
-    kernel: &mut Kernel<S>,
     alloc: Global,
+    kernel: &mut Kernel<S>,
     places: &Places,
     thread: ObjId,
     path: &[Name],
@@ -38,10 +38,10 @@ fn rename_entry<S: LabelStore + Drop>(
 ) -> Result<Reply, Ending>
     ensures { Runs (rename_program places.now path.now name.now) kernel.old kernel.new thread (settled result) }
 {
-    let entry = find_entry(kernel, alloc, places, thread, path)?;
+    let entry = find_entry(alloc, kernel, places, thread, path)?;
     entry.must_be_free(name)?;
     let place = entry.place;
     let entries = entry.renamed(alloc, name)?;
-    write_entries(kernel, alloc, thread, place, entries)?;
+    write_entries(alloc, kernel, thread, place, entries)?;
     Ok(Reply::Done)
 }

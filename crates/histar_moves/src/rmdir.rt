@@ -16,30 +16,30 @@ use std::alloc::Global;
 /// the directory or one on the way, ENOTEMPTY where it has an entry, EACCES where the kernel doesn't let
 /// the thread modify the directory above it.
 pub fn rmdir<S: LabelStore + Drop>(
-    kernel: &mut Kernel<S>,
     alloc: Global,
+    kernel: &mut Kernel<S>,
     places: &Places,
     thread: ObjId,
     path: &[Name],
 ) -> Result<Reply, Stopped>
     ensures { Runs (rmdir_program places.now path.now) kernel.old kernel.new thread result }
 {
-    settle(remove_directory(kernel, alloc, places, thread, path))
+    settle(remove_directory(alloc, kernel, places, thread, path))
 }
 
 fn remove_directory<S: LabelStore + Drop>(
-    kernel: &mut Kernel<S>,
     alloc: Global,
+    kernel: &mut Kernel<S>,
     places: &Places,
     thread: ObjId,
     path: &[Name],
 ) -> Result<Reply, Ending>
     ensures { Runs (rmdir_program places.now path.now) kernel.old kernel.new thread (settled result) }
 {
-    let entry = find_entry(kernel, alloc, places, thread, path)?;
+    let entry = find_entry(alloc, kernel, places, thread, path)?;
     let place = entry.must_be_directory()?;
-    let directory = Directory::read(kernel, alloc, thread, place)?;
+    let directory = Directory::read(alloc, kernel, thread, place)?;
     must_be_empty(&directory.entries)?;
-    take_away(kernel, alloc, thread, entry)?;
+    take_away(alloc, kernel, thread, entry)?;
     Ok(Reply::Done)
 }

@@ -15,27 +15,27 @@ use std::alloc::Global;
 /// ENOTDIR where the way to it breaks off, ENOENT where nothing stands there, EACCES where the kernel
 /// doesn't let the thread observe a directory on the way or modify the last one.
 pub fn rmtree<S: LabelStore + Drop>(
-    kernel: &mut Kernel<S>,
     alloc: Global,
+    kernel: &mut Kernel<S>,
     places: &Places,
     thread: ObjId,
     path: &[Name],
 ) -> Result<Reply, Stopped>
     ensures { Runs (rmtree_program places.now path.now) kernel.old kernel.new thread result }
 {
-    settle(remove_tree(kernel, alloc, places, thread, path))
+    settle(remove_tree(alloc, kernel, places, thread, path))
 }
 
 fn remove_tree<S: LabelStore + Drop>(
-    kernel: &mut Kernel<S>,
     alloc: Global,
+    kernel: &mut Kernel<S>,
     places: &Places,
     thread: ObjId,
     path: &[Name],
 ) -> Result<Reply, Ending>
     ensures { Runs (rmtree_program places.now path.now) kernel.old kernel.new thread (settled result) }
 {
-    let entry = find_entry(kernel, alloc, places, thread, path)?;
-    take_away(kernel, alloc, thread, entry)?;
+    let entry = find_entry(alloc, kernel, places, thread, path)?;
+    take_away(alloc, kernel, thread, entry)?;
     Ok(Reply::Done)
 }

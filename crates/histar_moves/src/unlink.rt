@@ -15,28 +15,28 @@ use std::alloc::Global;
 /// nothing stands there, EISDIR for a directory, EACCES where the kernel doesn't let the thread observe a
 /// directory on the way or modify the last one.
 pub fn unlink<S: LabelStore + Drop>(
-    kernel: &mut Kernel<S>,
     alloc: Global,
+    kernel: &mut Kernel<S>,
     places: &Places,
     thread: ObjId,
     path: &[Name],
 ) -> Result<Reply, Stopped>
     ensures { Runs (unlink_program places.now path.now) kernel.old kernel.new thread result }
 {
-    settle(unlink_file(kernel, alloc, places, thread, path))
+    settle(unlink_file(alloc, kernel, places, thread, path))
 }
 
 fn unlink_file<S: LabelStore + Drop>(
-    kernel: &mut Kernel<S>,
     alloc: Global,
+    kernel: &mut Kernel<S>,
     places: &Places,
     thread: ObjId,
     path: &[Name],
 ) -> Result<Reply, Ending>
     ensures { Runs (unlink_program places.now path.now) kernel.old kernel.new thread (settled result) }
 {
-    let entry = find_entry(kernel, alloc, places, thread, path)?;
+    let entry = find_entry(alloc, kernel, places, thread, path)?;
     entry.must_be_file()?;
-    take_away(kernel, alloc, thread, entry)?;
+    take_away(alloc, kernel, thread, entry)?;
     Ok(Reply::Done)
 }

@@ -21,8 +21,8 @@ use std::alloc::Global;
 /// categories and these, and is in the jobs of these. Its objects are made, and it is added to the
 /// segment of its parent.
 pub fn give_birth<S: LabelStore + Drop>(
-    kernel: &mut Kernel<S>,
     alloc: Global,
+    kernel: &mut Kernel<S>,
     thread: ObjId,
     parent: &Home,
     bytes: &[u8],
@@ -34,20 +34,20 @@ pub fn give_birth<S: LabelStore + Drop>(
 {
     let (read, write) = make_categories(kernel, thread)?;
     let (container, internal) = make_containers(
-        kernel,
         alloc,
+        kernel,
         thread,
         parent.container,
         jobs,
         read,
         write,
     )?;
-    let child = make_thread(kernel, alloc, thread, internal, owned, jobs, read, write)?;
+    let child = make_thread(alloc, kernel, thread, internal, owned, jobs, read, write)?;
     let its = make_segment(
-        kernel, alloc, thread, container, jobs, write, internal, child,
+        alloc, kernel, thread, container, jobs, write, internal, child,
     )?;
     let grown = add_child(alloc, bytes, container, its)?;
-    write_segment(kernel, alloc, thread, parent, grown)
+    write_segment(alloc, kernel, thread, parent, grown)
 }
 
 /// Makes the two categories of a child.
@@ -64,8 +64,8 @@ fn make_categories<S: LabelStore + Drop>(
 
 /// Makes the container of a child in that of its parent, and the child's internal container in it.
 fn make_containers<S: LabelStore + Drop>(
-    kernel: &mut Kernel<S>,
     alloc: Global,
+    kernel: &mut Kernel<S>,
     thread: ObjId,
     parent: ObjId,
     jobs: &[Category],
@@ -74,16 +74,16 @@ fn make_containers<S: LabelStore + Drop>(
 ) -> Result<(ObjId, ObjId), Ending>
     ensures { RunsPart (make_containers parent jobs.now read write) kernel.old kernel.new thread result }
 {
-    let container = make_guarded(kernel, alloc, thread, parent, jobs, write)?;
+    let container = make_guarded(alloc, kernel, thread, parent, jobs, write)?;
     let secret = joined(alloc, &[read], jobs)?;
-    let internal = make_guarded(kernel, alloc, thread, container, secret.as_slice(), write)?;
+    let internal = make_guarded(alloc, kernel, thread, container, secret.as_slice(), write)?;
     Ok((container, internal))
 }
 
 /// Makes a container with secrets of these categories, which the owner of another writes.
 fn make_guarded<S: LabelStore + Drop>(
-    kernel: &mut Kernel<S>,
     alloc: Global,
+    kernel: &mut Kernel<S>,
     thread: ObjId,
     container: ObjId,
     secret: &[Category],
@@ -98,8 +98,8 @@ fn make_guarded<S: LabelStore + Drop>(
 
 /// Makes the thread of a child in its internal container.
 fn make_thread<S: LabelStore + Drop>(
-    kernel: &mut Kernel<S>,
     alloc: Global,
+    kernel: &mut Kernel<S>,
     thread: ObjId,
     internal: ObjId,
     owned: &[Category],
@@ -119,8 +119,8 @@ fn make_thread<S: LabelStore + Drop>(
 
 /// Makes the process segment of a child in its container.
 fn make_segment<S: LabelStore + Drop>(
-    kernel: &mut Kernel<S>,
     alloc: Global,
+    kernel: &mut Kernel<S>,
     thread: ObjId,
     container: ObjId,
     jobs: &[Category],

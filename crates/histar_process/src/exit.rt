@@ -15,28 +15,28 @@ use std::alloc::Global;
 /// The process exits with this number: its segment tells so from then on, and its internal container is
 /// taken away with its thread. EACCES where the kernel doesn't let the thread modify these.
 pub fn exit<S: LabelStore + Drop>(
-    kernel: &mut Kernel<S>,
     alloc: Global,
+    kernel: &mut Kernel<S>,
     caller: &Caller,
     number: u8,
 ) -> Result<Reply, Stopped>
     ensures { Runs (exit_program caller.now.home number) kernel.old kernel.new caller.now.thread result }
 {
-    settle(exit_process(kernel, alloc, caller, number))
+    settle(exit_process(alloc, kernel, caller, number))
 }
 
 fn exit_process<S: LabelStore + Drop>(
-    kernel: &mut Kernel<S>,
     alloc: Global,
+    kernel: &mut Kernel<S>,
     caller: &Caller,
     number: u8,
 ) -> Result<Reply, Ending>
     ensures { Runs (exit_program caller.now.home number) kernel.old kernel.new caller.now.thread (settled result) }
 {
     let (home, thread) = (&caller.home, caller.thread);
-    let Segment { head, bytes: old } = read_segment(kernel, alloc, thread, home)?;
+    let Segment { head, bytes: old } = read_segment(alloc, kernel, thread, home)?;
     let bytes = exit_status(alloc, old.as_slice(), number)?;
-    write_segment(kernel, alloc, thread, home, bytes)?;
+    write_segment(alloc, kernel, thread, home, bytes)?;
     kernel.unlink(alloc, thread, home.container, head.internal)?;
     Ok(Reply::Done)
 }

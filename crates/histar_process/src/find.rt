@@ -61,8 +61,8 @@ pub fn read_head<S: LabelStore + Drop>(
 /// Reads a process segment that is going to be written again: EACCES where the kernel doesn't let the
 /// thread observe it.
 pub fn read_segment<S: LabelStore + Drop>(
-    kernel: &mut Kernel<S>,
     alloc: Global,
+    kernel: &mut Kernel<S>,
     thread: ObjId,
     home: &Home,
 ) -> Result<Segment, Ending>
@@ -77,8 +77,8 @@ pub fn read_segment<S: LabelStore + Drop>(
 
 /// Writes a process segment: EACCES where the kernel doesn't let the thread modify it.
 pub fn write_segment<S: LabelStore + Drop>(
-    kernel: &mut Kernel<S>,
     alloc: Global,
+    kernel: &mut Kernel<S>,
     thread: ObjId,
     home: &Home,
     bytes: Bytes,

@@ -22,20 +22,20 @@ const ROOT: u64 = 1;
 /// segment or one above it, ESRCH where it was not born or was killed, EACCES where the kernel doesn't let
 /// the thread modify the container above it or the segment of the process above it.
 pub fn kill<S: LabelStore + Drop>(
-    kernel: &mut Kernel<S>,
     alloc: Global,
+    kernel: &mut Kernel<S>,
     places: &Places,
     thread: ObjId,
     name: &ProcName,
 ) -> Result<Reply, Stopped>
     ensures { Runs (kill_program places.now name.now) kernel.old kernel.new thread result }
 {
-    settle(kill_process(kernel, alloc, places, thread, name))
+    settle(kill_process(alloc, kernel, places, thread, name))
 }
 
 fn kill_process<S: LabelStore + Drop>(
-    kernel: &mut Kernel<S>,
     alloc: Global,
+    kernel: &mut Kernel<S>,
     places: &Places,
     thread: ObjId,
     name: &ProcName,
@@ -43,15 +43,15 @@ fn kill_process<S: LabelStore + Drop>(
     ensures { Runs (kill_program places.now name.now) kernel.old kernel.new thread (settled result) }
 {
     let [number, above @ ..] = name.numbers() else {
-        return kill_first(kernel, alloc, places, thread);
+        return kill_first(alloc, kernel, places, thread);
     };
-    kill_child(kernel, alloc, places, thread, *number, above)
+    kill_child(alloc, kernel, places, thread, *number, above)
 }
 
 /// Kills process 0.
 fn kill_first<S: LabelStore + Drop>(
-    kernel: &mut Kernel<S>,
     alloc: Global,
+    kernel: &mut Kernel<S>,
     places: &Places,
     thread: ObjId,
 ) -> Result<Reply, Ending>
@@ -64,8 +64,8 @@ fn kill_first<S: LabelStore + Drop>(
 
 /// Kills the child of this number of the process of these numbers, of which the last stands first.
 fn kill_child<S: LabelStore + Drop>(
-    kernel: &mut Kernel<S>,
     alloc: Global,
+    kernel: &mut Kernel<S>,
     places: &Places,
     thread: ObjId,
     number: u8,
@@ -74,13 +74,13 @@ fn kill_child<S: LabelStore + Drop>(
     ensures { Runs (kill_program places.now (number ∷ above.now)) kernel.old kernel.new thread (settled result) }
 {
     let home = find_home(kernel, places.home, thread, above)?;
-    let Segment { bytes: old, .. } = read_segment(kernel, alloc, thread, &home)?;
+    let Segment { bytes: old, .. } = read_segment(alloc, kernel, thread, &home)?;
     let found = find_child(old.as_slice(), number)?;
     let child = must_be_there(found)?;
     let its = home_of(child);
     read_head(kernel, thread, &its)?;
     let bytes = remove_child(alloc, old.as_slice(), number)?;
     kernel.unlink(alloc, thread, home.container, its.container)?;
-    write_segment(kernel, alloc, thread, &home, bytes)?;
+    write_segment(alloc, kernel, thread, &home, bytes)?;
     Ok(Reply::Done)
 }

@@ -24,20 +24,20 @@ const MOST_CHILDREN: u8 = 64;
 /// in the same jobs. EAGAIN where the name has no room for one number more or 64 children were
 /// born already, EACCES where the kernel doesn't let the thread modify the process's own objects.
 pub fn spawn<S: LabelStore + Drop>(
-    kernel: &mut Kernel<S>,
     alloc: Global,
+    kernel: &mut Kernel<S>,
     users: &UserTable,
     name: &ProcName,
     caller: &Caller,
 ) -> Result<Reply, Stopped>
     ensures { Runs (spawn_program users.now name.now caller.now.home) kernel.old kernel.new caller.now.thread result }
 {
-    settle(spawn_child(kernel, alloc, users, name, caller))
+    settle(spawn_child(alloc, kernel, users, name, caller))
 }
 
 fn spawn_child<S: LabelStore + Drop>(
-    kernel: &mut Kernel<S>,
     alloc: Global,
+    kernel: &mut Kernel<S>,
     users: &UserTable,
     name: &ProcName,
     caller: &Caller,
@@ -45,13 +45,13 @@ fn spawn_child<S: LabelStore + Drop>(
     ensures { Runs (spawn_program users.now name.now caller.now.home) kernel.old kernel.new caller.now.thread (settled result) }
 {
     let (home, thread) = (&caller.home, caller.thread);
-    let Segment { head, bytes } = room_for_child(kernel, alloc, thread, name, home)?;
+    let Segment { head, bytes } = room_for_child(alloc, kernel, thread, name, home)?;
     let (own, most) = kernel.own_label(thread)?;
     let jobs = jobs_in(alloc, &own)?;
     let owned = owned_by(alloc, users, user_of(&own, users), !is_in_job(&own))?;
     give_birth(
-        kernel,
         alloc,
+        kernel,
         thread,
         home,
         bytes.as_slice(),
@@ -67,8 +67,8 @@ fn spawn_child<S: LabelStore + Drop>(
 /// no room for one number more or 64 children were born already, EACCES where the kernel doesn't let the
 /// thread observe the segment.
 pub fn room_for_child<S: LabelStore + Drop>(
-    kernel: &mut Kernel<S>,
     alloc: Global,
+    kernel: &mut Kernel<S>,
     thread: ObjId,
     name: &ProcName,
     home: &Home,
@@ -78,7 +78,7 @@ pub fn room_for_child<S: LabelStore + Drop>(
     ensures born { IfOk result (λ segment. segment.head.born < most_children) }
 {
     must_have_room(name.numbers().len() < MOST_NUMBERS)?;
-    let segment = read_segment(kernel, alloc, thread, home)?;
+    let segment = read_segment(alloc, kernel, thread, home)?;
     must_have_room(segment.head.born < MOST_CHILDREN)?;
     Ok(segment)
 }

@@ -339,7 +339,7 @@ impl<S: LabelStore + Drop> LabelledObjects<S> {
         ensures ok { OnOk result (CutsOff (state_of self.old) container object (state_of self.new)) }
         ensures err { OnErr result (state_of self.new ≡ state_of self.old) }
     {
-        remove_tree(&mut self.table, alloc, container, object)
+        remove_tree(alloc, &mut self.table, container, object)
     }
 
     /// Gives a thread another label.

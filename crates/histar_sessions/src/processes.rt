@@ -43,7 +43,7 @@ fn slash_and_the_processes_are_found(rt: HostRuntime) -> Result<(), Fail> {
     let first = procs_of(alloc, &kernel, &places)?.ok_or("processes")?;
     assert_eq!(rt; first.len(), 1);
     let caller = find_caller(&kernel, places.home, &zero).ok_or("process 0")?;
-    spawn::spawn(&mut kernel, alloc, &users, &zero, &caller)?;
+    spawn::spawn(alloc, &mut kernel, &users, &zero, &caller)?;
     let both = procs_of(alloc, &kernel, &places)?.ok_or("processes")?;
     assert_eq!(rt; both.len(), 2);
     assert!(rt; both[0].name == zero);

@@ -242,7 +242,7 @@ fn run_at_once<S: LabelStore + Drop>(
         calls.push((ObjId::new(thread), raw_call(alloc, asked)?))?;
     }
     let mut kernel = Kernel::new(alloc, store)?;
-    run_raw(&mut kernel, alloc, calls.as_slice())?;
+    run_raw(alloc, &mut kernel, calls.as_slice())?;
     is_traced(rt, kernel.trace(), rows, false);
     Ok(())
 }

@@ -109,8 +109,8 @@ impl<S: LabelStore + Drop> Machine<S> {
         };
         self.kernel.begin(line);
         let result = make(
-            &mut self.kernel,
             alloc,
+            &mut self.kernel,
             &self.places,
             &self.users,
             process,
@@ -160,8 +160,8 @@ impl<S: LabelStore + Drop> Machine<S> {
 
 /// Does one call of a process on the line that was begun.
 fn make<S: LabelStore + Drop>(
-    kernel: &mut Kernel<S>,
     alloc: Global,
+    kernel: &mut Kernel<S>,
     places: &Places,
     users: &UserTable,
     me: &ProcName,
@@ -173,8 +173,8 @@ fn make<S: LabelStore + Drop>(
     let thread = caller.thread;
     match call {
         UnixCall::Create(path, mode) => create::create(
-            kernel,
             alloc,
+            kernel,
             places,
             users,
             thread,
@@ -182,52 +182,52 @@ fn make<S: LabelStore + Drop>(
             mode,
         ),
         UnixCall::Mkdir(path, mode) => mkdir::mkdir(
-            kernel,
             alloc,
+            kernel,
             places,
             users,
             thread,
             path.names(),
             mode,
         ),
-        UnixCall::Read(path) => read::read(kernel, alloc, places, thread, path.names()),
+        UnixCall::Read(path) => read::read(alloc, kernel, places, thread, path.names()),
         UnixCall::Write(path, bytes) => write::write(
-            kernel,
             alloc,
+            kernel,
             places,
             thread,
             path.names(),
             bytes,
         ),
         UnixCall::Append(path, bytes) => append::append(
-            kernel,
             alloc,
+            kernel,
             places,
             thread,
             path.names(),
             bytes,
         ),
-        UnixCall::List(path) => list::list(kernel, alloc, places, thread, path.names()),
+        UnixCall::List(path) => list::list(alloc, kernel, places, thread, path.names()),
         UnixCall::Stat(path) => stat::stat(kernel, places, users, thread, path.names()),
-        UnixCall::Unlink(path) => unlink::unlink(kernel, alloc, places, thread, path.names()),
-        UnixCall::Rmdir(path) => rmdir::rmdir(kernel, alloc, places, thread, path.names()),
-        UnixCall::Rmtree(path) => rmtree::rmtree(kernel, alloc, places, thread, path.names()),
+        UnixCall::Unlink(path) => unlink::unlink(alloc, kernel, places, thread, path.names()),
+        UnixCall::Rmdir(path) => rmdir::rmdir(alloc, kernel, places, thread, path.names()),
+        UnixCall::Rmtree(path) => rmtree::rmtree(alloc, kernel, places, thread, path.names()),
         UnixCall::Rename(path, name) => rename::rename(
-            kernel,
             alloc,
+            kernel,
             places,
             thread,
             path.names(),
             &name,
         ),
-        UnixCall::Spawn => spawn::spawn(kernel, alloc, users, me, caller),
-        UnixCall::Exit(number) => exit::exit(kernel, alloc, caller, number),
+        UnixCall::Spawn => spawn::spawn(alloc, kernel, users, me, caller),
+        UnixCall::Exit(number) => exit::exit(alloc, kernel, caller, number),
         UnixCall::Status(name) => status::status(kernel, places, thread, &name),
-        UnixCall::Kill(name) => kill::kill(kernel, alloc, places, thread, &name),
+        UnixCall::Kill(name) => kill::kill(alloc, kernel, places, thread, &name),
         UnixCall::Whoami => whoami::whoami(kernel, users, thread),
         UnixCall::Login(name, password) => login::login(
-            kernel, alloc, users, caller, name, password,
+            alloc, kernel, users, caller, name, password,
         ),
-        UnixCall::Wrap(path) => wrap::wrap(kernel, alloc, places, users, me, caller, path.names()),
+        UnixCall::Wrap(path) => wrap::wrap(alloc, kernel, places, users, me, caller, path.names()),
     }
 }

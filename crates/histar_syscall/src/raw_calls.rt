@@ -16,8 +16,8 @@ use std::alloc::Global;
 /// the others, at least one, were not made. Calls of threads that a category confines leave all that is
 /// visible without its taint.
 pub fn run_raw<S: LabelStore + Drop>(
-    kernel: &mut Kernel<S>,
     alloc: Global,
+    kernel: &mut Kernel<S>,
     calls: &[(ObjId, RawCall)],
 ) -> Result<(), OutOfMemory>
     ensures all { OnOk result (MadeAll kernel.old calls.now kernel.new) }
@@ -25,15 +25,15 @@ pub fn run_raw<S: LabelStore + Drop>(
     ensures confined { (v : ℕ) → AreConfined (state kernel.old) v calls.now → visible (state kernel.new) v ≡ visible (state kernel.old) v }
 {
     for asked in calls {
-        make(kernel, alloc, asked.0, &asked.1)?;
+        make(alloc, kernel, asked.0, &asked.1)?;
     }
     Ok(())
 }
 
 /// Makes one raw call, granted or refused.
 fn make<S: LabelStore + Drop>(
-    kernel: &mut Kernel<S>,
     alloc: Global,
+    kernel: &mut Kernel<S>,
     thread: ObjId,
     call: &RawCall,
 ) -> Result<(), OutOfMemory>

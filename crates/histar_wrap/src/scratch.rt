@@ -20,8 +20,8 @@ use std::alloc::Global;
 /// label is beyond the thread's clearance: these come at the container, and the thread takes its own label
 /// and clearance again first.
 pub fn make_scratch<S: LabelStore + Drop>(
-    kernel: &mut Kernel<S>,
     alloc: Global,
+    kernel: &mut Kernel<S>,
     thread: ObjId,
     own: &Label,
     most: &Label,
@@ -38,19 +38,19 @@ pub fn make_scratch<S: LabelStore + Drop>(
     } = room;
     let same = label.copy()?;
     let above = place.container;
-    let container = make_or_give_back(kernel, alloc, thread, own, most, above, label)?;
+    let container = make_or_give_back(alloc, kernel, thread, own, most, above, label)?;
     let empty = Bytes::new(alloc);
     let listing = kernel.make_segment(alloc, thread, container, same, empty)?;
     entries.insert(alloc, &name, Target::Directory(container, listing))?;
-    write_entries(kernel, alloc, thread, place, entries)
+    write_entries(alloc, kernel, thread, place, entries)
 }
 
 // Makes a container with this label. Where the kernel denies it the thread takes its own label and
 // clearance again, and the denial ends the call; where memory runs out inside that, the call ends without
 // a reply.
 fn make_or_give_back<S: LabelStore + Drop>(
-    kernel: &mut Kernel<S>,
     alloc: Global,
+    kernel: &mut Kernel<S>,
     thread: ObjId,
     own: &Label,
     most: &Label,

@@ -27,8 +27,8 @@ use std::alloc::{AllocError, Global};
 /// nobody, whose categories no thread owns. Where the directory is denied, the thread gives the job's
 /// category back first; the call ends without a reply where memory runs out inside that.
 pub fn wrap<S: LabelStore + Drop>(
-    kernel: &mut Kernel<S>,
     alloc: Global,
+    kernel: &mut Kernel<S>,
     places: &Places,
     users: &UserTable,
     name: &ProcName,
@@ -37,12 +37,12 @@ pub fn wrap<S: LabelStore + Drop>(
 ) -> Result<Reply, Stopped>
     ensures { Runs (wrap_program users.now places.now name.now caller.now.home path.now) kernel.old kernel.new caller.now.thread result }
 {
-    settle(start_job(kernel, alloc, places, users, name, caller, path))
+    settle(start_job(alloc, kernel, places, users, name, caller, path))
 }
 
 fn start_job<S: LabelStore + Drop>(
-    kernel: &mut Kernel<S>,
     alloc: Global,
+    kernel: &mut Kernel<S>,
     places: &Places,
     users: &UserTable,
     name: &ProcName,
@@ -52,18 +52,18 @@ fn start_job<S: LabelStore + Drop>(
     ensures { Runs (wrap_program users.now places.now name.now caller.now.home path.now) kernel.old kernel.new caller.now.thread (settled result) }
 {
     let (home, thread) = (&caller.home, caller.thread);
-    let Segment { head, bytes } = room_for_child(kernel, alloc, thread, name, home)?;
-    let room = find_room(kernel, alloc, places, thread, path)?;
+    let Segment { head, bytes } = room_for_child(alloc, kernel, thread, name, home)?;
+    let room = find_room(alloc, kernel, places, thread, path)?;
     let (own, most) = kernel.own_label(thread)?;
     let job = kernel.make_category(thread)?;
     let user = user_of(&own, users);
     let jobs = jobs_with(alloc, &own, job)?;
     let label = scratch_label(alloc, user, jobs.as_slice())?;
-    make_scratch(kernel, alloc, thread, &own, &most, label, room)?;
+    make_scratch(alloc, kernel, thread, &own, &most, label, room)?;
     let owned = owned_by(alloc, users, user, false)?;
     give_birth(
-        kernel,
         alloc,
+        kernel,
         thread,
         home,
         bytes.as_slice(),
