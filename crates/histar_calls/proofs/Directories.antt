@@ -15,7 +15,7 @@ use Rattle.histar_calls.specs.declared.ending.Ending.{Ending}
 use Rattle.histar_calls.specs.declared.ending.Ending.TheVariants.{Refused, Stopped}
 use Rattle.histar_calls.specs.Refusals.{write_errno_of, or_ending}
 use Rattle.histar_calls.specs.Programs.{Program, Part, Begins, RunsPart}
-use Rattle.histar_calls.specs.Parts.{ask, list, given, read_directory, directory_at, look_in, find_place, walk, write_entries}
+use Rattle.histar_calls.specs.Parts.{ask, list, given, read_directory, directory_at, look_in, find_place, walk_to, write_entries}
 use Rattle.histar_syscall.proofs.Runs.{same_kernel}
 use Rattle.histar_calls.proofs.Running.{asks, gives, gives_not, hands, part_as, then_part, part_fails}
 
@@ -123,13 +123,13 @@ module _ (t : ℕ) (places : Places) (old new : KernelModel) (names : List Name)
 
 module _ (t : ℕ) (places : Places) (old new : KernelModel) (names : Path) where
   -- the place was not found
-  pub walk_fails : (ending : Ending) → RunsPart (find_place places names) old new t (Err ending) → RunsPart (walk places names) old new t (Err ending)
-  unfolding walk
+  pub walk_fails : (ending : Ending) → RunsPart (find_place places names) old new t (Err ending) → RunsPart (walk_to places names) old new t (Err ending)
+  unfolding walk_to
   walk_fails ending first = part_fails t (find_place places names) old new (λ (place : Place). read_directory place) ending first
 
   -- it was found, and the directory is read
-  pub walk_ends : (mid : KernelModel) (place : Place) → RunsPart (find_place places names) old mid t (Ok place) → (result : Result Directory Ending) → RunsPart (read_directory place) mid new t result → RunsPart (walk places names) old new t result
-  unfolding walk
+  pub walk_ends : (mid : KernelModel) (place : Place) → RunsPart (find_place places names) old mid t (Ok place) → (result : Result Directory Ending) → RunsPart (read_directory place) mid new t result → RunsPart (walk_to places names) old new t result
+  unfolding walk_to
   walk_ends mid place first result second = then_part t (find_place places names) old new (λ (place : Place). read_directory place) mid place first result second
 
 -- bytes that spell a directory's entries are written
@@ -147,6 +147,6 @@ before_place t places (name ∷ parent) k first begins =
     before_place t places parent k (λ above. look_in above name (λ target. given (directory_at target) first)) (λ above. inl (same_kernel k))
 
 -- and so before a walk
-pub before_walk : (t : ℕ) (places : Places) (path : Path) (k : KernelModel) → RunsPart (walk places path) k k t (Err Stopped)
-unfolding RunsPart walk read_directory
+pub before_walk : (t : ℕ) (places : Places) (path : Path) (k : KernelModel) → RunsPart (walk_to places path) k k t (Err Stopped)
+unfolding RunsPart walk_to read_directory
 before_walk t places path k = λ rest. before_place t places path k (λ place. read_directory place rest) (λ place. inl (same_kernel k))

@@ -10,21 +10,21 @@ use Rattle.histar_calls.specs.declared.directory.Directory.{Directory}
 use Rattle.histar_calls.specs.declared.ending.Ending.{Ending}
 use Rattle.histar_calls.specs.declared.ending.Ending.TheVariants.{Refused}
 use Rattle.histar_calls.specs.Programs.{Part, RunsPart}
-use Rattle.histar_calls.specs.Parts.{given, look_in, find_place, walk}
+use Rattle.histar_calls.specs.Parts.{given, look_in, find_place, walk_to}
 use Rattle.histar_calls.proofs.Running.{hands, refuses_at_once, part_as, then_part, part_fails}
 
 -- a part that walks to the parent of a path, and goes on there
-module _ {B : Type 0} (t : ℕ) (places : Places) (old new : KernelModel) (part : Path → Part B) (path : Path) (name : Name) (parent : Path) (split : path ≡ name ∷ parent) (within : Directory → Part B) (is : part (name ∷ parent) ≡ (λ rest. walk places parent (λ directory. within directory rest))) where
-  here : (result : Result B Ending) → RunsPart (λ rest. walk places parent (λ directory. within directory rest)) old new t result → RunsPart (part path) old new t result
+module _ {B : Type 0} (t : ℕ) (places : Places) (old new : KernelModel) (part : Path → Part B) (path : Path) (name : Name) (parent : Path) (split : path ≡ name ∷ parent) (within : Directory → Part B) (is : part (name ∷ parent) ≡ (λ rest. walk_to places parent (λ directory. within directory rest))) where
+  here : (result : Result B Ending) → RunsPart (λ rest. walk_to places parent (λ directory. within directory rest)) old new t result → RunsPart (part path) old new t result
   here result runs = subst (λ (q : Path). RunsPart (part q) old new t result) (sym split) (subst (λ (p : Part B). RunsPart p old new t result) (sym is) runs)
 
   -- the walk has failed
-  pub walk_failed : (ending : Ending) → RunsPart (walk places parent) old new t (Err ending) → RunsPart (part path) old new t (Err ending)
-  walk_failed ending first = here (Err ending) (part_fails t (walk places parent) old new within ending first)
+  pub walk_failed : (ending : Ending) → RunsPart (walk_to places parent) old new t (Err ending) → RunsPart (part path) old new t (Err ending)
+  walk_failed ending first = here (Err ending) (part_fails t (walk_to places parent) old new within ending first)
 
   -- the walk has led to this directory
-  pub walked : (mid : KernelModel) (directory : Directory) → RunsPart (walk places parent) old mid t (Ok directory) → (result : Result B Ending) → RunsPart (within directory) mid new t result → RunsPart (part path) old new t result
-  walked mid directory first result second = here result (then_part t (walk places parent) old new within mid directory first result second)
+  pub walked : (mid : KernelModel) (directory : Directory) → RunsPart (walk_to places parent) old mid t (Ok directory) → (result : Result B Ending) → RunsPart (within directory) mid new t result → RunsPart (part path) old new t result
+  walked mid directory first result second = here result (then_part t (walk_to places parent) old new within mid directory first result second)
 
 module _ {A B : Type 0} (t : ℕ) (k : KernelModel) (f : A → B) (decided : Result A Errno) where
   -- what was decided is handed on

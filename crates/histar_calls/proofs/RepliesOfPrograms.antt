@@ -9,7 +9,8 @@ use Rattle.histar_rules.specs.declared.raw.Denied.TheVariants.{Observe, Modify, 
 use Rattle.histar_rules.specs.declared.raw.RawCall.{RawCall}
 use Rattle.histar_rules.specs.declared.raw.RawCall.TheVariants.{MakeCategory, OwnLabel, SetLabel, SetClearance, MakeSegment, MakeContainer, MakeThread, MakeGate, Enter, Read, Write, Unlink, LabelOf}
 use Rattle.histar_rules.specs.Sound.{root_number}
-use Rattle.histar_layout.specs.Directory.{Entries, most_entries}
+use Rattle.histar_layout.specs.Directory.{Entries}
+use Rattle.histar_flat.specs.FlatCalls.{most_entries}
 use Rattle.histar_layout.specs.Found.{found_in}
 use Rattle.histar_layout.specs.Listing.{is_directory, object_of}
 use Rattle.histar_layout.specs.declared.entry.Target.{Target}
@@ -24,14 +25,14 @@ use Rattle.histar_calls.specs.declared.stat.FoundObject.{FoundObject}
 use Rattle.histar_calls.specs.declared.class.Class.{Class}
 use Rattle.histar_calls.specs.Refusals.{errno_of, write_errno_of, errno_for}
 use Rattle.histar_calls.specs.Programs.{AnswerOf, Program}
-use Rattle.histar_calls.specs.Parts.{refused_with, ask, if_there, read_directory, directory_at, file_at, entry_at, room_at, target_of, given, look_in, find_place, walk, find_file, find_room}
+use Rattle.histar_calls.specs.Parts.{refused_with, ask, if_there, read_directory, directory_at, file_at, entry_at, room_at, target_named, given, look_in, find_place, walk_to, find_file, find_room}
 use Rattle.histar_calls.specs.Read.{read_program}
 use Rattle.histar_calls.specs.Write.{write_program}
 use Rattle.histar_calls.specs.Create.{create_program}
 use Rattle.histar_calls.specs.Append.{append_program}
 use Rattle.histar_calls.specs.Mkdir.{mkdir_program}
 use Rattle.histar_calls.specs.ListCall.{list_program}
-use Rattle.histar_calls.specs.ClassOf.{class_of}
+use Rattle.histar_calls.specs.ClassOf.{class_shown}
 use Rattle.histar_calls.specs.StatCall.{find_object, class_reply, stat_program}
 use Rattle.histar_calls.specs.Laws.{RepliesToDenial, RepliesToRefusals, CallsReplyToRefusals}
 
@@ -100,8 +101,8 @@ place_replies places [] rest tells = tells places.slash
 place_replies places (name ∷ parent) rest tells = place_replies places parent _ (λ above. look_replies above name _ (λ target. into_replies target rest tells))
 
 -- a walk replies to its refusals
-pub walk_replies : (places : Places) (path : Path) (rest : Directory → Program) → ((directory : Directory) → RepliesToRefusals (rest directory)) → RepliesToRefusals (walk places path rest)
-unfolding walk
+pub walk_replies : (places : Places) (path : Path) (rest : Directory → Program) → ((directory : Directory) → RepliesToRefusals (rest directory)) → RepliesToRefusals (walk_to places path rest)
+unfolding walk_to
 walk_replies places path rest tells = place_replies places path _ (λ place. read_replies place rest tells)
 
 -- and so does the search for a file
@@ -119,7 +120,7 @@ file_replies places (name ∷ parent) rest tells = place_replies places parent _
 pub room_replies : (places : Places) (path : Path) (rest : Room → Program) → ((room : Room) → RepliesToRefusals (rest room)) → RepliesToRefusals (find_room places path rest)
 unfolding find_room
 room_replies places [] rest tells = (refl, refl)
-room_replies places (name ∷ parent) rest tells = walk_replies places parent _ (λ directory. by directory (target_of directory name) (map.len directory.entries == most_entries))
+room_replies places (name ∷ parent) rest tells = walk_replies places parent _ (λ directory. by directory (target_named directory name) (map.len directory.entries == most_entries))
   where
     by : (directory : Directory) (target : Option Target) (full : Bool) → RepliesToRefusals (given (room_at target full) (λ _. rest (record { place = directory.place; entries = directory.entries; name = name })))
     by directory (Some target) full = (refl, refl)
@@ -167,7 +168,7 @@ list_program_replies places path = walk_replies places path _ (λ directory. (re
 
 stat_program_replies : (session : Session) (places : Places) (path : Path) → RepliesToRefusals (stat_program session places path)
 unfolding stat_program
-stat_program_replies session places path = object_replies places path _ (λ object. ((λ label. class_replies object.is_directory (class_of session label)), denial_has_reply))
+stat_program_replies session places path = object_replies places path _ (λ object. ((λ label. class_replies object.is_directory (class_shown session label)), denial_has_reply))
 
 -- the programs of the calls reply to their refusals
 pub calls_reply_to_refusals : CallsReplyToRefusals

@@ -27,17 +27,17 @@ group_class_at group L3 L0 = Some (classes.Group group)
 group_class_at group read write = None
 
 -- the level that labels of files have at the categories that they don't name
-abbrev pub is_plain : Level → Bool
-is_plain L1 = true
-is_plain level = false
+abbrev pub is_plain_level : Level → Bool
+is_plain_level L1 = true
+is_plain_level level = false
 
 -- the label names neither category of the user or the group of this number
 abbrev pub is_unnamed : Levels → ℕ → Bool
-is_unnamed label user = is_plain (level_of label (read_category user)) && is_plain (level_of label (write_category user))
+is_unnamed label user = is_plain_level (level_of label (read_category user)) && is_plain_level (level_of label (write_category user))
 
 -- the label is `{1}`
 abbrev pub is_all_plain : Levels → Bool
-is_all_plain label = elim (exceptions_of label) [ [] ↦ is_plain (default_of label) | e ∷ es ↦ false ]
+is_all_plain label = elim (exceptions_of label) [ [] ↦ is_plain_level (default_of label) | e ∷ es ↦ false ]
 
 -- The class that a label tells, of the groups whose categories go by the numbers from k on: of the first whose categories it names.
 -- Where it names none of them it is open if it is `{1}`, and else no class's.
@@ -55,16 +55,16 @@ class_from label k groups (user ∷ users) =
     else class_at user.name (level_of label (read_category k)) (level_of label (write_category k))
 
 -- the class that a label tells
-unfoldable pub class_of : Session → Levels → Option Class
-class_of session label = class_from label 1 session.groups session.users
+unfoldable pub class_shown : Session → Levels → Option Class
+class_shown session label = class_from label 1 session.groups session.users
 
 -- the owner of what is of a class, if it has one
-abbrev pub owner_of : Class → Option Name
-owner_of (Private owner) = Some owner
-owner_of (Readable owner) = Some owner
-owner_of Open = None
-owner_of (Scratch owner) = Some owner
-owner_of (classes.Group group) = None
+abbrev pub owner_shown : Class → Option Name
+owner_shown (Private owner) = Some owner
+owner_shown (Readable owner) = Some owner
+owner_shown Open = None
+owner_shown (Scratch owner) = Some owner
+owner_shown (classes.Group group) = None
 
 -- the mode of what is of a class
 abbrev pub mode_of : Class → FileMode
@@ -76,4 +76,4 @@ mode_of (classes.Group group) = modes.Group group
 
 -- what `stat` answers of what is of a class
 abbrev pub stat_of : Class → Bool → Stat
-stat_of class is_directory = record { is_directory = is_directory; owner = owner_of class; mode = mode_of class }
+stat_of class is_directory = record { is_directory = is_directory; owner = owner_shown class; mode = mode_of class }

@@ -8,7 +8,8 @@ use Rattle.histar_flat.specs.declared.replies.Reply.TheVariants.{Refused}
 use Rattle.histar_rules.specs.declared.raw.Denied.{Denied}
 use Rattle.histar_rules.specs.declared.raw.RawCall.{RawCall}
 use Rattle.histar_rules.specs.declared.raw.RawCall.TheVariants.{Read, Write}
-use Rattle.histar_layout.specs.Directory.{Entries, most_entries, spelling}
+use Rattle.histar_layout.specs.Directory.{Entries, spelling}
+use Rattle.histar_flat.specs.FlatCalls.{most_entries}
 use Rattle.histar_layout.specs.Found.{found_in}
 use Rattle.histar_layout.specs.declared.entry.Target.{Target}
 use Rattle.histar_layout.specs.declared.entry.Target.TheVariants.{File, Directory as DirectoryAt}
@@ -90,8 +91,8 @@ room_at None true = Err ENOSPC
 room_at None false = Ok tt
 
 -- what the name leads to in a directory that was read
-abbrev pub target_of : Directory → Name → Option Target
-target_of directory name = map.get directory.entries name
+abbrev pub target_named : Directory → Name → Option Target
+target_named directory name = map.get directory.entries name
 
 -- looks a name up in a directory, in the bytes of its segment
 unfoldable pub look_in : Place → Name → Part (Option Target)
@@ -109,8 +110,8 @@ find_place places (name ∷ parent) rest = do
   rest place
 
 -- a walk finds the place of the directory, and reads its entries
-unfoldable pub walk : Places → Path → Part Directory
-walk places path rest = do
+unfoldable pub walk_to : Places → Path → Part Directory
+walk_to places path rest = do
   place ← find_place places path
   read_directory place rest
 
@@ -127,8 +128,8 @@ find_file places (name ∷ parent) rest = do
 unfoldable pub find_room : Places → Path → Part Room
 find_room places [] rest = Answers (Refused EEXIST)
 find_room places (name ∷ parent) rest = do
-  directory ← walk places parent
-  given (room_at (target_of directory name) (map.len directory.entries == most_entries))
+  directory ← walk_to places parent
+  given (room_at (target_named directory name) (map.len directory.entries == most_entries))
   rest (record { place = directory.place; entries = directory.entries; name = name })
 
 -- the directory segment of a directory is written with these entries

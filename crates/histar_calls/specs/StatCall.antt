@@ -9,7 +9,7 @@ use Rattle.histar_layout.specs.Listing.{is_directory, object_of}
 use Rattle.histar_calls.specs.declared.places.Places.{Places}
 use Rattle.histar_calls.specs.declared.class.Class.{Class}
 use Rattle.histar_calls.specs.declared.stat.FoundObject.{FoundObject}
-use Rattle.histar_calls.specs.ClassOf.{class_of, stat_of}
+use Rattle.histar_calls.specs.ClassOf.{class_shown, stat_of}
 use Rattle.histar_calls.specs.Programs.{Program, Part}
 use Rattle.histar_calls.specs.Programs.Program.{Answers, Stops}
 use Rattle.histar_calls.specs.Parts.{◌>>=◌, ask, given, entry_at, find_place, look_in}
@@ -34,4 +34,4 @@ unfoldable pub stat_program : Session → Places → Path → Program
 stat_program session places path = do
   object ← find_object places path
   label ← ask (LabelOf object.container object.object)
-  class_reply object.is_directory (class_of session label)
+  class_reply object.is_directory (class_shown session label)

@@ -1,6 +1,6 @@
 //! Whose a file or a directory is, and for whom, as its label tells.
 ghost use Rattle.std.specs.Prelude.{◌≡◌, ◌+◌, ◌&&◌, length};
-ghost use Rattle.histar_calls.specs.ClassOf.{class_at, class_of, group_class_at, group_class_from, is_all_plain, is_plain, stat_of};
+ghost use Rattle.histar_calls.specs.ClassOf.{class_at, class_shown, group_class_at, group_class_from, is_all_plain, is_plain_level, stat_of};
 
 use crate::owners::group_owner;
 use crate::places::{read_category, write_category};
@@ -67,14 +67,14 @@ fn group_class_at(group: Name, read: Level, write: Level) -> Option<Class>
 
 /// Whether it is the level that labels of files have at the categories that they don't name.
 fn is_plain(level: Level) -> bool
-    ensures { result ≡ is_plain level }
+    ensures { result ≡ is_plain_level level }
 {
     matches!(level, Level::L1)
 }
 
 /// Whether these are the levels at the two categories of a user or a group that a label doesn't name.
 fn are_plain(read: Level, write: Level) -> bool
-    ensures { result ≡ (is_plain read && is_plain write) }
+    ensures { result ≡ (is_plain_level read && is_plain_level write) }
 {
     is_plain(read) && is_plain(write)
 }
@@ -89,7 +89,7 @@ fn is_all_plain(label: &Label) -> bool
 /// The class of what has this label: that of the first user or group whose categories the label names.
 /// Where it names none's it is open to everyone, if it names no category at all, and else of no class.
 pub fn class_of(label: &Label, users: &UserTable) -> Option<Class>
-    ensures { result ≡ class_of users.now label.now }
+    ensures { result ≡ class_shown users.now label.now }
 {
     for place in 0..users.len() {
         let number = place as u8 + 1;

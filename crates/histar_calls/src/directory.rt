@@ -1,9 +1,9 @@
 //! Directories that were read, and the walk to them.
 ghost use Rattle.std.specs.Prelude.{◌≡◌, ◌==◌};
 ghost use Rattle.std.specs.FinMap as map;
-ghost use Rattle.histar_layout.specs.Directory.{most_entries};
+ghost use Rattle.histar_flat.specs.FlatCalls.{most_entries};
 ghost use Rattle.histar_calls.specs.Programs.{RunsPart};
-ghost use Rattle.histar_calls.specs.Parts.{read_directory, walk, directory_at, file_at, entry_at, look_in, find_place, room_at, target_of, write_entries};
+ghost use Rattle.histar_calls.specs.Parts.{read_directory, walk_to, directory_at, file_at, entry_at, look_in, find_place, room_at, target_named, write_entries};
 
 use crate::ending::{Ending, written};
 use crate::places::{Place, Places};
@@ -24,7 +24,7 @@ pub struct Directory {
 impl Directory {
     /// Where the entry of a name leads. ENOENT where nothing stands there.
     pub fn entry_at(&self, name: &Name) -> Result<Target, Errno>
-        ensures { result ≡ entry_at (target_of self.now name.now) }
+        ensures { result ≡ entry_at (target_named self.now name.now) }
     {
         entry_at(self.entries.get(name))
     }
@@ -32,7 +32,7 @@ impl Directory {
     /// Whether an entry of this name can be made. EEXIST where something stands there, ENOSPC at 64
     /// entries.
     pub fn room_at(&self, name: &Name) -> Result<(), Errno>
-        ensures { result ≡ room_at (target_of self.now name.now) (map.len self.now.entries == most_entries) }
+        ensures { result ≡ room_at (target_named self.now name.now) (map.len self.now.entries == most_entries) }
     {
         if self.entries.get(name).is_some() {
             return Err(Errno::EEXIST);
@@ -156,7 +156,7 @@ pub fn walk<S: LabelStore + Drop>(
     thread: ObjId,
     names: &[Name],
 ) -> Result<Directory, Ending>
-    ensures { RunsPart (walk places.now names.now) kernel.old kernel.new thread result }
+    ensures { RunsPart (walk_to places.now names.now) kernel.old kernel.new thread result }
 {
     let place = find_place(kernel, places, thread, names)?;
     Directory::read(alloc, kernel, thread, place)

@@ -1,7 +1,7 @@
 //! What the calls on paths look for: a file, or room for a new entry.
 ghost use Rattle.std.specs.Prelude.{◌<◌, ◌==◌, IfOk};
 ghost use Rattle.std.specs.FinMap as map;
-ghost use Rattle.histar_layout.specs.Directory.{most_entries};
+ghost use Rattle.histar_flat.specs.FlatCalls.{most_entries};
 ghost use Rattle.histar_calls.specs.Programs.{RunsPart};
 ghost use Rattle.histar_calls.specs.Parts.{find_file, find_room};
 

@@ -3,7 +3,7 @@ use Rattle.std.proofs.Common.{◌≡◌, ◌≢◌, ◌≤◌, ◌||◌, ◌⊎�
 use Rattle.std.proofs.lemmas.Bool.{false_from_ne_true}
 use Rattle.std.proofs.Math.Bool.{or-true}
 use mathlib.Core.Bool.{true≢false}
-use Rattle.histar_container.specs.Tree.{Address, same, under}
+use Rattle.histar_container.specs.Tree.{Address, same_steps, under}
 
 -- a test answers for each two values whether they are equal
 abbrev pub TestsEquality : {X : Type 0} → (X → X → Bool) → Type 0
@@ -15,7 +15,7 @@ inner x y e = cc
 
 module _ {X : Type 0} (same_step : X → X → Bool) (tells : TestsEquality same_step) where
   -- whether two addresses are the same tells whether they are equal
-  pub same_tests_equality : TestsEquality (same same_step)
+  pub same_tests_equality : TestsEquality (same_steps same_step)
   same_tests_equality [] [] = inl (refl, refl)
   same_tests_equality [] (y ∷ b) = inr (refl, λ e. cc)
   same_tests_equality (x ∷ a) [] = inr (refl, λ e. cc)
@@ -27,13 +27,13 @@ module _ {X : Type 0} (same_step : X → X → Bool) (tells : TestsEquality same
     | inr e ↦ inr (rw e.0 refl, λ i. let k : x ≡ y = cc in e.1 k)
   ]
 
-  pub same_itself : (a : Address X) → same same_step a a ≡ true
+  pub same_itself : (a : Address X) → same_steps same_step a a ≡ true
   same_itself a = elim (same_tests_equality a a) [ inl e ↦ e.0 | inr e ↦ absurd (e.1 refl) ]
 
-  pub same_is : (a b : Address X) → same same_step a b ≡ true → a ≡ b
+  pub same_is : (a b : Address X) → same_steps same_step a b ≡ true → a ≡ b
   same_is a b h = elim (same_tests_equality a b) [ inl e ↦ e.1 | inr e ↦ absurd (true≢false (sym h ∙ e.0)) ]
 
-  pub same_other : (a b : Address X) → a ≢ b → same same_step a b ≡ false
+  pub same_other : (a b : Address X) → a ≢ b → same_steps same_step a b ≡ false
   same_other a b other = elim (same_tests_equality a b) [ inl e ↦ absurd (other e.1) | inr e ↦ e.0 ]
 
   -- an address is at or below itself
@@ -43,7 +43,7 @@ module _ {X : Type 0} (same_step : X → X → Bool) (tells : TestsEquality same
 
   -- what is one step below what is below a is below a
   pub under_child : (a b : Address X) (x : X) → under same_step a b ≡ true → under same_step a (x ∷ b) ≡ true
-  under_child a b x h = rw h (or-true (same same_step a (x ∷ b)))
+  under_child a b x h = rw h (or-true (same_steps same_step a (x ∷ b)))
 
   -- what lies below an address has no fewer steps
   pub under_long : (a b : Address X) → under same_step a b ≡ true → length a ≤ length b

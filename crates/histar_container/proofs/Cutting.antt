@@ -7,7 +7,7 @@ use Rattle.std.proofs.lemmas.Bool.Decides.{eqb_tells}
 use Rattle.std.proofs.lemmas.Bool.{false_from_ne_true}
 use Rattle.histar_object.specs.declared.objects.Object.{Object}
 use Rattle.histar_object.specs.Objects.{Objects, links_in}
-use Rattle.histar_container.specs.Tree.{Address, Naming, wanted, same, under, is_child, is_under, without_below, set_at, cut, IsLaid, IsCut}
+use Rattle.histar_container.specs.Tree.{Address, Naming, wanted, same_steps, under, is_one_below, is_under, without_below, set_at, cut, IsLaid, IsCut}
 use Rattle.histar_container.proofs.Links.{unlinked_links}
 use Rattle.histar_container.proofs.Addresses.{TestsEquality, inner, same_tests_equality, same_itself, same_other, under_itself, under_child, under_other, above}
 use Rattle.histar_container.proofs.Reaching.{same_number, not_reached, is_reached}
@@ -80,39 +80,39 @@ module _ {X : Type 0} (same_step : X → X → Bool) (tells : TestsEquality same
       by false u i = ap (λ c. is_some (if c then None else naming.number b)) (parent u) ∙ laid.held y b (sym (ap (λ c. is_some (if c then None else naming.number (y ∷ b))) u) ∙ i)
 
   -- which children an address other than d's keeps
-  child_left : (c : ℕ) (b : Address X) → under same_step (x ∷ a) b ≡ false → b ≢ a → is_child same_step b (left.address c) ≡ is_child same_step b (naming.address c)
+  child_left : (c : ℕ) (b : Address X) → under same_step (x ∷ a) b ≡ false → b ≢ a → is_one_below same_step b (left.address c) ≡ is_one_below same_step b (naming.address c)
   unfolding left
   child_left c b u other = by (naming.address c)
     where
       apart : (e : Address X) (z : X) → under same_step (x ∷ a) e ≡ false → a ≢ e → under same_step (x ∷ a) (z ∷ e) ≡ false
       apart e z v n = under_other same_step tells (x ∷ a) e z (λ k. let j : a ≡ e = cc in n j) v
 
-      by : (y : Option (Address X)) → is_child same_step b (if is_under same_step (x ∷ a) y then None else y) ≡ is_child same_step b y
+      by : (y : Option (Address X)) → is_one_below same_step b (if is_under same_step (x ∷ a) y then None else y) ≡ is_one_below same_step b y
       by None = refl
-      by (Some []) = elim (same same_step (x ∷ a) []) as (λ t. is_child same_step b (if t then None else Some []) ≡ false) [ true ↦ refl | false ↦ refl ]
+      by (Some []) = elim (same_steps same_step (x ∷ a) []) as (λ t. is_one_below same_step b (if t then None else Some []) ≡ false) [ true ↦ refl | false ↦ refl ]
       by (Some (z ∷ e)) = elim (same_tests_equality same_step tells b e) [
-        | inl k ↦ ap (λ t. is_child same_step b (if t then None else Some (z ∷ e))) (apart e z (subst (λ y. under same_step (x ∷ a) y ≡ false) k.1 u) (λ j. other (k.1 ∙ sym j)))
-        | inr k ↦ elim (under same_step (x ∷ a) (z ∷ e)) as (λ t. is_child same_step b (if t then None else Some (z ∷ e)) ≡ same same_step b e) [ true ↦ sym k.0 | false ↦ refl ]
+        | inl k ↦ ap (λ t. is_one_below same_step b (if t then None else Some (z ∷ e))) (apart e z (subst (λ y. under same_step (x ∷ a) y ≡ false) k.1 u) (λ j. other (k.1 ∙ sym j)))
+        | inr k ↦ elim (under same_step (x ∷ a) (z ∷ e)) as (λ t. is_one_below same_step b (if t then None else Some (z ∷ e)) ≡ same_steps same_step b e) [ true ↦ sym k.0 | false ↦ refl ]
       ]
 
   -- and d's address keeps all but o's
-  child_here : (c : ℕ) → (not (nat_eq c o) && is_child same_step a (naming.address c)) ≡ is_child same_step a (left.address c)
+  child_here : (c : ℕ) → (not (nat_eq c o) && is_one_below same_step a (naming.address c)) ≡ is_one_below same_step a (left.address c)
   unfolding left
   child_here c = elim (eqb_tells c o) [
-    | inl e ↦ ap (λ t. not t && is_child same_step a (naming.address c)) e.0
-        ∙ sym (ap (is_child same_step a) (address_gone c (ap (λ k. is_under same_step (x ∷ a) (naming.address k)) e.1 ∙ ap (is_under same_step (x ∷ a)) at_o ∙ under_itself same_step tells (x ∷ a))))
-    | inr e ↦ ap (λ t. not t && is_child same_step a (naming.address c)) e.0 ∙ by e.1 (naming.address c) refl
+    | inl e ↦ ap (λ t. not t && is_one_below same_step a (naming.address c)) e.0
+        ∙ sym (ap (is_one_below same_step a) (address_gone c (ap (λ k. is_under same_step (x ∷ a) (naming.address k)) e.1 ∙ ap (is_under same_step (x ∷ a)) at_o ∙ under_itself same_step tells (x ∷ a))))
+    | inr e ↦ ap (λ t. not t && is_one_below same_step a (naming.address c)) e.0 ∙ by e.1 (naming.address c) refl
   ]
     where
       other_step : (z : X) (e : Address X) → a ≡ e → z ≢ x → under same_step (x ∷ a) (z ∷ e) ≡ false
       other_step z e k n = under_other same_step tells (x ∷ a) e z (λ i. let j : z ≡ x = cc in n j) (ap (under same_step (x ∷ a)) (sym k) ∙ above same_step tells a x)
 
-      by : c ≢ o → (y : Option (Address X)) → naming.address c ≡ y → is_child same_step a y ≡ is_child same_step a (if is_under same_step (x ∷ a) y then None else y)
+      by : c ≢ o → (y : Option (Address X)) → naming.address c ≡ y → is_one_below same_step a y ≡ is_one_below same_step a (if is_under same_step (x ∷ a) y then None else y)
       by other None i = refl
-      by other (Some []) i = elim (same same_step (x ∷ a) []) as (λ t. false ≡ is_child same_step a (if t then None else Some [])) [ true ↦ refl | false ↦ refl ]
+      by other (Some []) i = elim (same_steps same_step (x ∷ a) []) as (λ t. false ≡ is_one_below same_step a (if t then None else Some [])) [ true ↦ refl | false ↦ refl ]
       by other (Some (z ∷ e)) i = elim (same_tests_equality same_step tells a e) [
-        | inl k ↦ sym (ap (λ t. is_child same_step a (if t then None else Some (z ∷ e))) (other_step z e k.1 (λ j. other (one_number c o (x ∷ a) (i ∙ (λ n. Some (j n ∷ sym k.1 n))) at_o))))
-        | inr k ↦ elim (under same_step (x ∷ a) (z ∷ e)) as (λ t. same same_step a e ≡ is_child same_step a (if t then None else Some (z ∷ e))) [ true ↦ k.0 | false ↦ refl ]
+        | inl k ↦ sym (ap (λ t. is_one_below same_step a (if t then None else Some (z ∷ e))) (other_step z e k.1 (λ j. other (one_number c o (x ∷ a) (i ∙ (λ n. Some (j n ∷ sym k.1 n))) at_o))))
+        | inr k ↦ elim (under same_step (x ∷ a) (z ∷ e)) as (λ t. same_steps same_step a e ≡ is_one_below same_step a (if t then None else Some (z ∷ e))) [ true ↦ k.0 | false ↦ refl ]
       ]
 
   -- what keeps its address is not below what was cut off
@@ -120,14 +120,14 @@ module _ {X : Type 0} (same_step : X → X → Bool) (tells : TestsEquality same
   unfolding left
   kept q b i = some_left _ _ b i
 
-  left_links : (q c : ℕ) (b : Address X) → left.address q ≡ Some b → set.contains (links_in (new q)) c ≡ is_child same_step b (left.address c)
+  left_links : (q c : ℕ) (b : Address X) → left.address q ≡ Some b → set.contains (links_in (new q)) c ≡ is_one_below same_step b (left.address c)
   left_links q c b i =
       let k = kept q b i in
       elim (eqb_tells q d) [
         | inl e ↦
             let is : a ≡ b = inner a b (sym at_d ∙ ap naming.address (sym e.1) ∙ k.1) in
             ap (λ p. set.contains (links_in (new p)) c) e.1 ∙ ap (λ y. set.contains (links_in y) c) is_cut.unlinked ∙ unlinked_links (objects d) o c
-            ∙ ap (λ t. not (nat_eq c o) && t) (laid.links d c a at_d) ∙ child_here c ∙ ap (λ (y : Address X). is_child same_step y (left.address c)) is
+            ∙ ap (λ t. not (nat_eq c o) && t) (laid.links d c a at_d) ∙ child_here c ∙ ap (λ (y : Address X). is_one_below same_step y (left.address c)) is
         | inr e ↦ ap (λ y. set.contains (links_in y) c) (is_cut.stays q (not_reached same_step tells objects next expected naming laid o (x ∷ a) at_o q k.0) e.1) ∙ laid.links q c b k.1
             ∙ sym (child_left c b (sym (ap (is_under same_step (x ∷ a)) k.1) ∙ k.0) (λ j. e.1 (one_number q d b k.1 (at_d ∙ ap Some (sym j)))))
       ]

@@ -8,7 +8,7 @@ use Rattle.histar_label.specs.Store.{label_at}
 use Rattle.histar_object.specs.declared.objects.Kind.{Kind}
 use Rattle.histar_object.specs.declared.objects.Kind.TheVariants.{Segment, Container, Thread, Gate}
 use Rattle.histar_object.specs.declared.objects.Object.{Object}
-use Rattle.histar_object.specs.Objects.{Objects, objects_of, changed_at, kind_unlinking, unlinking, links_in, kind_links, is_there}
+use Rattle.histar_object.specs.Objects.{Objects, objects_of, changed_at, kind_unlinking, unlinking, links_in, kind_links, is_present}
 use Rattle.histar_container.specs.Shown.{kind_by, object_by, shown, KindStands, Stands, AllStand, IsUnusedFrom, IsKept}
 use Rattle.histar_container.specs.ObjectsModel.{ObjectsModel, state_of, CutsOff}
 use Rattle.histar_container.specs.Tree.{Address, Naming, wanted, objects_at, IsLaid, Reached, here, there, AreTree, IsCut}
@@ -50,7 +50,7 @@ module _ {Id : Type 0} (labels : Id → Option Levels) where
   links_by None c = refl
   links_by (Some o) c = ap (λ l. set.contains l c) (kind_links_by o.kind)
 
-  pub there_by : (o : Option (Object Id)) → is_there (option_map (object_by (label_at labels)) o) ≡ is_there o
+  pub there_by : (o : Option (Object Id)) → is_present (option_map (object_by (label_at labels)) o) ≡ is_present o
   there_by None = refl
   there_by (Some o) = refl
 

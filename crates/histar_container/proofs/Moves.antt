@@ -7,7 +7,7 @@ use Rattle.std.proofs.lemmas.Bool.{eq-eqb}
 use Rattle.std.proofs.lemmas.Bool.Decides.{eqb_tells}
 use Rattle.histar_object.specs.declared.objects.Object.{Object}
 use Rattle.histar_object.specs.Objects.{Objects, links_in}
-use Rattle.histar_container.specs.Tree.{Address, Naming, wanted, same, is_child, with_number, set_at, IsLaid}
+use Rattle.histar_container.specs.Tree.{Address, Naming, wanted, same_steps, is_one_below, with_number, set_at, IsLaid}
 use Rattle.histar_container.proofs.Addresses.{TestsEquality, inner, same_tests_equality, same_itself, same_other, longer}
 use Rattle.histar_container.proofs.Reaching.{same_number}
 
@@ -29,7 +29,7 @@ module _ {X : Type 0} (same_step : X → X → Bool) (tells : TestsEquality same
       | inr e ↦ others q e.1 ∙ laid.as_expected q ∙ sym (set_elsewhere q e.1 (naming.address q) refl)
     ]
 
-    set_links : (q c : ℕ) (b : Address X) → naming.address q ≡ Some b → set.contains (links_in (new q)) c ≡ is_child same_step b (naming.address c)
+    set_links : (q c : ℕ) (b : Address X) → naming.address q ≡ Some b → set.contains (links_in (new q)) c ≡ is_one_below same_step b (naming.address c)
     set_links q c b i = elim (eqb_tells q n) [
       | inl e ↦ ap (λ p. set.contains (links_in (new p)) c) e.1 ∙ same_links c ∙ ap (λ p. set.contains (links_in (objects p)) c) (sym e.1) ∙ laid.links q c b i
       | inr e ↦ ap (λ o. set.contains (links_in o) c) (others q e.1) ∙ laid.links q c b i
@@ -102,7 +102,7 @@ module _ {X : Type 0} (same_step : X → X → Bool) (tells : TestsEquality same
     unfolding grown
     added_numbered q b i = elim (eqb_tells q next) [
       | inl e ↦ let k : x ∷ a ≡ b = inner (x ∷ a) b (sym new_here ∙ ap grown.address (sym e.1) ∙ i) in
-          ap (λ (y : Address X). if same same_step (x ∷ a) y then Some next else naming.number y) (sym k) ∙ ap (λ t. if t then Some next else naming.number (x ∷ a)) (same_itself same_step tells (x ∷ a)) ∙ ap Some (sym e.1)
+          ap (λ (y : Address X). if same_steps same_step (x ∷ a) y then Some next else naming.number y) (sym k) ∙ ap (λ t. if t then Some next else naming.number (x ∷ a)) (same_itself same_step tells (x ∷ a)) ∙ ap Some (sym e.1)
       | inr e ↦ let j : naming.address q ≡ Some b = sym (old_here q e.1) ∙ i in
           ap (λ t. if t then Some next else naming.number b) (same_other same_step tells (x ∷ a) b (λ k. not_free q (j ∙ ap Some (sym k)))) ∙ laid.numbered q b j
     ]
@@ -123,22 +123,22 @@ module _ {X : Type 0} (same_step : X → X → Bool) (tells : TestsEquality same
     added_held : (y : X) (b : Address X) → is_some (grown.number (y ∷ b)) ≡ true → is_some (grown.number b) ≡ true
     unfolding grown
     added_held y b i = elim (same_tests_equality same_step tells (x ∷ a) (y ∷ b)) [
-      | inl e ↦ let k : a ≡ b = cc in number_stays b (same same_step (x ∷ a) b) (ap (λ (z : Address X). is_some (naming.number z)) (sym k) ∙ ap is_some (laid.numbered d a at_d))
-      | inr e ↦ number_stays b (same same_step (x ∷ a) b) (laid.held y b (sym (ap (λ t. is_some (if t then Some next else naming.number (y ∷ b))) e.0) ∙ i))
+      | inl e ↦ let k : a ≡ b = cc in number_stays b (same_steps same_step (x ∷ a) b) (ap (λ (z : Address X). is_some (naming.number z)) (sym k) ∙ ap is_some (laid.numbered d a at_d))
+      | inr e ↦ number_stays b (same_steps same_step (x ∷ a) b) (laid.held y b (sym (ap (λ t. is_some (if t then Some next else naming.number (y ∷ b))) e.0) ∙ i))
     ]
 
     -- the children of an address other than d's
-    added_child : (c : ℕ) (b : Address X) → a ≢ b → is_child same_step b (grown.address c) ≡ is_child same_step b (naming.address c)
+    added_child : (c : ℕ) (b : Address X) → a ≢ b → is_one_below same_step b (grown.address c) ≡ is_one_below same_step b (naming.address c)
     added_child c b other = elim (eqb_tells c next) [
-      | inl e ↦ ap (is_child same_step b) (ap grown.address e.1 ∙ new_here) ∙ same_other same_step tells b a (λ k. other (sym k)) ∙ sym (ap (is_child same_step b) (ap naming.address e.1 ∙ next_empty))
-      | inr e ↦ ap (is_child same_step b) (old_here c e.1)
+      | inl e ↦ ap (is_one_below same_step b) (ap grown.address e.1 ∙ new_here) ∙ same_other same_step tells b a (λ k. other (sym k)) ∙ sym (ap (is_one_below same_step b) (ap naming.address e.1 ∙ next_empty))
+      | inr e ↦ ap (is_one_below same_step b) (old_here c e.1)
     ]
 
     -- nothing stands below the new address
-    no_child : (c : ℕ) → is_child same_step (x ∷ a) (naming.address c) ≡ false
+    no_child : (c : ℕ) → is_one_below same_step (x ∷ a) (naming.address c) ≡ false
     no_child c = by (naming.address c) refl
       where
-        by : (y : Option (Address X)) → naming.address c ≡ y → is_child same_step (x ∷ a) y ≡ false
+        by : (y : Option (Address X)) → naming.address c ≡ y → is_one_below same_step (x ∷ a) y ≡ false
         by None i = refl
         by (Some []) i = refl
         by (Some (z ∷ b)) i = elim (same_tests_equality same_step tells (x ∷ a) b) [
@@ -148,22 +148,22 @@ module _ {X : Type 0} (same_step : X → X → Bool) (tells : TestsEquality same
         ]
 
     -- what d links now
-    holder_links : (c : ℕ) → set.contains (links_in (new d)) c ≡ is_child same_step a (grown.address c)
+    holder_links : (c : ℕ) → set.contains (links_in (new d)) c ≡ is_one_below same_step a (grown.address c)
     holder_links c = linked c ∙ ap (λ t. nat_eq c next || t) (laid.links d c a at_d) ∙ elim (eqb_tells c next) [
-      | inl e ↦ ap (λ t. t || is_child same_step a (naming.address c)) e.0 ∙ sym (ap (is_child same_step a) (ap grown.address e.1 ∙ new_here) ∙ same_itself same_step tells a)
-      | inr e ↦ ap (λ t. t || is_child same_step a (naming.address c)) e.0 ∙ sym (ap (is_child same_step a) (old_here c e.1))
+      | inl e ↦ ap (λ t. t || is_one_below same_step a (naming.address c)) e.0 ∙ sym (ap (is_one_below same_step a) (ap grown.address e.1 ∙ new_here) ∙ same_itself same_step tells a)
+      | inr e ↦ ap (λ t. t || is_one_below same_step a (naming.address c)) e.0 ∙ sym (ap (is_one_below same_step a) (old_here c e.1))
     ]
 
-    added_links : (q c : ℕ) (b : Address X) → grown.address q ≡ Some b → set.contains (links_in (new q)) c ≡ is_child same_step b (grown.address c)
+    added_links : (q c : ℕ) (b : Address X) → grown.address q ≡ Some b → set.contains (links_in (new q)) c ≡ is_one_below same_step b (grown.address c)
     added_links q c b i = elim (eqb_tells q d) [
       | inl e ↦
           let is : a ≡ b = inner a b (sym at_d ∙ sym (old_here d d_old) ∙ ap grown.address (sym e.1) ∙ i) in
-          ap (λ p. set.contains (links_in (new p)) c) e.1 ∙ holder_links c ∙ ap (λ (y : Address X). is_child same_step y (grown.address c)) is
+          ap (λ p. set.contains (links_in (new p)) c) e.1 ∙ holder_links c ∙ ap (λ (y : Address X). is_one_below same_step y (grown.address c)) is
       | inr e ↦ elim (eqb_tells q next) [
         | inl j ↦
             let is : x ∷ a ≡ b = inner (x ∷ a) b (sym new_here ∙ ap grown.address (sym j.1) ∙ i) in
             ap (λ p. set.contains (links_in (new p)) c) j.1 ∙ leaf c
-            ∙ sym (ap (λ (y : Address X). is_child same_step y (grown.address c)) (sym is) ∙ added_child c (x ∷ a) (λ k. longer same_step tells x a (sym k)) ∙ no_child c)
+            ∙ sym (ap (λ (y : Address X). is_one_below same_step y (grown.address c)) (sym is) ∙ added_child c (x ∷ a) (λ k. longer same_step tells x a (sym k)) ∙ no_child c)
         | inr j ↦
             let k : naming.address q ≡ Some b = sym (old_here q j.1) ∙ i in
             ap (λ o. set.contains (links_in o) c) (others q j.1 e.1) ∙ laid.links q c b k ∙ sym (added_child c b (λ l. e.1 (same_number same_step tells objects next expected naming laid q d b k (at_d ∙ ap Some l))))

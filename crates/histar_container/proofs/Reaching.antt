@@ -5,7 +5,7 @@ use Rattle.std.specs.FinSet as set
 use mathlib.Core.Bool.{true≢false}
 use Rattle.histar_object.specs.declared.objects.Object.{Object}
 use Rattle.histar_object.specs.Objects.{Objects, links_in}
-use Rattle.histar_container.specs.Tree.{Address, Naming, wanted, same, under, is_child, is_under, IsLaid, Reached, here, there}
+use Rattle.histar_container.specs.Tree.{Address, Naming, wanted, same_steps, under, is_one_below, is_under, IsLaid, Reached, here, there}
 use Rattle.histar_container.proofs.Links.{none_linked}
 use Rattle.histar_container.proofs.Addresses.{TestsEquality, inner, same_itself, same_is, under_itself, under_child, above}
 
@@ -30,20 +30,20 @@ module _ {X : Type 0} (same_step : X → X → Bool) (tells : TestsEquality same
       by (Some q) i k = (q, laid.addressed a q i)
 
   -- what links something has an address, and what it links has one a step below
-  linked_child : (p c : ℕ) → set.contains (links_in (objects p)) c ≡ true → (a : Address X) × (naming.address p ≡ Some a) × (is_child same_step a (naming.address c) ≡ true)
+  linked_child : (p c : ℕ) → set.contains (links_in (objects p)) c ≡ true → (a : Address X) × (naming.address p ≡ Some a) × (is_one_below same_step a (naming.address c) ≡ true)
   linked_child p c k = by (naming.address p) refl
     where
-      by : (x : Option (Address X)) → naming.address p ≡ x → (a : Address X) × (naming.address p ≡ Some a) × (is_child same_step a (naming.address c) ≡ true)
+      by : (x : Option (Address X)) → naming.address p ≡ x → (a : Address X) × (naming.address p ≡ Some a) × (is_one_below same_step a (naming.address c) ≡ true)
       by None i =
           let gone : objects p ≡ None = laid.as_expected p ∙ ap (wanted expected) i in
           absurd (true≢false (sym k ∙ ap (λ o. set.contains (links_in o) c) gone ∙ sym (none_linked c)))
       by (Some a) i = (a, i, sym (laid.links p c a i) ∙ k)
 
   -- a child's address is one step below
-  child_is : (a : Address X) (c : ℕ) → is_child same_step a (naming.address c) ≡ true → (x : X) × (naming.address c ≡ Some (x ∷ a))
+  child_is : (a : Address X) (c : ℕ) → is_one_below same_step a (naming.address c) ≡ true → (x : X) × (naming.address c ≡ Some (x ∷ a))
   child_is a c k = by (naming.address c) refl k
     where
-      by : (y : Option (Address X)) → naming.address c ≡ y → is_child same_step a y ≡ true → (x : X) × (naming.address c ≡ Some (x ∷ a))
+      by : (y : Option (Address X)) → naming.address c ≡ y → is_one_below same_step a y ≡ true → (x : X) × (naming.address c ≡ Some (x ∷ a))
       by None i k = cc
       by (Some []) i k = cc
       by (Some (x ∷ b)) i k = (x, i ∙ ap (λ (d : Address X). Some (x ∷ d)) (sym (same_is same_step tells a b k)))
@@ -61,11 +61,11 @@ module _ {X : Type 0} (same_step : X → X → Bool) (tells : TestsEquality same
   under_reached o a e [] q i u = subst (Reached objects o) (same_number o q [] (e ∙ ap Some (same_is same_step tells a [] u)) i) here
   under_reached o a e (x ∷ b) q i u =
       let up = number_of b (laid.held x b (ap is_some (laid.numbered q (x ∷ b) i))) in
-      by up.0 up.1 (λ v. under_reached o a e b up.0 up.1 v) (same same_step a (x ∷ b)) refl
+      by up.0 up.1 (λ v. under_reached o a e b up.0 up.1 v) (same_steps same_step a (x ∷ b)) refl
     where
-      by : (p : ℕ) → naming.address p ≡ Some b → (under same_step a b ≡ true → Reached objects o p) → (t : Bool) → same same_step a (x ∷ b) ≡ t → Reached objects o q
+      by : (p : ℕ) → naming.address p ≡ Some b → (under same_step a b ≡ true → Reached objects o p) → (t : Bool) → same_steps same_step a (x ∷ b) ≡ t → Reached objects o q
       by p j up true k = subst (Reached objects o) (same_number o q (x ∷ b) (e ∙ ap Some (same_is same_step tells a (x ∷ b) k)) i) here
-      by p j up false k = there p q (up (sym (ap (λ t. t || under same_step a b) k) ∙ u)) (laid.links p q b j ∙ ap (is_child same_step b) i ∙ same_itself same_step tells b)
+      by p j up false k = there p q (up (sym (ap (λ t. t || under same_step a b) k) ∙ u)) (laid.links p q b j ∙ ap (is_one_below same_step b) i ∙ same_itself same_step tells b)
 
   module _ (o : ℕ) (a : Address X) (at_o : naming.address o ≡ Some a) where
     -- what has no address at a or below is not reached

@@ -11,7 +11,7 @@ use mathlib.Core.Bool.{true≢false}
 use Rattle.std.proofs.lemmas.Bool.Decides.{eqb_tells}
 use Rattle.std.proofs.lemmas.Bool.{false_from_ne_true}
 use Rattle.histar_object.specs.declared.objects.Object.{Object}
-use Rattle.histar_object.specs.Objects.{Objects, AppendsAll, objects_of, without, changed_at, unlinking, links_in, is_there}
+use Rattle.histar_object.specs.Objects.{Objects, AppendsAll, objects_of, without, changed_at, unlinking, links_in, is_present}
 use Rattle.histar_container.specs.Tree.{Reached, AreTree, IsCut}
 use Rattle.histar_container.proofs.TableMoves.{changed_here, changed_other}
 use Rattle.histar_container.proofs.Trees.{not_back, linked_there, reached_there}
@@ -40,7 +40,7 @@ module _ {L : Type 0} where
     read_more : take (i + 1) new ≡ take i old ++ x ∷ []
     read_more = ap (take (i + 1)) appends.is ∙ take-append-le (i + 1) old appends.added (omega arith) ∙ take_more old i x lt is
 
-    x_there : is_there (objects_of es x) ≡ true
+    x_there : is_present (objects_of es x) ≡ true
     x_there =
         let listed : is_member nat_eq old x ≡ true = ap (λ l. is_member nat_eq l x) (split_there old i x lt is) ∙ member_second (take i old) (x ∷ drop (i + 1) old) x (member_first (x ∷ []) (drop (i + 1) old) x (member_itself x)) in
         reached_there (objects_of es) trees.root trees.next trees.tree o x (linked_there (objects_of es) trees.root trees.next trees.tree d o linked) (g.reached x listed)

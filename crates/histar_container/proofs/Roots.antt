@@ -9,9 +9,9 @@ use Rattle.std.proofs.lemmas.Bool.Decides.{eqb_tells}
 use Rattle.histar_label.specs.Levels.{Levels}
 use Rattle.histar_object.specs.declared.objects.Kind.TheVariants.{Container}
 use Rattle.histar_object.specs.declared.objects.Object.{Object}
-use Rattle.histar_object.specs.Objects.{Objects, put, no_objects, with_new, links_in, kind_links, is_there}
+use Rattle.histar_object.specs.Objects.{Objects, put, no_objects, with_new, links_in, kind_links, is_present}
 use Rattle.histar_object.specs.State.{root_object, boot_thread, empty_state}
-use Rattle.histar_container.specs.Tree.{Address, Naming, wanted, same, is_child, IsTree}
+use Rattle.histar_container.specs.Tree.{Address, Naming, wanted, same_steps, is_one_below, IsTree}
 use Rattle.histar_container.proofs.Addresses.{inner, same_tests_equality}
 use Rattle.histar_container.proofs.TableMoves.{put_here, put_other}
 use Rattle.histar_container.proofs.Trees.{laid_itself, tree_new}
@@ -19,10 +19,10 @@ use Rattle.histar_container.proofs.Trees.{laid_itself, tree_new}
 module _ {L : Type 0} (root next : ℕ) (o : Object L) (below : root < next) (leaf : (c : ℕ) → set.contains (kind_links o.kind) c ≡ false) where
   -- the root has the address of no steps, and nothing else has one
   root_naming : Naming ℕ
-  root_naming = record { address = λ q. if nat_eq q root then Some [] else None; number = λ a. if same nat_eq a [] then Some root else None }
+  root_naming = record { address = λ q. if nat_eq q root then Some [] else None; number = λ a. if same_steps nat_eq a [] then Some root else None }
 
   root_expected : Address ℕ → Option (Object L)
-  root_expected a = if same nat_eq a [] then Some o else None
+  root_expected a = if same_steps nat_eq a [] then Some o else None
 
   at_root : root_naming.address root ≡ Some []
   unfolding root_naming
@@ -39,10 +39,10 @@ module _ {L : Type 0} (root next : ℕ) (o : Object L) (below : root < next) (le
     | inr e ↦ let k : None ≡ Some a = sym (elsewhere q e.1) ∙ i in cc
   ]
 
-  root_no_child : (b : Address ℕ) (c : ℕ) → is_child nat_eq b (root_naming.address c) ≡ false
+  root_no_child : (b : Address ℕ) (c : ℕ) → is_one_below nat_eq b (root_naming.address c) ≡ false
   root_no_child b c = elim (eqb_tells c root) [
-    | inl e ↦ ap (is_child nat_eq b) (ap root_naming.address e.1 ∙ at_root)
-    | inr e ↦ ap (is_child nat_eq b) (elsewhere c e.1)
+    | inl e ↦ ap (is_one_below nat_eq b) (ap root_naming.address e.1 ∙ at_root)
+    | inr e ↦ ap (is_one_below nat_eq b) (elsewhere c e.1)
   ]
 
   root_as_expected : (q : ℕ) → put no_objects root o q ≡ wanted root_expected (root_naming.address q)
@@ -83,7 +83,7 @@ module _ {L : Type 0} (root next : ℕ) (o : Object L) (below : root < next) (le
     });
     rooted = at_root;
     own_step = λ q x a i. let k = (is_root q (x ∷ a) i).1 in cc;
-    filled = λ q a i. ap is_there (ap (put no_objects root o) (is_root q a i).0 ∙ put_here no_objects root o);
+    filled = λ q a i. ap is_present (ap (put no_objects root o) (is_root q a i).0 ∙ put_here no_objects root o);
   }
 
 -- a table that was given its root alone has a tree

@@ -7,7 +7,7 @@ use Rattle.std.proofs.lemmas.Bool.Decides.{eqb_tells}
 use Rattle.histar_object.specs.declared.objects.Kind.{Kind}
 use Rattle.histar_object.specs.declared.objects.Kind.TheVariants.{Segment, Container, Thread, Gate}
 use Rattle.histar_object.specs.declared.objects.Object.{Object}
-use Rattle.histar_object.specs.Objects.{Objects, put, changed_at, with_new, linking, unlinking, kind_holding, holding, links_in, kind_links, is_there, is_container}
+use Rattle.histar_object.specs.Objects.{Objects, put, changed_at, with_new, linking, unlinking, kind_holding, holding, links_in, kind_links, is_present, is_container}
 use Rattle.histar_object.proofs.Changes.{at_each, put_changed}
 use Rattle.histar_container.specs.Tree.{Address, Naming, wanted, is_under, with_number, without_below, objects_at, IsLaid, IsTree, AreTree, Reached, IsCut}
 use Rattle.histar_container.proofs.Links.{none_linked}
@@ -34,20 +34,20 @@ module _ {L X : Type 0} (same_step : X → X → Bool) where
       by q (Some a) i = sym (ap (option_and_then objects) (laid.numbered q a i))
 
 module _ {L : Type 0} where
-  there_not_none : (o : Option (Object L)) → is_there o ≡ true → o ≡ None → ⊥
-  there_not_none o t e = false≢true (sym (ap is_there e) ∙ t)
+  there_not_none : (o : Option (Object L)) → is_present o ≡ true → o ≡ None → ⊥
+  there_not_none o t e = false≢true (sym (ap is_present e) ∙ t)
 
   -- what links something is there
-  pub linker_there : (o : Option (Object L)) (c : ℕ) → set.contains (links_in o) c ≡ true → is_there o ≡ true
+  pub linker_there : (o : Option (Object L)) (c : ℕ) → set.contains (links_in o) c ≡ true → is_present o ≡ true
   linker_there None c k = absurd (true≢false (sym k ∙ sym (none_linked c)))
   linker_there (Some o) c k = refl
 
   -- a container is there
-  container_there : (o : Option (Object L)) → is_container o ≡ true → is_there o ≡ true
+  container_there : (o : Option (Object L)) → is_container o ≡ true → is_present o ≡ true
   container_there None k = k
   container_there (Some o) k = refl
 
-  changed_there : (f : Object L → Object L) (o : Option (Object L)) → is_there o ≡ true → is_there (option_map f o) ≡ true
+  changed_there : (f : Object L → Object L) (o : Option (Object L)) → is_present o ≡ true → is_present (option_map f o) ≡ true
   changed_there f None t = t
   changed_there f (Some o) t = refl
 
@@ -60,7 +60,7 @@ module _ {L : Type 0} where
 
   module _ (objects : Objects L) (root next : ℕ) (tree : IsTree objects root next) where
     -- what is there has an address
-    pub address_of : (q : ℕ) → is_there (objects q) ≡ true → (a : Address ℕ) × (tree.naming.address q ≡ Some a)
+    pub address_of : (q : ℕ) → is_present (objects q) ≡ true → (a : Address ℕ) × (tree.naming.address q ≡ Some a)
     address_of q t = by (tree.naming.address q) refl
       where
         by : (y : Option (Address ℕ)) → tree.naming.address q ≡ y → (a : Address ℕ) × (tree.naming.address q ≡ Some a)
@@ -84,12 +84,12 @@ module _ {L : Type 0} where
     none_next = tree.laid.as_expected next ∙ ap (wanted (objects_at objects tree.naming)) (tree.laid.unused next (omega arith))
 
     -- what is linked is there
-    pub linked_there : (p c : ℕ) → set.contains (links_in (objects p)) c ≡ true → is_there (objects c) ≡ true
+    pub linked_there : (p c : ℕ) → set.contains (links_in (objects p)) c ≡ true → is_present (objects c) ≡ true
     linked_there p c k =
         let l = link_addresses p c k in tree.filled c (l.step ∷ l.above) l.at_linked
 
     -- what is reached from what is there is there
-    pub reached_there : (o q : ℕ) → is_there (objects o) ≡ true → Reached objects o q → is_there (objects q) ≡ true
+    pub reached_there : (o q : ℕ) → is_present (objects o) ≡ true → Reached objects o q → is_present (objects q) ≡ true
     reached_there o q t r =
         let at_o = address_of o t in
         let at_q = reached_under nat_eq eqb_tells objects next (objects_at objects tree.naming) tree.naming tree.laid o at_o.0 at_o.1 q r in
@@ -115,7 +115,7 @@ module _ {L : Type 0} where
         reached_or_not nat_eq eqb_tells objects next (objects_at objects tree.naming) tree.naming tree.laid o at_o.0 at_o.1
 
     -- an object with the same links is put in the place of one that is there
-    pub tree_put : (n : ℕ) (o : Object L) → is_there (objects n) ≡ true → ((c : ℕ) → set.contains (kind_links o.kind) c ≡ set.contains (links_in (objects n)) c) → IsTree (put objects n o) root next
+    pub tree_put : (n : ℕ) (o : Object L) → is_present (objects n) ≡ true → ((c : ℕ) → set.contains (kind_links o.kind) c ≡ set.contains (links_in (objects n)) c) → IsTree (put objects n o) root next
     tree_put n o t same_links =
         let at_n = address_of n t in
         record {
@@ -124,8 +124,8 @@ module _ {L : Type 0} where
           rooted = tree.rooted;
           own_step = tree.own_step;
           filled = λ q a i. elim (eqb_tells q n) [
-            | inl e ↦ ap is_there (ap (put objects n o) e.1 ∙ put_here objects n o)
-            | inr e ↦ ap is_there (put_other objects n o q e.1) ∙ tree.filled q a i
+            | inl e ↦ ap is_present (ap (put objects n o) e.1 ∙ put_here objects n o)
+            | inr e ↦ ap is_present (put_other objects n o q e.1) ∙ tree.filled q a i
           ];
         }
 
@@ -140,7 +140,7 @@ module _ {L : Type 0} where
         by None is = subst (λ (x : Objects L). IsTree x root next) (unchanged is) tree
         by (Some o) is =
             subst (λ (x : Objects L). IsTree x root next) (put_changed objects n f o (sym is))
-            (tree_put n (f o) (ap is_there is) (λ c. ap (λ l. set.contains l c) (same_links o) ∙ ap (λ y. set.contains (links_in y) c) (sym is)))
+            (tree_put n (f o) (ap is_present is) (λ c. ap (λ l. set.contains l c) (same_links o) ∙ ap (λ y. set.contains (links_in y) c) (sym is)))
 
     -- a segment is given other bytes
     pub tree_held : (n : ℕ) (bytes : List ℕ) → IsTree (changed_at objects n (holding bytes)) root next
@@ -166,10 +166,10 @@ module _ {L : Type 0} where
             | inr e ↦ tree.own_step q x a (sym (ap (λ b. if b then Some (next ∷ at_d.0) else tree.naming.address q) e.0) ∙ i)
           ];
           filled = λ q a i. elim (eqb_tells q next) [
-            | inl e ↦ ap is_there (ap (with_new objects d next o) e.1 ∙ new_there objects next d o apart)
+            | inl e ↦ ap is_present (ap (with_new objects d next o) e.1 ∙ new_there objects next d o apart)
             | inr e ↦ elim (eqb_tells q d) [
-              | inl k ↦ ap is_there (ap (with_new objects d next o) k.1 ∙ new_holder objects next d o apart) ∙ changed_there (linking next) (objects d) (container_there (objects d) container)
-              | inr k ↦ ap is_there (new_other objects next d o q e.1 k.1) ∙ tree.filled q a (sym (ap (λ b. if b then Some (next ∷ at_d.0) else tree.naming.address q) e.0) ∙ i)
+              | inl k ↦ ap is_present (ap (with_new objects d next o) k.1 ∙ new_holder objects next d o apart) ∙ changed_there (linking next) (objects d) (container_there (objects d) container)
+              | inr k ↦ ap is_present (new_other objects next d o q e.1 k.1) ∙ tree.filled q a (sym (ap (λ b. if b then Some (next ∷ at_d.0) else tree.naming.address q) e.0) ∙ i)
             ]
           ];
         }
@@ -193,8 +193,8 @@ module _ {L : Type 0} where
           filled = λ q a i.
               let kept = some_left _ _ a i in
               elim (eqb_tells q d) [
-                | inl e ↦ ap is_there (ap new e.1 ∙ is_cut.unlinked) ∙ changed_there (unlinking o) (objects d) (linker_there (objects d) o k)
-                | inr e ↦ ap is_there (is_cut.stays q (not_below o (l.step ∷ l.above) l.at_linked q kept.0) e.1) ∙ tree.filled q a kept.1
+                | inl e ↦ ap is_present (ap new e.1 ∙ is_cut.unlinked) ∙ changed_there (unlinking o) (objects d) (linker_there (objects d) o k)
+                | inr e ↦ ap is_present (is_cut.stays q (not_below o (l.step ∷ l.above) l.at_linked q kept.0) e.1) ∙ tree.filled q a kept.1
               ];
         }
 

@@ -2,7 +2,7 @@
 use Rattle.std.specs.Prelude.{◌≡◌, ◌≢◌, ℕ, ◌≤◌, nat_eq, Bool, true, false, ◌||◌, ◌&&◌, List, [], ◌∷◌, Option, None, Some, is_some, option_map, option_and_then, if◌then◌else◌}
 use Rattle.std.specs.FinSet as set
 use Rattle.histar_object.specs.declared.objects.Object.{Object}
-use Rattle.histar_object.specs.Objects.{Objects, links_in, is_there, unlinking}
+use Rattle.histar_object.specs.Objects.{Objects, links_in, is_present, unlinking}
 
 -- an address is the steps from the root container to an object, the last step first
 abbrev pub Address : Type 0 → Type 0
@@ -24,22 +24,22 @@ objects_at objects naming a = option_and_then objects (naming.number a)
 
 module _ {X : Type 0} (same_step : X → X → Bool) where
   -- two addresses are the same, step by step
-  abbrev pub same : Address X → Address X → Bool
-  same [] [] = true
-  same [] (y ∷ b) = false
-  same (x ∷ a) [] = false
-  same (x ∷ a) (y ∷ b) = same_step x y && same a b
+  abbrev pub same_steps : Address X → Address X → Bool
+  same_steps [] [] = true
+  same_steps [] (y ∷ b) = false
+  same_steps (x ∷ a) [] = false
+  same_steps (x ∷ a) (y ∷ b) = same_step x y && same_steps a b
 
   -- an address is a, or lies below it
   abbrev pub under : Address X → Address X → Bool
-  under a [] = same a []
-  under a (y ∷ b) = same a (y ∷ b) || under a b
+  under a [] = same_steps a []
+  under a (y ∷ b) = same_steps a (y ∷ b) || under a b
 
   -- what has an address has it one step below a
-  abbrev pub is_child : Address X → Option (Address X) → Bool
-  is_child a None = false
-  is_child a (Some []) = false
-  is_child a (Some (y ∷ b)) = same a b
+  abbrev pub is_one_below : Address X → Option (Address X) → Bool
+  is_one_below a None = false
+  is_one_below a (Some []) = false
+  is_one_below a (Some (y ∷ b)) = same_steps a b
 
   -- what has an address has it at a or below a
   abbrev pub is_under : Address X → Option (Address X) → Bool
@@ -50,7 +50,7 @@ module _ {X : Type 0} (same_step : X → X → Bool) where
   abbrev pub with_number : Naming X → ℕ → Address X → Naming X
   with_number naming n a = record {
     address = λ q. if nat_eq q n then Some a else naming.address q;
-    number = λ b. if same a b then Some n else naming.number b;
+    number = λ b. if same_steps a b then Some n else naming.number b;
   }
 
   -- the naming in which a and what lies below it name nothing
@@ -63,7 +63,7 @@ module _ {X : Type 0} (same_step : X → X → Bool) where
   module _ {L : Type 0} where
     -- the objects at addresses, with another one at a
     abbrev pub set_at : (Address X → Option (Object L)) → Address X → Option (Object L) → Address X → Option (Object L)
-    set_at expected a o b = if same a b then o else expected b
+    set_at expected a o b = if same_steps a b then o else expected b
 
     -- the objects at addresses, with none at a or below it
     abbrev pub cut : (Address X → Option (Object L)) → Address X → Address X → Option (Object L)
@@ -80,7 +80,7 @@ module _ {X : Type 0} (same_step : X → X → Bool) where
       -- an address lies below one that has a number
       pub held : (x : X) (a : Address X) → is_some (naming.number (x ∷ a)) ≡ true → is_some (naming.number a) ≡ true
       -- an object links exactly the numbers whose addresses lie one step below its own
-      pub links : (q c : ℕ) (a : Address X) → naming.address q ≡ Some a → set.contains (links_in (objects q)) c ≡ is_child a (naming.address c)
+      pub links : (q c : ℕ) (a : Address X) → naming.address q ≡ Some a → set.contains (links_in (objects q)) c ≡ is_one_below a (naming.address c)
       -- the next number and those above it have no address
       pub unused : (q : ℕ) → next ≤ q → naming.address q ≡ None
 
@@ -99,7 +99,7 @@ module _ {L : Type 0} where
     -- the last step to an object is its own number
     pub own_step : (q x : ℕ) (a : Address ℕ) → naming.address q ≡ Some (x ∷ a) → x ≡ q
     -- what has an address is there
-    pub filled : (q : ℕ) (a : Address ℕ) → naming.address q ≡ Some a → is_there (objects q) ≡ true
+    pub filled : (q : ℕ) (a : Address ℕ) → naming.address q ≡ Some a → is_present (objects q) ≡ true
 
   -- the objects are a tree from some root, under numbers below some next one
   pub record AreTree (objects : Objects L) : Type 0 where

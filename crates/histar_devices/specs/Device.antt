@@ -2,16 +2,16 @@
 use Rattle.std.specs.Prelude.{◌≡◌, ℕ, ◌+◌, ◌-◌, ◌^◌, Bool, true, ◌&&◌, ◌==◌, nat_lt, min, List, length, Result, Ok, Err, if◌then◌else◌}
 
 -- the greatest number of 64 bits
-abbrev pub greatest : ℕ
-greatest = 2 ^ 64 - 1
+abbrev pub most_failures : ℕ
+most_failures = 2 ^ 64 - 1
 
 -- one more failed call, as far as the count goes
-abbrev pub raised : ℕ → ℕ
-raised count = min (count + 1) greatest
+abbrev pub one_failure_more : ℕ → ℕ
+one_failure_more count = min (count + 1) most_failures
 
 -- a call raises the count exactly where it fails
 abbrev pub CountsFailure : ℕ → ℕ → Bool → Type 0
-CountsFailure old new has_failed = new ≡ (if has_failed then raised old else old)
+CountsFailure old new has_failed = new ≡ (if has_failed then one_failure_more old else old)
 
 -- a write fails by an error, and by taking none of some bytes
 abbrev pub has_failed_write : {E : Type 0} → Result ℕ E → List ℕ → Bool

@@ -13,11 +13,11 @@ use Rattle.histar_flat.specs.Words.{Name, Path, ProcName}
 use Rattle.histar_flat.specs.Sessions.{Session}
 use Rattle.histar_flat.specs.Files.{get}
 use Rattle.histar_flat.specs.Classes.{Class, Process}
-use Rattle.histar_flat.specs.FlatState.{Flat, Node, Content, is_some_and, is_dir, into, bytes_at, writes, with_bytes as with_file_bytes}
+use Rattle.histar_flat.specs.FlatState.{Flat, Node, Content, is_some_and, is_dir, into, bytes_at, writes, with_segment_bytes as with_file_bytes}
 use Rattle.histar_flat.specs.FlatState.Content.{Dir, File}
 use Rattle.histar_flat.specs.FlatCalls as flat
 use Rattle.histar_flat.specs.FlatCalls.{refused, no_file, changed, most_bytes}
-use Rattle.histar_object.specs.State.{State, with_bytes}
+use Rattle.histar_object.specs.State.{State, with_segment_bytes}
 use Rattle.histar_object.specs.Objects.{bytes_in}
 use Rattle.histar_rules.specs.declared.raw.RawCall.{RawCall}
 use Rattle.histar_rules.specs.declared.raw.RawCall.TheVariants as raw
@@ -183,14 +183,14 @@ module _ (session : Session) (ok : IsSession session) (old new : KernelModel) (f
           (has_reads (refusal may fits) writing.reaches _ _ (among_also old.line t walk walk ((next, Some d) ∷ []) (among_granted_all old.line t walk))) on
 
       -- the kernel has the objects of the flat state with the new bytes
-      laid_after : LaysOut session (with_bytes (state old) file whole) (changed session f me p call)
-      laid_after = subst (LaysOut session (with_bytes (state old) file whole)) (sym writing.changes)
+      laid_after : LaysOut session (with_segment_bytes (state old) file whole) (changed session f me p call)
+      laid_after = subst (LaysOut session (with_segment_bytes (state old) file whole)) (sym writing.changes)
           (lays_out_overwritten session (state old) f ready.lays_out.laid (m ∷ d) class held whole at file (file_numbered session ok (state old) f me t ready d open_so_far m class held at) ready.lays_out.jobs_given)
 
-      left : (s : State) → s ≡ state old → with_bytes s file (take keep (bytes_in (s.objects file)) ++ bytes) ≡ with_bytes (state old) file whole
+      left : (s : State) → s ≡ state old → with_segment_bytes s file (take keep (bytes_in (s.objects file)) ++ bytes) ≡ with_segment_bytes (state old) file whole
       left s same = let there = held_there session ok (state old) f me t ready d open_so_far m class held at in
-          (λ i. with_bytes (same i) file (take keep (bytes_in ((same i).objects file)) ++ bytes))
-          ∙ (λ i. with_bytes (state old) file (take keep (there i) ++ bytes)) ∙ ap (with_bytes (state old) file) kept
+          (λ i. with_segment_bytes (same i) file (take keep (bytes_in ((same i).objects file)) ++ bytes))
+          ∙ (λ i. with_segment_bytes (state old) file (take keep (there i) ++ bytes)) ∙ ap (with_segment_bytes (state old) file) kept
 
       by_right : (is_may is_fits : Bool) → may ≡ is_may → fits ≡ is_fits → Runs (ask next (λ _. Answers Done)) mid new t result → Row
       by_right false is_fits e more on = denied Modify EACCES (said_by false is_fits e more) refl (refused_by false is_fits e more) on
@@ -198,7 +198,7 @@ module _ (session : Session) (ok : IsSession session) (old new : KernelModel) (f
       by_right true true e more on =
           granted_step session f me ready.caller call old new t ready.thread result walk mid chain next (λ _. Answers Done) (said_by true true e more) on
           (λ later answer called right longer end.
-          let new_state : state later ≡ with_bytes (state old) file whole = called.state ∙ left (state mid) stays in
+          let new_state : state later ≡ with_segment_bytes (state old) file whole = called.state ∙ left (state mid) stays in
           answered_step session f me ready.caller call old new t ready.thread result (walk ++ next ∷ []) later longer Done (sym writing.answers) (refused_by true true e more)
           (subst (λ (r : Reply). IsBacked (state old) (entries_of old.line t (all_granted (walk ++ next ∷ []))) r) (sym writing.answers) tt)
           (has_reads (refusal may fits) writing.reaches _ _ (among_then old.line t walk walk (next ∷ []) (among_granted_all old.line t walk)))

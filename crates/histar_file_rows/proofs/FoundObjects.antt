@@ -27,7 +27,7 @@ use Rattle.histar_calls.specs.Refusals.{errno_of, errno_for}
 use Rattle.histar_refinement.specs.Sessions.{IsSession}
 use Rattle.histar_refinement.specs.Guards.{Guard, guard_label, rights_label, rights_clearance}
 use Rattle.histar_refinement.specs.Labels.{class_guard, thread_rights}
-use Rattle.histar_refinement.specs.Addresses.{Step, same_step, address_of, home_of}
+use Rattle.histar_refinement.specs.Addresses.{Step, same_step, address_of, home_address}
 use Rattle.histar_refinement.specs.Addresses.Step.{Listing, Inside, Runner}
 use Rattle.histar_refinement.specs.Directories.{directory_of}
 use Rattle.histar_refinement.specs.Expected.{expected}
@@ -53,7 +53,7 @@ module _ (session : Session) (ok : IsSession session) (s : State) (f : Flat) (me
   l = ready.lays_out.laid
 
   abbrev runner : Address Step
-  runner = Runner ∷ Inside ∷ home_of me
+  runner = Runner ∷ Inside ∷ home_address me
 
   -- the label and the clearance of the thread
   abbrev pub label : Levels

@@ -21,7 +21,7 @@ use Rattle.histar_flat.specs.FlatCalls as flat
 use Rattle.histar_flat.specs.FlatCalls.{refused, changed, most_entries, class_or_open, no_room}
 use Rattle.histar_label.specs.Levels.{Levels}
 use Rattle.histar_object.specs.Objects.{label_there}
-use Rattle.histar_object.specs.State.{State, with_bytes}
+use Rattle.histar_object.specs.State.{State, with_segment_bytes}
 use Rattle.histar_rules.specs.declared.raw.Denied.{Denied}
 use Rattle.histar_rules.specs.declared.raw.Denied.TheVariants.{Modify, Range, TooBig}
 use Rattle.histar_rules.specs.declared.raw.RawCall.{RawCall}
@@ -201,7 +201,7 @@ module _ (session : Session) (ok : IsSession session) (old new : KernelModel) (f
     bytes = spelling (map.insert listed m target)
 
     abbrev after : State
-    after = with_bytes later place.listing bytes
+    after = with_segment_bytes later place.listing bytes
 
     write_said : check later t (raw.Write place.container place.listing 0 bytes) ≡ None
     write_said =
@@ -229,7 +229,7 @@ module _ (session : Session) (ok : IsSession session) (old new : KernelModel) (f
         let lays_out : LaysOut session after (with_node f (m ∷ d) made.class content) = record { laid = laid; jobs_given = jobs } in
         granted_step session f me ready.caller call old new t ready.thread result before linked chain write (λ _. Answers Done) (ap (λ (s : State). check s t write) is_later ∙ write_said) on
         (λ end done wrote right whole last.
-        let end_state : state end ≡ after = wrote.state ∙ ap (λ (s : State). with_bytes s place.listing bytes) is_later in
+        let end_state : state end ≡ after = wrote.state ∙ ap (λ (s : State). with_segment_bytes s place.listing bytes) is_later in
         answered_step session f me ready.caller call old new t ready.thread result (before ++ write ∷ []) end whole Done (sym entry.answers) (refused_then open_so_far absent room true true is_may (ap is_some made.class_is))
         (subst (λ (r : Reply). IsBacked (state old) (entries_of old.line t (all_granted (before ++ write ∷ []))) r) (sym entry.answers) tt) (has_reads_made _ _ (among_then old.line t reads before (write ∷ []) among))
         (subst (λ (s : State). LaysOut session s (changed session f me p call)) (sym end_state) (subst (LaysOut session after) (sym changed_is) lays_out)) last)

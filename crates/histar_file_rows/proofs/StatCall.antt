@@ -30,7 +30,7 @@ use Rattle.histar_syscall.proofs.Runs.{same_kernel}
 use Rattle.histar_layout.specs.Listing.{is_directory, object_of}
 use Rattle.histar_layout.specs.declared.entry.Target.{Target}
 use Rattle.histar_calls.specs.declared.ending.Stopped.{Stopped}
-use Rattle.histar_calls.specs.ClassOf.{class_of, stat_of}
+use Rattle.histar_calls.specs.ClassOf.{class_shown, stat_of}
 use Rattle.histar_calls.specs.declared.places.Place.{Place}
 use Rattle.histar_calls.specs.Programs.{Program, Runs}
 use Rattle.histar_calls.specs.Programs.Program.{Answers}
@@ -77,7 +77,7 @@ module _ (session : Session) (ok : IsSession session) (old new : KernelModel) (f
     guard : (g : Guard) × (class_guard session there.class ≡ Some g)
     guard = guard_at session (state old) f ready.lays_out.laid q there at
 
-    tells : HasOwnerAndMode there.class (class_of session (guard_label ready.lays_out.laid.category guard.0))
+    tells : HasOwnerAndMode there.class (class_shown session (guard_label ready.lays_out.laid.category guard.0))
     tells = class_told session ready.lays_out.laid.category ready.lays_out.laid.different ready.lays_out.laid.as_made there.class guard.0 guard.1
 
     abbrev due : Reply
@@ -86,17 +86,17 @@ module _ (session : Session) (ok : IsSession session) (old new : KernelModel) (f
     due_is : due ≡ stat_reply (get f.files q)
     due_is = (λ i. Stats (record { is_directory = is_dir there; owner = tells.owner i; mode = tells.mode i })) ∙ sym (ap stat_reply at)
 
-    told_is : (label : Levels) → Some label ≡ label_there ((state mid).objects O) → class_reply (is_dir there) (class_of session label) ≡ Answers due
+    told_is : (label : Levels) → Some label ≡ label_there ((state mid).objects O) → class_reply (is_dir there) (class_shown session label) ≡ Answers due
     told_is label right =
         let same = same_Some _ _ (right ∙ ap (λ (s : State). label_there (s.objects O)) stays ∙ label_at session (state old) f ready.lays_out.laid q there at O numbered guard.0 guard.1) in
-        ap (λ (l : Levels). class_reply (is_dir there) (class_of session l)) same ∙ ap (class_reply (is_dir there)) tells.is
+        ap (λ (l : Levels). class_reply (is_dir there) (class_shown session l)) same ∙ ap (class_reply (is_dir there)) tells.is
 
     all_reads : ReadsAmong session f me ready.caller call old new t ready.thread (all_granted (reads ++ next ∷ [])) due
     all_reads = (reads, next ∷ [], are_reads, (D, O, object_at, refl), among_granted_all old.line t (reads ++ next ∷ []))
 
-    label_step : Runs (ask next (λ label. class_reply (is_dir there) (class_of session label))) mid new t result → Row q
+    label_step : Runs (ask next (λ label. class_reply (is_dir there) (class_shown session label))) mid new t result → Row q
     label_step on =
-        granted_step session f me ready.caller call old new t ready.thread result reads mid chain next (λ label. class_reply (is_dir there) (class_of session label)) (ap (λ (s : State). check s t next) stays ∙ passes) on
+        granted_step session f me ready.caller call old new t ready.thread result reads mid chain next (λ label. class_reply (is_dir there) (class_shown session label)) (ap (λ (s : State). check s t next) stays ∙ passes) on
         (λ later label called right longer end.
         let same : state later ≡ state old = called.state ∙ stays in
         let entries = entries_of old.line t (all_granted (reads ++ next ∷ [])) in
@@ -121,7 +121,7 @@ module _ (session : Session) (ok : IsSession session) (old new : KernelModel) (f
 
     -- once the entry was looked up
     abbrev at_entry : Option Target → Program
-    at_entry target = given (entry_at target) (λ found. ask (raw.LabelOf place.container (object_of found)) (λ label. class_reply (is_directory found) (class_of session label)))
+    at_entry target = given (entry_at target) (λ found. ask (raw.LabelOf place.container (object_of found)) (λ label. class_reply (is_directory found) (class_shown session label)))
 
     module _ (open_so_far : into session f ready.caller.process d ≡ None) (mid : KernelModel) (stays : state mid ≡ state old) (chain : Chain old t (all_granted walk) mid)
         (on : Runs (at_entry (map.get (directory_of f.files ready.lays_out.laid.naming.number d) m)) mid new t result) where
@@ -139,7 +139,7 @@ module _ (session : Session) (ok : IsSession session) (old new : KernelModel) (f
           (at_container session ok (state old) f me t ready d is_dir_above) (at_listing session ok (state old) f me t ready d is_dir_above) (seen session ok (state old) f me t ready d open_so_far) m (object_of target) numbered
           (no_thread_at session (state old) f ready.lays_out.laid (m ∷ d) there at (object_of target) numbered) in
           label_step (m ∷ d) there at place.container (object_of target) numbered object_at (refused_is None (Some there) open_so_far at) passes walk (reads_way session ok (state old) f me t ready d) mid stays chain
-          (subst (λ (b : Bool). Runs (ask (raw.LabelOf place.container (object_of target)) (λ label. class_reply b (class_of session label))) mid new t result) kind (leads (Some target) is))
+          (subst (λ (b : Bool). Runs (ask (raw.LabelOf place.container (object_of target)) (λ label. class_reply b (class_shown session label))) mid new t result) kind (leads (Some target) is))
 
       by_content : (class : Class) (c : Content) → get f.files (m ∷ d) ≡ Some (record { class = class; content = c }) → Row (m ∷ d)
       by_content class Dir at =
@@ -157,7 +157,7 @@ module _ (session : Session) (ok : IsSession session) (old new : KernelModel) (f
     stat_is_row : Runs (stat_program session (places_of (length session.users)) (m ∷ d)) old new t result → Row (m ∷ d)
     unfolding stat_program find_object
     stat_is_row run =
-        look_step session ok old new f me t ready stat result d m (λ place target. given (entry_at target) (λ found. ask (raw.LabelOf place.container (object_of found)) (λ label. class_reply (is_directory found) (class_of session label)))) run
+        look_step session ok old new f me t ready stat result d m (λ place target. given (entry_at target) (λ found. ask (raw.LabelOf place.container (object_of found)) (λ label. class_reply (is_directory found) (class_shown session label)))) run
         (λ errno is steps among. (refused_is (Some errno) (get f.files (m ∷ d)) is refl, label_less session (state old) f m d errno _ ready.caller.process (has_way session ok (state old) f me t ready d _ among)))
         (λ open_so_far mid stays chain on. by_stands open_so_far mid stays chain on (get f.files (m ∷ d)) refl)
 

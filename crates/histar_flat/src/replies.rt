@@ -11,31 +11,31 @@ use std::marker::Model;
 #[derive(Clone, Copy, Debug, PartialEq, Eq)]
 pub enum Errno {
     /// There is no such file, directory or user.
-    ENOENT,
+    ENOENT = 1,
     /// What stands on the way of a path is no directory.
-    ENOTDIR,
+    ENOTDIR = 2,
     /// The call wants a file, and a directory stands there.
-    EISDIR,
+    EISDIR = 3,
     /// Something stands there already.
-    EEXIST,
+    EEXIST = 4,
     /// The process may not look there, or not change what is there.
-    EACCES,
+    EACCES = 5,
     /// The process may not make a thing of this mode.
-    EPERM,
+    EPERM = 6,
     /// The directory has entries.
-    ENOTEMPTY,
+    ENOTEMPTY = 7,
     /// `/` can't be taken away or renamed.
-    EBUSY,
+    EBUSY = 8,
     /// The directory has 64 entries.
-    ENOSPC,
+    ENOSPC = 9,
     /// The file would have more than 4,096 bytes.
-    EFBIG,
+    EFBIG = 10,
     /// There is no such process.
-    ESRCH,
+    ESRCH = 11,
     /// The process had 64 children, or its name has no room for another number.
-    EAGAIN,
+    EAGAIN = 12,
     /// The password is another one.
-    EAUTH,
+    EAUTH = 13,
 }
 
 impl Errno {

@@ -4,7 +4,7 @@ use Rattle.std.specs.Int.{w64, to_be_bytes}
 use Rattle.std.specs.List.{flat_map}
 use Rattle.std.proofs.lemmas.List.{take_at, drop_at}
 use Rattle.std.proofs.lemmas.Option.{same_Some}
-use Rattle.histar_layout.specs.Status.{ProcessStatus, child_bytes, head_of, status_bytes, status_in, with_child}
+use Rattle.histar_layout.specs.Status.{ProcessStatus, child_bytes, head_of, status_bytes, status_in, with_child_listed}
 use Rattle.histar_layout.specs.StatusParts.{IsSplit, head_bytes, others}
 use Rattle.histar_layout.specs.declared.status.Child.{Child}
 use Rattle.histar_layout.specs.declared.status.StatusHead.{StatusHead}
@@ -37,7 +37,7 @@ module _ (container segment : ℕ) where
 
   -- the head, the children's bytes and the new child are those of the status with it
   pub child_added : (bytes : List ℕ) (head : StatusHead) (children first second third : List ℕ) (status : ProcessStatus) → IsSplit bytes head children → status_in bytes ≡ Some status
-      → first ≡ head_bytes (more_born head) → second ≡ first ++ children → third ≡ second ++ child_bytes (new_child head) → third ≡ status_bytes (with_child container segment status)
+      → first ≡ head_bytes (more_born head) → second ≡ first ++ children → third ≡ second ++ child_bytes (new_child head) → third ≡ status_bytes (with_child_listed container segment status)
   child_added bytes head children first second third status split told x y z =
       let same : split.status ≡ status = same_Some split.status status (sym split.status_is ∙ told) in
       let head_is : head ≡ head_of status = split.head_is ∙ ap head_of same in
@@ -47,7 +47,7 @@ module _ (container segment : ℕ) where
       ∙ ap (λ (h : StatusHead). (head_bytes (more_born h) ++ flat_map child_bytes status.children) ++ child_bytes (new_child due)) head_is
       ∙ append_assoc (head_bytes (more_born due)) (flat_map child_bytes status.children) (child_bytes (new_child due))
       ∙ ap (λ (t : List ℕ). head_bytes (more_born due) ++ t) (children_more status.children (new_child due))
-      ∙ status_parts (with_child container segment status)
+      ∙ status_parts (with_child_listed container segment status)
 
 -- ---- one child less
 

@@ -5,6 +5,7 @@ use Rattle.std.specs.List.{flat_map, AllByRecursion}
 use Rattle.std.specs.Ordering.{nat_cmp}
 use Rattle.std.specs.Cmp.Lexicographic.{slice_cmp}
 use Rattle.std.specs.FinMap as map
+use Rattle.histar_flat.specs.FlatCalls.{most_entries}
 use Rattle.histar_flat.specs.Words.{Name, is_name}
 use Rattle.histar_layout.specs.declared.entry.Target.{Target}
 use Rattle.histar_layout.specs.declared.entry.Target.TheVariants.{File, Directory}
@@ -12,10 +13,6 @@ use Rattle.histar_layout.specs.declared.entry.Target.TheVariants.{File, Director
 -- a directory: where the entry of each name leads, by rising names
 abbrev pub Entries : Type 0
 Entries = map.FinMap (slice_cmp nat_cmp) Target
-
--- the most entries that a directory has
-abbrev pub most_entries : ℕ
-most_entries = 64
 
 -- `f`, the number of the file's segment, and 0; or `d`, the number of the container, and that of its directory segment
 abbrev pub target_bytes : Target → List ℕ

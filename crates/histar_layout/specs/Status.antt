@@ -114,8 +114,8 @@ abbrev pub once_exited : ℕ → ProcessStatus → ProcessStatus
 once_exited number status = record { exited = Some number; born = status.born; internal = 0; thread = 0; children = status.children }
 
 -- once one child more was born
-abbrev pub with_child : ℕ → ℕ → ProcessStatus → ProcessStatus
-with_child container segment status = record status {
+abbrev pub with_child_listed : ℕ → ℕ → ProcessStatus → ProcessStatus
+with_child_listed container segment status = record status {
   born = status.born + 1;
   children = status.children ++ record { number = status.born + 1; container = container; segment = segment } ∷ [];
 }

@@ -3,7 +3,8 @@ ghost use Rattle.std.specs.Prelude.{◌≡◌, ℕ, ◌+◌, ◌++◌, ◌<◌, 
 ghost use Rattle.std.specs.FinMap as map;
 ghost use Rattle.std.specs.Vec.{vec_len, vec_capacity};
 ghost use Rattle.histar_layout.specs.Listing.{names_in};
-ghost use Rattle.histar_layout.specs.Directory.{Entries, LeadsSomewhere, IsListable, IsDirectory, most_entries};
+ghost use Rattle.histar_layout.specs.Directory.{Entries, LeadsSomewhere, IsListable, IsDirectory};
+ghost use Rattle.histar_flat.specs.FlatCalls.{most_entries};
 
 use crate::checked::check_directory;
 use crate::entry::Target;

@@ -2,7 +2,7 @@
 ghost use Rattle.std.specs.Prelude.{◌≡◌, ◌++◌, ◌<◌, List, Some, None, IfOk, OnOk, MatchOption, option_map, is_some};
 ghost use Rattle.histar_flat.specs.Words.{most_children};
 ghost use Rattle.histar_layout.specs.Reading.{Gives};
-ghost use Rattle.histar_layout.specs.Status.{ProcessStatus, IsChanged, child_bytes, child_in, children_in, head_in, head_of, life_in, look_for, once_exited, started, status_bytes, status_in, with_child, without_child};
+ghost use Rattle.histar_layout.specs.Status.{ProcessStatus, IsChanged, child_bytes, child_in, children_in, head_in, head_of, life_in, look_for, once_exited, started, status_bytes, status_in, with_child_listed, without_child};
 ghost use Rattle.histar_layout.specs.StatusParts.{AppendsOthers, HasRoomForChild, IsSplit, StatusesAreSpelled, head_bytes};
 
 use crate::read_entry::read_number;
@@ -123,7 +123,7 @@ pub fn add_child(
     segment: ObjId,
 ) -> Result<Bytes, AllocError>
     requires { HasRoomForChild bytes.now }
-    ensures { IfOk result (IsChanged (with_child container segment) bytes.now) }
+    ensures { IfOk result (IsChanged (with_child_listed container segment) bytes.now) }
 {
     let Some((head, children)) = split_status(bytes) else {
         return Ok(Bytes::new(alloc));

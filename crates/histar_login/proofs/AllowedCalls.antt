@@ -10,7 +10,7 @@ use Rattle.histar_label.specs.Levels.{Levels, is_below}
 use Rattle.histar_label.specs.Same.{and_true}
 use Rattle.histar_object.specs.declared.objects.Entry.{Entry}
 use Rattle.histar_object.specs.declared.objects.Object.{Object}
-use Rattle.histar_object.specs.Objects.{is_there, is_container, is_thread, links_in, kind_is_thread, kind_is_container, kind_clearance, kind_links}
+use Rattle.histar_object.specs.Objects.{is_present, is_container, is_thread, links_in, kind_is_thread, kind_is_container, kind_clearance, kind_links}
 use Rattle.histar_rules.specs.Rights.{in_span, both}
 use Rattle.histar_object.specs.State.{State, Found, observes, modifies, in_range, between}
 use Rattle.histar_rules.specs.declared.raw.Denied.{Denied}
@@ -20,7 +20,7 @@ use Rattle.histar_rules.specs.Rules.{check, no_thread, no_container, no_making, 
 use Rattle.histar_rules.specs.Sound.{root_number}
 use Rattle.histar_syscall.specs.KernelModel.{KernelModel}
 use Rattle.histar_calls.specs.Labelling.{written_by}
-use Rattle.histar_login.specs.Start.{object_at, state_with, container, boot_category}
+use Rattle.histar_login.specs.Start.{object_at, state_with, container, root_category}
 use Rattle.histar_login.specs.Boot.{boot_thread_number, last_call}
 use Rattle.histar_login.specs.Booting.{Part, Boots, OwnsMade, Allows, table_of, next_number, next_made}
 use Rattle.histar_login.proofs.MadeLabels.{IsMadeLabel, IsMadeGuard, under_made, sees_made, cleared_made, written_made}
@@ -60,7 +60,7 @@ module _ (s : State) (boot : Object Levels) (is_boot : s.objects 2 ≡ Some boot
     container_passes : no_container s 2 d ≡ None
     container_passes =
         and_then_none _ _ thread_passes
-        (and_then_none _ _ (passes _ _ (ap is_there there))
+        (and_then_none _ _ (passes _ _ (ap is_present there))
         (and_then_none _ _ (passes _ _ (ap is_container there ∙ holds))
         (passes _ _ ((λ i. observes (is_boot i) (there i)) ∙ sees_made s.next_category boot owner o.label made))))
 
@@ -126,10 +126,10 @@ module _ (first now : KernelModel) (p : Part) (boots : Boots first now p) where
   -- the root container is one
   pub root_there : HasContainer root_number
   root_there = record {
-    label = written_by boot_category;
+    label = written_by root_category;
     numbers = boot_thread_number ∷ p.linked;
     there = refl;
-    made = (written_made (next_made p) boot_category (omega arith) (omega arith)).label;
+    made = (written_made (next_made p) root_category (omega arith) (omega arith)).label;
   }
 
   -- and so is one of the objects behind the boot thread

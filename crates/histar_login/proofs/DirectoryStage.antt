@@ -10,7 +10,7 @@ use Rattle.histar_rules.specs.Sound.{root_number}
 use Rattle.histar_syscall.specs.KernelModel.{KernelModel, Called, IsUnchanged}
 use Rattle.histar_calls.specs.Categories.{write_category}
 use Rattle.histar_calls.specs.Labelling.{written_by}
-use Rattle.histar_login.specs.Start.{boot_category, container, user_table}
+use Rattle.histar_login.specs.Start.{root_category, container, user_table}
 use Rattle.histar_login.specs.Boot.{boot_thread_number, table_call, slash_call, listing_call, directory_calls}
 use Rattle.histar_login.specs.Booting.{Part, and_then, next_number, next_made, Boots, HasBegun, Allows, IsBeforeDirectory, directory_part}
 use Rattle.histar_login.proofs.Stages.{boots_same}
@@ -24,8 +24,8 @@ module _ (session : Session) (first k0 : KernelModel) (p : Part) (b0 : Boots fir
   -- the rules allow to make the user table
   pub table_allowed : IsBeforeDirectory session p → length (user_table session) ≤ 4096 → Allows k0 (table_call session)
   table_allowed before few =
-      segment_allowed first k0 p b0 root_number (root_there first k0 p b0) (omega (arith, before.room.room_for_objects)) (written_by boot_category) (user_table session)
-      (written_made (next_made p) boot_category (omega arith) (omega arith)) few
+      segment_allowed first k0 p b0 root_number (root_there first k0 p b0) (omega (arith, before.room.room_for_objects)) (written_by root_category) (user_table session)
+      (written_made (next_made p) root_category (omega arith) (omega arith)) few
 
   -- boot stops before the user table
   pub directory_begun_none : (n : ℕ) (new : KernelModel) → IsUnchanged k0 new → HasBegun first new p.calls (directory_calls n session)
@@ -34,7 +34,7 @@ module _ (session : Session) (first k0 : KernelModel) (p : Part) (b0 : Boots fir
   module _ (k1 : KernelModel) (c1 : Called k0 k1 boot_thread_number (table_call session) None) where
     -- the user table
     table_object : Object Levels
-    table_object = record { label = written_by boot_category; kind = Segment (user_table session) }
+    table_object = record { label = written_by root_category; kind = Segment (user_table session) }
 
     -- what stands with it
     p1 : Part

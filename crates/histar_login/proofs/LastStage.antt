@@ -9,7 +9,7 @@ use Rattle.histar_rules.specs.Sound.{root_number}
 use Rattle.histar_syscall.specs.KernelModel.{KernelModel, state, Called}
 use Rattle.histar_syscall.proofs.Runs.{granted_more, made_run}
 use Rattle.histar_calls.specs.Labelling.{written_by}
-use Rattle.histar_login.specs.Start.{boot_category, declared, own_read_category, container, state_with, of_users, of_directory, start_state}
+use Rattle.histar_login.specs.Start.{root_category, declared, own_read_category, container, state_with, of_users, of_directory, start_state}
 use Rattle.histar_login.specs.Boot.{boot_calls, boot_thread_number, IsBooted}
 use Rattle.histar_login.specs.Booting.{Part, and_then, nothing_yet, next_number, Boots, BootsOn, IsAnywhere, IsBefore, IsBeforeBoth, categories_part, users_part, directory_part, process_part}
 use Rattle.histar_login.proofs.Stages.{boots_same, length-numbered}
@@ -106,7 +106,7 @@ module _ (session : Session) (first before after : KernelModel) (boots : Boots f
   unfolding last_part
   started =
       boots_last first before after last_part last_boots called (two_not_in_row 3 (2 + 2 * length session.users) (6 + 2 * length session.users) (omega arith) (omega arith))
-      ∙ ap (state_with (container (written_by boot_category) (range_with_len 3 (2 + 2 * length session.users) ++ (6 + 2 * length session.users) ∷ []) ∷ None ∷ (all_parts session).objects)) (omega arith)
+      ∙ ap (state_with (container (written_by root_category) (range_with_len 3 (2 + 2 * length session.users) ++ (6 + 2 * length session.users) ∷ []) ∷ None ∷ (all_parts session).objects)) (omega arith)
 
 -- no line was begun
 pub booted_line : (session : Session) (kernel : KernelModel) → IsBooted session kernel → kernel.line ≡ 0

@@ -19,7 +19,7 @@ use Rattle.histar_syscall.specs.KernelModel.{KernelModel, state, Called, Answere
 use Rattle.histar_syscall.proofs.Runs.{granted_none, granted_more}
 use Rattle.histar_container.specs.ObjectsModel.{CutsOff}
 use Rattle.histar_calls.specs.Labelling.{written_by}
-use Rattle.histar_login.specs.Start.{state_with, container, boot_category}
+use Rattle.histar_login.specs.Start.{state_with, container, root_category}
 use Rattle.histar_login.specs.Boot.{boot_thread_number}
 use Rattle.histar_login.specs.Booting.{Part, nothing_yet, next_number, next_made, table_of, Boots, OwnsMade, Allows, IsUndenied, Passes, Grants}
 use Rattle.histar_login.proofs.Tables.{changed, changed_behind, with_category_is, added_is}
@@ -88,8 +88,8 @@ module _ (first old new : KernelModel) (p : Part) (boots : Boots first old p) wh
       let linked : changed (linking (1 + length (table_of boots.boot p))) 0 (table_of boots.boot p ++ Some o ∷ [])
       ≡ table_of boots.boot (record { calls = p.calls; linked = p.linked ++ next_number p ∷ []; objects = p.objects ++ Some o ∷ []; categories = p.categories }) =
       ap (λ (x : Found). x ∷ Some boots.boot ∷ (p.objects ++ Some o ∷ []))
-      (links_more (written_by boot_category) (boot_thread_number ∷ p.linked) (1 + length (table_of boots.boot p))
-      ∙ ap (λ (n : ℕ). container (written_by boot_category) (boot_thread_number ∷ (p.linked ++ n ∷ []))) (omega arith)) in
+      (links_more (written_by root_category) (boot_thread_number ∷ p.linked) (1 + length (table_of boots.boot p))
+      ∙ ap (λ (n : ℕ). container (written_by root_category) (boot_thread_number ∷ (p.linked ++ n ∷ []))) (omega arith)) in
       record {
         granted = granted_more boot_thread_number first old new p.calls call boots.granted called;
         boot = boots.boot;
@@ -103,7 +103,7 @@ module _ (first old new : KernelModel) (p : Part) (boots : Boots first old p) wh
       → Boots first new (record { calls = p.calls ++ call ∷ []; linked = p.linked; objects = front ++ container label (numbers ++ next_number p ∷ []) ∷ (back ++ Some o ∷ []); categories = p.categories })
   boots_within call o d front back label numbers parts at called makes =
       let n = 1 + length (table_of boots.boot p) in
-      let root = container (written_by boot_category) (boot_thread_number ∷ p.linked) in
+      let root = container (written_by root_category) (boot_thread_number ∷ p.linked) in
       let place : d ≡ suc (suc (suc (length front))) = at ∙ omega arith in
       let same : p.objects ++ Some o ∷ [] ≡ front ++ container label numbers ∷ (back ++ Some o ∷ []) =
       ap (λ (l : List Found). l ++ Some o ∷ []) parts ∙ append_assoc front (container label numbers ∷ back) (Some o ∷ []) in
@@ -120,9 +120,9 @@ module _ (first old new : KernelModel) (p : Part) (boots : Boots first old p) wh
 
   -- the boot thread is gone
   pub boots_last : Called old new boot_thread_number (Unlink root_number boot_thread_number) None → set.contains (set.from_list {R = nat_cmp} p.linked) boot_thread_number ≡ false
-      → state new ≡ state_with (container (written_by boot_category) p.linked ∷ None ∷ p.objects) (next_made p)
+      → state new ≡ state_with (container (written_by root_category) p.linked ∷ None ∷ p.objects) (next_made p)
   boots_last called none =
-      let root : Object Levels = record { label = written_by boot_category; kind = Container (set.from_list {R = nat_cmp} (boot_thread_number ∷ p.linked)) } in
+      let root : Object Levels = record { label = written_by root_category; kind = Container (set.from_list {R = nat_cmp} (boot_thread_number ∷ p.linked)) } in
       let cut = subst (λ (s : State). CutsOff s 1 2 (state new)) boots.stands called.state in
       thread_gone root boots.boot p.objects (next_made p) (ap kind_is_thread boots.owner.is_thread) (state new) cut
-      ∙ ap (λ (links : Numbers). state_with (Some (record { label = written_by boot_category; kind = Container links }) ∷ None ∷ p.objects) (next_made p)) (removed_again (set.from_list {R = nat_cmp} p.linked) 2 none)
+      ∙ ap (λ (links : Numbers). state_with (Some (record { label = written_by root_category; kind = Container links }) ∷ None ∷ p.objects) (next_made p)) (removed_again (set.from_list {R = nat_cmp} p.linked) 2 none)

@@ -11,7 +11,7 @@ use Rattle.histar_rules.specs.Sound.{root_number}
 use Rattle.histar_label.specs.declared.levels.Level.TheVariants.{Star, L1, L2, L3}
 use Rattle.histar_syscall.specs.KernelModel.{KernelModel, Called, IsUnchanged}
 use Rattle.histar_calls.specs.Labelling.{written_by, secret_of, owner_of, cleared_of}
-use Rattle.histar_login.specs.Start.{own_read_category, own_write_category, container, segment, process_bytes}
+use Rattle.histar_login.specs.Start.{own_read_category, own_write_category, container, segment, first_process_bytes}
 use Rattle.histar_login.specs.Boot.{boot_thread_number, outer_call, inner_call, thread_call, status_call, process_calls}
 use Rattle.histar_login.specs.Booting.{Part, and_then, next_number, next_made, Boots, HasBegun, HasRoom, Allows, IsBeforeBoth, process_part}
 use Rattle.histar_login.proofs.Stages.{boots_same}
@@ -232,7 +232,7 @@ module _ (first k0 : KernelModel) (p : Part) (b0 : Boots first k0 p) where
             status_allowed room =
                 segment_allowed first k5 p5 b5 outer
                 (inside_there first k5 p5 b5 outer p.objects (container (secret_of read write) (next_number p4 ∷ []) ∷ Some thread_object ∷ []) (written_by write) (next_number p3 ∷ []) parts5 outer_at guarded.label)
-                (omega (arith, room.room_for_objects, after5)) (written_by write) (process_bytes inner thread) guarded (omega arith)
+                (omega (arith, room.room_for_objects, after5)) (written_by write) (first_process_bytes inner thread) guarded (omega arith)
 
             -- boot stops before it
             pub process_begun_five : (n owners : ℕ) → IsBeforeBoth (6 + 2 * n) (own_read_category owners) p → (new : KernelModel) → IsUnchanged k5 new → HasBegun first new p.calls (process_calls n owners)
@@ -246,7 +246,7 @@ module _ (first k0 : KernelModel) (p : Part) (b0 : Boots first k0 p) where
                 (at : IsBeforeBoth (6 + 2 * n) (own_read_category owners) p) where
               -- its process segment
               process_object : Object Levels
-              process_object = record { label = written_by write; kind = Segment (process_bytes inner thread) }
+              process_object = record { label = written_by write; kind = Segment (first_process_bytes inner thread) }
 
               -- what stands with it
               p6 : Part
@@ -295,7 +295,7 @@ module _ (first k0 : KernelModel) (p : Part) (b0 : Boots first k0 p) where
                   ∙ (λ j. p.calls ++ calls.MakeCategory ∷ calls.MakeCategory ∷ outer_call (w_is j) ∷ inner_call (o_is j) (r_is j) (w_is j) ∷ thread_call (i_is j) (r_is j) (w_is j) ∷ status_call (o_is j) (w_is j) (i_is j) (t_is j) ∷ []))
                   (λ j. p.linked ++ at.0 j ∷ [])
                   (λ j. p.objects ++ container (written_by (w_is j)) (next3 j ∷ next5 j ∷ []) ∷ container (secret_of (r_is j) (w_is j)) (next4 j ∷ [])
-                  ∷ Some (record { label = owner_of (r_is j) (w_is j); kind = Thread (cleared_of (r_is j) (w_is j)) }) ∷ segment (written_by (w_is j)) (process_bytes (i_is j) (t_is j)) ∷ [])
+                  ∷ Some (record { label = owner_of (r_is j) (w_is j); kind = Thread (cleared_of (r_is j) (w_is j)) }) ∷ segment (written_by (w_is j)) (first_process_bytes (i_is j) (t_is j)) ∷ [])
                   (omega arith)
 
               -- its process segment has its number too

@@ -12,7 +12,7 @@ use Rattle.histar_syscall.specs.KernelModel.{KernelModel, state}
 use Rattle.histar_syscall.specs.Runs.{Granted}
 use Rattle.histar_calls.specs.Categories.{read_category, write_category, owners_of}
 use Rattle.histar_calls.specs.Labelling.{written_by, secret_of, owner_of, cleared_of}
-use Rattle.histar_login.specs.Start.{numbered, boot_category, declared, own_read_category, own_write_category, owners_label, owners_clearance, user_table, process_bytes}
+use Rattle.histar_login.specs.Start.{numbered, root_category, declared, own_read_category, own_write_category, owners_label, owners_clearance, user_table, first_process_bytes}
 
 -- the boot thread, which makes all raw calls of boot
 abbrev pub boot_thread_number : ℕ
@@ -37,7 +37,7 @@ user_calls session i user = password_call i user.password ∷ gate_call i (owner
 
 -- the user table, which nobody may write
 abbrev pub table_call : Session → RawCall
-table_call session = MakeSegment root_number (written_by boot_category) (user_table session)
+table_call session = MakeSegment root_number (written_by root_category) (user_table session)
 
 -- `/`, which the first user alone may write
 abbrev pub slash_call : RawCall
@@ -65,7 +65,7 @@ thread_call inner r w = MakeThread inner (owner_of r w) (cleared_of r w)
 
 -- its process segment, which tells the internal container and the thread
 abbrev pub status_call : ℕ → ℕ → ℕ → ℕ → RawCall
-status_call outer w inner thread = MakeSegment outer (written_by w) (process_bytes inner thread)
+status_call outer w inner thread = MakeSegment outer (written_by w) (first_process_bytes inner thread)
 
 -- the two categories of process 0, behind those of all users and groups; its container, which is the object 6 + 2n, and its internal
 -- container, which is 7 + 2n; its thread 8 + 2n, which owns the two categories alone; and its process segment

@@ -18,7 +18,7 @@ use Rattle.histar_syscall.specs.Runs.{Granted}
 use Rattle.histar_calls.specs.Labelling.{written_by}
 use Rattle.histar_calls.specs.declared.places.Home.{Home}
 use Rattle.histar_calls.specs.declared.places.Place.{Place}
-use Rattle.histar_login.specs.Start.{numbered, boot_category, declared, own_read_category, container, state_with, places_of, of_user, of_users, of_directory, of_process}
+use Rattle.histar_login.specs.Start.{numbered, root_category, declared, own_read_category, container, state_with, places_of, of_user, of_users, of_directory, of_process}
 use Rattle.histar_login.specs.Boot.{boot_thread_number, category_calls, user_calls, directory_calls, process_calls}
 
 -- A part of boot: its raw calls, the numbers that the root container links by them, the objects that they make, and how many
@@ -47,7 +47,7 @@ next_made p = 2 + p.categories
 
 -- what stands from number 1 on after the first part of boot, where this is the boot thread
 abbrev pub table_of : Object Levels → Part → List Found
-table_of boot p = container (written_by boot_category) (boot_thread_number ∷ p.linked) ∷ Some boot ∷ p.objects
+table_of boot p = container (written_by root_category) (boot_thread_number ∷ p.linked) ∷ Some boot ∷ p.objects
 
 -- whether a category was made, where this is the next one
 abbrev pub was_made : ℕ → ℕ → Bool

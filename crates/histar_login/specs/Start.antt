@@ -24,8 +24,8 @@ numbered f i [] = []
 numbered f i (x ∷ xs) = f i x ++ numbered f (i + 1) xs
 
 -- the category that the boot thread owned alone, so that nobody owns it now
-abbrev pub boot_category : ℕ
-boot_category = 1
+abbrev pub root_category : ℕ
+root_category = 1
 
 -- how many users and groups there are together
 abbrev pub declared : Session → ℕ
@@ -70,7 +70,7 @@ container label numbers = Some (record { label = label; kind = Container (set.fr
 
 -- 1 is the root container, which links all that boot made in it: 3 to 4 + 2n, and 6 + 2n; 2 is nothing, since the boot thread is gone
 abbrev pub of_root : ℕ → List Found
-of_root n = container (written_by boot_category) (range_with_len 3 (2 + 2 * n) ++ (6 + 2 * n) ∷ []) ∷ None ∷ []
+of_root n = container (written_by root_category) (range_with_len 3 (2 + 2 * n) ++ (6 + 2 * n) ∷ []) ∷ None ∷ []
 
 -- 1 + 2i and 2 + 2i are the password of user i, which its owner alone may read, and the gate that gives what the user owns
 abbrev pub of_user : Session → ℕ → User → List Found
@@ -123,14 +123,14 @@ user_table session = user_entries session.users ++ group_part session.users sess
 -- 3 + 2n is the user table, 4 + 2n is `/`, and 5 + 2n is its directory segment, which is empty; the first user alone may write the last two
 abbrev pub of_directory : ℕ → Session → List Found
 of_directory n session =
-    segment (written_by boot_category) (user_table session)
+    segment (written_by root_category) (user_table session)
     ∷ container (written_by (write_category 1)) ((5 + 2 * n) ∷ [])
     ∷ segment (written_by (write_category 1)) []
     ∷ []
 
 -- the bytes of the process segment of process 0: `r` since it runs, that no child was born, its internal container and its thread
-abbrev pub process_bytes : ℕ → ℕ → List ℕ
-process_bytes internal thread = (114 ∷ 0 ∷ 0 ∷ []) ++ to_be_bytes w64 internal ++ to_be_bytes w64 thread
+abbrev pub first_process_bytes : ℕ → ℕ → List ℕ
+first_process_bytes internal thread = (114 ∷ 0 ∷ 0 ∷ []) ++ to_be_bytes w64 internal ++ to_be_bytes w64 thread
 
 -- 6 + 2n is the container of process 0, 7 + 2n its internal container, 8 + 2n its thread, which owns its own two categories alone, and
 -- 9 + 2n its process segment; its categories come behind those of all users and groups
@@ -139,7 +139,7 @@ of_process n owners =
     container (written_by (own_write_category owners)) ((7 + 2 * n) ∷ (9 + 2 * n) ∷ [])
     ∷ container (secret_of (own_read_category owners) (own_write_category owners)) ((8 + 2 * n) ∷ [])
     ∷ Some (record { label = owner_of (own_read_category owners) (own_write_category owners); kind = Thread (cleared_of (own_read_category owners) (own_write_category owners)) })
-    ∷ segment (written_by (own_write_category owners)) (process_bytes (7 + 2 * n) (8 + 2 * n))
+    ∷ segment (written_by (own_write_category owners)) (first_process_bytes (7 + 2 * n) (8 + 2 * n))
     ∷ []
 
 -- the objects of a machine with these users and groups that has just started, from number 1 on

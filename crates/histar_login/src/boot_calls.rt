@@ -8,7 +8,7 @@ ghost use Rattle.histar_calls.specs.Categories.{write_category};
 ghost use Rattle.histar_calls.specs.Labelling.{written_by};
 ghost use Rattle.histar_login.specs.Boot.{HasBegunBoot, IsBooted, boot_thread_number, gate_call, inner_call, last_call, listing_call, outer_call, password_call, slash_call, status_call, table_call, thread_call};
 ghost use Rattle.histar_login.specs.Booting.{Allows, BeginsDirectory, BeginsOn, BeginsProcess, BeginsUser, BeginsUsers, BootsOn, Grants, HasRoom, IsAnywhere, IsBeforeDirectory, IsBeforeUser, IsFirstDirectory, IsFirstHome, IsNextCategory, IsUnderWay, IsUndenied, MakesDirectory, MakesObject, MakesProcess, MakesUser, MakesUsers, Passes, categories_part, two_categories};
-ghost use Rattle.histar_login.specs.Start.{process_bytes, start_state, places_of};
+ghost use Rattle.histar_login.specs.Start.{first_process_bytes, start_state, places_of};
 
 use crate::gates::gate_labels;
 use crate::table::user_table;
@@ -218,7 +218,7 @@ fn make_directory<S: LabelStore + Drop>(
 
 /// The bytes of the process segment of process 0: it runs, and no child was born.
 fn process_bytes(alloc: Global, internal: ObjId, thread: ObjId) -> Result<Bytes, AllocError>
-    ensures { IfOk result (λ b. b ≡ process_bytes internal thread) }
+    ensures { IfOk result (λ b. b ≡ first_process_bytes internal thread) }
 {
     let mut bytes = Vec::from_slice(alloc, b"r\0\0")?;
     bytes.extend_from_slice(&internal.number().to_be_bytes())?;

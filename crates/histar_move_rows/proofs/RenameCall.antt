@@ -16,7 +16,7 @@ use Rattle.histar_flat.specs.Classes.{Class, Process, may_read, may_write}
 use Rattle.histar_flat.specs.FlatState.{Flat, Node, Content, is_some_and, is_dir_at, writes, into, with_renamed}
 use Rattle.histar_flat.specs.FlatState.Content.{Dir}
 use Rattle.histar_flat.specs.FlatCalls.{refused}
-use Rattle.histar_object.specs.State.{State, with_bytes}
+use Rattle.histar_object.specs.State.{State, with_segment_bytes}
 use Rattle.histar_rules.specs.declared.raw.Denied.TheVariants.{Modify}
 use Rattle.histar_rules.specs.declared.raw.RawCall.{RawCall}
 use Rattle.histar_rules.specs.declared.raw.RawCall.TheVariants as raw
@@ -126,7 +126,7 @@ module _ (session : Session) (ok : IsSession session) (old new : KernelModel) (f
           ∙ ap (λ (b : Bool). unless b Modify) is_may
 
       -- the kernel has the objects of the flat state with the entry renamed
-      laid_after : LaysOut session (with_bytes (state old) listing (spelling renamed)) (with_renamed f (m ∷ d) (name ∷ d))
+      laid_after : LaysOut session (with_segment_bytes (state old) listing (spelling renamed)) (with_renamed f (m ∷ d) (name ∷ d))
       laid_after = lays_out_renamed session (state old) f ready.lays_out.laid m name d listing at_N absent target leads ready.lays_out.jobs_given named is_dir_here
 
       by_right : (may : Bool) → may_write session p root ≡ may → Runs (ask next (λ _. Answers Done)) mid new t result → Row
@@ -136,7 +136,7 @@ module _ (session : Session) (ok : IsSession session) (old new : KernelModel) (f
       by_right true is_may on =
           granted_step session f me ready.caller call old new t ready.thread result walk mid chain next (λ _. Answers Done) (said true is_may) on
           (λ later answer called right longer end.
-          let new_state : state later ≡ with_bytes (state old) listing (spelling renamed) = called.state ∙ ap (λ (s : State). with_bytes s listing (spelling renamed)) stays in
+          let new_state : state later ≡ with_segment_bytes (state old) listing (spelling renamed) = called.state ∙ ap (λ (s : State). with_segment_bytes s listing (spelling renamed)) stays in
           answered_step session f me ready.caller call old new t ready.thread result (walk ++ next ∷ []) later longer Done refl (refused_by None true absent is_may) tt (walked_then session ok (state old) f me t ready m d old.line (next ∷ []))
           (subst (λ (s : State). LaysOut session s (with_renamed f (m ∷ d) (name ∷ d))) (sym new_state) laid_after) end)
 

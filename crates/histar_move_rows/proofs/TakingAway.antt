@@ -21,7 +21,7 @@ use Rattle.histar_flat.specs.FlatCalls.{refused, changed}
 use Rattle.histar_label.specs.Levels.{Levels, is_below, is_below_raised}
 use Rattle.histar_object.specs.declared.objects.Kind.TheVariants.{Segment, Container, Thread}
 use Rattle.histar_object.specs.Objects.{Numbers as Links, is_container, links_in, unlinking}
-use Rattle.histar_object.specs.State.{State, Found, with_bytes}
+use Rattle.histar_object.specs.State.{State, Found, with_segment_bytes}
 use Rattle.histar_container.specs.ObjectsModel.{CutsOff}
 use Rattle.histar_container.specs.Tree.{Address, under, is_under, objects_at}
 use Rattle.histar_container.proofs.Addresses.{above}
@@ -42,7 +42,7 @@ use Rattle.histar_moves.specs.Parts.{take_away}
 use Rattle.histar_refinement.specs.Sessions.{IsSession}
 use Rattle.histar_refinement.specs.Guards.{Guard, guard_label, rights_label, rights_clearance}
 use Rattle.histar_refinement.specs.Labels.{class_guard, thread_rights}
-use Rattle.histar_refinement.specs.Addresses.{Step, same_step, address_of, home_of}
+use Rattle.histar_refinement.specs.Addresses.{Step, same_step, address_of, home_address}
 use Rattle.histar_refinement.specs.Addresses.Step.{Listing, Named, Inside, Runner}
 use Rattle.histar_refinement.specs.Directories.{directory_of}
 use Rattle.histar_refinement.specs.Expected.{expected}
@@ -109,7 +109,7 @@ module _ (session : Session) (s : State) (f : Flat) (l : Laid session s f) (ok :
 
   -- the thread, the directory segment and the directory's container then
   thread_then : mid.objects t ≡ object label (Thread clearance)
-  thread_then = stays (Runner ∷ Inside ∷ home_of me) t runs.2 (under_home (m ∷ d) me) other_thread ∙ thread
+  thread_then = stays (Runner ∷ Inside ∷ home_address me) t runs.2 (under_home (m ∷ d) me) other_thread ∙ thread
 
   listing_then : mid.objects N ≡ object due (Segment (spelling (directory_of f.files l.naming.number d)))
   listing_then = stays (Listing ∷ address_of d) N at_listing (above same_step step_tests_equality (address_of d) (Named m)) other_listing ∙ segment
@@ -217,7 +217,7 @@ module _ (session : Session) (ok : IsSession session) (old new : KernelModel) (f
           written_then session (state old) f ready.lays_out.laid ok me p t (runs session ok (state old) f me t ready) d root root_at container listing at_D at_N m o at_O (state cut) cuts sees may
           (map.remove entries m) (listable_remove entries m (ready.lays_out.laid.listable d is_dir_here))
 
-      laid_after : LaysOut session (with_bytes (state cut) listing (spelling (map.remove entries m))) (without_below f (m ∷ d))
+      laid_after : LaysOut session (with_segment_bytes (state cut) listing (spelling (map.remove entries m))) (without_below f (m ∷ d))
       laid_after = lays_out_removed session (state old) f ready.lays_out.laid m d container listing o at_D at_N at_O (state cut) cuts ready.lays_out.jobs_given is_dir_here
 
       -- the directory is written, and the call is answered

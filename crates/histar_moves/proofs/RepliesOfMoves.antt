@@ -14,7 +14,7 @@ use Rattle.histar_calls.specs.declared.directory.Directory.{Directory}
 use Rattle.histar_calls.specs.declared.places.Place.{Place}
 use Rattle.histar_calls.specs.declared.places.Places.{Places}
 use Rattle.histar_calls.specs.Laws.{RepliesToRefusals}
-use Rattle.histar_calls.specs.Parts.{given, entry_at, read_directory, target_of, write_entries}
+use Rattle.histar_calls.specs.Parts.{given, entry_at, read_directory, target_named, write_entries}
 use Rattle.histar_calls.specs.Programs.{Program}
 use Rattle.histar_calls.specs.Programs.Program.{Answers}
 use Rattle.histar_calls.proofs.RepliesOfPrograms.{ask_replies, read_replies, walk_replies}
@@ -30,7 +30,7 @@ use Rattle.histar_moves.specs.Unlink.{unlink_program}
 entry_replies : (places : Places) (path : Path) (rest : FoundEntry → Program) → ((entry : FoundEntry) → RepliesToRefusals (rest entry)) → RepliesToRefusals (find_entry places path rest)
 unfolding find_entry
 entry_replies places [] rest tells = (refl, refl)
-entry_replies places (name ∷ parent) rest tells = walk_replies places parent _ (λ directory. by directory (target_of directory name))
+entry_replies places (name ∷ parent) rest tells = walk_replies places parent _ (λ directory. by directory (target_named directory name))
   where
     by : (directory : Directory) (target : Option Target) → RepliesToRefusals (given (entry_at target) (λ found. rest (record { place = directory.place; entries = directory.entries; name = name; target = found })))
     by directory None = (refl, refl)

@@ -12,7 +12,7 @@ use Rattle.histar_layout.specs.declared.entry.Target.TheVariants as targets
 use Rattle.histar_calls.specs.declared.directory.Directory.{Directory}
 use Rattle.histar_calls.specs.declared.ending.Ending.{Ending}
 use Rattle.histar_calls.specs.declared.places.Place.{Place}
-use Rattle.histar_calls.specs.Parts.{ask, given, entry_at, target_of, read_directory, write_entries}
+use Rattle.histar_calls.specs.Parts.{ask, given, entry_at, target_named, read_directory, write_entries}
 use Rattle.histar_calls.specs.Programs.{Program, Part, RunsPart}
 use Rattle.histar_calls.specs.Programs.Program.{Answers}
 use Rattle.histar_layout.proofs.MapLemmas.{entry_found}
@@ -31,7 +31,7 @@ entry_of directory name target = record { place = directory.place; entries = dir
 
 -- what comes after the walk to the directory of an entry
 abbrev pub within : Name → Directory → Part FoundEntry
-within name directory rest = given (entry_at (target_of directory name)) (λ target. rest (entry_of directory name target))
+within name directory rest = given (entry_at (target_named directory name)) (λ target. rest (entry_of directory name target))
 
 -- entries are written that are those which are due
 pub writes_due : (t : ℕ) (old new : KernelModel) (place : Place) (entries due : Entries) → entries ≡ due → (result : Result (Unit {0}) Ending) → RunsPart (write_entries place entries) old new t result → RunsPart (write_entries place due) old new t result

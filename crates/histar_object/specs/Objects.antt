@@ -122,9 +122,9 @@ module _ {L : Type 0} where
   kind_is_gate (Gate clearance entry) = true
 
   -- an object is there
-  abbrev pub is_there : Option (Object L) → Bool
-  is_there None = false
-  is_there (Some o) = true
+  abbrev pub is_present : Option (Object L) → Bool
+  is_present None = false
+  is_present (Some o) = true
 
   -- a segment is there
   abbrev pub is_segment : Option (Object L) → Bool

@@ -64,8 +64,8 @@ abbrev pub with_next_category : State → State
 with_next_category s = record { objects = s.objects; next_object = s.next_object; next_category = s.next_category + 1 }
 
 -- the state with these bytes in a segment
-abbrev pub with_bytes : State → ℕ → List ℕ → State
-with_bytes s o bytes = record {
+abbrev pub with_segment_bytes : State → ℕ → List ℕ → State
+with_segment_bytes s o bytes = record {
   objects = changed_at s.objects o (holding bytes);
   next_object = s.next_object;
   next_category = s.next_category;

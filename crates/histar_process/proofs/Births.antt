@@ -4,7 +4,7 @@ use Rattle.histar_label.specs.Levels.{Levels}
 use Rattle.histar_rules.specs.declared.raw.RawCall.{RawCall}
 use Rattle.histar_rules.specs.declared.raw.RawCall.TheVariants.{MakeCategory, MakeSegment, MakeContainer, MakeThread, Write}
 use Rattle.histar_syscall.specs.KernelModel.{KernelModel}
-use Rattle.histar_layout.specs.Status.{ProcessStatus, status_bytes, with_child}
+use Rattle.histar_layout.specs.Status.{ProcessStatus, status_bytes, with_child_listed}
 use Rattle.histar_calls.specs.Labelling.{guarded_by}
 use Rattle.histar_calls.specs.Parts.{ask}
 use Rattle.histar_calls.specs.Programs.{Part, RunsPart}
@@ -93,7 +93,7 @@ module _ (t : ℕ) (old new : KernelModel) (parent : ℕ) (jobs : List ℕ) (rea
 module _ (t : ℕ) (parent : Home) (status : ProcessStatus) (kin : Kin) (old new : KernelModel) where
   -- what comes after each step
   abbrev pub to_write : ℕ → ℕ → Part (Unit {0})
-  to_write container segment = write_status parent (with_child container segment status)
+  to_write container segment = write_status parent (with_child_listed container segment status)
 
   abbrev pub to_segment : ℕ × ℕ → ℕ × ℕ → ℕ → Part (Unit {0})
   to_segment own made child rest = make_segment made.0 kin.jobs own.1 made.1 child (λ segment. to_write made.0 segment rest)
@@ -135,5 +135,5 @@ module _ (t : ℕ) (parent : Home) (status : ProcessStatus) (kin : Kin) (old new
     with_segment child segment first result second = then_part t (make_segment container kin.jobs write internal child) mid new (to_write container) end segment first result second
 
   -- the last step, by its raw call
-  pub all_written : (mid : KernelModel) (container segment : ℕ) (result : Result (Unit {0}) Ending) → RunsPart (ask (Write parent.container parent.segment 0 (status_bytes (with_child container segment status)))) mid new t result → RunsPart (to_write container segment) mid new t result
+  pub all_written : (mid : KernelModel) (container segment : ℕ) (result : Result (Unit {0}) Ending) → RunsPart (ask (Write parent.container parent.segment 0 (status_bytes (with_child_listed container segment status)))) mid new t result → RunsPart (to_write container segment) mid new t result
   all_written mid container segment result runs = runs

@@ -7,7 +7,7 @@ use Rattle.histar_flat.specs.declared.replies.Reply.TheVariants as replies
 use Rattle.histar_label.specs.Levels.{Levels}
 use Rattle.histar_rules.specs.Sound.{root_number}
 use Rattle.histar_rules.specs.declared.raw.RawCall.TheVariants.{MakeCategory, MakeSegment, MakeContainer, MakeThread, OwnLabel, SetLabel, SetClearance, Read, Write, Unlink}
-use Rattle.histar_layout.specs.Status.{ProcessStatus, child_at, once_exited, started, status_bytes, status_in, with_child, without_child}
+use Rattle.histar_layout.specs.Status.{ProcessStatus, child_at, once_exited, started, status_bytes, status_in, with_child_listed, without_child}
 use Rattle.histar_layout.specs.declared.status.Child.{Child}
 use Rattle.histar_calls.specs.Categories.{user_of}
 use Rattle.histar_calls.specs.Laws.{RepliesToRefusals}
@@ -86,7 +86,7 @@ exit_program_replies me number = status_replies me _ (λ status.
 
 module _ (parent : Home) (status : ProcessStatus) (kin : Kin) (rest : Unit {0} → Program) where
   abbrev at_segment : ℕ → ℕ → Program
-  at_segment container segment = write_status parent (with_child container segment status) (λ _. rest tt)
+  at_segment container segment = write_status parent (with_child_listed container segment status) (λ _. rest tt)
 
   abbrev at_thread : ℕ → ℕ → ℕ → ℕ → Program
   at_thread write container internal thread = ask (MakeSegment container (outer_label kin write) (status_bytes (started internal thread))) (at_segment container)
@@ -112,7 +112,7 @@ module _ (parent : Home) (status : ProcessStatus) (kin : Kin) (rest : Unit {0} �
       ask_replies (MakeContainer container (inner_label kin read write)) (at_internal read write container) (λ internal.
       ask_replies (MakeThread internal (thread_label kin read write) (thread_clearance kin read write)) (at_thread write container internal) (λ thread.
       ask_replies (MakeSegment container (outer_label kin write) (status_bytes (started internal thread))) (at_segment container) (λ segment.
-      written_replies parent (with_child container segment status) (rest tt) tells))))))
+      written_replies parent (with_child_listed container segment status) (rest tt) tells))))))
 
 -- ---- room for a child
 

@@ -3,7 +3,7 @@
 use Rattle.std.specs.Prelude.{ℕ, [], ◌∷◌, ◌++◌}
 use Rattle.histar_rules.specs.declared.raw.RawCall.TheVariants.{MakeCategory, MakeSegment, MakeContainer, MakeThread}
 use Rattle.histar_label.specs.Levels.{Levels}
-use Rattle.histar_layout.specs.Status.{ProcessStatus, started, status_bytes, with_child}
+use Rattle.histar_layout.specs.Status.{ProcessStatus, started, status_bytes, with_child_listed}
 use Rattle.histar_calls.specs.declared.places.Home.{Home}
 use Rattle.histar_calls.specs.Labelling.{guarded_by, owner_label, cleared_at}
 use Rattle.histar_calls.specs.Programs.{Part}
@@ -36,5 +36,5 @@ birth parent status kin rest = do
   internal ← ask (MakeContainer container (inner_label kin read write))
   thread ← ask (MakeThread internal (thread_label kin read write) (thread_clearance kin read write))
   segment ← ask (MakeSegment container (outer_label kin write) (status_bytes (started internal thread)))
-  write_status parent (with_child container segment status)
+  write_status parent (with_child_listed container segment status)
   rest tt

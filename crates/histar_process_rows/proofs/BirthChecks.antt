@@ -9,7 +9,7 @@ use Rattle.histar_object.specs.declared.objects.Kind.TheVariants.{Segment, Conta
 use Rattle.histar_object.specs.declared.objects.Object.{Object}
 use Rattle.histar_object.specs.Objects.{thread_of, is_thread}
 use Rattle.histar_rules.specs.Rights.{in_span, may_clear, with_label, with_changed}
-use Rattle.histar_object.specs.State.{State, Found, in_range, with_object, with_bytes}
+use Rattle.histar_object.specs.State.{State, Found, in_range, with_object, with_segment_bytes}
 use Rattle.histar_rules.specs.declared.raw.Denied.TheVariants.{Modify, NoThread, Range, TooBig}
 use Rattle.histar_rules.specs.declared.raw.RawCall.TheVariants.{MakeCategory, SetLabel, SetClearance, MakeSegment, MakeContainer, MakeThread, Write}
 use Rattle.histar_rules.specs.Rules.{no_making, fits_segment, has_number, greatest, check}
@@ -114,7 +114,7 @@ module _ (T C S : ℕ) (grown grown_most home : Levels) (held : List ℕ) (u : S
   with_segment = with_object with_thread u.next_object segment
 
   abbrev pub with_child : State
-  with_child = with_bytes with_segment S own_bytes
+  with_child = with_segment_bytes with_segment S own_bytes
 
   abbrev pub with_own_label : State
   with_own_label = with_changed with_child T (with_label own)

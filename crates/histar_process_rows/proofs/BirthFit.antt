@@ -26,7 +26,7 @@ use Rattle.histar_refinement.specs.Categories.CategoryName.{ReadsProcess, Writes
 use Rattle.histar_refinement.specs.Categories.{CategoryName, Categories, IsUsed, boot_category}
 use Rattle.histar_refinement.specs.Guards.{guard_label, rights_label, rights_clearance}
 use Rattle.histar_refinement.specs.Labels.{process_guard, inside_guard, thread_rights}
-use Rattle.histar_refinement.specs.Addresses.{home_of}
+use Rattle.histar_refinement.specs.Addresses.{home_address}
 use Rattle.histar_refinement.specs.Addresses.Step.{Status, Inside, Runner}
 use Rattle.histar_refinement.specs.LaysOut.{LaysOut}
 use Rattle.histar_refinement.specs.Processes.{or_zero, process_bytes, status_by}
@@ -45,7 +45,7 @@ use Rattle.histar_process_rows.proofs.ChildBytes.{started_fits, grown_fits, few_
 use Rattle.histar_process_rows.proofs.ChildLabels.{outer_is, inner_is, label_is, clearance_is}
 
 module _ (session : Session) (ok : IsSession session) (s : State) (f : Flat) (lays_out : LaysOut session s f) (me : ProcName) (p : Process) (here : f.processes me ≡ Some p) (runs : p.exited ≡ None) (room : p.born < 64)
-    (C S : ℕ) (at_home : lays_out.laid.naming.number (home_of me) ≡ Some C) (at_status : lays_out.laid.naming.number (Status ∷ home_of me) ≡ Some S) (T : ℕ) (at_thread : lays_out.laid.naming.number (Runner ∷ Inside ∷ home_of me) ≡ Some T) where
+    (C S : ℕ) (at_home : lays_out.laid.naming.number (home_address me) ≡ Some C) (at_status : lays_out.laid.naming.number (Status ∷ home_address me) ≡ Some S) (T : ℕ) (at_thread : lays_out.laid.naming.number (Runner ∷ Inside ∷ home_address me) ≡ Some T) where
   abbrev own : Levels
   own = rights_label lays_out.laid.category (thread_rights session me p)
 

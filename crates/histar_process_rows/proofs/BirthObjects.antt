@@ -12,7 +12,7 @@ use Rattle.histar_object.specs.declared.objects.Kind.TheVariants.{Segment, Conta
 use Rattle.histar_object.specs.declared.objects.Object.{Object}
 use Rattle.histar_object.specs.Objects.{Numbers as Links, put, linking, holding, is_thread}
 use Rattle.histar_rules.specs.Rights.{with_star_at, with_label, with_changed, with_category}
-use Rattle.histar_object.specs.State.{State, Found, with_object, with_bytes}
+use Rattle.histar_object.specs.State.{State, Found, with_object, with_segment_bytes}
 use Rattle.histar_container.proofs.TableMoves.{put_here, put_other, changed_here, changed_other}
 use Rattle.histar_refinement.proofs.RawChecks.{object}
 
@@ -108,7 +108,7 @@ module _ (T C S : ℕ) (own most label : Levels) (held : List ℕ) (s : State) (
   }
 
   -- the thread stays where the segment is written
-  pub thread_written : (bytes : List ℕ) → (with_bytes s S bytes).objects T ≡ object own (Thread most)
+  pub thread_written : (bytes : List ℕ) → (with_segment_bytes s S bytes).objects T ≡ object own (Thread most)
   thread_written bytes = held_thread (T == S) bytes (s.objects T) own most a.thread
 
 -- a thread that takes a label has it

@@ -18,7 +18,7 @@ use Rattle.histar_refinement.specs.Categories.{CategoryName, Categories, AreDiff
 use Rattle.histar_refinement.specs.Categories.CategoryName.{OfBoot, ReadsProcess, WritesProcess, OfJob}
 use Rattle.histar_refinement.specs.Guards.{Rights, guard_label, rights_label, rights_clearance}
 use Rattle.histar_refinement.specs.Labels.{process_guard, inside_guard, thread_rights}
-use Rattle.histar_refinement.specs.Addresses.{same_step, home_of}
+use Rattle.histar_refinement.specs.Addresses.{same_step, home_address}
 use Rattle.histar_refinement.specs.Addresses.Step.{Status, Inside, Runner}
 use Rattle.histar_refinement.specs.Expected.{home_object, status_object, bytes_for, expected}
 use Rattle.histar_refinement.specs.LaysOut.{Laid}
@@ -38,7 +38,7 @@ use Rattle.histar_process_rows.proofs.BirthObjects.{Around, around_category}
 use Rattle.histar_process_rows.proofs.BirthChecks.{IsModified, IsLesser, IsTaken}
 
 module _ (session : Session) (s : State) (f : Flat) (l : Laid session s f) (me : ProcName) (p : Process) (here : f.processes me ≡ Some p) (runs : p.exited ≡ None)
-    (C S : ℕ) (at_home : l.naming.number (home_of me) ≡ Some C) (at_status : l.naming.number (Status ∷ home_of me) ≡ Some S) (T : ℕ) (at_thread : l.naming.number (Runner ∷ Inside ∷ home_of me) ≡ Some T) where
+    (C S : ℕ) (at_home : l.naming.number (home_address me) ≡ Some C) (at_status : l.naming.number (Status ∷ home_address me) ≡ Some S) (T : ℕ) (at_thread : l.naming.number (Runner ∷ Inside ∷ home_address me) ≡ Some T) where
   abbrev held : List ℕ
   held = process_bytes f.processes l.naming.number me p
 
@@ -47,24 +47,24 @@ module _ (session : Session) (s : State) (f : Flat) (l : Laid session s f) (me :
 
   home_found : (links : Links) × (s.objects C ≡ object old_label (Container links))
   home_found = bare_container_is (s.objects C) old_label
-      (at_number same_step step_tests_equality s l.naming (expected session l.category f l.naming.number) l.stands (home_of me) C at_home
+      (at_number same_step step_tests_equality s l.naming (expected session l.category f l.naming.number) l.stands (home_address me) C at_home
       ∙ asked_home session l.category f l.naming.number me ∙ ap (home_object session l.category me) here)
 
   -- the thread, its container and its process segment in it
   pub around_before : Around T C S (rights_label l.category (thread_rights session me p)) (rights_clearance l.category (thread_rights session me p)) (guard_label l.category (process_guard me p)) (process_bytes f.processes l.naming.number me p) s
   around_before = record {
     thread = thread_found session s f l me p here runs T at_thread;
-    home = (home_found.0, home_found.1, sym (ap (λ (o : Found). set.contains (links_in o) S) home_found.1) ∙ step_linked session s f l Status (home_of me) C S at_home at_status);
+    home = (home_found.0, home_found.1, sym (ap (λ (o : Found). set.contains (links_in o) S) home_found.1) ∙ step_linked session s f l Status (home_address me) C S at_home at_status);
     segment = bare_is (s.objects S) (record { label = old_label; kind = Segment held }) refl
-        (at_number same_step step_tests_equality s l.naming (expected session l.category f l.naming.number) l.stands (Status ∷ home_of me) S at_status
+        (at_number same_step step_tests_equality s l.naming (expected session l.category f l.naming.number) l.stands (Status ∷ home_address me) S at_status
         ∙ asked_status session l.category f l.naming.number me ∙ ap (λ o. status_object session l.category (bytes_for session l.category f l.naming.number me o) me o) here);
-    thread_below = number_below same_step step_tests_equality s l.naming (expected session l.category f l.naming.number) l.stands (Runner ∷ Inside ∷ home_of me) T at_thread;
-    home_below = number_below same_step step_tests_equality s l.naming (expected session l.category f l.naming.number) l.stands (home_of me) C at_home;
-    segment_below = number_below same_step step_tests_equality s l.naming (expected session l.category f l.naming.number) l.stands (Status ∷ home_of me) S at_status;
+    thread_below = number_below same_step step_tests_equality s l.naming (expected session l.category f l.naming.number) l.stands (Runner ∷ Inside ∷ home_address me) T at_thread;
+    home_below = number_below same_step step_tests_equality s l.naming (expected session l.category f l.naming.number) l.stands (home_address me) C at_home;
+    segment_below = number_below same_step step_tests_equality s l.naming (expected session l.category f l.naming.number) l.stands (Status ∷ home_address me) S at_status;
   }
 
 module _ (session : Session) (s : State) (f : Flat) (l : Laid session s f) (me : ProcName) (p : Process) (here : f.processes me ≡ Some p) (runs : p.exited ≡ None) (room : p.born < 64)
-    (C S : ℕ) (at_home : l.naming.number (home_of me) ≡ Some C) (at_status : l.naming.number (Status ∷ home_of me) ≡ Some S) where
+    (C S : ℕ) (at_home : l.naming.number (home_address me) ≡ Some C) (at_status : l.naming.number (Status ∷ home_address me) ≡ Some S) where
   -- the child is in the jobs of its parent
   pub chain_used : (job : ProcName) → has p.chain job ≡ true → IsUsed session f (OfJob job)
   chain_used job e = inl (me, p, here, or_left (has p.chain job) (has p.held job) e)
@@ -161,7 +161,7 @@ module _ (session : Session) (s : State) (f : Flat) (l : Laid session s f) (me :
 
   -- ---- what stands there
 
-  module _ (T : ℕ) (at_thread : l.naming.number (Runner ∷ Inside ∷ home_of me) ≡ Some T) where
+  module _ (T : ℕ) (at_thread : l.naming.number (Runner ∷ Inside ∷ home_address me) ≡ Some T) where
     -- once both categories are made
     pub around_owner : Around T C S owner owner_most (guard_label names (process_guard me p)) (process_bytes f.processes l.naming.number me p) (with_category (with_category s T) T)
     around_owner =

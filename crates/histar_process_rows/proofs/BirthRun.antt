@@ -16,13 +16,13 @@ use Rattle.histar_object.specs.declared.objects.Kind.TheVariants.{Segment, Conta
 use Rattle.histar_object.specs.Objects.{thread_of}
 use Rattle.histar_container.proofs.TableMoves.{changed_here}
 use Rattle.histar_rules.specs.Rights.{with_star_at, with_label, with_clearance, with_changed, with_category}
-use Rattle.histar_object.specs.State.{State, with_object, with_bytes}
+use Rattle.histar_object.specs.State.{State, with_object, with_segment_bytes}
 use Rattle.histar_rules.specs.declared.raw.Denied.TheVariants.{TooBig}
 use Rattle.histar_rules.specs.declared.raw.RawCall.{RawCall}
 use Rattle.histar_rules.specs.declared.raw.RawCall.TheVariants.{MakeCategory, SetLabel, SetClearance, MakeSegment, MakeContainer, MakeThread, Write}
 use Rattle.histar_rules.specs.Rules.{check, fits_segment, has_number, greatest}
 use Rattle.histar_syscall.specs.KernelModel.{KernelModel, state}
-use Rattle.histar_layout.specs.Status.{ProcessStatus, started, status_bytes, with_child}
+use Rattle.histar_layout.specs.Status.{ProcessStatus, started, status_bytes, with_child_listed}
 use Rattle.histar_calls.specs.declared.ending.Stopped.{Stopped}
 use Rattle.histar_calls.specs.declared.places.Home.{Home}
 use Rattle.histar_calls.specs.Programs.{Program, Runs}
@@ -59,7 +59,7 @@ pub record IsFit (s : State) (t : ℕ) (home : Home) (status : ProcessStatus) (k
   pub lesser : IsLesser owner owner_most (thread_label kin s.next_category (s.next_category + 1)) (thread_clearance kin s.next_category (s.next_category + 1)) (s.next_category + 1 + 1)
   pub taken : IsTaken owner owner_most own most (s.next_category + 1 + 1)
   pub child_few : fits_segment (length (status_bytes (started (s.next_object + 1) (s.next_object + 1 + 1)))) ≡ true
-  pub own_few : fits_segment (min 0 (length held) + length (status_bytes (with_child s.next_object (s.next_object + 1 + 1 + 1) status))) ≡ true
+  pub own_few : fits_segment (min 0 (length held) + length (status_bytes (with_child_listed s.next_object (s.next_object + 1 + 1 + 1) status))) ≡ true
 
 -- the state after a birth, once the thread has its own labels again
 abbrev pub spawned : State → ℕ → Home → ProcessStatus → Kin → Levels → Levels → State
@@ -69,7 +69,7 @@ spawned s t home status kin own most =
     (record { label = inner_label kin s.next_category (s.next_category + 1); kind = Container set.empty })
     (thread_of (thread_label kin s.next_category (s.next_category + 1)) (thread_clearance kin s.next_category (s.next_category + 1)))
     (record { label = outer_label kin (s.next_category + 1); kind = Segment (status_bytes (started (s.next_object + 1) (s.next_object + 1 + 1))) })
-    (status_bytes (with_child s.next_object (s.next_object + 1 + 1 + 1) status))) own most
+    (status_bytes (with_child_listed s.next_object (s.next_object + 1 + 1 + 1) status))) own most
 
 module _ (session : Session) (f : Flat) (me : ProcName) (caller : IsRunning f me) (call : UnixCall) (old new : KernelModel) (t : ℕ) (named : IsThreadOf session (state old) me t) (result : Result Reply Stopped)
     (s : State) (home : Home) (status : ProcessStatus) (kin : Kin) (own most : Levels) (fit : IsFit s t home status kin own most) (reply : Reply) (wanted : List RawCall) where
@@ -103,7 +103,7 @@ module _ (session : Session) (f : Flat) (me : ProcName) (caller : IsRunning f me
   child_bytes = status_bytes (started (m + 1) (m + 1 + 1))
 
   abbrev own_bytes : List ℕ
-  own_bytes = status_bytes (with_child m (m + 1 + 1 + 1) status)
+  own_bytes = status_bytes (with_child_listed m (m + 1 + 1 + 1) status)
 
   abbrev u : State
   u = with_category (with_category s t) t
@@ -122,7 +122,7 @@ module _ (session : Session) (f : Flat) (me : ProcName) (caller : IsRunning f me
   sixth = with_object fifth m (record { label = outer; kind = Segment child_bytes })
 
   abbrev seventh : State
-  seventh = with_bytes sixth home.segment own_bytes
+  seventh = with_segment_bytes sixth home.segment own_bytes
 
   abbrev eighth : State
   eighth = with_changed seventh t (with_label own)
@@ -135,7 +135,7 @@ module _ (session : Session) (f : Flat) (me : ProcName) (caller : IsRunning f me
   after_write = ask (SetLabel own) (λ _. after_label)
 
   abbrev after_segment : ℕ → ℕ → Program
-  after_segment c g = ask (Write home.container home.segment 0 (status_bytes (with_child c g status))) (λ _. after_write)
+  after_segment c g = ask (Write home.container home.segment 0 (status_bytes (with_child_listed c g status))) (λ _. after_write)
 
   abbrev after_thread : ℕ → ℕ → ℕ → ℕ → Program
   after_thread w c i th = ask (MakeSegment c (outer_label kin w) (status_bytes (started i th))) (after_segment c)
@@ -181,7 +181,7 @@ module _ (session : Session) (f : Flat) (me : ProcName) (caller : IsRunning f me
         let next : RawCall = Write home.container home.segment 0 own_bytes in
         granted_step session f me caller call old new t named result calls mid chain next (λ _. after_write)
         (ap (λ (x : State). check x t next) at ∙ checks.write_said t home.container home.segment fit.owner fit.owner_most fit.label fit.held u fit.around outer inner label clearance own most child_bytes own_bytes fit.under fit.seen fit.outer fit.inner fit.lesser fit.taken fit.own_few) runs
-        (λ later done called right longer goes. label_set few (calls ++ next ∷ []) later (kept_then calls next kept) longer (called.state ∙ ap (λ (x : State). with_bytes x home.segment own_bytes) at) goes)
+        (λ later done called right longer goes. label_set few (calls ++ next ∷ []) later (kept_then calls next kept) longer (called.state ∙ ap (λ (x : State). with_segment_bytes x home.segment own_bytes) at) goes)
 
     segment_made : (calls : List RawCall) (mid : KernelModel) → AreKept calls → Chain old t (all_granted calls) mid → state mid ≡ fifth → Runs (after_thread write m (m + 1) (m + 1 + 1)) mid new t result → Row
     segment_made calls mid kept chain at runs =

@@ -13,18 +13,18 @@ use Rattle.histar_flat.specs.Sessions.{Session, has, user_number}
 use Rattle.histar_flat.specs.Classes.{Process}
 use Rattle.histar_flat.specs.FlatState.{Flat}
 use Rattle.histar_label.specs.Levels.{Levels}
-use Rattle.histar_object.specs.Objects.{is_there, is_container}
+use Rattle.histar_object.specs.Objects.{is_present, is_container}
 use Rattle.histar_object.specs.State.{State, Found}
 use Rattle.histar_container.specs.Tree.{Address}
 use Rattle.histar_rules.specs.Rules.{fits_segment}
 use Rattle.histar_layout.specs.declared.status.Child.{Child as Listed}
-use Rattle.histar_layout.specs.Status.{ProcessStatus, head_of, child_bytes, status_bytes, started, with_child}
+use Rattle.histar_layout.specs.Status.{ProcessStatus, head_of, child_bytes, status_bytes, started, with_child_listed}
 use Rattle.histar_layout.specs.StatusParts.{head_bytes}
 use Rattle.histar_layout.proofs.Statuses.{status_parts}
 use Rattle.histar_login.proofs.StartLemmas.{range-suc}
 use Rattle.histar_refinement.specs.Categories.{IsUsed}
 use Rattle.histar_refinement.specs.Categories.CategoryName.{OfJob}
-use Rattle.histar_refinement.specs.Addresses.{Step, Numbers, home_of}
+use Rattle.histar_refinement.specs.Addresses.{Step, AddressNumbers, home_address}
 use Rattle.histar_refinement.specs.Addresses.Step.{Status, Inside, Runner}
 use Rattle.histar_refinement.specs.Expected.{expected}
 use Rattle.histar_refinement.specs.LaysOut.{Laid, AreInOrder}
@@ -53,16 +53,16 @@ pub started_fits : (internal thread : ℕ) → fits_segment (length (status_byte
 started_fits internal thread = let long = status_long (started internal thread) in let none : length (started internal thread).children ≡ 0 = refl in grind (arith, nat_tests, long, none)
 
 -- and so do those of one with 64 children at most, where nothing else is kept
-pub grown_fits : (held : List ℕ) (container segment : ℕ) (status : ProcessStatus) → length status.children < 64 → fits_segment (min 0 (length held) + length (status_bytes (with_child container segment status))) ≡ true
+pub grown_fits : (held : List ℕ) (container segment : ℕ) (status : ProcessStatus) → length status.children < 64 → fits_segment (min 0 (length held) + length (status_bytes (with_child_listed container segment status))) ≡ true
 grown_fits held container segment status few =
     let child : Listed = record { number = status.born + 1; container = container; segment = segment } in
-    let long = status_long (with_child container segment status) in
-    let more : length (with_child container segment status).children ≡ length status.children + 1 = length-append status.children (child ∷ []) in
-    let within : length (status_bytes (with_child container segment status)) ≤ 4096 = omega (arith, long, more, few) in
+    let long = status_long (with_child_listed container segment status) in
+    let more : length (with_child_listed container segment status).children ≡ length status.children + 1 = length-append status.children (child ∷ []) in
+    let within : length (status_bytes (with_child_listed container segment status)) ≤ 4096 = omega (arith, long, more, few) in
     grind (arith, nat_tests, within)
 
 -- as many children are listed as were born at most
-pub few_listed : (processes : ProcName → Option Process) (number : Numbers) (me : ProcName) (p : Process) → length (status_by processes number me p).children ≤ p.born
+pub few_listed : (processes : ProcName → Option Process) (number : AddressNumbers) (me : ProcName) (p : Process) → length (status_by processes number me p).children ≤ p.born
 few_listed processes number me p =
     let mapped = length-map (children processes me p.born) (listed_by number me) in
     let filtered = length-filter (λ n. is_some (processes (n ∷ me))) (range_with_len 1 p.born) in
@@ -101,11 +101,11 @@ module _ (old new : ℕ → Listed) (test tests : ℕ → Bool) (n : ℕ) (same_
 module _ (session : Session) (s : State) (f : Flat) (l : Laid session s f) (me : ProcName) (p : Process) (here : f.processes me ≡ Some p) (runs : p.exited ≡ None) (room : p.born < 64)
     (chain : List ProcName) (chain_used : (job : ProcName) → has chain job ≡ true → IsUsed session f (OfJob job)) (chain_ordered : AreInOrder l.category chain)
     (chain_free : is_some (user_number session p.user) ≡ false → chain ≡ [])
-    (C S : ℕ) (at_home : l.naming.number (home_of me) ≡ Some C) (at_status : l.naming.number (Status ∷ home_of me) ≡ Some S) where
+    (C S : ℕ) (at_home : l.naming.number (home_address me) ≡ Some C) (at_status : l.naming.number (Status ∷ home_address me) ≡ Some S) where
   abbrev child : ProcName
   child = (p.born + 1) ∷ me
 
-  abbrev numbers : Numbers
+  abbrev numbers : AddressNumbers
   numbers = (naming session s f l me p here runs room chain chain_used chain_ordered chain_free C S at_home at_status).number
 
   abbrev m : ℕ
@@ -128,19 +128,19 @@ module _ (session : Session) (s : State) (f : Flat) (l : Laid session s f) (me :
   child_clearance = clearance session s f l me p here runs room chain chain_used chain_ordered chain_free C S at_home at_status
 
   -- the parent's container stands, and nothing of the child's
-  holds : is_container (asked (home_of me)) ≡ true
+  holds : is_container (asked (home_address me)) ≡ true
   holds = holder session s f l me p here runs room chain chain_used chain_ordered chain_free C S at_home at_status
 
-  no_home_yet : is_there (asked (home_of child)) ≡ false
+  no_home_yet : is_present (asked (home_address child)) ≡ false
   no_home_yet = no_home session s f l me p here runs room chain chain_used chain_ordered chain_free C S at_home at_status
 
-  no_inside_yet : is_there (asked (Inside ∷ home_of child)) ≡ false
+  no_inside_yet : is_present (asked (Inside ∷ home_address child)) ≡ false
   no_inside_yet = no_inside session s f l me p here runs room chain chain_used chain_ordered chain_free C S at_home at_status
 
-  no_runner_yet : is_there (asked (Runner ∷ Inside ∷ home_of child)) ≡ false
+  no_runner_yet : is_present (asked (Runner ∷ Inside ∷ home_address child)) ≡ false
   no_runner_yet = no_runner session s f l me p here runs room chain chain_used chain_ordered chain_free C S at_home at_status
 
-  no_status_yet : is_there (asked (Status ∷ home_of child)) ≡ false
+  no_status_yet : is_present (asked (Status ∷ home_address child)) ≡ false
   no_status_yet = no_status session s f l me p here runs room chain chain_used chain_ordered chain_free C S at_home at_status
 
   -- the child's process segment
@@ -176,7 +176,7 @@ module _ (session : Session) (s : State) (f : Flat) (l : Laid session s f) (me :
       } ∷ [])
 
   -- the parent's process segment
-  pub own_bytes_are : status_bytes (with_child s.next_object (s.next_object + 1 + 1 + 1) (status_by f.processes l.naming.number me p)) ≡ own_written session s f l me p here runs room chain chain_used chain_ordered chain_free C S at_home at_status
+  pub own_bytes_are : status_bytes (with_child_listed s.next_object (s.next_object + 1 + 1 + 1) (status_by f.processes l.naming.number me p)) ≡ own_written session s f l me p here runs room chain chain_used chain_ordered chain_free C S at_home at_status
   own_bytes_are = λ i. status_bytes (record {
     exited = p.exited;
     born = p.born + 1;

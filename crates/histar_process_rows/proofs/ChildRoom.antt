@@ -34,7 +34,7 @@ use Rattle.histar_process.specs.SpawnCall.{must_have_room, room_for_child}
 use Rattle.histar_login.specs.Start.{places_of}
 use Rattle.histar_refinement.specs.Guards.{guard_label, rights_label, rights_clearance}
 use Rattle.histar_refinement.specs.Labels.{process_guard, thread_rights}
-use Rattle.histar_refinement.specs.Addresses.{home_of}
+use Rattle.histar_refinement.specs.Addresses.{home_address}
 use Rattle.histar_refinement.specs.Addresses.Step.{Status, Inside, Runner}
 use Rattle.histar_refinement.specs.LaysOut.{Laid}
 use Rattle.histar_refinement.specs.Laws.{IsCallerOf}
@@ -70,13 +70,13 @@ module _ (session : Session) (me : ProcName) (caller : Caller) (old new : Kernel
   is_caller : (q : Process) × IsCallerOf session (state old) f l me q caller
   is_caller = caller_found session (state old) f l me caller found
 
-  pub at_home : l.naming.number (home_of me) ≡ Some caller.home.container
+  pub at_home : l.naming.number (home_address me) ≡ Some caller.home.container
   at_home = is_caller.1.home
 
-  pub at_status : l.naming.number (Status ∷ home_of me) ≡ Some caller.home.segment
+  pub at_status : l.naming.number (Status ∷ home_address me) ≡ Some caller.home.segment
   at_status = is_caller.1.segment
 
-  pub at_thread : l.naming.number (Runner ∷ Inside ∷ home_of me) ≡ Some t
+  pub at_thread : l.naming.number (Runner ∷ Inside ∷ home_address me) ≡ Some t
   at_thread = (thread_back session (state old) f l me t ready.thread).3
 
   -- its thread's own label and clearance, and what its segment tells

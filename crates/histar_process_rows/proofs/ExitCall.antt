@@ -14,7 +14,7 @@ use Rattle.histar_flat.specs.FlatCalls.{changed}
 use Rattle.histar_label.specs.Levels.{Levels, is_below, is_below_raised}
 use Rattle.histar_object.specs.declared.objects.Kind.TheVariants.{Segment, Container, Thread}
 use Rattle.histar_object.specs.Objects.{Numbers as Links, holding}
-use Rattle.histar_object.specs.State.{State, with_bytes}
+use Rattle.histar_object.specs.State.{State, with_segment_bytes}
 use Rattle.histar_container.specs.ObjectsModel.{CutsOff}
 use Rattle.histar_container.proofs.TableMoves.{changed_here, changed_other}
 use Rattle.histar_rules.specs.declared.raw.RawCall.{RawCall}
@@ -30,7 +30,7 @@ use Rattle.histar_calls.specs.Programs.Program.{Answers}
 use Rattle.histar_calls.specs.Parts.{ask}
 use Rattle.histar_process.specs.ExitCall.{exit_program}
 use Rattle.histar_refinement.specs.Sessions.{IsSession}
-use Rattle.histar_refinement.specs.Addresses.{home_of}
+use Rattle.histar_refinement.specs.Addresses.{home_address}
 use Rattle.histar_refinement.specs.Addresses.Step.{Status, Inside, Runner}
 use Rattle.histar_refinement.specs.Guards.{guard_label, rights_label, rights_clearance}
 use Rattle.histar_refinement.specs.Labels.{process_guard, thread_rights}
@@ -74,10 +74,10 @@ module _ (session : Session) (ok : IsSession session) (number : ℕ) (small : nu
   S = (where_is session (state old) f ready.lays_out.laid me).segment
 
   abbrev o : ℕ
-  o = or_zero (ready.lays_out.laid.naming.number (Inside ∷ home_of me))
+  o = or_zero (ready.lays_out.laid.naming.number (Inside ∷ home_address me))
 
-  at_inside : l.naming.number (Inside ∷ home_of me) ≡ Some o
-  at_inside = zero_there _ o (l.stands.tree.held Runner (Inside ∷ home_of me) (numbered_runner session (state old) f l me p here ready.caller.runs)) refl
+  at_inside : l.naming.number (Inside ∷ home_address me) ≡ Some o
+  at_inside = zero_there _ o (l.stands.tree.held Runner (Inside ∷ home_address me) (numbered_runner session (state old) f l me p here ready.caller.runs)) refl
 
   -- the labels of the thread and of both
   abbrev own : Levels
@@ -139,7 +139,7 @@ module _ (session : Session) (ok : IsSession session) (number : ℕ) (small : nu
 
   -- the state once it is written
   abbrev exited : State
-  exited = with_bytes (state old) S bytes
+  exited = with_segment_bytes (state old) S bytes
 
   unlink_said : check exited t unlinking ≡ None
   unlink_said =
@@ -156,7 +156,7 @@ module _ (session : Session) (ok : IsSession session) (number : ℕ) (small : nu
   laid_after : (end : State) → CutsOff exited C o end → LaysOut session end (changed session f me p call)
   laid_after end cuts =
       lays_out_exited session (state old) f l me p here number small C S o (at_container session (state old) f l me p here) (at_segment session (state old) f l me p here) at_inside end
-      (subst (λ (b : List ℕ). CutsOff (with_bytes (state old) S b) C o end) (sym written_so) cuts) ready.lays_out.jobs_given
+      (subst (λ (b : List ℕ). CutsOff (with_segment_bytes (state old) S b) C o end) (sym written_so) cuts) ready.lays_out.jobs_given
 
   module _ (mid : KernelModel) (stays : state mid ≡ state old) (chain : Chain old t (all_granted (read ∷ [])) mid) where
     -- the internal container is taken away, and the call is answered
@@ -171,7 +171,7 @@ module _ (session : Session) (ok : IsSession session) (number : ℕ) (small : nu
     wrote : Runs (ask writing (λ _. ending)) mid new t result → Row
     wrote on =
         granted_step session f me ready.caller call old new t ready.thread result (read ∷ []) mid chain writing (λ _. ending) (ap (λ (s : State). check s t writing) stays ∙ write_said) on
-        (λ later done called right so_far rest. unlinked later (called.state ∙ ap (λ (s : State). with_bytes s S bytes) stays) so_far rest)
+        (λ later done called right so_far rest. unlinked later (called.state ∙ ap (λ (s : State). with_segment_bytes s S bytes) stays) so_far rest)
 
   exit_is_row : Runs (exit_program (where_is session (state old) f l me) number) old new t result → Row
   unfolding exit_program

@@ -21,7 +21,7 @@ use Rattle.histar_rules.specs.Rules.{check}
 use Rattle.histar_login.specs.Start.{places_of}
 use Rattle.histar_refinement.specs.Guards.{guard_label, rights_label, rights_clearance}
 use Rattle.histar_refinement.specs.Labels.{process_guard, thread_rights}
-use Rattle.histar_refinement.specs.Addresses.{Step, same_step, home_of, home_number, status_number}
+use Rattle.histar_refinement.specs.Addresses.{Step, same_step, home_address, home_number, status_number}
 use Rattle.histar_refinement.specs.Addresses.Step.{Home as HomeStep, Status}
 use Rattle.histar_refinement.specs.Expected.{home_object, status_object, bytes_for, expected}
 use Rattle.histar_refinement.specs.LaysOut.{Laid}
@@ -54,11 +54,11 @@ module _ (session : Session) (s : State) (f : Flat) (l : Laid session s f) where
     abbrev segment : ℕ
     segment = (where_is session s f l name).segment
 
-    pub at_container : l.naming.number (home_of name) ≡ Some (where_is session s f l name).container
-    at_container = zero_there (l.naming.number (home_of name)) container (numbered_home session s f l name ∙ ap is_some here) refl
+    pub at_container : l.naming.number (home_address name) ≡ Some (where_is session s f l name).container
+    at_container = zero_there (l.naming.number (home_address name)) container (numbered_home session s f l name ∙ ap is_some here) refl
 
-    pub at_segment : l.naming.number (Status ∷ home_of name) ≡ Some (where_is session s f l name).segment
-    at_segment = zero_there (l.naming.number (Status ∷ home_of name)) segment (numbered_status session s f l name ∙ ap is_some here) refl
+    pub at_segment : l.naming.number (Status ∷ home_address name) ≡ Some (where_is session s f l name).segment
+    at_segment = zero_there (l.naming.number (Status ∷ home_address name)) segment (numbered_status session s f l name ∙ ap is_some here) refl
 
     -- the process segments lead there
     pub led_to : IsStatusSegment session s name (where_is session s f l name).container (where_is session s f l name).segment
@@ -70,17 +70,17 @@ module _ (session : Session) (s : State) (f : Flat) (l : Laid session s f) where
 
     pub container_found : (links : Links) × (s.objects (where_is session s f l name).container ≡ object (guard_label l.category (process_guard name other)) (Container links))
     container_found = bare_container_is (s.objects container) due
-        (at_number same_step step_tests_equality s l.naming (expected session l.category f l.naming.number) l.stands (home_of name) container at_container
+        (at_number same_step step_tests_equality s l.naming (expected session l.category f l.naming.number) l.stands (home_address name) container at_container
         ∙ asked_home session l.category f l.naming.number name ∙ ap (home_object session l.category name) here)
 
     pub segment_found : s.objects (where_is session s f l name).segment ≡ object (guard_label l.category (process_guard name other)) (Segment (process_bytes f.processes l.naming.number name other))
     segment_found = bare_is (s.objects segment) (record { label = due; kind = Segment (process_bytes f.processes l.naming.number name other) }) refl
-        (at_number same_step step_tests_equality s l.naming (expected session l.category f l.naming.number) l.stands (Status ∷ home_of name) segment at_segment
+        (at_number same_step step_tests_equality s l.naming (expected session l.category f l.naming.number) l.stands (Status ∷ home_address name) segment at_segment
         ∙ asked_status session l.category f l.naming.number name ∙ ap (λ (x : Option Process). status_object session l.category (bytes_for session l.category f l.naming.number name x) name x) here)
 
     -- what stands one step below its container is linked there
-    pub step_below : (x : Step) (o : ℕ) → l.naming.number (x ∷ home_of name) ≡ Some o → set.contains container_found.0 o ≡ true
-    step_below x o at = sym (ap (λ (found : Found). set.contains (links_in found) o) container_found.1) ∙ step_linked session s f l x (home_of name) container o at_container at
+    pub step_below : (x : Step) (o : ℕ) → l.naming.number (x ∷ home_address name) ≡ Some o → set.contains container_found.0 o ≡ true
+    step_below x o at = sym (ap (λ (found : Found). set.contains (links_in found) o) container_found.1) ∙ step_linked session s f l x (home_address name) container o at_container at
 
     module _ (me : ProcName) (p : Process) where
       abbrev own : Levels
@@ -122,6 +122,6 @@ module _ (session : Session) (s : State) (f : Flat) (l : Laid session s f) where
                 ∙ ap (λ (b : Bool). unless b Observe) (observed ∙ is)
 
         -- What its container links is taken away by itself alone.
-        pub unlink_said : sees p other ≡ true → (x : Step) (o : ℕ) → l.naming.number (x ∷ home_of name) ≡ Some o → check s t (Unlink (where_is session s f l name).container o) ≡ unless (same name me) Modify
+        pub unlink_said : sees p other ≡ true → (x : Step) (o : ℕ) → l.naming.number (x ∷ home_address name) ≡ Some o → check s t (Unlink (where_is session s f l name).container o) ≡ unless (same name me) Modify
         unlink_said seen x o at =
             unlink_check s t own most thread container due container_found.0 container_found.1 (observed ∙ seen) o (step_below x o at) ∙ ap (λ (b : Bool). unless b Modify) (modified runs.0 seen)

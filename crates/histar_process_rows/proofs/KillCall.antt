@@ -21,7 +21,7 @@ use Rattle.histar_flat.proofs.FileLemmas.{same_name_found}
 use Rattle.histar_label.specs.Levels.{Levels, is_below, is_below_raised}
 use Rattle.histar_object.specs.declared.objects.Kind.TheVariants.{Container}
 use Rattle.histar_object.specs.Objects.{Numbers as Links, links_in}
-use Rattle.histar_object.specs.State.{State, Found, with_bytes}
+use Rattle.histar_object.specs.State.{State, Found, with_segment_bytes}
 use Rattle.histar_container.specs.ObjectsModel.{CutsOff}
 use Rattle.histar_container.specs.Tree.{under}
 use Rattle.histar_container.proofs.Addresses.{above as not_above}
@@ -37,10 +37,10 @@ use Rattle.histar_calls.specs.Programs.{Program, Runs}
 use Rattle.histar_calls.specs.Programs.Program.{Answers}
 use Rattle.histar_calls.specs.Parts.{ask, given}
 use Rattle.histar_process.specs.KillCall.{kill_program}
-use Rattle.histar_process.specs.Parts.{find_home, home_of as child_home, must_be_there, read_status}
+use Rattle.histar_process.specs.Parts.{find_home, home_address as child_home, must_be_there, read_status}
 use Rattle.histar_login.specs.Start.{places_of}
 use Rattle.histar_refinement.specs.Sessions.{IsSession}
-use Rattle.histar_refinement.specs.Addresses.{same_step, home_of, home_number}
+use Rattle.histar_refinement.specs.Addresses.{same_step, home_address, home_number}
 use Rattle.histar_refinement.specs.Addresses.Step.{Home, Child}
 use Rattle.histar_refinement.specs.Categories.{among, booted}
 use Rattle.histar_refinement.specs.Categories.CategoryName.{OfBoot, ReadsGroup, WritesGroup, OfJob}
@@ -198,8 +198,8 @@ module _ (session : Session) (ok : IsSession session) (old new : KernelModel) (f
 
       module _ (mine : same above me ≡ true) (cut : KernelModel) (cuts : CutsOff (state old) C o (state cut)) (so_far : Chain old t (all_granted (calls_to name ++ unlinking ∷ [])) cut) where
         -- the caller is not below its child
-        outside : under same_step (home_of (n ∷ above)) (home_of me) ≡ false
-        outside = ap (λ (x : ProcName). under same_step (home_of (n ∷ above)) (home_of x)) (sym (equal_names above me mine)) ∙ not_above same_step step_tests_equality (home_of above) (Child n)
+        outside : under same_step (home_address (n ∷ above)) (home_address me) ≡ false
+        outside = ap (λ (x : ProcName). under same_step (home_address (n ∷ above)) (home_address x)) (sym (equal_names above me mine)) ∙ not_above same_step step_tests_equality (home_address above) (Child n)
 
         abbrev own : Levels
         own = rights_label l.category (thread_rights session me p)
@@ -220,9 +220,9 @@ module _ (session : Session) (ok : IsSession session) (old new : KernelModel) (f
             (observed session (state old) f l above parent here me p ∙ seen) (modified session (state old) f l above parent here me p ready.caller.stands seen ∙ mine)
             (linked_then session (state old) f l above parent here n child there me p t runs outside (state cut) cuts) bytes (killed_few session (state old) f l above parent here n)
 
-        laid_after : LaysOut session (with_bytes (state cut) S bytes) (without_process f name)
+        laid_after : LaysOut session (with_segment_bytes (state cut) S bytes) (without_process f name)
         laid_after =
-            subst (λ (b : List ℕ). LaysOut session (with_bytes (state cut) S b) (without_process f name)) (sym (killed_bytes session (state old) f l above parent here n))
+            subst (λ (b : List ℕ). LaysOut session (with_segment_bytes (state cut) S b) (without_process f name)) (sym (killed_bytes session (state old) f l above parent here n))
             (lays_out_left session (state old) f l above parent here n C S o (at_container session (state old) f l above parent here) (at_segment session (state old) f l above parent here) (at_container session (state old) f l name child there)
             (state cut) cuts ready.lays_out.jobs_given)
 

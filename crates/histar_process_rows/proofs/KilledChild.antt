@@ -15,14 +15,14 @@ use Rattle.histar_label.specs.Levels.{Levels}
 use Rattle.histar_layout.specs.declared.status.Child.{Child as Listed}
 use Rattle.histar_layout.specs.Status.{status_bytes, without_child}
 use Rattle.histar_object.specs.declared.objects.Kind.TheVariants.{Segment, Container, Thread}
-use Rattle.histar_object.specs.Objects.{Numbers as Links, unlinking}
+use Rattle.histar_object.specs.Objects.{AddressNumbers as Links, unlinking}
 use Rattle.histar_object.specs.State.{State}
 use Rattle.histar_container.specs.ObjectsModel.{CutsOff}
 use Rattle.histar_container.specs.Tree.{Address, Naming, without_below, under, is_under, objects_at}
 use Rattle.histar_container.proofs.Addresses.{same_other, above}
 use Rattle.histar_container.proofs.Links.{unlinked_links}
 use Rattle.histar_container.proofs.Reaching.{not_reached}
-use Rattle.histar_refinement.specs.Addresses.{Step, Numbers, same_step, home_of}
+use Rattle.histar_refinement.specs.Addresses.{Step, AddressNumbers, same_step, home_address}
 use Rattle.histar_refinement.specs.Addresses.Step.{Status, Inside, Runner}
 use Rattle.histar_refinement.specs.Addresses.Step.{Child as Below}
 use Rattle.histar_refinement.specs.Expected.{expected}
@@ -41,7 +41,7 @@ use Rattle.histar_process_rows.proofs.OwnSegment.{status_few, listed_few, thread
 
 -- ---- lists of children
 
-module _ (me : ProcName) (n : ℕ) (number numbers : Numbers) (test later : ℕ → Bool) (gone : later n ≡ false) (stays : (k : ℕ) → k ≢ n → later k ≡ test k) (same : (k : ℕ) → k ≢ n → listed_by number me k ≡ listed_by numbers me k) where
+module _ (me : ProcName) (n : ℕ) (number numbers : AddressNumbers) (test later : ℕ → Bool) (gone : later n ≡ false) (stays : (k : ℕ) → k ≢ n → later k ≡ test k) (same : (k : ℕ) → k ≢ n → listed_by number me k ≡ listed_by numbers me k) where
   abbrev is_other : Listed → Bool
   is_other child = not (child.number == n)
 
@@ -82,22 +82,22 @@ module _ (session : Session) (s : State) (f : Flat) (l : Laid session s f) (me :
 
   -- the naming without the child
   abbrev naming : Naming Step
-  naming = without_below same_step l.naming (home_of (n ∷ me))
+  naming = without_below same_step l.naming (home_address (n ∷ me))
 
   abbrev after : Flat
   after = without_process f (n ∷ me)
 
-  kept : (b : Address Step) → under same_step (home_of top) b ≡ false → l.naming.number b ≡ naming.number b
+  kept : (b : Address Step) → under same_step (home_address top) b ≡ false → l.naming.number b ≡ naming.number b
   kept b e = sym (ap (λ (t : Bool). if t then None else l.naming.number b) e)
 
   -- neither the parent nor another child lies below it
-  parent_outside : under same_step (home_of top) (home_of me) ≡ false
-  parent_outside = above same_step step_tests_equality (home_of me) (Below n)
+  parent_outside : under same_step (home_address top) (home_address me) ≡ false
+  parent_outside = above same_step step_tests_equality (home_address me) (Below n)
 
-  child_outside : (k : ℕ) → k ≢ n → under same_step (home_of top) (home_of (k ∷ me)) ≡ false
-  child_outside k other = λ i. same_other same_step step_tests_equality (home_of top) (home_of (k ∷ me)) apart i || parent_outside i
+  child_outside : (k : ℕ) → k ≢ n → under same_step (home_address top) (home_address (k ∷ me)) ≡ false
+  child_outside k other = λ i. same_other same_step step_tests_equality (home_address top) (home_address (k ∷ me)) apart i || parent_outside i
     where
-      apart : home_of top ≢ home_of (k ∷ me)
+      apart : home_address top ≢ home_address (k ∷ me)
       apart e = let names : n ∷ me ≡ k ∷ me = same_home (n ∷ me) (k ∷ me) e in let is : n ≡ k = cc in other (sym is)
 
   child_gone : is_some (after.processes (n ∷ me)) ≡ false
@@ -110,15 +110,15 @@ module _ (session : Session) (s : State) (f : Flat) (l : Laid session s f) (me :
   ]
 
   child_same : (k : ℕ) → k ≢ n → listed_by l.naming.number me k ≡ listed_by naming.number me k
-  child_same k other = λ i. record { number = k; container = or_zero (kept (home_of (k ∷ me)) (child_outside k other) i); segment = or_zero (kept (Status ∷ home_of (k ∷ me)) (child_outside k other) i) }
+  child_same k other = λ i. record { number = k; container = or_zero (kept (home_address (k ∷ me)) (child_outside k other) i); segment = or_zero (kept (Status ∷ home_address (k ∷ me)) (child_outside k other) i) }
 
   -- What is written of the parent is what the flat state without the child asks for.
-  pub killed_bytes : status_bytes (without_child n (status_by f.processes l.naming.number me p)) ≡ process_bytes (without_process f (n ∷ me)).processes (without_below same_step l.naming (home_of (n ∷ me))).number me p
+  pub killed_bytes : status_bytes (without_child n (status_by f.processes l.naming.number me p)) ≡ process_bytes (without_process f (n ∷ me)).processes (without_below same_step l.naming (home_address (n ∷ me))).number me p
   killed_bytes = λ i. status_bytes (record {
     exited = p.exited;
     born = p.born;
-    internal = or_zero (kept (Inside ∷ home_of me) parent_outside i);
-    thread = or_zero (kept (Runner ∷ Inside ∷ home_of me) parent_outside i);
+    internal = or_zero (kept (Inside ∷ home_address me) parent_outside i);
+    thread = or_zero (kept (Runner ∷ Inside ∷ home_address me) parent_outside i);
     children = others_left me n l.naming.number naming.number (λ k. is_some (f.processes (k ∷ me))) (λ k. is_some (after.processes (k ∷ me))) child_gone child_stays child_same (range_with_len 1 p.born) i;
   })
 
@@ -127,7 +127,7 @@ module _ (session : Session) (s : State) (f : Flat) (l : Laid session s f) (me :
   killed_few = subst (λ (b : List ℕ). length b ≤ 4096) (sym killed_bytes) (status_few (status_by after.processes naming.number me p) (listed_few after.processes naming.number me p.born (l.processes me p here).few))
 
   -- the state once the child was taken out of the container
-  module _ (child : Process) (there : f.processes (n ∷ me) ≡ Some child) (caller : ProcName) (q : Process) (t : ℕ) (runs : RunsAs session s f l caller q t) (outside : under same_step (home_of (n ∷ me)) (home_of caller) ≡ false)
+  module _ (child : Process) (there : f.processes (n ∷ me) ≡ Some child) (caller : ProcName) (q : Process) (t : ℕ) (runs : RunsAs session s f l caller q t) (outside : under same_step (home_address (n ∷ me)) (home_address caller) ≡ false)
       (cut : State) (cuts : CutsOff s (where_is session s f l me).container (where_is session s f l (n ∷ me)).container cut) where
     abbrev C : ℕ
     C = (where_is session s f l me).container
@@ -159,27 +159,27 @@ module _ (session : Session) (s : State) (f : Flat) (l : Laid session s f) (me :
     segment_is : s.objects S ≡ object due (Segment (process_bytes f.processes l.naming.number me p))
     segment_is = segment_found session s f l me p here
 
-    at_victim : l.naming.number (home_of (n ∷ me)) ≡ Some o
+    at_victim : l.naming.number (home_address (n ∷ me)) ≡ Some o
     at_victim = at_container session s f l (n ∷ me) child there
 
     -- what lies elsewhere is as it was, but for the container
-    remains : (b : Address Step) (k : ℕ) → l.naming.number b ≡ Some k → under same_step (home_of top) b ≡ false → k ≢ C → cut.objects k ≡ s.objects k
+    remains : (b : Address Step) (k : ℕ) → l.naming.number b ≡ Some k → under same_step (home_address top) b ≡ false → k ≢ C → cut.objects k ≡ s.objects k
     remains b k at_k out other =
-        cuts.is_cut.stays k (not_reached same_step step_tests_equality s.objects s.next_object (objects_at s.objects l.naming) l.naming l.stands.tree o (home_of top) (l.stands.tree.addressed (home_of top) o at_victim) k
-        (ap (is_under same_step (home_of top)) (l.stands.tree.addressed b k at_k) ∙ out)) other
+        cuts.is_cut.stays k (not_reached same_step step_tests_equality s.objects s.next_object (objects_at s.objects l.naming) l.naming l.stands.tree o (home_address top) (l.stands.tree.addressed (home_address top) o at_victim) k
+        (ap (is_under same_step (home_address top)) (l.stands.tree.addressed b k at_k) ∙ out)) other
 
     pub thread_then : cut.objects t ≡ object (rights_label l.category (thread_rights session caller q)) (Thread (rights_clearance l.category (thread_rights session caller q)))
-    thread_then = remains (Runner ∷ Inside ∷ home_of caller) t runs.2 outside (thread_apart s t C S own most due links _ thread_is holder_is segment_is) ∙ thread_is
+    thread_then = remains (Runner ∷ Inside ∷ home_address caller) t runs.2 outside (thread_apart s t C S own most due links _ thread_is holder_is segment_is) ∙ thread_is
 
     pub segment_then : cut.objects (where_is session s f l me).segment ≡ object (guard_label l.category (process_guard me p)) (Segment (process_bytes f.processes l.naming.number me p))
-    segment_then = remains (Status ∷ home_of me) S (at_segment session s f l me p here) parent_outside (segment_apart s t C S own most due links _ thread_is holder_is segment_is) ∙ segment_is
+    segment_then = remains (Status ∷ home_address me) S (at_segment session s f l me p here) parent_outside (segment_apart s t C S own most due links _ thread_is holder_is segment_is) ∙ segment_is
 
     pub holder_then : cut.objects (where_is session s f l me).container ≡ object (guard_label l.category (process_guard me p)) (Container (set.remove (container_found session s f l me p here).0 (where_is session s f l (n ∷ me)).container))
     holder_then = cuts.is_cut.unlinked ∙ ap (option_map (unlinking o)) holder_is
 
     -- the parent's segment is another object than the child's container, and is still linked
     segment_other : S ≢ o
-    segment_other e = let same = one_address same_step step_tests_equality s l.naming (expected session l.category f l.naming.number) l.stands (Status ∷ home_of me) (home_of top) S (at_segment session s f l me p here) (at_victim ∙ ap Some (sym e)) in absurd cc
+    segment_other e = let same = one_address same_step step_tests_equality s l.naming (expected session l.category f l.naming.number) l.stands (Status ∷ home_address me) (home_address top) S (at_segment session s f l me p here) (at_victim ∙ ap Some (sym e)) in absurd cc
 
     pub linked_then : set.contains (set.remove (container_found session s f l me p here).0 (where_is session s f l (n ∷ me)).container) (where_is session s f l me).segment ≡ true
     linked_then =

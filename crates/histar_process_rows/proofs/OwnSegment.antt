@@ -15,12 +15,12 @@ use Rattle.histar_label.specs.Levels.{Levels, is_below, is_below_raised}
 use Rattle.histar_layout.specs.declared.status.Child.{Child as Listed}
 use Rattle.histar_layout.specs.Status.{ProcessStatus, life_bytes, child_bytes, status_bytes}
 use Rattle.histar_object.specs.declared.objects.Kind.TheVariants.{Segment, Container, Thread}
-use Rattle.histar_object.specs.Objects.{Numbers as Links, is_container, is_thread}
+use Rattle.histar_object.specs.Objects.{AddressNumbers as Links, is_container, is_thread}
 use Rattle.histar_object.specs.State.{State}
 use Rattle.histar_rules.specs.declared.raw.Denied.TheVariants.{Modify, TooBig}
 use Rattle.histar_rules.specs.declared.raw.RawCall.TheVariants.{Write, Unlink}
 use Rattle.histar_rules.specs.Rules.{check}
-use Rattle.histar_refinement.specs.Addresses.{Numbers}
+use Rattle.histar_refinement.specs.Addresses.{AddressNumbers}
 use Rattle.histar_refinement.specs.Processes.{children, listed_by}
 use Rattle.histar_refinement.proofs.FileChecks.{fits}
 use Rattle.histar_refinement.proofs.RawChecks.{object, write_check, unlink_check}
@@ -41,7 +41,7 @@ pub status_few : (status : ProcessStatus) → length status.children ≤ most_ch
 status_few status few = long_by status.exited status few
 
 -- of as many children as a process can have no more are listed
-pub listed_few : (processes : ProcName → Option Process) (number : Numbers) (me : ProcName) (born : ℕ) → born ≤ most_children → length (map (listed_by number me) (children processes me born)) ≤ most_children
+pub listed_few : (processes : ProcName → Option Process) (number : AddressNumbers) (me : ProcName) (born : ℕ) → born ≤ most_children → length (map (listed_by number me) (children processes me born)) ≤ most_children
 listed_few processes number me born most =
     let mapped = length-map (children processes me born) (listed_by number me) in
     let filtered = length-filter (λ n. is_some (processes (n ∷ me))) (range_with_len 1 born) in

@@ -9,7 +9,7 @@ use Rattle.histar_devices.proofs.WritingLemmas.{whole_front}
 use Rattle.histar_object.specs.State.{State}
 use Rattle.histar_rules.specs.declared.raw.Denied.{Denied}
 use Rattle.histar_syscall.specs.declared.answers.Answer.{Answer}
-use Rattle.histar_syscall.specs.Answers.{answer}
+use Rattle.histar_syscall.specs.Answers.{raw_answer}
 use Rattle.histar_syscall.specs.KernelModel.{KernelModel, state, Called}
 use Rattle.histar_raw_session.specs.declared.read_session.RawLine.{RawLine}
 use Rattle.histar_raw_session.specs.Answers.{line_text, PrintsCall, PrintsCalls, AnswersCall, BeginsAnswer, AnswersCalls, BeginsAnswers}
@@ -17,7 +17,7 @@ use Rattle.histar_raw_session.specs.Answers.{line_text, PrintsCall, PrintsCalls,
 -- ---- one call
 
 -- what the kernel answers is the outcome, and its line tells it
-pub granted : {X E : Type 0} (first : State) (old new : KernelModel) (asked : RawLine) (told : Answer) (items : X → List ℕ) (result : Result X E) → state old ≡ first → Called old new asked.thread asked.call None → answer (state old) asked.thread asked.call ≡ Some told → IfOk result (λ line. items line ≡ line_text asked.line (Ok told))
+pub granted : {X E : Type 0} (first : State) (old new : KernelModel) (asked : RawLine) (told : Answer) (items : X → List ℕ) (result : Result X E) → state old ≡ first → Called old new asked.thread asked.call None → raw_answer (state old) asked.thread asked.call ≡ Some told → IfOk result (λ line. items line ≡ line_text asked.line (Ok told))
     → IfOk result (λ line. PrintsCall first (state new) asked (items line))
 granted first old new asked told items (Ok line) same called right text =
     subst (λ (s : State). PrintsCall s (state new) asked (items line)) same (record { outcome = Ok told; has = (called.outcome, right, called.state); prints = text })

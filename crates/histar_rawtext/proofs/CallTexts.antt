@@ -6,7 +6,7 @@ use Rattle.std.proofs.lemmas.List.{append_assoc, append-nil}
 use Rattle.histar_flat.proofs.SplitLemmas.{lacks}
 use Rattle.histar_rules.specs.declared.raw.RawCall.{RawCall}
 use Rattle.histar_rules.specs.declared.raw.RawCall.TheVariants.{MakeCategory, OwnLabel, SetLabel, SetClearance, MakeSegment, MakeContainer, MakeThread, MakeGate, Enter, Read, Write, Unlink, LabelOf}
-use Rattle.histar_rawtext.specs.RawText.{label_text, bytes_text, entry_text, call_name, call_words, call_text, thread_call_text}
+use Rattle.histar_rawtext.specs.RawText.{label_text, bytes_text, gate_entry_text, call_name, call_words, call_text, thread_call_text}
 use Rattle.histar_rawtext.specs.RawTextLaws.{IsWritable, TextsDetermineCalls}
 use Rattle.histar_rawtext.proofs.Parting.{same_parts, spaced, AreWords, same_words, same_fronts}
 use Rattle.histar_rawtext.proofs.WordTexts.{lacks-decimal, space_is_no_digit, lacks-bytes, lacks-entry, same_bytes, same_entry}
@@ -21,7 +21,7 @@ words_of (SetClearance clearance) = label_text clearance ∷ []
 words_of (MakeSegment container label bytes) = decimal container ∷ label_text label ∷ bytes_text bytes ∷ []
 words_of (MakeContainer container label) = decimal container ∷ label_text label ∷ []
 words_of (MakeThread container label clearance) = decimal container ∷ label_text label ∷ label_text clearance ∷ []
-words_of (MakeGate container label clearance entry) = decimal container ∷ label_text label ∷ label_text clearance ∷ entry_text entry ∷ []
+words_of (MakeGate container label clearance entry) = decimal container ∷ label_text label ∷ label_text clearance ∷ gate_entry_text entry ∷ []
 words_of (Enter container gate wanted clearance shown) = decimal container ∷ decimal gate ∷ label_text wanted ∷ label_text clearance ∷ label_text shown ∷ []
 words_of (Read container segment) = decimal container ∷ decimal segment ∷ []
 words_of (Write container segment keep bytes) = decimal container ∷ decimal segment ∷ decimal keep ∷ bytes_text bytes ∷ []
@@ -54,7 +54,7 @@ words_spelled (SetClearance clearance) = one_word (label_text clearance)
 words_spelled (MakeSegment container label bytes) = three_words (decimal container) (label_text label) (bytes_text bytes)
 words_spelled (MakeContainer container label) = two_words (decimal container) (label_text label)
 words_spelled (MakeThread container label clearance) = three_words (decimal container) (label_text label) (label_text clearance)
-words_spelled (MakeGate container label clearance entry) = four_words (decimal container) (label_text label) (label_text clearance) (entry_text entry)
+words_spelled (MakeGate container label clearance entry) = four_words (decimal container) (label_text label) (label_text clearance) (gate_entry_text entry)
 words_spelled (Enter container gate wanted clearance shown) = five_words (decimal container) (decimal gate) (label_text wanted) (label_text clearance) (label_text shown)
 words_spelled (Read container segment) = two_words (decimal container) (decimal segment)
 words_spelled (Write container segment keep bytes) = four_words (decimal container) (decimal segment) (decimal keep) (bytes_text bytes)

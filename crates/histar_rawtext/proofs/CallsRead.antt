@@ -4,7 +4,7 @@ use Rattle.std.specs.Fmt.{decimal}
 use Rattle.histar_flat.proofs.SplitLemmas.{lacks}
 use Rattle.histar_rules.specs.declared.raw.RawCall.{RawCall}
 use Rattle.histar_rules.specs.declared.raw.RawCall.TheVariants.{MakeCategory, OwnLabel, SetLabel, SetClearance, MakeSegment, MakeContainer, MakeThread, MakeGate, Enter, Read, Write, Unlink, LabelOf}
-use Rattle.histar_rawtext.specs.RawText.{label_text, bytes_text, entry_text, call_name, thread_call_text}
+use Rattle.histar_rawtext.specs.RawText.{label_text, bytes_text, gate_entry_text, call_name, thread_call_text}
 use Rattle.histar_rawtext.specs.RawTextLaws.{IsNumber, IsWritable}
 use Rattle.histar_rawtext.specs.Readable.{IsReadable}
 use Rattle.histar_rawtext.specs.Reading.{make_segment_in, make_container_in, make_thread_in, make_gate_in, enter_in, write_in, pair_in, own_label_in, call_named, thread_call_in}
@@ -65,10 +65,10 @@ call_again (MakeThread container label clearance) p w =
     ) refl
 call_again (MakeGate container label clearance entry) p w =
     rw (
-      split_spaced (decimal container) (label_text label ∷ label_text clearance ∷ entry_text entry ∷ []) w.0,
-      split_spaced (label_text label) (label_text clearance ∷ entry_text entry ∷ []) w.1.0,
-      split_spaced (label_text clearance) (entry_text entry ∷ []) w.1.1.0,
-      split_spaced (entry_text entry) [] w.1.1.1.0,
+      split_spaced (decimal container) (label_text label ∷ label_text clearance ∷ gate_entry_text entry ∷ []) w.0,
+      split_spaced (label_text label) (label_text clearance ∷ gate_entry_text entry ∷ []) w.1.0,
+      split_spaced (label_text clearance) (gate_entry_text entry ∷ []) w.1.1.0,
+      split_spaced (gate_entry_text entry) [] w.1.1.1.0,
       number_again container p.0,
       label_again label p.1,
       label_again clearance p.2,

@@ -8,7 +8,7 @@ use Rattle.std.proofs.lemmas.List.Folds.{list_all-append}
 use Rattle.histar_flat.proofs.SplitLemmas.{lacks}
 use Rattle.histar_object.specs.declared.objects.Entry.{Entry}
 use Rattle.histar_object.specs.declared.objects.Entry.TheVariants.{Login, Mark}
-use Rattle.histar_rawtext.specs.RawText.{hex_digit, byte_text, bytes_text, entry_text}
+use Rattle.histar_rawtext.specs.RawText.{hex_digit, byte_text, bytes_text, gate_entry_text}
 use Rattle.histar_rawtext.specs.RawTextLaws.{IsNumber, IsWritableEntry}
 
 -- the byte s is no decimal digit
@@ -79,13 +79,13 @@ pub lacks-bytes : (bs : List ℕ) → lacks 32 (bytes_text bs) ≡ true
 lacks-bytes bs = lacks-digits bs
 
 -- what a gate gives is told by its text
-pub same_entry : (a b : Entry) → IsWritableEntry a → IsWritableEntry b → entry_text a ≡ entry_text b → a ≡ b
+pub same_entry : (a b : Entry) → IsWritableEntry a → IsWritableEntry b → gate_entry_text a ≡ gate_entry_text b → a ≡ b
 same_entry (Login m) (Login n) p q e = let digits : decimal m ≡ decimal n = cc in ap Login (decimal_injective m n p q digits)
 same_entry (Login m) (Mark n) p q e = absurd (omega (arith, ap (λ (text : List ℕ). get_or text 0 0) e))
 same_entry (Mark m) (Login n) p q e = absurd (omega (arith, ap (λ (text : List ℕ). get_or text 0 0) e))
 same_entry (Mark m) (Mark n) p q e = let digits : decimal m ≡ decimal n = cc in ap Mark (decimal_injective m n p q digits)
 
 -- the text of what a gate gives has no space
-pub lacks-entry : (entry : Entry) → IsWritableEntry entry → lacks 32 (entry_text entry) ≡ true
+pub lacks-entry : (entry : Entry) → IsWritableEntry entry → lacks 32 (gate_entry_text entry) ≡ true
 lacks-entry (Login n) small = lacks-decimal 32 n space_is_no_digit small
 lacks-entry (Mark n) small = lacks-decimal 32 n space_is_no_digit small

@@ -16,7 +16,7 @@ use Rattle.histar_label.proofs.Floors.{from_exceptions-of}
 use Rattle.histar_label.proofs.Made.{is_made-law}
 use Rattle.histar_object.specs.declared.objects.Entry.{Entry}
 use Rattle.histar_object.specs.declared.objects.Entry.TheVariants.{Login, Mark}
-use Rattle.histar_rawtext.specs.RawText.{hex_digit, byte_text, bytes_text, entry_text, level_text, exception_text, label_text}
+use Rattle.histar_rawtext.specs.RawText.{hex_digit, byte_text, bytes_text, gate_entry_text, level_text, exception_text, label_text}
 use Rattle.histar_rawtext.specs.RawTextLaws.{IsNumber, IsWritableLabel, IsWritableEntry}
 use Rattle.histar_rawtext.specs.Readable.{IsReadableLabel, IsReadableEntry, AreBytes}
 use Rattle.histar_rawtext.specs.Reading.{category_in, short_number_in, user_in, level_in, exception_in, label_of_texts, label_in, bytes_in, entry_in}
@@ -168,6 +168,6 @@ writable_entry (Login n) p = omega (arith, p.1)
 writable_entry (Mark n) p = omega (arith, p)
 
 -- what a gate gives is read from its text
-pub entry_again : (e : Entry) → IsReadableEntry e → entry_in (entry_text e) ≡ Some e
+pub entry_again : (e : Entry) → IsReadableEntry e → entry_in (gate_entry_text e) ≡ Some e
 entry_again (Login n) p = rw (split_before 58 (codes "login") (decimal n) refl, user_again n p.0 p.1) refl
 entry_again (Mark n) p = rw (split_before 58 (codes "mark") (decimal n) refl, short_number_again n p) refl

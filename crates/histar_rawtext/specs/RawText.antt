@@ -44,9 +44,9 @@ abbrev pub bytes_text : List ℕ → List ℕ
 bytes_text bytes = codes "x" ++ flat_map byte_text bytes
 
 -- what a gate gives: the login gate of a user, or a mark
-abbrev pub entry_text : Entry → List ℕ
-entry_text (Login user) = codes "login:" ++ decimal user
-entry_text (Mark mark) = codes "mark:" ++ decimal mark
+abbrev pub gate_entry_text : Entry → List ℕ
+gate_entry_text (Login user) = codes "login:" ++ decimal user
+gate_entry_text (Mark mark) = codes "mark:" ++ decimal mark
 
 -- a further word of a call that is a number
 abbrev pub number_word : ℕ → List ℕ
@@ -62,7 +62,7 @@ bytes_word bytes = codes " " ++ bytes_text bytes
 
 -- a further word of a call that is what a gate gives
 abbrev pub entry_word : Entry → List ℕ
-entry_word entry = codes " " ++ entry_text entry
+entry_word entry = codes " " ++ gate_entry_text entry
 
 -- the name of a raw call
 abbrev pub call_name : RawCall → List ℕ
@@ -135,6 +135,6 @@ answer_text answers.Done = codes "ok"
 answer_text (answers.Category category) = codes "cat " ++ decimal category
 answer_text (answers.OwnLabel label clearance) = label_text label ++ codes " " ++ label_text clearance
 answer_text (answers.Object object) = codes "obj " ++ decimal object
-answer_text (answers.Entry entry) = entry_text entry
+answer_text (answers.Entry entry) = gate_entry_text entry
 answer_text (answers.Bytes bytes) = bytes_text bytes
 answer_text (answers.Label label) = label_text label

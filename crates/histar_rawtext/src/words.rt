@@ -2,7 +2,7 @@
 ghost use Rattle.std.specs.Prelude.{◌≡◌, ◌<◌, ◌++◌, OnOk};
 ghost use Rattle.std.specs.List.{flat_map};
 ghost use Rattle.std.specs.Fmt.{decimal};
-ghost use Rattle.histar_rawtext.specs.RawText.{hex_digit, byte_text, bytes_text, bytes_word, entry_text, entry_word, number_word};
+ghost use Rattle.histar_rawtext.specs.RawText.{hex_digit, byte_text, bytes_text, bytes_word, gate_entry_text, entry_word, number_word};
 
 use histar_base::Bytes;
 use histar_object::Entry;
@@ -74,7 +74,7 @@ pub(crate) fn push_bytes_word(line: &mut Vec<u8>, bytes: &Bytes) -> Result<(), A
 
 /// Adds what a gate gives.
 pub(crate) fn push_entry(line: &mut Vec<u8>, entry: Entry) -> Result<(), AllocError>
-    ensures { OnOk result (line.new.items ≡ line.old.items ++ entry_text entry) }
+    ensures { OnOk result (line.new.items ≡ line.old.items ++ gate_entry_text entry) }
 {
     match entry {
         Entry::Login(user) => {

@@ -25,11 +25,12 @@ use Rattle.histar_refinement.specs.Categories.{CategoryName, IsKnown, IsServed, 
 use Rattle.histar_refinement.specs.Categories.CategoryName.{OfBoot, ReadsUser, WritesUser, ReadsGroup, WritesGroup, ReadsProcess, WritesProcess, OfJob}
 use Rattle.histar_refinement.specs.Guards.{guard_label, rights_label, rights_clearance}
 use Rattle.histar_refinement.specs.Labels.{process_guard, thread_rights}
-use Rattle.histar_refinement.specs.Addresses.{Step, same_step, home_of}
+use Rattle.histar_refinement.specs.Addresses.{Step, same_step, home_address}
 use Rattle.histar_refinement.specs.Addresses.Step.{Inside, Runner}
 use Rattle.histar_refinement.specs.Processes.{process_bytes}
 use Rattle.histar_refinement.specs.Stands.{kind_bare, bare}
-use Rattle.histar_refinement.specs.Expected.{segment, home_object, status_object, inside_object, thread_object, bytes_for, status_at, expected}
+use Rattle.histar_refinement.specs.Expected.{home_object, status_object, inside_object, thread_object, bytes_for, expected_status, expected}
+use Rattle.histar_login.specs.Start.{segment}
 use Rattle.histar_refinement.specs.LaysOut.{AreInOrder, IsProcess, Laid}
 use Rattle.histar_refinement.proofs.ProcessBytes.{alike_bytes}
 use Rattle.histar_refinement.proofs.Places.{AsksAlike, asked_alike, asked_runner}
@@ -61,7 +62,7 @@ bared label clearance (Some o) = ap (λ (k : Kind Levels). Some (record { label 
 
 module _ (session : Session) (s : State) (f : Flat) (l : Laid session s f) (me : ProcName) (p : Process) (here : f.processes me ≡ Some p) (runs : p.exited ≡ None)
     (name : Name) (known_user : (name ≡ nobody) ⊎ (is_some (user_number session name) ≡ true)) (held : List ProcName) (held_used : (job : ProcName) → has held job ≡ true → IsUsed session f (OfJob job))
-    (held_ordered : AreInOrder l.category held) (held_apart : (job : ProcName) → has p.chain job ≡ true → has held job ≡ false) (held_free : is_some (user_number session name) ≡ false → (p.chain ≡ []) × (held ≡ [])) (T : ℕ) (at_thread : l.naming.number (Runner ∷ Inside ∷ home_of me) ≡ Some T) where
+    (held_ordered : AreInOrder l.category held) (held_apart : (job : ProcName) → has p.chain job ≡ true → has held job ≡ false) (held_free : is_some (user_number session name) ≡ false → (p.chain ≡ []) × (held ≡ [])) (T : ℕ) (at_thread : l.naming.number (Runner ∷ Inside ∷ home_address me) ≡ Some T) where
   -- the process as the new user's, which holds these jobs
   abbrev changed : Process
   changed = record { user = name; chain = p.chain; held = held; exited = p.exited; born = p.born }
@@ -85,7 +86,7 @@ module _ (session : Session) (s : State) (f : Flat) (l : Laid session s f) (me :
   wish = expected session l.category after l.naming.number
 
   abbrev runner : Address Step
-  runner = Runner ∷ Inside ∷ home_of me
+  runner = Runner ∷ Inside ∷ home_address me
 
   pub at_me : after.processes me ≡ Some changed
   at_me = elim (same_name_found me me) [ inl e ↦ ap (λ b. cond b (Some changed) (f.processes me)) e.0 | inr e ↦ absurd (e.1 refl) ]
@@ -123,7 +124,7 @@ module _ (session : Session) (s : State) (f : Flat) (l : Laid session s f) (me :
     | inr other ↦ ap (object q) (sym (at_other q other))
   ]
 
-  status_alike : (q : ProcName) → status_at session l.category f l.naming.number (Some q) ≡ status_at session l.category after l.naming.number (Some q)
+  status_alike : (q : ProcName) → expected_status session l.category f l.naming.number (Some q) ≡ expected_status session l.category after l.naming.number (Some q)
   status_alike q = by (f.processes q) ∙ object_alike (λ x o. status_object session l.category (bytes_for session l.category after l.naming.number x o) x o) refl q
     where
       by : (o : Option Process) → status_object session l.category (bytes_for session l.category f l.naming.number q o) q o ≡ status_object session l.category (bytes_for session l.category after l.naming.number q o) q o
@@ -139,7 +140,7 @@ module _ (session : Session) (s : State) (f : Flat) (l : Laid session s f) (me :
     status = λ q is. status_alike q;
     inside = λ q is. object_alike (inside_object session l.category) refl q;
     runner = λ q is. elim (which q) [
-      | inl e ↦ absurd (other (ap (λ (x : ProcName). Runner ∷ Inside ∷ home_of x) (sym e) ∙ sym is))
+      | inl e ↦ absurd (other (ap (λ (x : ProcName). Runner ∷ Inside ∷ home_address x) (sym e) ∙ sym is))
       | inr not_me ↦ ap (thread_object session l.category q) (sym (at_other q not_me))
     ];
   })

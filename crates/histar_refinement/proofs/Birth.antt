@@ -7,13 +7,13 @@ use Rattle.histar_flat.specs.Words.{ProcName}
 use Rattle.histar_label.specs.Levels.{Levels}
 use Rattle.histar_object.specs.declared.objects.Kind.TheVariants.{Segment, Container}
 use Rattle.histar_object.specs.declared.objects.Object.{Object}
-use Rattle.histar_object.specs.Objects.{Objects, put, changed_at, linking, thread_of, holding, is_there, is_container}
-use Rattle.histar_object.specs.State.{State, Found, with_object, with_bytes}
+use Rattle.histar_object.specs.Objects.{Objects, put, changed_at, linking, thread_of, holding, is_present, is_container}
+use Rattle.histar_object.specs.State.{State, Found, with_object, with_segment_bytes}
 use Rattle.histar_container.specs.Tree.{Address, Naming, with_number, set_at}
 use Rattle.histar_container.proofs.Addresses.{same_tests_equality, same_itself, same_other, longer}
 use Rattle.histar_container.proofs.TableMoves.{put_other}
 use Rattle.histar_container.proofs.Trees.{kind_held_links}
-use Rattle.histar_refinement.specs.Addresses.{Step, same_step, home_of}
+use Rattle.histar_refinement.specs.Addresses.{Step, same_step, home_address}
 use Rattle.histar_refinement.specs.Addresses.Step.{Status, Inside, Runner, Child}
 use Rattle.histar_refinement.specs.Stands.{Stands}
 use Rattle.histar_refinement.proofs.Steps.{step_tests_equality}
@@ -27,13 +27,13 @@ pub given_other : (naming : Naming Step) (k : ℕ) (a b : Address Step) → a �
 given_other naming k a b other = ap (λ (t : Bool). if t then Some k else naming.number b) (same_other same_step step_tests_equality a b other)
 
 module _ (s : State) (naming : Naming Step) (asked : Address Step → Found) (stands : Stands same_step s naming asked) (me : ProcName) (n C S : ℕ)
-    (at_home : naming.number (home_of me) ≡ Some C) (at_status : naming.number (Status ∷ home_of me) ≡ Some S) (holder : is_container (asked (home_of me)) ≡ true)
-    (no_home : is_there (asked (home_of (n ∷ me))) ≡ false) (no_inside : is_there (asked (Inside ∷ home_of (n ∷ me))) ≡ false)
-    (no_runner : is_there (asked (Runner ∷ Inside ∷ home_of (n ∷ me))) ≡ false) (no_status : is_there (asked (Status ∷ home_of (n ∷ me))) ≡ false)
+    (at_home : naming.number (home_address me) ≡ Some C) (at_status : naming.number (Status ∷ home_address me) ≡ Some S) (holder : is_container (asked (home_address me)) ≡ true)
+    (no_home : is_present (asked (home_address (n ∷ me))) ≡ false) (no_inside : is_present (asked (Inside ∷ home_address (n ∷ me))) ≡ false)
+    (no_runner : is_present (asked (Runner ∷ Inside ∷ home_address (n ∷ me))) ≡ false) (no_status : is_present (asked (Status ∷ home_address (n ∷ me))) ≡ false)
     (outer inner label clearance : Levels) (child_bytes own_bytes : List ℕ) where
   -- where the child stands
   abbrev pub home : Address Step
-  home = home_of (n ∷ me)
+  home = home_address (n ∷ me)
 
   -- what is made for it
   abbrev container : Object Levels
@@ -59,7 +59,7 @@ module _ (s : State) (naming : Naming Step) (asked : Address Step → Found) (st
   fourth = with_object third s.next_object segment
 
   abbrev pub born_state : State
-  born_state = with_bytes fourth S own_bytes
+  born_state = with_segment_bytes fourth S own_bytes
 
   abbrev naming_first : Naming Step
   naming_first = with_number same_step naming s.next_object home
@@ -87,7 +87,7 @@ module _ (s : State) (naming : Naming Step) (asked : Address Step → Found) (st
   asked_fourth = set_at same_step asked_third (Status ∷ home) (Some segment)
 
   abbrev pub born_asked : Address Step → Found
-  born_asked = set_at same_step asked_fourth (Status ∷ home_of me) (option_map (holding own_bytes) (asked_fourth (Status ∷ home_of me)))
+  born_asked = set_at same_step asked_fourth (Status ∷ home_address me) (option_map (holding own_bytes) (asked_fourth (Status ∷ home_address me)))
 
   empty_links : (c : ℕ) → set.contains (set.empty {R = nat_cmp}) c ≡ false
   empty_links c = set.contains-empty nat_cmp c
@@ -99,7 +99,7 @@ module _ (s : State) (naming : Naming Step) (asked : Address Step → Found) (st
   inside_holds = ap (λ (t : Bool). is_container (if t then Some internal else asked_first (Inside ∷ home))) (same_itself same_step step_tests_equality (Inside ∷ home))
 
   stands_first : Stands same_step first naming_first asked_first
-  stands_first = stands_added same_step step_tests_equality s naming asked stands C (home_of me) (Child n) container at_home holder no_home empty_links
+  stands_first = stands_added same_step step_tests_equality s naming asked stands C (home_address me) (Child n) container at_home holder no_home empty_links
 
   stands_second : Stands same_step second naming_second asked_second
   stands_second = stands_added same_step step_tests_equality first naming_first asked_first stands_first s.next_object home Inside internal (given naming s.next_object home) home_holds no_inside empty_links
@@ -112,14 +112,14 @@ module _ (s : State) (naming : Naming Step) (asked : Address Step → Found) (st
   stands_fourth = stands_added same_step step_tests_equality third naming_third asked_third stands_third s.next_object home Status segment (given naming s.next_object home) home_holds no_status empty_links
 
   -- the child's process segment is not its parent's
-  apart_status : Status ∷ home ≢ Status ∷ home_of me
-  apart_status e = let k : home ≡ home_of me = cc in longer same_step step_tests_equality (Child n) (home_of me) k
+  apart_status : Status ∷ home ≢ Status ∷ home_address me
+  apart_status e = let k : home ≡ home_address me = cc in longer same_step step_tests_equality (Child n) (home_address me) k
 
-  status_stays : born_naming.number (Status ∷ home_of me) ≡ Some S
-  status_stays = given_other naming_third (s.next_object + 1 + 1 + 1) (Status ∷ home) (Status ∷ home_of me) apart_status ∙ at_status
+  status_stays : born_naming.number (Status ∷ home_address me) ≡ Some S
+  status_stays = given_other naming_third (s.next_object + 1 + 1 + 1) (Status ∷ home) (Status ∷ home_address me) apart_status ∙ at_status
 
   pub stands_born : Stands same_step born_state born_naming born_asked
-  stands_born = stands_changed same_step step_tests_equality fourth born_naming asked_fourth stands_fourth S (Status ∷ home_of me) (holding own_bytes) status_stays (λ o. kind_held_links own_bytes o.kind) (bare_held own_bytes)
+  stands_born = stands_changed same_step step_tests_equality fourth born_naming asked_fourth stands_fourth S (Status ∷ home_address me) (holding own_bytes) status_stays (λ o. kind_held_links own_bytes o.kind) (bare_held own_bytes)
 
   -- the numbers that the new objects have
   pub at_new_home : born_naming.number home ≡ Some s.next_object
@@ -162,17 +162,17 @@ module _ (s : State) (naming : Naming Step) (asked : Address Step → Found) (st
 
   -- what is asked for after birth is told by five addresses, and by all others
   module _ (wish : Address Step → Found) (wish_home : Some container ≡ wish home) (wish_inside : Some internal ≡ wish (Inside ∷ home)) (wish_runner : Some (thread_of label clearance) ≡ wish (Runner ∷ Inside ∷ home))
-      (wish_status : Some segment ≡ wish (Status ∷ home)) (wish_own : option_map (holding own_bytes) (asked (Status ∷ home_of me)) ≡ wish (Status ∷ home_of me))
-      (wish_other : (a : Address Step) → home ≢ a → Inside ∷ home ≢ a → Runner ∷ Inside ∷ home ≢ a → Status ∷ home ≢ a → Status ∷ home_of me ≢ a → asked a ≡ wish a) where
-    own_before : asked_fourth (Status ∷ home_of me) ≡ asked (Status ∷ home_of me)
-    own_before = ap (λ (t : Bool). if t then Some segment else asked_third (Status ∷ home_of me)) (same_other same_step step_tests_equality (Status ∷ home) (Status ∷ home_of me) apart_status)
+      (wish_status : Some segment ≡ wish (Status ∷ home)) (wish_own : option_map (holding own_bytes) (asked (Status ∷ home_address me)) ≡ wish (Status ∷ home_address me))
+      (wish_other : (a : Address Step) → home ≢ a → Inside ∷ home ≢ a → Runner ∷ Inside ∷ home ≢ a → Status ∷ home ≢ a → Status ∷ home_address me ≢ a → asked a ≡ wish a) where
+    own_before : asked_fourth (Status ∷ home_address me) ≡ asked (Status ∷ home_address me)
+    own_before = ap (λ (t : Bool). if t then Some segment else asked_third (Status ∷ home_address me)) (same_other same_step step_tests_equality (Status ∷ home) (Status ∷ home_address me) apart_status)
 
     pub asks_born : (a : Address Step) → born_asked a ≡ wish a
-    asks_born a = elim (same_tests_equality same_step step_tests_equality (Status ∷ home_of me) a) [
+    asks_born a = elim (same_tests_equality same_step step_tests_equality (Status ∷ home_address me) a) [
       | inl e ↦
-          ap (λ (t : Bool). if t then option_map (holding own_bytes) (asked_fourth (Status ∷ home_of me)) else asked_fourth a) e.0
+          ap (λ (t : Bool). if t then option_map (holding own_bytes) (asked_fourth (Status ∷ home_address me)) else asked_fourth a) e.0
           ∙ ap (option_map (holding own_bytes)) own_before ∙ wish_own ∙ ap wish e.1
-      | inr not_own ↦ ap (λ (t : Bool). if t then option_map (holding own_bytes) (asked_fourth (Status ∷ home_of me)) else asked_fourth a) not_own.0
+      | inr not_own ↦ ap (λ (t : Bool). if t then option_map (holding own_bytes) (asked_fourth (Status ∷ home_address me)) else asked_fourth a) not_own.0
           ∙ elim (same_tests_equality same_step step_tests_equality (Status ∷ home) a) [
             | inl e ↦ ap (λ (t : Bool). if t then Some segment else asked_third a) e.0 ∙ wish_status ∙ ap wish e.1
             | inr not_status ↦ ap (λ (t : Bool). if t then Some segment else asked_third a) not_status.0

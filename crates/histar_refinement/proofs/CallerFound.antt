@@ -25,7 +25,7 @@ use Rattle.histar_login.specs.Start.{places_of}
 use Rattle.histar_refinement.specs.Categories.CategoryName.{ReadsProcess, WritesProcess}
 use Rattle.histar_refinement.specs.Guards.{guard_label}
 use Rattle.histar_refinement.specs.Labels.{process_guard, inside_guard}
-use Rattle.histar_refinement.specs.Addresses.{same_step, home_of}
+use Rattle.histar_refinement.specs.Addresses.{same_step, home_address}
 use Rattle.histar_refinement.specs.Addresses.Step.{Home, Status, Inside, Runner, Child}
 use Rattle.histar_refinement.specs.Expected.{home_object, inside_object, expected}
 use Rattle.histar_refinement.specs.Processes.{or_zero, children, listed_by, status_by}
@@ -51,13 +51,13 @@ module _ (session : Session) (s : State) (f : Flat) (l : Laid session s f) where
 
   -- where a process that is there is found
   abbrev pub where_is : ProcName → Where
-  where_is me = record { container = or_zero (l.naming.number (home_of me)); segment = or_zero (l.naming.number (Status ∷ home_of me)) }
+  where_is me = record { container = or_zero (l.naming.number (home_address me)); segment = or_zero (l.naming.number (Status ∷ home_address me)) }
 
   -- its process segment tells what it is
-  pub status_is : (me : ProcName) (p : Process) → f.processes me ≡ Some p → status_at s (or_zero (l.naming.number (Status ∷ home_of me))) ≡ Some (status_by f.processes l.naming.number me p)
+  pub status_is : (me : ProcName) (p : Process) → f.processes me ≡ Some p → status_at s (or_zero (l.naming.number (Status ∷ home_address me))) ≡ Some (status_by f.processes l.naming.number me p)
   status_is me p here =
       status_again _ (status_by f.processes l.naming.number me p)
-      (holds_status session s f l me p (or_zero (l.naming.number (Status ∷ home_of me))) here (is_or_zero _ (numbered_status session s f l me ∙ ap is_some here)))
+      (holds_status session s f l me p (or_zero (l.naming.number (Status ∷ home_address me))) here (is_or_zero _ (numbered_status session s f l me ∙ ap is_some here)))
       few
     where
       few : length (map (listed_by l.naming.number me) (children f.processes me p.born)) ≤ most_children
@@ -92,7 +92,7 @@ module _ (session : Session) (s : State) (f : Flat) (l : Laid session s f) where
       by None is = refl
       by (Some q) is =
           let numbered = numbered_home session s f l (n ∷ me) ∙ ap is_some is in
-          let above = l.stands.tree.held (Child n) (home_of me) numbered in
+          let above = l.stands.tree.held (Child n) (home_address me) numbered in
           absurd (true≢false (sym (sym (numbered_home session s f l me) ∙ above) ∙ ap is_some none))
 
   -- from the process above on to a child
@@ -124,7 +124,7 @@ module _ (session : Session) (s : State) (f : Flat) (l : Laid session s f) where
   abbrev pub caller_is : ProcName → Caller
   caller_is me = record {
     home = where_is me;
-    thread = or_zero (l.naming.number (Runner ∷ Inside ∷ home_of me));
+    thread = or_zero (l.naming.number (Runner ∷ Inside ∷ home_address me));
     read = l.category (ReadsProcess me);
     write = l.category (WritesProcess me);
   }
@@ -136,7 +136,7 @@ module _ (session : Session) (s : State) (f : Flat) (l : Laid session s f) where
     outer_label : label_there (s.objects (where_is me).container) ≡ Some (guard_label l.category (process_guard me p))
     outer_label =
         sym (label_bare (s.objects (where_is me).container))
-        ∙ ap label_there (at_number same_step step_tests_equality s l.naming (expected session l.category f l.naming.number) l.stands (home_of me) (where_is me).container (is_or_zero _ (numbered_home session s f l me ∙ ap is_some here)))
+        ∙ ap label_there (at_number same_step step_tests_equality s l.naming (expected session l.category f l.naming.number) l.stands (home_address me) (where_is me).container (is_or_zero _ (numbered_home session s f l me ∙ ap is_some here)))
         ∙ ap label_there (asked_home session l.category f l.naming.number me ∙ ap (home_object session l.category me) here)
 
     abbrev of_inner : ProcessStatus → Levels → Levels → Option Caller
@@ -148,13 +148,13 @@ module _ (session : Session) (s : State) (f : Flat) (l : Laid session s f) where
         ∙ ap (option_and_then (caller_by s (where_is me))) (status_is me p here)
 
     module _ (runs : p.exited ≡ None) where
-      inner_there : is_some (l.naming.number (Inside ∷ home_of me)) ≡ true
-      inner_there = l.stands.tree.held Runner (Inside ∷ home_of me) (numbered_runner session s f l me p here runs)
+      inner_there : is_some (l.naming.number (Inside ∷ home_address me)) ≡ true
+      inner_there = l.stands.tree.held Runner (Inside ∷ home_address me) (numbered_runner session s f l me p here runs)
 
-      inner_label : label_there (s.objects (or_zero (l.naming.number (Inside ∷ home_of me)))) ≡ Some (guard_label l.category (inside_guard me p))
+      inner_label : label_there (s.objects (or_zero (l.naming.number (Inside ∷ home_address me)))) ≡ Some (guard_label l.category (inside_guard me p))
       inner_label =
-          sym (label_bare (s.objects (or_zero (l.naming.number (Inside ∷ home_of me)))))
-          ∙ ap label_there (at_number same_step step_tests_equality s l.naming (expected session l.category f l.naming.number) l.stands (Inside ∷ home_of me) (or_zero (l.naming.number (Inside ∷ home_of me))) (is_or_zero _ inner_there))
+          sym (label_bare (s.objects (or_zero (l.naming.number (Inside ∷ home_address me)))))
+          ∙ ap label_there (at_number same_step step_tests_equality s l.naming (expected session l.category f l.naming.number) l.stands (Inside ∷ home_address me) (or_zero (l.naming.number (Inside ∷ home_address me))) (is_or_zero _ inner_there))
           ∙ ap label_there (asked_inside session l.category f l.naming.number me ∙ ap (inside_object session l.category me) here)
           ∙ ap (λ (e : Option ℕ). label_there (inside_object session l.category me (Some (record p { exited = e })))) runs
 

@@ -17,7 +17,7 @@ use Rattle.histar_label.specs.Levels.{Levels, level_of, constant, default_of, de
 use Rattle.histar_calls.specs.declared.class.Class.{Class as ToldClass}
 use Rattle.histar_calls.specs.declared.class.Class.TheVariants as told
 use Rattle.histar_calls.specs.Categories.{read_category, write_category, group_owner}
-use Rattle.histar_calls.specs.ClassOf.{class_at, group_class_at, group_class_from, is_plain, is_unnamed, is_all_plain, class_from, class_of, owner_of, mode_of}
+use Rattle.histar_calls.specs.ClassOf.{class_at, group_class_at, group_class_from, is_plain_level, is_unnamed, is_all_plain, class_from, class_shown, owner_shown, mode_of}
 use Rattle.histar_refinement.specs.Categories.{CategoryName, Categories, AreDifferent, boot_category, among}
 use Rattle.histar_refinement.specs.Categories.CategoryName.{ReadsUser, WritesUser, ReadsGroup, WritesGroup, OfJob}
 use Rattle.histar_refinement.specs.Guards.{Guard, guard_label}
@@ -94,8 +94,8 @@ unequal j i h = grind (arith, nat_tests, h)
 -- `{1}` names no category
 all_plain : is_all_plain (constant L1) ≡ true
 all_plain =
-    (λ i. elim (exceptions_of-from_exceptions L1 [] no_exceptions i) as (λ _. Bool) [ [] ↦ is_plain (default_of (constant L1)) | e ∷ es ↦ false ])
-    ∙ ap is_plain (default_of-constant L1)
+    (λ i. elim (exceptions_of-from_exceptions L1 [] no_exceptions i) as (λ _. Bool) [ [] ↦ is_plain_level (default_of (constant L1)) | e ∷ es ↦ false ])
+    ∙ ap is_plain_level (default_of-constant L1)
   where
     no_exceptions : IsCanonical L1 []
     no_exceptions = record { rising = λ i j less within. absurd (omega (arith, within)); differ = λ k d within. absurd (omega (arith, within)) }
@@ -104,12 +104,12 @@ all_plain =
 pub record HasOwnerAndMode (class : Class) (found : Option ToldClass) : Type 0 where
   pub told_class : ToldClass
   pub is : found ≡ Some told_class
-  pub owner : owner_of told_class ≡ class_owner class
+  pub owner : owner_shown told_class ≡ class_owner class
   pub mode : mode_of told_class ≡ class_mode class
 
 -- a guard that names the categories of the user or the group of this number, with these levels
 record NamesOwner (g : Guard) (reads writes : CategoryName) (read write : Level) : Type 0 where
-  named : (is_plain read && is_plain write) ≡ false
+  named : (is_plain_level read && is_plain_level write) ≡ false
   at_reads : guarded_level (among g.secret reads) (among g.written reads) ≡ read
   at_writes : guarded_level (among g.secret writes) (among g.written writes) ≡ write
 
@@ -133,8 +133,8 @@ module _ (session : Session) (category : Categories) (different : AreDifferent c
 
     -- by the levels that it has there
     unnamed_by : (read write : Level) → guarded_level (among g.secret reads) (among g.written reads) ≡ read → guarded_level (among g.secret writes) (among g.written writes) ≡ write
-        → is_unnamed (guard_label category g) number ≡ (is_plain read && is_plain write)
-    unnamed_by read write is_read is_write = λ i. is_plain ((at_read ∙ is_read) i) && is_plain ((at_write ∙ is_write) i)
+        → is_unnamed (guard_label category g) number ≡ (is_plain_level read && is_plain_level write)
+    unnamed_by read write is_read is_write = λ i. is_plain_level ((at_read ∙ is_read) i) && is_plain_level ((at_write ∙ is_write) i)
 
   -- a user whose categories are not named, and a group
   unnamed_user : (g : Guard) (j : ℕ) → j ≤ length session.users → NamesNeither g (ReadsUser j) (WritesUser j) → is_unnamed (guard_label category g) j ≡ true
@@ -158,8 +158,8 @@ module _ (session : Session) (category : Categories) (different : AreDifferent c
     owner : NamesOwner g (ReadsUser i) (WritesUser i) read write
     no_other : (j : ℕ) → j < i → NamesNeither g (ReadsUser j) (WritesUser j)
 
-  owner_told : (g : Guard) (name : Name) (i : ℕ) (read write : Level) → user_number session name ≡ Some i → NamesUser g i read write → class_of session (guard_label category g) ≡ class_at name read write
-  unfolding class_of
+  owner_told : (g : Guard) (name : Name) (i : ℕ) (read write : Level) → user_number session name ≡ Some i → NamesUser g i read write → class_shown session (guard_label category g) ≡ class_at name read write
+  unfolding class_shown
   owner_told g name i read write numbered h =
       let label = guard_label category g in
       let u = user_at name i numbered in
@@ -202,8 +202,8 @@ module _ (session : Session) (category : Categories) (different : AreDifferent c
   -- ---- what is guarded by no user's categories
 
   -- the groups tell the class
-  past_users : (g : Guard) → ((j : ℕ) → NamesNeither g (ReadsUser j) (WritesUser j)) → class_of session (guard_label category g) ≡ group_class_from (guard_label category g) (1 + length session.users) session.groups
-  unfolding class_of
+  past_users : (g : Guard) → ((j : ℕ) → NamesNeither g (ReadsUser j) (WritesUser j)) → class_shown session (guard_label category g) ≡ group_class_from (guard_label category g) (1 + length session.users) session.groups
+  unfolding class_shown
   past_users g neither = told_by_none (guard_label category g) session.groups session.users 1 (λ j low high. unnamed_user g j (omega (arith, high)) (neither j))
 
   -- the group of a name, and its place
@@ -214,7 +214,7 @@ module _ (session : Session) (category : Categories) (different : AreDifferent c
       (m.0, at.0, at.1, equal_names at.0.name name at.2, at.3, m.2)
 
   -- what is for a group tells the group
-  group_told : (name : Name) (k : ℕ) → group_number session name ≡ Some k → class_of session (guard_label category (group_guard k)) ≡ Some (told.Group name)
+  group_told : (name : Name) (k : ℕ) → group_number session name ≡ Some k → class_shown session (guard_label category (group_guard k)) ≡ Some (told.Group name)
   group_told name k numbered =
       let g = group_guard k in
       let label = guard_label category g in
@@ -243,7 +243,7 @@ module _ (session : Session) (category : Categories) (different : AreDifferent c
           (λ i. guarded_level ((unequal other k less i && true) || false) false, λ i. guarded_level false ((unequal other k less i && true) || false))
 
   -- what everyone may read and write tells so
-  open_told : class_of session (guard_label category open_guard) ≡ Some told.Open
+  open_told : class_shown session (guard_label category open_guard) ≡ Some told.Open
   open_told =
       past_users open_guard (λ j. (refl, refl))
       ∙ told_by_no_group (guard_label category open_guard) session.groups (1 + length session.users) (λ j low high. plain j low (omega (arith, high)))
@@ -256,12 +256,12 @@ module _ (session : Session) (category : Categories) (different : AreDifferent c
           ap (is_unnamed (guard_label category open_guard)) (sym here) ∙ unnamed_group open_guard k (omega (arith, low)) (omega (arith, low, high)) (refl, refl)
 
   -- the label of what is of a class tells its owner and its mode
-  pub class_told : (class : Class) (g : Guard) → class_guard session class ≡ Some g → HasOwnerAndMode class (class_of session (guard_label category g))
+  pub class_told : (class : Class) (g : Guard) → class_guard session class ≡ Some g → HasOwnerAndMode class (class_shown session (guard_label category g))
   class_told (Private name) g e =
       let at = mapped_from private_guard (user_number session name) g e in
       record {
         told_class = told.Private name;
-        is = ap (λ (x : Guard). class_of session (guard_label category x)) (sym at.2) ∙ owner_told (private_guard at.0) name at.0 L3 L0 at.1 (private_names at.0);
+        is = ap (λ (x : Guard). class_shown session (guard_label category x)) (sym at.2) ∙ owner_told (private_guard at.0) name at.0 L3 L0 at.1 (private_names at.0);
         owner = refl;
         mode = refl;
       }
@@ -269,13 +269,13 @@ module _ (session : Session) (category : Categories) (different : AreDifferent c
       let at = mapped_from readable_guard (user_number session name) g e in
       record {
         told_class = told.Readable name;
-        is = ap (λ (x : Guard). class_of session (guard_label category x)) (sym at.2) ∙ owner_told (readable_guard at.0) name at.0 L1 L0 at.1 (readable_names at.0);
+        is = ap (λ (x : Guard). class_shown session (guard_label category x)) (sym at.2) ∙ owner_told (readable_guard at.0) name at.0 L1 L0 at.1 (readable_names at.0);
         owner = refl;
         mode = refl;
       }
   class_told Open g e = record {
     told_class = told.Open;
-    is = ap (λ (x : Guard). class_of session (guard_label category x)) (sym (same_Some open_guard g e)) ∙ open_told;
+    is = ap (λ (x : Guard). class_shown session (guard_label category x)) (sym (same_Some open_guard g e)) ∙ open_told;
     owner = refl;
     mode = refl;
   }
@@ -283,7 +283,7 @@ module _ (session : Session) (category : Categories) (different : AreDifferent c
       let at = mapped_from (scratch_guard jobs) (user_number session name) g e in
       record {
         told_class = told.Scratch name;
-        is = ap (λ (x : Guard). class_of session (guard_label category x)) (sym at.2) ∙ owner_told (scratch_guard jobs at.0) name at.0 L3 L1 at.1 (scratch_names jobs at.0);
+        is = ap (λ (x : Guard). class_shown session (guard_label category x)) (sym at.2) ∙ owner_told (scratch_guard jobs at.0) name at.0 L3 L1 at.1 (scratch_names jobs at.0);
         owner = refl;
         mode = refl;
       }
@@ -291,7 +291,7 @@ module _ (session : Session) (category : Categories) (different : AreDifferent c
       let at = mapped_from group_guard (group_number session group) g e in
       record {
         told_class = told.Group group;
-        is = ap (λ (x : Guard). class_of session (guard_label category x)) (sym at.2) ∙ group_told group at.0 at.1;
+        is = ap (λ (x : Guard). class_shown session (guard_label category x)) (sym at.2) ∙ group_told group at.0 at.1;
         owner = refl;
         mode = refl;
       }

@@ -17,7 +17,7 @@ use Rattle.histar_layout.specs.Directory.{spelling}
 use Rattle.histar_refinement.specs.Sessions.{IsSession}
 use Rattle.histar_refinement.specs.Guards.{Guard, guard_label, rights_label, rights_clearance}
 use Rattle.histar_refinement.specs.Labels.{class_guard, thread_rights}
-use Rattle.histar_refinement.specs.Addresses.{home_of}
+use Rattle.histar_refinement.specs.Addresses.{home_address}
 use Rattle.histar_refinement.specs.Addresses.Step.{Inside, Runner}
 use Rattle.histar_refinement.specs.Directories.{directory_of}
 use Rattle.histar_refinement.specs.Stands.{bare}
@@ -39,7 +39,7 @@ modifies_bare (Some t) None = refl
 modifies_bare (Some t) (Some o) = refl
 
 module _ (session : Session) (s : State) (f : Flat) (l : Laid session s f) (ok : IsSession session) (me : ProcName) (p : Process) (here : f.processes me ≡ Some p) (running : p.exited ≡ None)
-    (t : ℕ) (at_thread : l.naming.number (Runner ∷ Inside ∷ home_of me) ≡ Some t) where
+    (t : ℕ) (at_thread : l.naming.number (Runner ∷ Inside ∷ home_address me) ≡ Some t) where
   abbrev thread : Found
   thread = Some (thread_of (rights_label l.category (thread_rights session me p)) (rights_clearance l.category (thread_rights session me p)))
 

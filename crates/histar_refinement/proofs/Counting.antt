@@ -20,7 +20,8 @@ use Rattle.histar_refinement.specs.Categories.CategoryName.{OfBoot, ReadsUser, W
 use Rattle.histar_refinement.specs.Addresses.{Step, same_step}
 use Rattle.histar_refinement.specs.Directories.{directory_of}
 use Rattle.histar_refinement.specs.Processes.{process_bytes}
-use Rattle.histar_refinement.specs.Expected.{segment, status_object, bytes_for, expected}
+use Rattle.histar_refinement.specs.Expected.{status_object, bytes_for, expected}
+use Rattle.histar_login.specs.Start.{segment}
 use Rattle.histar_refinement.specs.LaysOut.{IsInOrder, IsProcess, Laid}
 use Rattle.histar_refinement.proofs.Members.{first_of, second_of}
 use Rattle.histar_refinement.proofs.Growing.{new_number, old_number, still_different}

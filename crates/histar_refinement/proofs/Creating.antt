@@ -10,8 +10,8 @@ use Rattle.histar_layout.specs.Directory.{spelling}
 use Rattle.histar_layout.specs.declared.entry.Target.TheVariants as targets
 use Rattle.histar_object.specs.declared.objects.Kind.TheVariants.{Segment, Container}
 use Rattle.histar_object.specs.declared.objects.Object.{Object}
-use Rattle.histar_object.specs.Objects.{put, linking, is_there, is_container}
-use Rattle.histar_object.specs.State.{State, Found, with_object, with_bytes}
+use Rattle.histar_object.specs.Objects.{put, linking, is_present, is_container}
+use Rattle.histar_object.specs.State.{State, Found, with_object, with_segment_bytes}
 use Rattle.histar_container.specs.Tree.{Address, Naming, with_number, set_at}
 use Rattle.histar_container.proofs.Addresses.{same_itself, same_other, longer}
 use Rattle.histar_container.proofs.Links.{none_linked}
@@ -30,7 +30,8 @@ use Rattle.histar_refinement.specs.Addresses.{Step, same_step, address_of}
 use Rattle.histar_refinement.specs.Addresses.Step.{Listing, Named}
 use Rattle.histar_refinement.specs.Directories.{both_numbers, directory_of}
 use Rattle.histar_refinement.specs.Stands.{Stands}
-use Rattle.histar_refinement.specs.Expected.{container, segment, guarded_object, node_object, listing_object, expected}
+use Rattle.histar_refinement.specs.Expected.{bare_container, guarded_object, node_object, listing_object, expected}
+use Rattle.histar_login.specs.Start.{segment}
 use Rattle.histar_refinement.specs.LaysOut.{Laid}
 use Rattle.histar_refinement.proofs.Steps.{step_tests_equality}
 use Rattle.histar_refinement.proofs.Moving.{number_below, stands_added, number_new, number_old}
@@ -68,8 +69,8 @@ module _ (session : Session) (s : State) (f : Flat) (l : Laid session s f) (d : 
   holder : is_container (old_asked (address_of d)) ≡ true
   holder = ap is_container (asked_path session l.category f l.naming.number d ∙ ap (node_object session l.category) at_parent) ∙ container_there session l.category (class_guard session above) (l.guarded d (record { class = above; content = Dir }) at_parent)
 
-  free : is_there (old_asked here) ≡ false
-  free = ap is_there (asked_path session l.category f l.naming.number (m ∷ d) ∙ ap (node_object session l.category) absent)
+  free : is_present (old_asked here) ≡ false
+  free = ap is_present (asked_path session l.category f l.naming.number (m ∷ d) ∙ ap (node_object session l.category) absent)
 
   nothing_inner : old_asked (Listing ∷ here) ≡ None
   nothing_inner = asked_listing session l.category f l.naming.number (m ∷ d) ∙ ap (listing_object session l.category _) absent
@@ -118,7 +119,7 @@ module _ (session : Session) (s : State) (f : Flat) (l : Laid session s f) (d : 
 
   -- The file is made, and the parent's segment is written: `create` at any depth.
   pub laid_created : IsTrue (is_name m) → length (entries_in f d) < most_entries → s.next_object < greatest
-      → (later : Laid session (with_bytes with_file N (spelling (map.insert (directory_of f.files l.naming.number d) m (targets.File s.next_object)))) (with_node f (m ∷ d) class (File []))) × (later.naming ≡ file_naming) × (later.category ≡ l.category)
+      → (later : Laid session (with_segment_bytes with_file N (spelling (map.insert (directory_of f.files l.naming.number d) m (targets.File s.next_object)))) (with_node f (m ∷ d) class (File []))) × (later.naming ≡ file_naming) × (later.category ≡ l.category)
   laid_created name room few = laid_made session s f l d m class (File []) absent fits with_file file_naming file_asked (file_stands few) N at_listing (targets.File s.next_object)
       (ap (option_map targets.File) (number_new same_step step_tests_equality s l.naming old_asked l.stands D (address_of d) (Named m) empty_segment at_directory holder free (λ c. sym (none_linked c))))
       name (omega (arith, below), omega (arith, few)) parent_is_dir room
@@ -136,7 +137,7 @@ module _ (session : Session) (s : State) (f : Flat) (l : Laid session s f) (d : 
   with_directory = with_object with_container s.next_object (record { label = guard_label l.category g; kind = Segment [] })
 
   abbrev container_asked : Address Step → Found
-  container_asked = set_at same_step old_asked here (container label)
+  container_asked = set_at same_step old_asked here (bare_container label)
 
   abbrev container_naming : Naming Step
   container_naming = with_number same_step l.naming s.next_object (Named m ∷ address_of d)
@@ -154,13 +155,13 @@ module _ (session : Session) (s : State) (f : Flat) (l : Laid session s f) (d : 
   number_here = number_new same_step step_tests_equality s l.naming old_asked l.stands D (address_of d) (Named m) empty_container at_directory holder free (λ c. sym (none_linked c))
 
   holder_here : is_container (container_asked here) ≡ true
-  holder_here = ap is_container (itself_set old_asked here (container label))
+  holder_here = ap is_container (itself_set old_asked here (bare_container label))
 
   inner_other : here ≢ Listing ∷ here
   inner_other e = longer same_step step_tests_equality Listing here (sym e)
 
-  free_here : is_there (container_asked (Listing ∷ here)) ≡ false
-  free_here = ap is_there (other_set old_asked here (Listing ∷ here) (container label) inner_other ∙ nothing_inner)
+  free_here : is_present (container_asked (Listing ∷ here)) ≡ false
+  free_here = ap is_present (other_set old_asked here (Listing ∷ here) (bare_container label) inner_other ∙ nothing_inner)
 
   directory_stands : s.next_object + 1 < greatest → Standing session s f l d m class Dir absent fits with_directory directory_naming directory_asked
   directory_stands few = record {
@@ -168,9 +169,9 @@ module _ (session : Session) (s : State) (f : Flat) (l : Laid session s f) (d : 
     elsewhere = λ a not_here not_inner.
         number_old same_step step_tests_equality with_container container_naming container_asked container_stands s.next_object here Listing empty_segment number_here holder_here free_here (λ c. sym (none_linked c)) a not_inner
         ∙ number_old same_step step_tests_equality s l.naming old_asked l.stands D (address_of d) (Named m) empty_container at_directory holder free (λ c. sym (none_linked c)) a not_here;
-    asked_new = other_set container_asked (Listing ∷ here) here (segment label []) (λ e. inner_other (sym e)) ∙ itself_set old_asked here (container label) ∙ sym (ap (guarded_object session l.category (Container set.empty)) class_has);
+    asked_new = other_set container_asked (Listing ∷ here) here (segment label []) (λ e. inner_other (sym e)) ∙ itself_set old_asked here (bare_container label) ∙ sym (ap (guarded_object session l.category (Container set.empty)) class_has);
     asked_inner = itself_set container_asked (Listing ∷ here) (segment label []) ∙ sym (ap (guarded_object session l.category (Segment [])) class_has);
-    asked_old = λ a not_here not_inner. other_set container_asked (Listing ∷ here) a (segment label []) not_inner ∙ other_set old_asked here a (container label) not_here;
+    asked_old = λ a not_here not_inner. other_set container_asked (Listing ∷ here) a (segment label []) not_inner ∙ other_set old_asked here a (bare_container label) not_here;
     numbered = omega (arith, few);
     same_next = refl;
     gone = gone_added with_container s.next_object boot_thread_number empty_segment (gone_added s D boot_thread_number empty_container l.boot_thread_gone not_boot)
@@ -183,7 +184,7 @@ module _ (session : Session) (s : State) (f : Flat) (l : Laid session s f) (d : 
 
   -- The directory is made, and the parent's segment is written: `mkdir` at any depth.
   pub laid_directory_created : IsTrue (is_name m) → length (entries_in f d) < most_entries → s.next_object + 1 < greatest
-      → (later : Laid session (with_bytes with_directory N (spelling (map.insert (directory_of f.files l.naming.number d) m (targets.Directory s.next_object (s.next_object + 1))))) (with_node f (m ∷ d) class Dir)) × (later.naming ≡ directory_naming) × (later.category ≡ l.category)
+      → (later : Laid session (with_segment_bytes with_directory N (spelling (map.insert (directory_of f.files l.naming.number d) m (targets.Directory s.next_object (s.next_object + 1))))) (with_node f (m ∷ d) class Dir)) × (later.naming ≡ directory_naming) × (later.category ≡ l.category)
   laid_directory_created name room few = laid_made session s f l d m class Dir absent fits with_directory directory_naming directory_asked (directory_stands few) N at_listing (targets.Directory s.next_object (s.next_object + 1))
       ((λ i. both_numbers (here_then i) (inner_then i)))
       name ((omega (arith, below), omega (arith, few)), (omega (arith, below), omega (arith, few))) parent_is_dir room

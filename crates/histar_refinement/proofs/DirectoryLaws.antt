@@ -20,11 +20,11 @@ use Rattle.histar_layout.specs.declared.entry.Target.TheVariants as targets
 use Rattle.histar_layout.specs.Directory.{Entries, IsEntry, IsListable, entry_bytes, target_bytes, spelling}
 use Rattle.histar_layout.proofs.MapLemmas.{by_bytes, antisymmetric, len_sorted}
 use Rattle.histar_layout.proofs.LookingUp.{target_len}
-use Rattle.histar_refinement.specs.Addresses.{Numbers}
+use Rattle.histar_refinement.specs.Addresses.{AddressNumbers}
 use Rattle.histar_refinement.specs.Directories.{target_for, target_in, directory_of}
 use Rattle.histar_flat.proofs.Finding.{first, second, both, find_first, find_behind, find_below, find_later, names_decide}
 
-module _ (number : Numbers) (d : Path) where
+module _ (number : AddressNumbers) (d : Path) where
   -- the entries of the directory among some, with where each leads
   abbrev listed : List (Path × Node) → List (Name × Target)
   listed = filter_map (target_in number d)
@@ -162,11 +162,11 @@ module _ (number : Numbers) (d : Path) where
       ]
 
 -- the entry of a name in a directory is where its path leads
-pub get_directory : (files : Files Node) (number : Numbers) (d : Path) (n : Name) → map.get (directory_of files number d) n ≡ option_and_then (λ (there : Node). target_for number (n ∷ d, there)) (get files (n ∷ d))
+pub get_directory : (files : Files Node) (number : AddressNumbers) (d : Path) (n : Name) → map.get (directory_of files number d) n ≡ option_and_then (λ (there : Node). target_for number (n ∷ d, there)) (get files (n ∷ d))
 get_directory files number d n = map.get-from_entries nat_list_cmp_total (filter_map (target_in number d) files.entries) n ∙ find_listed number d n files.entries files.sorted
 
 -- a directory has as many entries as the flat state, where each of them leads somewhere
-pub len_directory : (f : Flat) (number : Numbers) (d : Path) → ((n : Name) (there : Node) → get f.files (n ∷ d) ≡ Some there → target_for number (n ∷ d, there) ≢ None) → map.len (directory_of f.files number d) ≡ length (entries_in f d)
+pub len_directory : (f : Flat) (number : AddressNumbers) (d : Path) → ((n : Name) (there : Node) → get f.files (n ∷ d) ≡ Some there → target_for number (n ∷ d, there) ≢ None) → map.len (directory_of f.files number d) ≡ length (entries_in f d)
 len_directory f number d lead = len_sorted (filter_map (target_in number d) f.files.entries) (sorted_listed number d f.files.entries f.files.sorted) ∙ length_listed number d f.files.entries f.files.sorted lead
 
 -- ---- the bytes of a directory

@@ -10,7 +10,7 @@ use Rattle.histar_flat.specs.Files.{get}
 use Rattle.histar_flat.proofs.FileLemmas.{same_name_found}
 use Rattle.histar_layout.specs.Directory.{Entries, IsListable, spelling}
 use Rattle.histar_object.specs.Objects.{holding}
-use Rattle.histar_object.specs.State.{State, Found, with_bytes}
+use Rattle.histar_object.specs.State.{State, Found, with_segment_bytes}
 use Rattle.histar_container.specs.ObjectsModel.{CutsOff}
 use Rattle.histar_container.specs.Tree.{Address, Naming, wanted, without_below, under, is_under, set_at, cut, objects_at}
 use Rattle.histar_container.proofs.Addresses.{same_tests_equality, same_itself, same_other}
@@ -26,11 +26,12 @@ use Rattle.histar_refinement.specs.Categories.{CategoryName, IsMade, IsKnown, Is
 use Rattle.histar_refinement.specs.Categories.CategoryName.{OfBoot, ReadsUser, WritesUser, ReadsGroup, WritesGroup, ReadsProcess, WritesProcess, OfJob}
 use Rattle.histar_refinement.specs.Guards.{guard_label}
 use Rattle.histar_refinement.specs.Labels.{process_guard}
-use Rattle.histar_refinement.specs.Addresses.{Step, same_step, address_of, home_of, path_at, process_at, inside_at, boot_number}
+use Rattle.histar_refinement.specs.Addresses.{Step, same_step, address_of, home_address, path_at, process_at, inside_at, boot_number}
 use Rattle.histar_refinement.specs.Addresses.Step.{Left, Slash, Listing, Named, Home, Status, Inside, Runner, Child}
 use Rattle.histar_refinement.specs.Processes.{or_zero, children, listed_by, process_bytes}
 use Rattle.histar_refinement.specs.Stands.{Stands}
-use Rattle.histar_refinement.specs.Expected.{segment, listing_object, home_object, status_object, inside_object, thread_object, node_at, listing_at, home_at, bytes_for, status_at, container_inside, thread_at, expected}
+use Rattle.histar_refinement.specs.Expected.{listing_object, home_object, status_object, inside_object, thread_object, expected_node, listing_at, expected_home, bytes_for, expected_status, container_inside, thread_at, expected}
+use Rattle.histar_login.specs.Start.{segment}
 use Rattle.histar_refinement.specs.LaysOut.{IsProcess, AreJobsGiven, Laid, LaysOut}
 use Rattle.histar_refinement.proofs.ProcessBytes.{alike_bytes}
 use Rattle.histar_refinement.proofs.Places.{address_path, address_process, address_inside, same_home, same_directory, AsksAlike, asked_alike, asked_status}
@@ -38,7 +39,7 @@ use Rattle.histar_refinement.proofs.Steps.{step_tests_equality}
 use Rattle.histar_refinement.proofs.Moving.{bare_held, stands_changed, stands_cut, stands_same, no_address}
 
 module _ (session : Session) (s : State) (f : Flat) (l : Laid session s f) (me : ProcName) (p : Process) (here : f.processes me ≡ Some p) (n : ℕ) (small : n ≤ greatest_status) (C S o : ℕ)
-    (at_home : l.naming.number (home_of me) ≡ Some C) (at_own : l.naming.number (Status ∷ home_of me) ≡ Some S) (at_inside : l.naming.number (Inside ∷ home_of me) ≡ Some o) where
+    (at_home : l.naming.number (home_address me) ≡ Some C) (at_own : l.naming.number (Status ∷ home_address me) ≡ Some S) (at_inside : l.naming.number (Inside ∷ home_address me) ≡ Some o) where
   -- the process then
   abbrev pub changed : Process
   changed = record { user = p.user; chain = p.chain; held = p.held; exited = Some n; born = p.born }
@@ -47,7 +48,7 @@ module _ (session : Session) (s : State) (f : Flat) (l : Laid session s f) (me :
   after = with_process f me changed
 
   abbrev top : Address Step
-  top = Inside ∷ home_of me
+  top = Inside ∷ home_address me
 
   abbrev naming : Naming Step
   naming = without_below same_step l.naming top
@@ -63,7 +64,7 @@ module _ (session : Session) (s : State) (f : Flat) (l : Laid session s f) (me :
   written = process_bytes after.processes naming.number me changed
 
   abbrev pub state_written : State
-  state_written = with_bytes s S written
+  state_written = with_segment_bytes s S written
 
   at_me : after.processes me ≡ Some changed
   at_me = elim (same_name_found me me) [ inl e ↦ ap (λ b. cond b (Some changed) (f.processes me)) e.0 | inr e ↦ absurd (e.1 refl) ]
@@ -81,7 +82,7 @@ module _ (session : Session) (s : State) (f : Flat) (l : Laid session s f) (me :
   ]
 
   -- no container of a process and no path lies below the internal container
-  under_home : (q : ProcName) → under same_step top (home_of q) ≡ false
+  under_home : (q : ProcName) → under same_step top (home_address q) ≡ false
   under_home [] = refl
   under_home (k ∷ q) = under_home q
 
@@ -90,20 +91,20 @@ module _ (session : Session) (s : State) (f : Flat) (l : Laid session s f) (me :
   under_path (m ∷ d) = under_path d
 
   -- an internal container does where it is this one
-  inside_other : (q : ProcName) → q ≢ me → under same_step top (Inside ∷ home_of q) ≡ false
-  inside_other q other = λ i. same_other same_step step_tests_equality top (Inside ∷ home_of q) apart i || under_home q i
+  inside_other : (q : ProcName) → q ≢ me → under same_step top (Inside ∷ home_address q) ≡ false
+  inside_other q other = λ i. same_other same_step step_tests_equality top (Inside ∷ home_address q) apart i || under_home q i
     where
-      apart : top ≢ Inside ∷ home_of q
-      apart e = let same_place : home_of me ≡ home_of q = cc in other (sym (same_home me q same_place))
+      apart : top ≢ Inside ∷ home_address q
+      apart e = let same_place : home_address me ≡ home_address q = cc in other (sym (same_home me q same_place))
 
   kept : (b : Address Step) → under same_step top b ≡ false → l.naming.number b ≡ naming.number b
   kept b e = sym (ap (λ (t : Bool). if t then None else l.naming.number b) e)
 
   abbrev asked_first : Address Step → Found
-  asked_first = set_at same_step old_asked (Status ∷ home_of me) (option_map (holding written) (old_asked (Status ∷ home_of me)))
+  asked_first = set_at same_step old_asked (Status ∷ home_address me) (option_map (holding written) (old_asked (Status ∷ home_address me)))
 
   stands_first : Stands same_step state_written l.naming asked_first
-  stands_first = stands_changed same_step step_tests_equality s l.naming old_asked l.stands S (Status ∷ home_of me) (holding written) at_own (λ x. kind_held_links written x.kind) (bare_held written)
+  stands_first = stands_changed same_step step_tests_equality s l.naming old_asked l.stands S (Status ∷ home_address me) (holding written) at_own (λ x. kind_held_links written x.kind) (bare_held written)
 
   -- no path leads below it
   no_path : (a : Address Step) → under same_step top a ≡ true → path_at a ≡ None
@@ -121,13 +122,13 @@ module _ (session : Session) (s : State) (f : Flat) (l : Laid session s f) (me :
       by (Some q) is = absurd (true≢false (sym e ∙ ap (under same_step top) (address_process a q is) ∙ under_home q))
 
   -- an internal container there is that of this process, which has none any more
-  none_inside : (q : ProcName) → under same_step top (Inside ∷ home_of q) ≡ true → inside_object session l.category q (after.processes q) ≡ None
+  none_inside : (q : ProcName) → under same_step top (Inside ∷ home_address q) ≡ true → inside_object session l.category q (after.processes q) ≡ None
   none_inside q e = elim (which q) [
     | inl is ↦ ap (λ (x : ProcName). inside_object session l.category x (after.processes x)) is ∙ ap (inside_object session l.category me) at_me
     | inr other ↦ absurd (true≢false (sym e ∙ inside_other q other))
   ]
 
-  none_runs : (q : ProcName) → under same_step top (Inside ∷ home_of q) ≡ true → thread_object session l.category q (after.processes q) ≡ None
+  none_runs : (q : ProcName) → under same_step top (Inside ∷ home_address q) ≡ true → thread_object session l.category q (after.processes q) ≡ None
   none_runs q e = elim (which q) [
     | inl is ↦ ap (λ (x : ProcName). thread_object session l.category x (after.processes x)) is ∙ ap (thread_object session l.category me) at_me
     | inr other ↦ absurd (true≢false (sym e ∙ inside_other q other))
@@ -141,10 +142,10 @@ module _ (session : Session) (s : State) (f : Flat) (l : Laid session s f) (me :
   nothing_below (Slash ∷ []) e = absurd (true≢false (sym e))
   nothing_below (Slash ∷ x ∷ a) e = refl
   nothing_below (Listing ∷ a) e = ap (listing_at session l.category after naming.number) (no_path a e)
-  nothing_below (Named m ∷ a) e = ap (node_at session l.category after naming.number) (no_path (Named m ∷ a) e)
+  nothing_below (Named m ∷ a) e = ap (expected_node session l.category after naming.number) (no_path (Named m ∷ a) e)
   nothing_below (Home ∷ []) e = absurd (true≢false (sym e))
   nothing_below (Home ∷ x ∷ a) e = refl
-  nothing_below (Status ∷ a) e = ap (status_at session l.category after naming.number) (no_process a e)
+  nothing_below (Status ∷ a) e = ap (expected_status session l.category after naming.number) (no_process a e)
   nothing_below (Inside ∷ a) e = by (process_at a) refl
     where
       by : (q : Option ProcName) → process_at a ≡ q → container_inside session l.category after naming.number q ≡ None
@@ -155,7 +156,7 @@ module _ (session : Session) (s : State) (f : Flat) (l : Laid session s f) (me :
       by : (q : Option ProcName) → inside_at a ≡ q → thread_at session l.category after naming.number q ≡ None
       by None is = refl
       by (Some q) is = none_runs q (ap (under same_step top) (sym (address_inside a q is)) ∙ e)
-  nothing_below (Child k ∷ a) e = ap (home_at session l.category after naming.number) (no_process (Child k ∷ a) e)
+  nothing_below (Child k ∷ a) e = ap (expected_home session l.category after naming.number) (no_process (Child k ∷ a) e)
 
   kept_path : (q : Path) → l.naming.number (address_of q) ≡ naming.number (address_of q)
   kept_path q = kept (address_of q) (under_path q)
@@ -171,8 +172,8 @@ module _ (session : Session) (s : State) (f : Flat) (l : Laid session s f) (me :
 
   -- another process keeps its process segment
   same_bytes : (q : ProcName) (x : Process) → q ≢ me → process_bytes f.processes l.naming.number q x ≡ process_bytes after.processes naming.number q x
-  same_bytes q x not_me = alike_bytes f.processes after.processes l.naming.number naming.number q x (kept (Inside ∷ home_of q) (inside_other q not_me)) (kept (Runner ∷ Inside ∷ home_of q) (inside_other q not_me))
-      (λ k. kept (home_of (k ∷ q)) (under_home (k ∷ q))) (λ k. kept (Status ∷ home_of (k ∷ q)) (under_home (k ∷ q))) (λ k. there_alike (k ∷ q))
+  same_bytes q x not_me = alike_bytes f.processes after.processes l.naming.number naming.number q x (kept (Inside ∷ home_address q) (inside_other q not_me)) (kept (Runner ∷ Inside ∷ home_address q) (inside_other q not_me))
+      (λ k. kept (home_address (k ∷ q)) (under_home (k ∷ q))) (λ k. kept (Status ∷ home_address (k ∷ q)) (under_home (k ∷ q))) (λ k. there_alike (k ∷ q))
 
   object_alike : (object : ProcName → Option Process → Found) → (q : ProcName) → q ≢ me → object q (f.processes q) ≡ object q (after.processes q)
   object_alike object q other = ap (object q) (sym (at_other q other))
@@ -183,25 +184,25 @@ module _ (session : Session) (s : State) (f : Flat) (l : Laid session s f) (me :
     | inr other ↦ object_alike (home_object session l.category) q other
   ]
 
-  status_alike : (q : ProcName) → q ≢ me → status_at session l.category f l.naming.number (Some q) ≡ status_at session l.category after naming.number (Some q)
+  status_alike : (q : ProcName) → q ≢ me → expected_status session l.category f l.naming.number (Some q) ≡ expected_status session l.category after naming.number (Some q)
   status_alike q other = by (f.processes q) ∙ object_alike (λ x r. status_object session l.category (bytes_for session l.category after naming.number x r) x r) q other
     where
       by : (x : Option Process) → status_object session l.category (bytes_for session l.category f l.naming.number q x) q x ≡ status_object session l.category (bytes_for session l.category after naming.number q x) q x
       by None = refl
       by (Some x) = ap (segment (guard_label l.category (process_guard q x))) (same_bytes q x other)
 
-  not_this : (a : Address Step) (q : ProcName) → under same_step top a ≡ false → under same_step top a ≡ under same_step top (Inside ∷ home_of q) → q ≢ me
-  not_this a q e is same_one = true≢false (sym (ap (λ (t : Bool). t || under same_step top (home_of me)) (same_itself same_step step_tests_equality top)) ∙ ap (λ (x : ProcName). under same_step top (Inside ∷ home_of x)) (sym same_one) ∙ sym is ∙ e)
+  not_this : (a : Address Step) (q : ProcName) → under same_step top a ≡ false → under same_step top a ≡ under same_step top (Inside ∷ home_address q) → q ≢ me
+  not_this a q e is same_one = true≢false (sym (ap (λ (t : Bool). t || under same_step top (home_address me)) (same_itself same_step step_tests_equality top)) ∙ ap (λ (x : ProcName). under same_step top (Inside ∷ home_address x)) (sym same_one) ∙ sym is ∙ e)
 
-  wish_other : (a : Address Step) → under same_step top a ≡ false → Status ∷ home_of me ≢ a → old_asked a ≡ wish a
+  wish_other : (a : Address Step) → under same_step top a ≡ false → Status ∷ home_address me ≢ a → old_asked a ≡ wish a
   wish_other a e not_own = asked_alike session l.category l.category f after l.naming.number naming.number files_alike a (record {
     home = λ q is. home_alike q;
-    status = λ q is. status_alike q (λ k. not_own (ap (λ (x : ProcName). Status ∷ home_of x) (sym k) ∙ sym is));
+    status = λ q is. status_alike q (λ k. not_own (ap (λ (x : ProcName). Status ∷ home_address x) (sym k) ∙ sym is));
     inside = λ q is. object_alike (inside_object session l.category) q (not_this a q e (ap (under same_step top) is));
     runner = λ q is. object_alike (thread_object session l.category) q (not_this a q e (ap (under same_step top) is));
   })
 
-  wish_own : option_map (holding written) (old_asked (Status ∷ home_of me)) ≡ wish (Status ∷ home_of me)
+  wish_own : option_map (holding written) (old_asked (Status ∷ home_address me)) ≡ wish (Status ∷ home_address me)
   wish_own =
       ap (option_map (holding written)) (asked_status session l.category f l.naming.number me ∙ ap (λ (x : Option Process). status_object session l.category (bytes_for session l.category f l.naming.number me x) me x) here)
       ∙ sym (asked_status session l.category after naming.number me ∙ ap (λ (x : Option Process). status_object session l.category (bytes_for session l.category after naming.number me x) me x) at_me)
@@ -210,9 +211,9 @@ module _ (session : Session) (s : State) (f : Flat) (l : Laid session s f) (me :
   asks a = by (under same_step top a) refl
     where
       outside : under same_step top a ≡ false → asked_first a ≡ wish a
-      outside e = elim (same_tests_equality same_step step_tests_equality (Status ∷ home_of me) a) [
-        | inl k ↦ ap (λ (t : Bool). if t then option_map (holding written) (old_asked (Status ∷ home_of me)) else old_asked a) k.0 ∙ wish_own ∙ ap wish k.1
-        | inr k ↦ ap (λ (t : Bool). if t then option_map (holding written) (old_asked (Status ∷ home_of me)) else old_asked a) k.0 ∙ wish_other a e k.1
+      outside e = elim (same_tests_equality same_step step_tests_equality (Status ∷ home_address me) a) [
+        | inl k ↦ ap (λ (t : Bool). if t then option_map (holding written) (old_asked (Status ∷ home_address me)) else old_asked a) k.0 ∙ wish_own ∙ ap wish k.1
+        | inr k ↦ ap (λ (t : Bool). if t then option_map (holding written) (old_asked (Status ∷ home_address me)) else old_asked a) k.0 ∙ wish_other a e k.1
       ]
 
       by : (t : Bool) → under same_step top a ≡ t → (if t then None else asked_first a) ≡ wish a
@@ -224,7 +225,7 @@ module _ (session : Session) (s : State) (f : Flat) (l : Laid session s f) (me :
   number_gone b e = ap (λ (t : Bool). if t then None else l.naming.number b) e
 
   top_under : under same_step top top ≡ true
-  top_under = ap (λ (t : Bool). t || under same_step top (home_of me)) (same_itself same_step step_tests_equality top)
+  top_under = ap (λ (t : Bool). t || under same_step top (home_address me)) (same_itself same_step step_tests_equality top)
 
   -- what is written: the old status, with the number that the process has exited with, and no internal container and no thread
   pub written_is : written ≡ status_bytes (record { exited = Some n; born = p.born; internal = 0; thread = 0; children = map (listed_by l.naming.number me) (children f.processes me p.born) })
@@ -233,7 +234,7 @@ module _ (session : Session) (s : State) (f : Flat) (l : Laid session s f) (me :
     born = p.born;
     internal = or_zero (number_gone top top_under i);
     thread = or_zero (number_gone (Runner ∷ top) top_under i);
-    children = map {B = Listed} (λ k. record { number = k; container = or_zero (sym (kept (home_of (k ∷ me)) (under_home (k ∷ me))) i); segment = or_zero (sym (kept (Status ∷ home_of (k ∷ me)) (under_home (k ∷ me))) i) })
+    children = map {B = Listed} (λ k. record { number = k; container = or_zero (sym (kept (home_address (k ∷ me)) (under_home (k ∷ me))) i); segment = or_zero (sym (kept (Status ∷ home_address (k ∷ me)) (under_home (k ∷ me))) i) })
         (filter (λ k. sym (there_alike (k ∷ me)) i) (range_with_len 1 p.born));
   })
 
@@ -315,7 +316,7 @@ module _ (session : Session) (s : State) (f : Flat) (l : Laid session s f) (me :
 
   module _ (new : State) (cuts : CutsOff state_written C o new) where
     stands_then : Stands same_step new naming (cut same_step asked_first top)
-    stands_then = stands_cut same_step step_tests_equality state_written l.naming asked_first stands_first new C o (home_of me) Inside cuts at_inside at_home
+    stands_then = stands_cut same_step step_tests_equality state_written l.naming asked_first stands_first new C o (home_address me) Inside cuts at_inside at_home
 
     gone_then : new.objects boot_thread_number ≡ None
     gone_then =

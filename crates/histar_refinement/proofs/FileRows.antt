@@ -16,9 +16,9 @@ use Rattle.histar_layout.specs.declared.entry.Target.TheVariants as targets
 use Rattle.histar_layout.proofs.MapLemmas.{antisymmetric}
 use Rattle.histar_object.specs.declared.objects.Kind.{Kind}
 use Rattle.histar_object.specs.declared.objects.Kind.TheVariants.{Segment}
-use Rattle.histar_object.specs.Objects.{Objects, changed_at, holding, is_there}
-use Rattle.histar_object.specs.State.{State, Found, with_bytes}
-use Rattle.histar_container.specs.Tree.{Address, Naming, set_at, same}
+use Rattle.histar_object.specs.Objects.{Objects, changed_at, holding, is_present}
+use Rattle.histar_object.specs.State.{State, Found, with_segment_bytes}
+use Rattle.histar_container.specs.Tree.{Address, Naming, set_at, same_steps}
 use Rattle.histar_container.proofs.Addresses.{same_tests_equality}
 use Rattle.histar_container.proofs.Trees.{kind_held_links}
 use Rattle.histar_rules.specs.Rules.{greatest}
@@ -32,12 +32,13 @@ use Rattle.histar_refinement.specs.Categories.{CategoryName, Categories, IsMade,
 use Rattle.histar_refinement.specs.Categories.CategoryName.{OfBoot, ReadsUser, WritesUser, ReadsGroup, WritesGroup, ReadsProcess, WritesProcess, OfJob}
 use Rattle.histar_refinement.specs.Guards.{Guard, guard_label}
 use Rattle.histar_refinement.specs.Labels.{class_guard, process_guard}
-use Rattle.histar_refinement.specs.Addresses.{Step, Numbers, same_step, address_of, home_of, path_at, boot_number}
+use Rattle.histar_refinement.specs.Addresses.{Step, AddressNumbers, same_step, address_of, home_address, path_at, boot_number}
 use Rattle.histar_refinement.specs.Addresses.Step.{Listing, Named, Status, Inside, Runner}
 use Rattle.histar_refinement.specs.Processes.{status_by, process_bytes}
 use Rattle.histar_refinement.specs.Directories.{both_numbers, target_for, directory_of}
 use Rattle.histar_refinement.specs.Stands.{Stands}
-use Rattle.histar_refinement.specs.Expected.{segment, guarded_object, content_kind, node_object, listing_object, status_object, bytes_for, status_at, expected}
+use Rattle.histar_refinement.specs.Expected.{guarded_object, content_kind, node_object, listing_object, status_object, bytes_for, expected_status, expected}
+use Rattle.histar_login.specs.Start.{segment}
 use Rattle.histar_refinement.specs.LaysOut.{IsInOrder, AreJobsGiven, Laid}
 use Rattle.histar_refinement.proofs.ProcessBytes.{alike_status}
 use Rattle.histar_refinement.proofs.Places.{path_address, AsksAlikeAt, asked_alike_at, asked_path, asked_listing}
@@ -51,20 +52,20 @@ with_files f files = record f { files = files }
 
 -- ---- numbers at the addresses of processes
 
-pub record SameNumbers (number numbers : Numbers) : Type 0 where
-  pub home : (q : ProcName) → number (home_of q) ≡ numbers (home_of q)
-  pub status : (q : ProcName) → number (Status ∷ home_of q) ≡ numbers (Status ∷ home_of q)
-  pub inside : (q : ProcName) → number (Inside ∷ home_of q) ≡ numbers (Inside ∷ home_of q)
-  pub runner : (q : ProcName) → number (Runner ∷ Inside ∷ home_of q) ≡ numbers (Runner ∷ Inside ∷ home_of q)
+pub record SameNumbers (number numbers : AddressNumbers) : Type 0 where
+  pub home : (q : ProcName) → number (home_address q) ≡ numbers (home_address q)
+  pub status : (q : ProcName) → number (Status ∷ home_address q) ≡ numbers (Status ∷ home_address q)
+  pub inside : (q : ProcName) → number (Inside ∷ home_address q) ≡ numbers (Inside ∷ home_address q)
+  pub runner : (q : ProcName) → number (Runner ∷ Inside ∷ home_address q) ≡ numbers (Runner ∷ Inside ∷ home_address q)
 
 -- they tell the same of each process
-pub same_process_status : (number numbers : Numbers) → SameNumbers number numbers → (processes : ProcName → Option Process) (q : ProcName) (x : Process) → status_by processes number q x ≡ status_by processes numbers q x
-same_process_status number numbers same processes q x =
-    alike_status processes processes number numbers q x (same.inside q) (same.runner q) (λ k. same.home (k ∷ q)) (λ k. same.status (k ∷ q)) (λ k. refl)
+pub same_process_status : (number numbers : AddressNumbers) → SameNumbers number numbers → (processes : ProcName → Option Process) (q : ProcName) (x : Process) → status_by processes number q x ≡ status_by processes numbers q x
+same_process_status number numbers same_steps processes q x =
+    alike_status processes processes number numbers q x (same_steps.inside q) (same_steps.runner q) (λ k. same_steps.home (k ∷ q)) (λ k. same_steps.status (k ∷ q)) (λ k. refl)
 
 -- and so the bytes of its segment
-pub same_process_bytes : (number numbers : Numbers) → SameNumbers number numbers → (processes : ProcName → Option Process) (q : ProcName) (x : Process) → process_bytes processes number q x ≡ process_bytes processes numbers q x
-same_process_bytes number numbers same processes q x = ap status_bytes (same_process_status number numbers same processes q x)
+pub same_process_bytes : (number numbers : AddressNumbers) → SameNumbers number numbers → (processes : ProcName → Option Process) (q : ProcName) (x : Process) → process_bytes processes number q x ≡ process_bytes processes numbers q x
+same_process_bytes number numbers same_steps processes q x = ap status_bytes (same_process_status number numbers same_steps processes q x)
 
 -- ---- addresses of paths
 
@@ -73,11 +74,11 @@ pub same_address_path : (p q : Path) → address_of p ≡ address_of q → p ≡
 same_address_path p q e = same_Some p q (sym (path_address p) ∙ ap path_at e ∙ path_address q)
 
 -- no path leads to a process
-no_path_home : (q : ProcName) → path_at (home_of q) ≡ None
+no_path_home : (q : ProcName) → path_at (home_address q) ≡ None
 no_path_home [] = refl
 no_path_home (n ∷ p) = refl
 
-pub not_home : (p : Path) (q : ProcName) → address_of p ≢ home_of q
+pub not_home : (p : Path) (q : ProcName) → address_of p ≢ home_address q
 not_home p q e = none-some p (sym (no_path_home q) ∙ ap path_at (sym e) ∙ path_address p)
 
 -- a path's address does not begin with these steps
@@ -107,16 +108,16 @@ module _ (session : Session) (category : Categories) where
 -- ---- where entries lead
 
 -- where the entry of a path leads
-abbrev pub leads_at : Files Node → Numbers → Path → Option Target
+abbrev pub leads_at : Files Node → AddressNumbers → Path → Option Target
 leads_at files number p = option_and_then (λ (there : Node). target_for number (p, there)) (get files p)
 
 -- two directories are the same, where their entries lead to the same
-pub directories_alike : (files other : Files Node) (number numbers : Numbers) (d e : Path) → ((n : Name) → leads_at files number (n ∷ d) ≡ leads_at other numbers (n ∷ e)) → directory_of files number d ≡ directory_of other numbers e
+pub directories_alike : (files other : Files Node) (number numbers : AddressNumbers) (d e : Path) → ((n : Name) → leads_at files number (n ∷ d) ≡ leads_at other numbers (n ∷ e)) → directory_of files number d ≡ directory_of other numbers e
 directories_alike files other number numbers d e alike =
     finmap.same_map nat_list_cmp_total antisymmetric _ _ (λ n. get_directory files number d n ∙ alike n ∙ sym (get_directory other numbers e n))
 
 -- where an entry leads is told by two numbers
-pub same_leads : (files other : Files Node) (number numbers : Numbers) (p q : Path) → get files p ≡ get other q → number (address_of p) ≡ numbers (address_of q) → number (Listing ∷ address_of p) ≡ numbers (Listing ∷ address_of q)
+pub same_leads : (files other : Files Node) (number numbers : AddressNumbers) (p q : Path) → get files p ≡ get other q → number (address_of p) ≡ numbers (address_of q) → number (Listing ∷ address_of p) ≡ numbers (Listing ∷ address_of q)
     → leads_at files number p ≡ leads_at other numbers q
 same_leads files other number numbers p q found here listing = ap (option_and_then (λ (there : Node). target_for number (p, there))) found ∙ by (get other q)
   where
@@ -132,14 +133,14 @@ same_leads files other number numbers p q found here listing = ap (option_and_th
 
 -- ---- what is asked for
 
-module _ (session : Session) (category : Categories) (f : Flat) (files : Files Node) (number numbers : Numbers) (same : SameNumbers number numbers) where
+module _ (session : Session) (category : Categories) (f : Flat) (files : Files Node) (number numbers : AddressNumbers) (same_steps : SameNumbers number numbers) where
   -- process segments
-  pub same_status : (q : ProcName) → status_at session category f number (Some q) ≡ status_at session category (with_files f files) numbers (Some q)
+  pub same_status : (q : ProcName) → expected_status session category f number (Some q) ≡ expected_status session category (with_files f files) numbers (Some q)
   same_status q = by (f.processes q)
     where
       by : (x : Option Process) → status_object session category (bytes_for session category f number q x) q x ≡ status_object session category (bytes_for session category (with_files f files) numbers q x) q x
       by None = refl
-      by (Some x) = ap (segment (guard_label category (process_guard q x))) (same_process_bytes number numbers same f.processes q x)
+      by (Some x) = ap (segment (guard_label category (process_guard q x))) (same_process_bytes number numbers same_steps f.processes q x)
 
   -- where nothing has changed the same is asked for
   pub asked_same : (a : Address Step) → AsksAlikeAt session category category f (with_files f files) number numbers a → expected session category f number a ≡ expected session category (with_files f files) numbers a
@@ -149,25 +150,25 @@ module _ (session : Session) (category : Categories) (f : Flat) (files : Files N
 -- ---- what a state that is laid out has
 
 module _ (session : Session) (s : State) (f : Flat) (l : Laid session s f) where
-  guard_there : (kind : Kind Levels) (g : Option Guard) → g ≢ None → is_there (guarded_object session l.category kind g) ≡ true
+  guard_there : (kind : Kind Levels) (g : Option Guard) → g ≢ None → is_present (guarded_object session l.category kind g) ≡ true
   guard_there kind None some = absurd (some refl)
   guard_there kind (Some g) some = refl
 
   -- what stands at a path has a number
   pub numbered_path : (q : Path) (there : Node) → get f.files q ≡ Some there → is_some (l.naming.number (address_of q)) ≡ true
   numbered_path q there at =
-      l.stands.named (address_of q) ∙ ap is_there (asked_path session l.category f l.naming.number q ∙ ap (node_object session l.category) at)
+      l.stands.named (address_of q) ∙ ap is_present (asked_path session l.category f l.naming.number q ∙ ap (node_object session l.category) at)
       ∙ guard_there (content_kind there.content) (class_guard session there.class) (l.guarded q there at)
 
   -- and where there is a number something stands
   pub nothing_unnumbered : (q : Path) → get f.files q ≡ None → is_some (l.naming.number (address_of q)) ≡ false
-  nothing_unnumbered q at = l.stands.named (address_of q) ∙ ap is_there (asked_path session l.category f l.naming.number q ∙ ap (node_object session l.category) at)
+  nothing_unnumbered q at = l.stands.named (address_of q) ∙ ap is_present (asked_path session l.category f l.naming.number q ∙ ap (node_object session l.category) at)
 
   -- a directory's segment has a number
   pub numbered_listing : (q : Path) (class : Class) → get f.files q ≡ Some (record { class = class; content = Dir }) → is_some (l.naming.number (Listing ∷ address_of q)) ≡ true
   numbered_listing q class at =
       l.stands.named (Listing ∷ address_of q)
-      ∙ ap is_there (asked_listing session l.category f l.naming.number q ∙ ap (listing_object session l.category (spelling (directory_of f.files l.naming.number q))) at)
+      ∙ ap is_present (asked_listing session l.category f l.naming.number q ∙ ap (listing_object session l.category (spelling (directory_of f.files l.naming.number q))) at)
       ∙ guard_there (Segment (spelling (directory_of f.files l.naming.number q))) (class_guard session class) (l.guarded q (record { class = class; content = Dir }) at)
 
   -- where nothing stands, nothing stands below
@@ -280,12 +281,12 @@ module _ (session : Session) (s : State) (f : Flat) (l : Laid session s f) where
           → ((a : Address Step) (q : ℕ) → boot_number (length session.users) a ≡ Some q → naming.number a ≡ Some q)
           → ((e : Path) → is_dir_at refiled e ≡ true → IsListable (directory_of files naming.number e))
           → mid.next_category ≡ s.next_category → mid.objects boot_thread_number ≡ None
-          → (later : Laid session (with_bytes mid N (spelling (directory_of files naming.number d))) refiled) × (later.naming ≡ naming) × (later.category ≡ l.category)
+          → (later : Laid session (with_segment_bytes mid N (spelling (directory_of files naming.number d))) refiled) × (later.naming ≡ naming) × (later.category ≡ l.category)
       laid_listed mid naming asked stands numbered d N at_listing old asked_here asked_else booted listable same_next gone =
-          laid_files (with_bytes mid N (spelling (directory_of files naming.number d))) naming (stands_same same_step (with_bytes mid N (spelling (directory_of files naming.number d))) (with_bytes mid N (spelling (directory_of files naming.number d))) naming _ (expected session l.category refiled naming.number) written asks (λ q. refl) refl) numbered
+          laid_files (with_segment_bytes mid N (spelling (directory_of files naming.number d))) naming (stands_same same_step (with_segment_bytes mid N (spelling (directory_of files naming.number d))) (with_segment_bytes mid N (spelling (directory_of files naming.number d))) naming _ (expected session l.category refiled naming.number) written asks (λ q. refl) refl) numbered
           booted listable same_next (by_bytes mid.objects N boot_thread_number gone)
         where
-          written : Stands same_step (with_bytes mid N (spelling (directory_of files naming.number d))) naming (set_at same_step asked (Listing ∷ address_of d) (option_map (holding (spelling (directory_of files naming.number d))) (asked (Listing ∷ address_of d))))
+          written : Stands same_step (with_segment_bytes mid N (spelling (directory_of files naming.number d))) naming (set_at same_step asked (Listing ∷ address_of d) (option_map (holding (spelling (directory_of files naming.number d))) (asked (Listing ∷ address_of d))))
           written = stands_changed same_step step_tests_equality mid naming asked stands N (Listing ∷ address_of d) (holding (spelling (directory_of files naming.number d))) at_listing
               (λ x. kind_held_links (spelling (directory_of files naming.number d)) x.kind) (bare_held (spelling (directory_of files naming.number d)))
 

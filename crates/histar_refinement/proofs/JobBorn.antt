@@ -19,7 +19,7 @@ use Rattle.histar_refinement.specs.Categories.{Categories, IsKnown, IsServed, Is
 use Rattle.histar_refinement.specs.Categories.CategoryName.{OfJob}
 use Rattle.histar_refinement.specs.Guards.{rights_label, rights_clearance}
 use Rattle.histar_refinement.specs.Labels.{thread_rights}
-use Rattle.histar_refinement.specs.Addresses.{home_of}
+use Rattle.histar_refinement.specs.Addresses.{home_address}
 use Rattle.histar_refinement.specs.Addresses.Step.{Status, Inside, Runner}
 use Rattle.histar_refinement.specs.LaysOut.{AreInOrder, Laid}
 use Rattle.histar_rules.specs.Rules.{greatest}
@@ -33,7 +33,7 @@ use Rattle.histar_refinement.proofs.Becoming.{becomes, job_used as job_used_then
 module _ (session : Session) (s : State) (f : Flat) (l : Laid session s f) (me : ProcName) (p : Process) (here : f.processes me ≡ Some p) (runs : p.exited ≡ None) (room : p.born < 64)
     (declared : is_some (user_number session p.user) ≡ true) (served : IsServed f ((p.born + 1) ∷ me)) (stranger : has p.chain ((p.born + 1) ∷ me) ≡ false)
     (jobs_ordered : AreInOrder l.category (p.chain ++ ((p.born + 1) ∷ me) ∷ [])) (held_ordered : AreInOrder l.category (p.held ++ ((p.born + 1) ∷ me) ∷ []))
-    (C S T : ℕ) (at_home : l.naming.number (home_of me) ≡ Some C) (at_status : l.naming.number (Status ∷ home_of me) ≡ Some S) (at_thread : l.naming.number (Runner ∷ Inside ∷ home_of me) ≡ Some T) (few : s.next_object + 3 < greatest) where
+    (C S T : ℕ) (at_home : l.naming.number (home_address me) ≡ Some C) (at_status : l.naming.number (Status ∷ home_address me) ≡ Some S) (at_thread : l.naming.number (Runner ∷ Inside ∷ home_address me) ≡ Some T) (few : s.next_object + 3 < greatest) where
   abbrev child : ProcName
   child = (p.born + 1) ∷ me
 
@@ -84,8 +84,8 @@ module _ (session : Session) (s : State) (f : Flat) (l : Laid session s f) (me :
   parent_there : born.processes me ≡ Some parent
   parent_there = at_me session s f l me p here runs room jobs jobs_used jobs_ordered jobs_free C S at_home at_status
 
-  thread_there : b.naming.number (Runner ∷ Inside ∷ home_of me) ≡ Some T
-  thread_there = ap (λ nm. nm.number (Runner ∷ Inside ∷ home_of me)) laid_born.1 ∙ sym (kept_runner session s f l me p here runs room jobs jobs_used jobs_ordered jobs_free C S at_home at_status me (λ e. child_not_me session s f l me p here runs room jobs jobs_used jobs_ordered jobs_free C S at_home at_status (sym e))) ∙ at_thread
+  thread_there : b.naming.number (Runner ∷ Inside ∷ home_address me) ≡ Some T
+  thread_there = ap (λ nm. nm.number (Runner ∷ Inside ∷ home_address me)) laid_born.1 ∙ sym (kept_runner session s f l me p here runs room jobs jobs_used jobs_ordered jobs_free C S at_home at_status me (λ e. child_not_me session s f l me p here runs room jobs jobs_used jobs_ordered jobs_free C S at_home at_status (sym e))) ∙ at_thread
 
   held_used : (job : ProcName) → has held job ≡ true → IsUsed session born (OfJob job)
   held_used job e = elim (longer_has p.held child job e) [

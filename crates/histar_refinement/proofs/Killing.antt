@@ -5,15 +5,15 @@ use Rattle.std.proofs.lemmas.Option.{none-some}
 use Rattle.std.proofs.lemmas.Bool.{and_from}
 use mathlib.Core.Bool.{true≢false}
 use Rattle.histar_flat.specs.Words.{Path, ProcName}
-use Rattle.histar_flat.specs.PathOrder.{same as same_name}
+use Rattle.histar_flat.specs.PathOrder.{same_steps as same_name}
 use Rattle.histar_flat.specs.Files.{get}
 use Rattle.histar_flat.proofs.FileLemmas.{same_name_found}
 use Rattle.histar_label.specs.Levels.{Levels}
 use Rattle.histar_layout.specs.Directory.{Entries, IsListable, spelling}
 use Rattle.histar_object.specs.Objects.{Objects, changed_at, holding}
-use Rattle.histar_object.specs.State.{State, Found, with_bytes}
+use Rattle.histar_object.specs.State.{State, Found, with_segment_bytes}
 use Rattle.histar_container.specs.ObjectsModel.{CutsOff}
-use Rattle.histar_container.specs.Tree.{Address, Naming, wanted, without_below, under, is_under, set_at, cut, same, objects_at}
+use Rattle.histar_container.specs.Tree.{Address, Naming, wanted, without_below, under, is_under, set_at, cut, same_steps, objects_at}
 use Rattle.histar_container.proofs.Addresses.{same_tests_equality, same_itself, same_other, above}
 use Rattle.histar_container.proofs.Trees.{kind_held_links}
 use Rattle.histar_rules.specs.Rules.{greatest}
@@ -26,11 +26,12 @@ use Rattle.histar_refinement.specs.Categories.{CategoryName, IsMade, IsKnown, Is
 use Rattle.histar_refinement.specs.Categories.CategoryName.{OfBoot, ReadsUser, WritesUser, ReadsGroup, WritesGroup, ReadsProcess, WritesProcess, OfJob}
 use Rattle.histar_refinement.specs.Guards.{guard_label}
 use Rattle.histar_refinement.specs.Labels.{process_guard}
-use Rattle.histar_refinement.specs.Addresses.{Step, same_step, address_of, home_of, path_at, process_at, inside_at, boot_number}
+use Rattle.histar_refinement.specs.Addresses.{Step, same_step, address_of, home_address, path_at, process_at, inside_at, boot_number}
 use Rattle.histar_refinement.specs.Addresses.Step.{Left, Slash, Listing, Named, Home, Status, Inside, Runner, Child}
 use Rattle.histar_refinement.specs.Processes.{process_bytes}
 use Rattle.histar_refinement.specs.Stands.{Stands}
-use Rattle.histar_refinement.specs.Expected.{segment, listing_object, home_object, status_object, inside_object, thread_object, node_at, listing_at, home_at, bytes_for, status_at, container_inside, thread_at, expected}
+use Rattle.histar_refinement.specs.Expected.{listing_object, home_object, status_object, inside_object, thread_object, expected_node, listing_at, expected_home, bytes_for, expected_status, container_inside, thread_at, expected}
+use Rattle.histar_login.specs.Start.{segment}
 use Rattle.histar_refinement.specs.LaysOut.{AreJobsGiven, Laid, LaysOut}
 use Rattle.histar_refinement.proofs.ProcessBytes.{alike_bytes}
 use Rattle.histar_refinement.proofs.Members.{first_of, second_of}
@@ -39,7 +40,7 @@ use Rattle.histar_refinement.proofs.Steps.{step_tests_equality}
 use Rattle.histar_refinement.proofs.Moving.{bare_held, stands_changed, stands_cut, stands_same, no_address}
 
 module _ (session : Session) (s : State) (f : Flat) (l : Laid session s f) (me : ProcName) (p : Process) (here : f.processes me ≡ Some p) (n C S o : ℕ)
-    (at_home : l.naming.number (home_of me) ≡ Some C) (at_own : l.naming.number (Status ∷ home_of me) ≡ Some S) (at_victim : l.naming.number (home_of (n ∷ me)) ≡ Some o)
+    (at_home : l.naming.number (home_address me) ≡ Some C) (at_own : l.naming.number (Status ∷ home_address me) ≡ Some S) (at_victim : l.naming.number (home_address (n ∷ me)) ≡ Some o)
     (mid : State) (cuts : CutsOff s C o mid) where
   abbrev top : ProcName
   top = n ∷ me
@@ -48,23 +49,23 @@ module _ (session : Session) (s : State) (f : Flat) (l : Laid session s f) (me :
   after = without_process f top
 
   abbrev naming : Naming Step
-  naming = without_below same_step l.naming (home_of top)
+  naming = without_below same_step l.naming (home_address top)
 
   abbrev old_asked : Address Step → Found
   old_asked = expected session l.category f l.naming.number
 
   -- what is below the victim's address is what is below its name
-  same_homes : (x y : ProcName) → same same_step (home_of x) (home_of y) ≡ same_name x y
+  same_homes : (x y : ProcName) → same_steps same_step (home_address x) (home_address y) ≡ same_name x y
   same_homes x y = elim (same_name_found x y) [
-    | inl e ↦ ap (λ (z : ProcName). same same_step (home_of x) (home_of z)) (sym e.1) ∙ same_itself same_step step_tests_equality (home_of x) ∙ sym e.0
-    | inr e ↦ same_other same_step step_tests_equality (home_of x) (home_of y) (λ k. e.1 (same_home x y k)) ∙ sym e.0
+    | inl e ↦ ap (λ (z : ProcName). same_steps same_step (home_address x) (home_address z)) (sym e.1) ∙ same_itself same_step step_tests_equality (home_address x) ∙ sym e.0
+    | inr e ↦ same_other same_step step_tests_equality (home_address x) (home_address y) (λ k. e.1 (same_home x y k)) ∙ sym e.0
   ]
 
-  under_home : (q : ProcName) → under same_step (home_of top) (home_of q) ≡ under_process top q
+  under_home : (q : ProcName) → under same_step (home_address top) (home_address q) ≡ under_process top q
   under_home [] = refl
   under_home (k ∷ q) = λ i. same_homes top (k ∷ q) i || under_home q i
 
-  under_path : (q : Path) → under same_step (home_of top) (address_of q) ≡ false
+  under_path : (q : Path) → under same_step (home_address top) (address_of q) ≡ false
   under_path [] = refl
   under_path (m ∷ d) = under_path d
 
@@ -74,10 +75,10 @@ module _ (session : Session) (s : State) (f : Flat) (l : Laid session s f) (me :
   stays : (q : ProcName) → under_process top q ≡ false → after.processes q ≡ f.processes q
   stays q e = ap (λ b. cond b None (f.processes q)) e
 
-  own_outside : under same_step (home_of top) (Status ∷ home_of me) ≡ false
-  own_outside = above same_step step_tests_equality (home_of me) (Child n)
+  own_outside : under same_step (home_address top) (Status ∷ home_address me) ≡ false
+  own_outside = above same_step step_tests_equality (home_address me) (Child n)
 
-  kept : (b : Address Step) → under same_step (home_of top) b ≡ false → l.naming.number b ≡ naming.number b
+  kept : (b : Address Step) → under same_step (home_address top) b ≡ false → l.naming.number b ≡ naming.number b
   kept b e = sym (ap (λ (t : Bool). if t then None else l.naming.number b) e)
 
   kept_path : (q : Path) → l.naming.number (address_of q) ≡ naming.number (address_of q)
@@ -91,43 +92,43 @@ module _ (session : Session) (s : State) (f : Flat) (l : Laid session s f) (me :
 
   -- the state once the victim is unlinked and its parent's segment is written
   abbrev pub state_left : State
-  state_left = with_bytes mid S own_written
+  state_left = with_segment_bytes mid S own_written
 
-  stands_mid : Stands same_step mid naming (cut same_step old_asked (home_of top))
-  stands_mid = stands_cut same_step step_tests_equality s l.naming old_asked l.stands mid C o (home_of me) (Child n) cuts at_victim at_home
+  stands_mid : Stands same_step mid naming (cut same_step old_asked (home_address top))
+  stands_mid = stands_cut same_step step_tests_equality s l.naming old_asked l.stands mid C o (home_address me) (Child n) cuts at_victim at_home
 
-  stands_left : Stands same_step state_left naming (set_at same_step (cut same_step old_asked (home_of top)) (Status ∷ home_of me) (option_map (holding own_written) (cut same_step old_asked (home_of top) (Status ∷ home_of me))))
-  stands_left = stands_changed same_step step_tests_equality mid naming (cut same_step old_asked (home_of top)) stands_mid S (Status ∷ home_of me) (holding own_written)
-      (sym (kept (Status ∷ home_of me) own_outside) ∙ at_own) (λ x. kind_held_links own_written x.kind) (bare_held own_written)
+  stands_left : Stands same_step state_left naming (set_at same_step (cut same_step old_asked (home_address top)) (Status ∷ home_address me) (option_map (holding own_written) (cut same_step old_asked (home_address top) (Status ∷ home_address me))))
+  stands_left = stands_changed same_step step_tests_equality mid naming (cut same_step old_asked (home_address top)) stands_mid S (Status ∷ home_address me) (holding own_written)
+      (sym (kept (Status ∷ home_address me) own_outside) ∙ at_own) (λ x. kind_held_links own_written x.kind) (bare_held own_written)
 
   abbrev wish : Address Step → Found
   wish = expected session l.category after naming.number
 
   -- no path leads below the victim
-  no_path : (a : Address Step) → under same_step (home_of top) a ≡ true → path_at a ≡ None
+  no_path : (a : Address Step) → under same_step (home_address top) a ≡ true → path_at a ≡ None
   no_path a e = by (path_at a) refl
     where
       by : (q : Option Path) → path_at a ≡ q → q ≡ None
       by None is = refl
-      by (Some q) is = absurd (true≢false (sym e ∙ ap (under same_step (home_of top)) (address_path a q is) ∙ under_path q))
+      by (Some q) is = absurd (true≢false (sym e ∙ ap (under same_step (home_address top)) (address_path a q is) ∙ under_path q))
 
-  below : (a : Address Step) (q : ProcName) → under same_step (home_of top) a ≡ true → a ≡ home_of q → after.processes q ≡ None
-  below a q e is = gone q (sym (under_home q) ∙ ap (under same_step (home_of top)) (sym is) ∙ e)
+  below : (a : Address Step) (q : ProcName) → under same_step (home_address top) a ≡ true → a ≡ home_address q → after.processes q ≡ None
+  below a q e is = gone q (sym (under_home q) ∙ ap (under same_step (home_address top)) (sym is) ∙ e)
 
   -- below the victim's address nothing is asked for
-  nothing_below : (a : Address Step) → under same_step (home_of top) a ≡ true → wish a ≡ None
+  nothing_below : (a : Address Step) → under same_step (home_address top) a ≡ true → wish a ≡ None
   nothing_below [] e = absurd (true≢false (sym e))
   nothing_below (Left k ∷ []) e = absurd (true≢false (sym e))
   nothing_below (Left k ∷ x ∷ a) e = refl
   nothing_below (Slash ∷ []) e = absurd (true≢false (sym e))
   nothing_below (Slash ∷ x ∷ a) e = refl
   nothing_below (Listing ∷ a) e = ap (listing_at session l.category after naming.number) (no_path a e)
-  nothing_below (Named m ∷ a) e = ap (node_at session l.category after naming.number) (no_path (Named m ∷ a) e)
+  nothing_below (Named m ∷ a) e = ap (expected_node session l.category after naming.number) (no_path (Named m ∷ a) e)
   nothing_below (Home ∷ []) e = absurd (true≢false (sym e))
   nothing_below (Home ∷ x ∷ a) e = refl
   nothing_below (Status ∷ a) e = by (process_at a) refl
     where
-      by : (q : Option ProcName) → process_at a ≡ q → status_at session l.category after naming.number q ≡ None
+      by : (q : Option ProcName) → process_at a ≡ q → expected_status session l.category after naming.number q ≡ None
       by None is = refl
       by (Some q) is = ap (λ (x : Option Process). status_object session l.category (bytes_for session l.category after naming.number q x) q x) (below a q e (address_process a q is))
   nothing_below (Inside ∷ a) e = by (process_at a) refl
@@ -139,10 +140,10 @@ module _ (session : Session) (s : State) (f : Flat) (l : Laid session s f) (me :
     where
       by : (q : Option ProcName) → inside_at a ≡ q → thread_at session l.category after naming.number q ≡ None
       by None is = refl
-      by (Some q) is = ap (thread_object session l.category q) (gone q (sym (under_home q) ∙ ap (under same_step (home_of top)) (sym (address_inside a q is)) ∙ e))
+      by (Some q) is = ap (thread_object session l.category q) (gone q (sym (under_home q) ∙ ap (under same_step (home_address top)) (sym (address_inside a q is)) ∙ e))
   nothing_below (Child k ∷ a) e = by (process_at (Child k ∷ a)) refl
     where
-      by : (q : Option ProcName) → process_at (Child k ∷ a) ≡ q → home_at session l.category after naming.number q ≡ None
+      by : (q : Option ProcName) → process_at (Child k ∷ a) ≡ q → expected_home session l.category after naming.number q ≡ None
       by None is = refl
       by (Some q) is = ap (home_object session l.category q) (below (Child k ∷ a) q e (address_process (Child k ∷ a) q is))
 
@@ -154,10 +155,10 @@ module _ (session : Session) (s : State) (f : Flat) (l : Laid session s f) (me :
 
   -- another process that is not below the victim keeps its process segment
   same_bytes : (q : ProcName) (x : Process) → under_process top q ≡ false → q ≢ me → process_bytes f.processes l.naming.number q x ≡ process_bytes after.processes naming.number q x
-  same_bytes q x out not_me = alike_bytes f.processes after.processes l.naming.number naming.number q x (kept (Inside ∷ home_of q) outside) (kept (Runner ∷ Inside ∷ home_of q) outside)
-      (λ k. kept (home_of (k ∷ q)) (child_outside k)) (λ k. kept (Status ∷ home_of (k ∷ q)) (child_outside k)) (λ k. ap is_some (sym (stays (k ∷ q) (child_out k))))
+  same_bytes q x out not_me = alike_bytes f.processes after.processes l.naming.number naming.number q x (kept (Inside ∷ home_address q) outside) (kept (Runner ∷ Inside ∷ home_address q) outside)
+      (λ k. kept (home_address (k ∷ q)) (child_outside k)) (λ k. kept (Status ∷ home_address (k ∷ q)) (child_outside k)) (λ k. ap is_some (sym (stays (k ∷ q) (child_out k))))
     where
-      outside : under same_step (home_of top) (home_of q) ≡ false
+      outside : under same_step (home_address top) (home_address q) ≡ false
       outside = under_home q ∙ out
 
       child_out : (k : ℕ) → under_process top (k ∷ q) ≡ false
@@ -166,21 +167,21 @@ module _ (session : Session) (s : State) (f : Flat) (l : Laid session s f) (me :
         | inr e ↦ (λ i. e.0 i || out i)
       ]
 
-      child_outside : (k : ℕ) → under same_step (home_of top) (home_of (k ∷ q)) ≡ false
+      child_outside : (k : ℕ) → under same_step (home_address top) (home_address (k ∷ q)) ≡ false
       child_outside k = under_home (k ∷ q) ∙ child_out k
 
-  outside_of : (a : Address Step) (q : ProcName) → under same_step (home_of top) a ≡ false → under same_step (home_of top) a ≡ under same_step (home_of top) (home_of q) → under_process top q ≡ false
+  outside_of : (a : Address Step) (q : ProcName) → under same_step (home_address top) a ≡ false → under same_step (home_address top) a ≡ under same_step (home_address top) (home_address q) → under_process top q ≡ false
   outside_of a q e is = sym (under_home q) ∙ sym is ∙ e
 
-  wish_other : (a : Address Step) → under same_step (home_of top) a ≡ false → Status ∷ home_of me ≢ a → old_asked a ≡ wish a
+  wish_other : (a : Address Step) → under same_step (home_address top) a ≡ false → Status ∷ home_address me ≢ a → old_asked a ≡ wish a
   wish_other a e not_own = asked_alike session l.category l.category f after l.naming.number naming.number files_alike a (record {
-    home = λ q is. ap (home_object session l.category q) (sym (stays q (outside_of a q e (ap (under same_step (home_of top)) is))));
-    status = λ q is. status_alike q (outside_of a q e (ap (under same_step (home_of top)) is)) (λ k. not_own (ap (λ (x : ProcName). Status ∷ home_of x) (sym k) ∙ sym is));
-    inside = λ q is. ap (inside_object session l.category q) (sym (stays q (outside_of a q e (ap (under same_step (home_of top)) is))));
-    runner = λ q is. ap (thread_object session l.category q) (sym (stays q (outside_of a q e (ap (under same_step (home_of top)) is))));
+    home = λ q is. ap (home_object session l.category q) (sym (stays q (outside_of a q e (ap (under same_step (home_address top)) is))));
+    status = λ q is. status_alike q (outside_of a q e (ap (under same_step (home_address top)) is)) (λ k. not_own (ap (λ (x : ProcName). Status ∷ home_address x) (sym k) ∙ sym is));
+    inside = λ q is. ap (inside_object session l.category q) (sym (stays q (outside_of a q e (ap (under same_step (home_address top)) is))));
+    runner = λ q is. ap (thread_object session l.category q) (sym (stays q (outside_of a q e (ap (under same_step (home_address top)) is))));
   })
     where
-      status_alike : (q : ProcName) → under_process top q ≡ false → q ≢ me → status_at session l.category f l.naming.number (Some q) ≡ status_at session l.category after naming.number (Some q)
+      status_alike : (q : ProcName) → under_process top q ≡ false → q ≢ me → expected_status session l.category f l.naming.number (Some q) ≡ expected_status session l.category after naming.number (Some q)
       status_alike q out not_me = by (f.processes q) ∙ sym (ap (λ (x : Option Process). status_object session l.category (bytes_for session l.category after naming.number q x) q x) (stays q out))
         where
           by : (x : Option Process) → status_object session l.category (bytes_for session l.category f l.naming.number q x) q x ≡ status_object session l.category (bytes_for session l.category after naming.number q x) q x
@@ -190,23 +191,23 @@ module _ (session : Session) (s : State) (f : Flat) (l : Laid session s f) (me :
   me_out : under_process top me ≡ false
   me_out = sym (under_home me) ∙ own_outside
 
-  wish_own : option_map (holding own_written) (old_asked (Status ∷ home_of me)) ≡ wish (Status ∷ home_of me)
+  wish_own : option_map (holding own_written) (old_asked (Status ∷ home_address me)) ≡ wish (Status ∷ home_address me)
   wish_own =
       ap (option_map (holding own_written)) (asked_status session l.category f l.naming.number me ∙ ap (λ (x : Option Process). status_object session l.category (bytes_for session l.category f l.naming.number me x) me x) here)
       ∙ sym (asked_status session l.category after naming.number me ∙ ap (λ (x : Option Process). status_object session l.category (bytes_for session l.category after naming.number me x) me x) (stays me me_out ∙ here))
 
-  left_asks : (a : Address Step) → set_at same_step (cut same_step old_asked (home_of top)) (Status ∷ home_of me) (option_map (holding own_written) (cut same_step old_asked (home_of top) (Status ∷ home_of me))) a ≡ wish a
-  left_asks a = elim (same_tests_equality same_step step_tests_equality (Status ∷ home_of me) a) [
+  left_asks : (a : Address Step) → set_at same_step (cut same_step old_asked (home_address top)) (Status ∷ home_address me) (option_map (holding own_written) (cut same_step old_asked (home_address top) (Status ∷ home_address me))) a ≡ wish a
+  left_asks a = elim (same_tests_equality same_step step_tests_equality (Status ∷ home_address me) a) [
     | inl e ↦
-        ap (λ (t : Bool). if t then option_map (holding own_written) (cut same_step old_asked (home_of top) (Status ∷ home_of me)) else cut same_step old_asked (home_of top) a) e.0
-        ∙ ap (λ (t : Bool). option_map (holding own_written) (if t then None else old_asked (Status ∷ home_of me))) own_outside
+        ap (λ (t : Bool). if t then option_map (holding own_written) (cut same_step old_asked (home_address top) (Status ∷ home_address me)) else cut same_step old_asked (home_address top) a) e.0
+        ∙ ap (λ (t : Bool). option_map (holding own_written) (if t then None else old_asked (Status ∷ home_address me))) own_outside
         ∙ wish_own ∙ ap wish e.1
     | inr e ↦
-        ap (λ (t : Bool). if t then option_map (holding own_written) (cut same_step old_asked (home_of top) (Status ∷ home_of me)) else cut same_step old_asked (home_of top) a) e.0
-        ∙ by (under same_step (home_of top) a) refl e.1
+        ap (λ (t : Bool). if t then option_map (holding own_written) (cut same_step old_asked (home_address top) (Status ∷ home_address me)) else cut same_step old_asked (home_address top) a) e.0
+        ∙ by (under same_step (home_address top) a) refl e.1
   ]
     where
-      by : (t : Bool) → under same_step (home_of top) a ≡ t → Status ∷ home_of me ≢ a → (if t then None else old_asked a) ≡ wish a
+      by : (t : Bool) → under same_step (home_address top) a ≡ t → Status ∷ home_address me ≢ a → (if t then None else old_asked a) ≡ wish a
       by true e other = sym (nothing_below a e)
       by false e other = wish_other a e other
 
@@ -245,21 +246,21 @@ module _ (session : Session) (s : State) (f : Flat) (l : Laid session s f) (me :
       by false i given = ap (λ (x : Option Process). was_given x k) (stays y i) ∙ given
 
   -- boot made nothing below the victim's address
-  not_boot : (a : Address Step) → under same_step (home_of top) a ≡ true → boot_number (length session.users) a ≡ None
+  not_boot : (a : Address Step) → under same_step (home_address top) a ≡ true → boot_number (length session.users) a ≡ None
   not_boot [] e = absurd (true≢false (sym e))
   not_boot (Left k ∷ []) e = absurd (true≢false (sym e))
   not_boot (Left k ∷ x ∷ a) e = refl
   not_boot (Slash ∷ []) e = absurd (true≢false (sym e))
   not_boot (Slash ∷ x ∷ a) e = refl
   not_boot (Listing ∷ a) e = elim (same_tests_equality same_step step_tests_equality (Slash ∷ []) a) [
-    | inl i ↦ absurd (true≢false (sym e ∙ ap (under same_step (home_of top)) (sym i.1)))
+    | inl i ↦ absurd (true≢false (sym e ∙ ap (under same_step (home_address top)) (sym i.1)))
     | inr i ↦ ap (λ t. cond t (Some (5 + 2 * length session.users)) None) i.0
   ]
   not_boot (Named m ∷ a) e = refl
   not_boot (Home ∷ []) e = absurd (true≢false (sym e))
   not_boot (Home ∷ x ∷ a) e = refl
   not_boot (Status ∷ a) e = elim (same_tests_equality same_step step_tests_equality (Home ∷ []) a) [
-    | inl i ↦ absurd (true≢false (sym e ∙ ap (under same_step (home_of top)) (sym i.1)))
+    | inl i ↦ absurd (true≢false (sym e ∙ ap (under same_step (home_address top)) (sym i.1)))
     | inr i ↦ ap (λ t. cond t (Some (9 + 2 * length session.users)) None) i.0
   ]
   not_boot (Inside ∷ a) e = refl
@@ -267,16 +268,16 @@ module _ (session : Session) (s : State) (f : Flat) (l : Laid session s f) (me :
   not_boot (Child k ∷ a) e = refl
 
   as_booted_then : (a : Address Step) (q : ℕ) → boot_number (length session.users) a ≡ Some q → naming.number a ≡ Some q
-  as_booted_then a q e = by (under same_step (home_of top) a) refl
+  as_booted_then a q e = by (under same_step (home_address top) a) refl
     where
-      by : (t : Bool) → under same_step (home_of top) a ≡ t → naming.number a ≡ Some q
+      by : (t : Bool) → under same_step (home_address top) a ≡ t → naming.number a ≡ Some q
       by true i = absurd (none-some q (sym (not_boot a i) ∙ e))
       by false i = sym (kept a i) ∙ l.as_booted a q e
 
   gone_then : mid.objects boot_thread_number ≡ None
   gone_then =
       stands_mid.tree.as_expected boot_thread_number
-      ∙ ap (wanted (objects_at mid.objects naming)) (ap (λ (x : Option (Address Step)). if is_under same_step (home_of top) x then None else x) (no_address same_step s l.naming old_asked l.stands boot_thread_number l.boot_thread_gone))
+      ∙ ap (wanted (objects_at mid.objects naming)) (ap (λ (x : Option (Address Step)). if is_under same_step (home_address top) x then None else x) (no_address same_step s l.naming old_asked l.stands boot_thread_number l.boot_thread_gone))
 
   -- the numbers in the names of jobs were given as before
   pub jobs_left : AreJobsGiven f → AreJobsGiven after

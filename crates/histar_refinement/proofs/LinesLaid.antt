@@ -9,7 +9,7 @@ use Rattle.histar_flat.specs.Files.{get}
 use Rattle.histar_label.specs.Levels.{Levels}
 use Rattle.histar_object.specs.declared.objects.Kind.{Kind}
 use Rattle.histar_object.specs.declared.objects.Kind.TheVariants.{Segment, Container, Thread, Gate}
-use Rattle.histar_object.specs.Objects.{bytes_in, is_there}
+use Rattle.histar_object.specs.Objects.{bytes_in, is_present}
 use Rattle.histar_object.specs.State.{State, Found}
 use Rattle.histar_layout.specs.Directory.{Entries, IsDirectory, spelling}
 use Rattle.histar_layout.specs.declared.entry.Target.{Target}
@@ -20,11 +20,12 @@ use Rattle.histar_flat.specs.FlatState.Content.{Dir, File}
 use Rattle.histar_refinement.specs.Categories.{Categories}
 use Rattle.histar_refinement.specs.Guards.{Guard, guard_label}
 use Rattle.histar_refinement.specs.Labels.{class_guard}
-use Rattle.histar_refinement.specs.Addresses.{Numbers, address_of}
+use Rattle.histar_refinement.specs.Addresses.{AddressNumbers, address_of}
 use Rattle.histar_refinement.specs.Addresses.Step.{Slash, Listing, Named}
 use Rattle.histar_refinement.specs.Stands.{bare}
 use Rattle.histar_refinement.specs.Directories.{both_numbers, target_for, directory_of}
-use Rattle.histar_refinement.specs.Expected.{segment, guarded_object, listing_object}
+use Rattle.histar_refinement.specs.Expected.{guarded_object, listing_object}
+use Rattle.histar_login.specs.Start.{segment}
 use Rattle.histar_refinement.specs.LaysOut.{Laid}
 use Rattle.histar_refinement.specs.Lines.{IsDirectoryAt}
 use Rattle.histar_refinement.proofs.Places.{asked_listing}
@@ -61,7 +62,7 @@ module _ (session : Session) (category : Categories) (bytes : List ℕ) where
       by (File old) is = absurd (true≢false (sym is))
 
 -- where a directory's entry leads
-pub leads_to : (number : Numbers) (q : Path) (o : Option Node) → is_some_and o is_dir ≡ true
+pub leads_to : (number : AddressNumbers) (q : Path) (o : Option Node) → is_some_and o is_dir ≡ true
     → option_and_then (λ (there : Node). target_for number (q, there)) o ≡ both_numbers (number (address_of q)) (number (Listing ∷ address_of q))
 leads_to number q None e = absurd (true≢false (sym e))
 leads_to number q (Some there) e = by there.content e
@@ -76,7 +77,7 @@ is_directory_target (targets.File file) = false
 is_directory_target (targets.Directory container listing) = true
 
 -- what leads to two numbers is a directory
-led_to_dir : (number : Numbers) (q : Path) (o : Option Node) (c g : ℕ) → option_and_then (λ (there : Node). target_for number (q, there)) o ≡ Some (targets.Directory c g) → is_some_and o is_dir ≡ true
+led_to_dir : (number : AddressNumbers) (q : Path) (o : Option Node) (c g : ℕ) → option_and_then (λ (there : Node). target_for number (q, there)) o ≡ Some (targets.Directory c g) → is_some_and o is_dir ≡ true
 led_to_dir number q None c g e = absurd (none-some (targets.Directory c g) e)
 led_to_dir number q (Some there) c g e = by there.content e
   where
@@ -107,7 +108,7 @@ module _ (session : Session) (s : State) (f : Flat) (l : Laid session s f) where
   listed_here d is = listing_there session l.category (spelling (directory_of f.files l.naming.number d)) (get f.files d) is (l.guarded d)
 
   has_listing : (d : Path) → is_dir_at f d ≡ true → is_some (l.naming.number (Listing ∷ address_of d)) ≡ true
-  has_listing d is = l.stands.named (Listing ∷ address_of d) ∙ ap is_there (asked_listing session l.category f l.naming.number d ∙ (listed_here d is).1)
+  has_listing d is = l.stands.named (Listing ∷ address_of d) ∙ ap is_present (asked_listing session l.category f l.naming.number d ∙ (listed_here d is).1)
 
   pub holds_directory : (d : Path) (g : ℕ) → is_dir_at f d ≡ true → l.naming.number (Listing ∷ address_of d) ≡ Some g → IsDirectory (bytes_in (s.objects g)) (directory_of f.files l.naming.number d)
   holds_directory d g is at = record {

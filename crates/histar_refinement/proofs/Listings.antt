@@ -16,12 +16,12 @@ use Rattle.histar_layout.specs.declared.entry.Target.{Target}
 use Rattle.histar_layout.specs.declared.entry.Target.TheVariants as targets
 use Rattle.histar_layout.specs.Listing.{is_directory, shown_entry, names_in}
 use Rattle.histar_layout.proofs.MapLemmas.{sorted_made}
-use Rattle.histar_refinement.specs.Addresses.{Numbers}
+use Rattle.histar_refinement.specs.Addresses.{AddressNumbers}
 use Rattle.histar_refinement.specs.Directories.{both_numbers, target_for, target_in, directory_of}
 use Rattle.histar_refinement.proofs.DirectoryLaws.{sorted_listed}
 
 -- an entry leads to a directory exactly where one stands there
-kind_kept : (number : Numbers) (q : Path) (there : Node) (target : Target) → target_for number (q, there) ≡ Some target → is_directory target ≡ is_dir there
+kind_kept : (number : AddressNumbers) (q : Path) (there : Node) (target : Target) → target_for number (q, there) ≡ Some target → is_directory target ≡ is_dir there
 kind_kept number q there target is = by there.content refl
   where
     of_file : (o : Option _) → option_map targets.File o ≡ Some target → is_directory target ≡ false
@@ -37,7 +37,7 @@ kind_kept number q there target is = by there.content refl
     by Dir e = of_both _ _ (sym (ap (λ (c : Content). target_for number (q, record { class = there.class; content = c })) e) ∙ is) ∙ sym (ap (λ (c : Content). is_dir (record { class = there.class; content = c })) e)
     by (File bytes) e = of_file _ (sym (ap (λ (c : Content). target_for number (q, record { class = there.class; content = c })) e) ∙ is) ∙ sym (ap (λ (c : Content). is_dir (record { class = there.class; content = c })) e)
 
-module _ (number : Numbers) (d : Path) where
+module _ (number : AddressNumbers) (d : Path) where
   abbrev listed : List (Path × Node) → List (Name × Target)
   listed = filter_map (target_in number d)
 
@@ -72,6 +72,6 @@ module _ (number : Numbers) (d : Path) where
       ]
 
 -- what a directory lists is what the flat state has in it, where each entry leads somewhere
-pub names_directory : (f : Flat) (number : Numbers) (d : Path) → ((n : Name) (there : Node) → get f.files (n ∷ d) ≡ Some there → target_for number (n ∷ d, there) ≢ None) → names_in (directory_of f.files number d) ≡ entries_in f d
+pub names_directory : (f : Flat) (number : AddressNumbers) (d : Path) → ((n : Name) (there : Node) → get f.files (n ∷ d) ≡ Some there → target_for number (n ∷ d, there) ≢ None) → names_in (directory_of f.files number d) ≡ entries_in f d
 names_directory f number d lead =
     ap (map shown_entry) (sorted_made (filter_map (target_in number d) f.files.entries) (sorted_listed number d f.files.entries f.files.sorted)) ∙ names_listed number d f.files.entries f.files.sorted lead

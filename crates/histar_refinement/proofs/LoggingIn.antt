@@ -9,13 +9,13 @@ use Rattle.histar_flat.specs.Classes.{Process}
 use Rattle.histar_flat.specs.FlatState.{Flat, with_process}
 use Rattle.histar_refinement.specs.Guards.{rights_label, rights_clearance}
 use Rattle.histar_refinement.specs.Labels.{thread_rights}
-use Rattle.histar_refinement.specs.Addresses.{home_of}
+use Rattle.histar_refinement.specs.Addresses.{home_address}
 use Rattle.histar_refinement.specs.Addresses.Step.{Inside, Runner}
 use Rattle.histar_refinement.specs.LaysOut.{LaysOut}
 use Rattle.histar_refinement.proofs.Becoming.{becomes, given_then, job_used}
 
 module _ (session : Session) (s : State) (f : Flat) (l : LaysOut session s f) (me : ProcName) (p : Process) (here : f.processes me ≡ Some p) (runs : p.exited ≡ None)
-    (name : Name) (declared : is_some (user_number session name) ≡ true) (T : ℕ) (at_thread : l.laid.naming.number (Runner ∷ Inside ∷ home_of me) ≡ Some T) where
+    (name : Name) (declared : is_some (user_number session name) ≡ true) (T : ℕ) (at_thread : l.laid.naming.number (Runner ∷ Inside ∷ home_address me) ≡ Some T) where
   abbrev changed : Process
   changed = record { user = name; chain = p.chain; held = []; exited = p.exited; born = p.born }
 

@@ -18,7 +18,7 @@ use Rattle.histar_label.proofs.Orders.{is_below-law, is_below_join-law, is_below
 use Rattle.histar_object.specs.declared.objects.Entry.TheVariants.{Login}
 use Rattle.histar_object.specs.declared.objects.Kind.TheVariants.{Segment, Container, Thread, Gate}
 use Rattle.histar_object.specs.Objects.{links_in, is_thread, is_gate, thread_of}
-use Rattle.histar_rules.specs.Rights.{with_label, with_changed, is_let_in, is_under, in_gate, may_clear}
+use Rattle.histar_rules.specs.Rights.{with_label, with_changed, is_let_in, is_own_below, in_gate, may_clear}
 use Rattle.histar_object.specs.State.{State, Found, in_range, with_own}
 use Rattle.histar_container.proofs.TableMoves.{put_here, put_other, changed_here}
 use Rattle.histar_rules.specs.declared.raw.Denied.TheVariants as denials
@@ -136,8 +136,8 @@ module _ (session : Session) (s : State) (f : Flat) (l : Laid session s f) (me :
   lets : is_let_in (s.objects t) (s.objects (gate_of i)) ≡ is_free p
   lets = (λ j. is_let_in (thread j) (gate_is j)) ∙ let_in session l.category l.different me p name i
 
-  shows : is_under (s.objects t) own ≡ true
-  shows = ap (λ (x : Found). is_under x own) thread ∙ is_below-refl own
+  shows : is_own_below (s.objects t) own ≡ true
+  shows = ap (λ (x : Found). is_own_below x own) thread ∙ is_below-refl own
 
   tainted_within : list_all (among all_names) mine.tainted ≡ true
   tainted_within = covers all_names mine.tainted (λ c e. in_first (mine.owned ++ mine.tainted) (gate.owned ++ []) c (in_second mine.owned mine.tainted c e))

@@ -15,7 +15,7 @@ use Rattle.histar_layout.specs.Directory.{Entries, IsTarget, IsListable, entry_b
 use Rattle.histar_layout.specs.declared.entry.Target.{Target}
 use Rattle.histar_layout.specs.declared.entry.Target.TheVariants as targets
 use Rattle.histar_layout.proofs.MapLemmas.{by_bytes, antisymmetric, listable_insert, listable_empty, entries-empty}
-use Rattle.histar_object.specs.State.{State, Found, with_bytes}
+use Rattle.histar_object.specs.State.{State, Found, with_segment_bytes}
 use Rattle.histar_container.specs.Tree.{Address, Naming}
 use Rattle.histar_container.proofs.Addresses.{same_tests_equality}
 use Rattle.histar_rules.specs.Rules.{greatest}
@@ -25,7 +25,7 @@ use Rattle.histar_flat.specs.Classes.{Class}
 use Rattle.histar_flat.specs.FlatState.{Node, Content, Flat, is_dir, is_dir_at, is_some_and, entries_in, with_node}
 use Rattle.histar_flat.specs.FlatCalls.{most_entries}
 use Rattle.histar_flat.specs.FlatState.Content.{Dir, File}
-use Rattle.histar_refinement.specs.Addresses.{Step, same_step, address_of, home_of, process_at, boot_number}
+use Rattle.histar_refinement.specs.Addresses.{Step, same_step, address_of, home_address, process_at, boot_number}
 use Rattle.histar_refinement.specs.Addresses.Step.{Slash, Listing, Status, Inside, Runner}
 use Rattle.histar_refinement.specs.Directories.{both_numbers, target_for, directory_of}
 use Rattle.histar_refinement.specs.Stands.{Stands}
@@ -38,7 +38,7 @@ use Rattle.histar_refinement.proofs.DirectoryLaws.{get_directory, len_directory}
 use Rattle.histar_refinement.proofs.FileRows.{SameNumbers, not_home, not_begun, same_address_path, asked_same, leads_at, directories_alike, same_leads, numbered_path, numbered_listing, nothing_in, ClassFits, AreKnown, old_known, old_fits, jobs_kept, laid_listed}
 
 -- a directory segment's address is no process's
-pub listing_not_home : (a : Address Step) (q : ProcName) → Listing ∷ a ≢ home_of q
+pub listing_not_home : (a : Address Step) (q : ProcName) → Listing ∷ a ≢ home_address q
 listing_not_home a q e = none-some q (ap process_at e ∙ process_address q)
 
 -- nothing is spelled by nothing
@@ -129,10 +129,10 @@ module _ (session : Session) (s : State) (f : Flat) (l : Laid session s f) where
     module _ (mid : State) (naming : Naming Step) (asked : Address Step → Found) (st : Standing mid naming asked) (N : ℕ) (at_listing : l.naming.number (Listing ∷ address_of d) ≡ Some N) where
       pub same_numbers : SameNumbers l.naming.number naming.number
       same_numbers = record {
-        home = λ q. sym (st.elsewhere (home_of q) (not_home (m ∷ d) q) (listing_not_home new_address q));
-        status = λ q. sym (st.elsewhere (Status ∷ home_of q) (not_begun (m ∷ d) (home_of q) Status refl) (λ e. cc));
-        inside = λ q. sym (st.elsewhere (Inside ∷ home_of q) (not_begun (m ∷ d) (home_of q) Inside refl) (λ e. cc));
-        runner = λ q. sym (st.elsewhere (Runner ∷ Inside ∷ home_of q) (not_begun (m ∷ d) (Inside ∷ home_of q) Runner refl) (λ e. cc));
+        home = λ q. sym (st.elsewhere (home_address q) (not_home (m ∷ d) q) (listing_not_home new_address q));
+        status = λ q. sym (st.elsewhere (Status ∷ home_address q) (not_begun (m ∷ d) (home_address q) Status refl) (λ e. cc));
+        inside = λ q. sym (st.elsewhere (Inside ∷ home_address q) (not_begun (m ∷ d) (home_address q) Inside refl) (λ e. cc));
+        runner = λ q. sym (st.elsewhere (Runner ∷ Inside ∷ home_address q) (not_begun (m ∷ d) (Inside ∷ home_address q) Runner refl) (λ e. cc));
       }
 
       number_path : (q : Path) → q ≢ m ∷ d → naming.number (address_of q) ≡ l.naming.number (address_of q)
@@ -201,8 +201,8 @@ module _ (session : Session) (s : State) (f : Flat) (l : Laid session s f) where
 
         -- The kernel has the objects of the flat state with what was made.
         pub laid_made : IsTrue (is_name m) → IsTarget target → is_dir_at f d ≡ true → length (entries_in f d) < most_entries
-            → (later : Laid session (with_bytes mid N (spelling grown)) after) × (later.naming ≡ naming) × (later.category ≡ l.category)
-        laid_made name goal dir room = subst (λ (x : Entries). (later : Laid session (with_bytes mid N (spelling x)) after) × (later.naming ≡ naming) × (later.category ≡ l.category)) directory_grown
+            → (later : Laid session (with_segment_bytes mid N (spelling grown)) after) × (later.naming ≡ naming) × (later.category ≡ l.category)
+        laid_made name goal dir room = subst (λ (x : Entries). (later : Laid session (with_segment_bytes mid N (spelling x)) after) × (later.naming ≡ naming) × (later.category ≡ l.category)) directory_grown
             (laid_listed session s f l after.files all_fit mid naming asked st.stands st.numbered d N (number_listing d (λ e. not_in_itself (sym e)) ∙ at_listing)
             (spelling (directory_of f.files l.naming.number d)) asked_here asked_else booted listable st.same_next st.gone)
           where

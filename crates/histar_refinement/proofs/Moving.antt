@@ -10,10 +10,10 @@ use Rattle.histar_label.specs.Levels.{Levels}
 use Rattle.histar_object.specs.declared.objects.Kind.{Kind}
 use Rattle.histar_object.specs.declared.objects.Kind.TheVariants.{Segment, Container, Thread, Gate}
 use Rattle.histar_object.specs.declared.objects.Object.{Object}
-use Rattle.histar_object.specs.Objects.{Objects, changed_at, linking, kind_linking, unlinking, kind_unlinking, holding, kind_holding, kind_links, is_there, is_container, kind_is_container}
+use Rattle.histar_object.specs.Objects.{Objects, changed_at, linking, kind_linking, unlinking, kind_unlinking, holding, kind_holding, kind_links, is_present, is_container, kind_is_container}
 use Rattle.histar_object.specs.State.{State, Found, with_object}
 use Rattle.histar_container.specs.ObjectsModel.{CutsOff}
-use Rattle.histar_container.specs.Tree.{Address, Naming, with_number, without_below, under, is_under, set_at, cut, same, IsLaid, objects_at}
+use Rattle.histar_container.specs.Tree.{Address, Naming, with_number, without_below, under, is_under, set_at, cut, same_steps, IsLaid, objects_at}
 use Rattle.histar_container.proofs.Addresses.{TestsEquality, same_tests_equality, same_itself, same_other}
 use Rattle.histar_container.proofs.Reaching.{not_reached}
 use Rattle.histar_container.proofs.TableMoves.{changed_here, changed_other, new_there, new_holder, new_other, laid_new, laid_changed, laid_without}
@@ -76,7 +76,7 @@ pub bare_is : (found : Found) (o : Object Levels) → kind_is_container o.kind �
 bare_is None o other e = absurd (none-some o e)
 bare_is (Some x) o other e = bare_kind x.label x.kind o other e
 
-there_mapped : (f : Object Levels → Object Levels) (o : Found) → is_there (option_map f o) ≡ is_there o
+there_mapped : (f : Object Levels → Object Levels) (o : Found) → is_present (option_map f o) ≡ is_present o
 there_mapped f None = refl
 there_mapped f (Some o) = refl
 
@@ -102,7 +102,7 @@ module _ {X : Type 0} (same_step : X → X → Bool) (tells : TestsEquality same
   at_number a q e = ap (λ (o : Option ℕ). bare (option_and_then s.objects o)) (sym e) ∙ stands.objects a
 
   -- where nothing is asked for no number is
-  pub no_number : (a : Address X) → is_there (asked a) ≡ false → naming.number a ≡ None
+  pub no_number : (a : Address X) → is_present (asked a) ≡ false → naming.number a ≡ None
   no_number a e = not_some (naming.number a) (stands.named a ∙ e)
 
   -- what stands at an address is as before, where the object of its number is
@@ -115,7 +115,7 @@ module _ {X : Type 0} (same_step : X → X → Bool) (tells : TestsEquality same
 
   -- A new object that links nothing is made in the container d, one step below it.
   module _ (d : ℕ) (a : Address X) (x : X) (o : Object Levels) (at_d : naming.number a ≡ Some d) (holder : is_container (asked a) ≡ true)
-      (free : is_there (asked (x ∷ a)) ≡ false) (leaf : (c : ℕ) → set.contains (kind_links o.kind) c ≡ false) where
+      (free : is_present (asked (x ∷ a)) ≡ false) (leaf : (c : ℕ) → set.contains (kind_links o.kind) c ≡ false) where
     abbrev pub grown_naming : Naming X
     grown_naming = with_number same_step naming s.next_object (x ∷ a)
 
@@ -140,10 +140,10 @@ module _ {X : Type 0} (same_step : X → X → Bool) (tells : TestsEquality same
           ∙ sym (ap (λ (t : Bool). if t then bare (Some o) else asked b) e.0)
     ]
 
-    added_named : (b : Address X) → is_some (grown_naming.number b) ≡ is_there (set_at same_step asked (x ∷ a) (bare (Some o)) b)
-    added_named b = by (same same_step (x ∷ a) b)
+    added_named : (b : Address X) → is_some (grown_naming.number b) ≡ is_present (set_at same_step asked (x ∷ a) (bare (Some o)) b)
+    added_named b = by (same_steps same_step (x ∷ a) b)
       where
-        by : (t : Bool) → is_some (if t then Some s.next_object else naming.number b) ≡ is_there (if t then bare (Some o) else asked b)
+        by : (t : Bool) → is_some (if t then Some s.next_object else naming.number b) ≡ is_present (if t then bare (Some o) else asked b)
         by true = refl
         by false = stands.named b
 
@@ -179,10 +179,10 @@ module _ {X : Type 0} (same_step : X → X → Bool) (tells : TestsEquality same
           ∙ sym (ap (λ (t : Bool). if t then option_map change (asked a) else asked b) e.0)
     ]
 
-    changed_named : (b : Address X) → is_some (naming.number b) ≡ is_there (set_at same_step asked a (option_map change (asked a)) b)
+    changed_named : (b : Address X) → is_some (naming.number b) ≡ is_present (set_at same_step asked a (option_map change (asked a)) b)
     changed_named b = elim (same_tests_equality same_step tells a b) [
-      | inl e ↦ ap (λ (y : Address X). is_some (naming.number y)) (sym e.1) ∙ stands.named a ∙ sym (there_mapped change (asked a)) ∙ sym (ap (λ (t : Bool). is_there (if t then option_map change (asked a) else asked b)) e.0)
-      | inr e ↦ stands.named b ∙ sym (ap (λ (t : Bool). is_there (if t then option_map change (asked a) else asked b)) e.0)
+      | inl e ↦ ap (λ (y : Address X). is_some (naming.number y)) (sym e.1) ∙ stands.named a ∙ sym (there_mapped change (asked a)) ∙ sym (ap (λ (t : Bool). is_present (if t then option_map change (asked a) else asked b)) e.0)
+      | inr e ↦ stands.named b ∙ sym (ap (λ (t : Bool). is_present (if t then option_map change (asked a) else asked b)) e.0)
     ]
 
     pub stands_changed : Stands same_step changed_state naming (set_at same_step asked a (option_map change (asked a)))
@@ -215,10 +215,10 @@ module _ {X : Type 0} (same_step : X → X → Bool) (tells : TestsEquality same
         by true e = refl
         by false e = same_found new.objects b (λ k is. left_object b k e is)
 
-    left_named : (b : Address X) → is_some (left_naming.number b) ≡ is_there (cut same_step asked (x ∷ a) b)
+    left_named : (b : Address X) → is_some (left_naming.number b) ≡ is_present (cut same_step asked (x ∷ a) b)
     left_named b = by (under same_step (x ∷ a) b)
       where
-        by : (t : Bool) → is_some (if t then None else naming.number b) ≡ is_there (if t then None else asked b)
+        by : (t : Bool) → is_some (if t then None else naming.number b) ≡ is_present (if t then None else asked b)
         by true = refl
         by false = stands.named b
 
@@ -240,7 +240,7 @@ stands_same same_step s new naming asked other stands alike same_objects same_ne
       tree = subst (λ (next : ℕ). IsLaid same_step new.objects next (objects_at new.objects naming) naming) (sym same_next)
           (subst (λ (o : Objects Levels). IsLaid same_step o s.next_object (objects_at o naming) naming) objects stands.tree);
       objects = λ a. ap (λ (o : Objects Levels). bare (objects_at o naming a)) (sym objects) ∙ stands.objects a ∙ alike a;
-      named = λ a. stands.named a ∙ ap is_there (alike a);
+      named = λ a. stands.named a ∙ ap is_present (alike a);
     }
 
 -- where nothing stands under a number, the number has no address
@@ -252,4 +252,4 @@ no_address {X} same_step s naming asked stands q e = by (naming.address q) refl
     by (Some a) is =
         let number = stands.tree.numbered q a is in
         let nothing : asked a ≡ None = sym (stands.objects a) ∙ ap (λ (k : Option ℕ). bare (option_and_then s.objects k)) number ∙ ap bare e in
-        absurd (true≢false (sym (ap is_some number) ∙ stands.named a ∙ ap is_there nothing))
+        absurd (true≢false (sym (ap is_some number) ∙ stands.named a ∙ ap is_present nothing))

@@ -22,7 +22,7 @@ use Rattle.histar_layout.specs.Status.{ProcessStatus}
 use Rattle.histar_refinement.specs.Categories.{CategoryName, Categories}
 use Rattle.histar_refinement.specs.Guards.{guard_label, rights_label}
 use Rattle.histar_refinement.specs.Labels.{process_guard, thread_rights}
-use Rattle.histar_refinement.specs.Addresses.{Numbers, same_step, address_of, home_of}
+use Rattle.histar_refinement.specs.Addresses.{AddressNumbers, same_step, address_of, home_address}
 use Rattle.histar_refinement.specs.Addresses.Step.{Slash, Listing, Status, Inside, Runner}
 use Rattle.histar_refinement.specs.Directories.{both_numbers, target_for, directory_of}
 use Rattle.histar_refinement.specs.Stands.{bare}
@@ -69,7 +69,7 @@ abbrev first_number : Target → ℕ
 first_number (targets.File file) = file
 first_number (targets.Directory container listing) = container
 
-module _ (number : Numbers) (q : Path) where
+module _ (number : AddressNumbers) (q : Path) where
   first_of_both : (c k : Option ℕ) (t : Target) → both_numbers c k ≡ Some t → c ≡ Some (first_number t)
   first_of_both None k t e = absurd (none-some t e)
   first_of_both (Some c) None t e = absurd (none-some t e)
@@ -165,15 +165,15 @@ module _ (session : Session) (s : State) (f g : Flat) (l : Laid session s f) (m 
 
   -- two processes of one name whose process segment is one object
   module _ (me : ProcName) (p q : Process) (at_p : f.processes me ≡ Some p) (at_q : g.processes me ≡ Some q) (c k : ℕ)
-      (home_l : l.naming.number (home_of me) ≡ Some c) (home_m : m.naming.number (home_of me) ≡ Some c) (status_l : l.naming.number (Status ∷ home_of me) ≡ Some k) (status_m : m.naming.number (Status ∷ home_of me) ≡ Some k) where
+      (home_l : l.naming.number (home_address me) ≡ Some c) (home_m : m.naming.number (home_address me) ≡ Some c) (status_l : l.naming.number (Status ∷ home_address me) ≡ Some k) (status_m : m.naming.number (Status ∷ home_address me) ≡ Some k) where
     statuses : status_by f.processes l.naming.number me p ≡ status_by g.processes m.naming.number me q
     statuses = same_status (bytes_in (s.objects k)) (status_by f.processes l.naming.number me p) (status_by g.processes m.naming.number me q) (holds_status session s f l me p k at_p status_l) (holds_status session s g m me q k at_q status_m)
 
     of_q : IsProcess session l.category q
     of_q = subst (λ (category : Categories). IsProcess session category q) (sym same_categories) (m.processes me q at_q)
 
-    homes : (h : Flat) (j : Laid session s h) (x : Process) → h.processes me ≡ Some x → j.naming.number (home_of me) ≡ Some c → label_there (bare (s.objects c)) ≡ Some (guard_label j.category (process_guard me x))
-    homes h j x at home = ap label_there (at_number same_step step_tests_equality s j.naming (expected session j.category h j.naming.number) j.stands (home_of me) c home
+    homes : (h : Flat) (j : Laid session s h) (x : Process) → h.processes me ≡ Some x → j.naming.number (home_address me) ≡ Some c → label_there (bare (s.objects c)) ≡ Some (guard_label j.category (process_guard me x))
+    homes h j x at home = ap label_there (at_number same_step step_tests_equality s j.naming (expected session j.category h j.naming.number) j.stands (home_address me) c home
         ∙ asked_home session j.category h j.naming.number me ∙ ap (home_object session j.category me) at)
 
     guards : guard_label l.category (process_guard me p) ≡ guard_label l.category (process_guard me q)
@@ -186,8 +186,8 @@ module _ (session : Session) (s : State) (f g : Flat) (l : Laid session s f) (m 
     rights : p.exited ≡ None → rights_label l.category (thread_rights session me p) ≡ rights_label l.category (thread_rights session me q)
     rights running =
         let q_runs : q.exited ≡ None = sym same_exited ∙ running in
-        let t = some_of (l.naming.number (Runner ∷ Inside ∷ home_of me)) (numbered_runner session s f l me p at_p running) in
-        let other : m.naming.number (Runner ∷ Inside ∷ home_of me) ≡ Some t.0 = zero_there (m.naming.number (Runner ∷ Inside ∷ home_of me)) t.0 (numbered_runner session s g m me q at_q q_runs)
+        let t = some_of (l.naming.number (Runner ∷ Inside ∷ home_address me)) (numbered_runner session s f l me p at_p running) in
+        let other : m.naming.number (Runner ∷ Inside ∷ home_address me) ≡ Some t.0 = zero_there (m.naming.number (Runner ∷ Inside ∷ home_address me)) t.0 (numbered_runner session s g m me q at_q q_runs)
         (sym (ap (λ (x : ProcessStatus). x.thread) statuses) ∙ ap or_zero t.1) in
         same_Some (rights_label l.category (thread_rights session me p)) (rights_label m.category (thread_rights session me q))
         (ap label_there (sym (thread_found session s f l me p at_p running t.0 t.1) ∙ thread_found session s g m me q at_q q_runs t.0 other))
@@ -208,10 +208,10 @@ module _ (session : Session) (s : State) (f g : Flat) (l : Laid session s f) (m 
 -- a process that is there in one is there in the other, with the same numbers
 found_there : (session : Session) (s : State) (f g : Flat) (l : Laid session s f) (m : Laid session s g) (me : ProcName) (p : Process) → f.processes me ≡ Some p
     → (c : ℕ) × (k : ℕ) × (q : Process) × (g.processes me ≡ Some q)
-    × (l.naming.number (home_of me) ≡ Some c) × (m.naming.number (home_of me) ≡ Some c) × (l.naming.number (Status ∷ home_of me) ≡ Some k) × (m.naming.number (Status ∷ home_of me) ≡ Some k)
+    × (l.naming.number (home_address me) ≡ Some c) × (m.naming.number (home_address me) ≡ Some c) × (l.naming.number (Status ∷ home_address me) ≡ Some k) × (m.naming.number (Status ∷ home_address me) ≡ Some k)
 found_there session s f g l m me p at =
-    let c = some_of (l.naming.number (home_of me)) (numbered_home session s f l me ∙ ap is_some at) in
-    let k = some_of (l.naming.number (Status ∷ home_of me)) (numbered_status session s f l me ∙ ap is_some at) in
+    let c = some_of (l.naming.number (home_address me)) (numbered_home session s f l me ∙ ap is_some at) in
+    let k = some_of (l.naming.number (Status ∷ home_address me)) (numbered_status session s f l me ∙ ap is_some at) in
     let other = status_back session s g m me c.0 k.0 (status_found session s f l me p c.0 k.0 at c.1 k.1) in
     (c.0, k.0, other.0, other.1, c.1, other.2, k.1, other.3)
 

@@ -14,10 +14,10 @@ use Rattle.histar_flat.specs.Sessions.{Session}
 use Rattle.histar_flat.specs.FlatState.{Node, Content, Flat}
 use Rattle.histar_flat.specs.FlatState.Content.{Dir, File}
 use Rattle.histar_refinement.specs.Categories.{Categories}
-use Rattle.histar_refinement.specs.Addresses.{Step, Numbers, address_of, home_of, path_at, process_at, inside_at}
+use Rattle.histar_refinement.specs.Addresses.{Step, AddressNumbers, address_of, home_address, path_at, process_at, inside_at}
 use Rattle.histar_refinement.specs.Addresses.Step.{Left, Slash, Listing, Named, Home, Status, Inside, Runner, Child}
 use Rattle.histar_refinement.specs.Directories.{both_numbers, target_for, target_in, directory_of}
-use Rattle.histar_refinement.specs.Expected.{node_object, home_object, inside_object, thread_object, node_at, listing_at, home_at, status_at, container_inside, thread_at, expected}
+use Rattle.histar_refinement.specs.Expected.{node_object, home_object, inside_object, thread_object, expected_node, listing_at, expected_home, expected_status, container_inside, thread_at, expected}
 
 -- a path's address is that of the path
 pub path_address : (q : Path) → path_at (address_of q) ≡ Some q
@@ -44,22 +44,22 @@ address_path (Runner ∷ a) q e = absurd (none-some q e)
 address_path (Child n ∷ a) q e = absurd (none-some q e)
 
 -- a process's address is that of the process
-pub process_address : (me : ProcName) → process_at (home_of me) ≡ Some me
+pub process_address : (me : ProcName) → process_at (home_address me) ≡ Some me
 process_address [] = refl
 process_address (n ∷ p) = ap (option_map (λ above. n ∷ above)) (process_address p)
 
-child_by : (n : ℕ) (a : Address Step) (q : ProcName) (p : Option ProcName) → option_map (λ d. n ∷ d) p ≡ Some q → ((d : ProcName) → p ≡ Some d → a ≡ home_of d) → Child n ∷ a ≡ home_of q
+child_by : (n : ℕ) (a : Address Step) (q : ProcName) (p : Option ProcName) → option_map (λ d. n ∷ d) p ≡ Some q → ((d : ProcName) → p ≡ Some d → a ≡ home_address d) → Child n ∷ a ≡ home_address q
 child_by n a q None e above = absurd (none-some q e)
-child_by n a q (Some d) e above = ap (λ (b : Address Step). Child n ∷ b) (above d refl) ∙ ap home_of (same_Some (n ∷ d) q e)
+child_by n a q (Some d) e above = ap (λ (b : Address Step). Child n ∷ b) (above d refl) ∙ ap home_address (same_Some (n ∷ d) q e)
 
 -- an address that has a process is that process's
-pub address_process : (a : Address Step) (q : ProcName) → process_at a ≡ Some q → a ≡ home_of q
+pub address_process : (a : Address Step) (q : ProcName) → process_at a ≡ Some q → a ≡ home_address q
 address_process [] q e = absurd (none-some q e)
 address_process (Left k ∷ a) q e = absurd (none-some q e)
 address_process (Slash ∷ a) q e = absurd (none-some q e)
 address_process (Listing ∷ a) q e = absurd (none-some q e)
 address_process (Named n ∷ a) q e = absurd (none-some q e)
-address_process (Home ∷ []) q e = ap home_of (same_Some [] q e)
+address_process (Home ∷ []) q e = ap home_address (same_Some [] q e)
 address_process (Home ∷ x ∷ a) q e = absurd (none-some q e)
 address_process (Status ∷ a) q e = absurd (none-some q e)
 address_process (Inside ∷ a) q e = absurd (none-some q e)
@@ -67,11 +67,11 @@ address_process (Runner ∷ a) q e = absurd (none-some q e)
 address_process (Child n ∷ a) q e = child_by n a q (process_at a) e (address_process a)
 
 -- two processes of one address are the same
-pub same_home : (p q : ProcName) → home_of p ≡ home_of q → p ≡ q
+pub same_home : (p q : ProcName) → home_address p ≡ home_address q → p ≡ q
 same_home p q e = same_Some p q (sym (process_address p) ∙ ap process_at e ∙ process_address q)
 
 -- an address where an internal container can stand
-pub address_inside : (a : Address Step) (q : ProcName) → inside_at a ≡ Some q → a ≡ Inside ∷ home_of q
+pub address_inside : (a : Address Step) (q : ProcName) → inside_at a ≡ Some q → a ≡ Inside ∷ home_address q
 address_inside [] q e = absurd (none-some q e)
 address_inside (Left k ∷ a) q e = absurd (none-some q e)
 address_inside (Slash ∷ a) q e = absurd (none-some q e)
@@ -88,7 +88,7 @@ same_filter_map : {A B : Type 0} (f g : A → Option B) → ((x : A) → f x ≡
 same_filter_map f g same = λ i x. same x i
 
 -- a directory is told by the numbers at the addresses of paths
-pub same_directory : (f : Flat) (number numbers : Numbers) → ((p : Path) → number (address_of p) ≡ numbers (address_of p)) → ((p : Path) → number (Listing ∷ address_of p) ≡ numbers (Listing ∷ address_of p))
+pub same_directory : (f : Flat) (number numbers : AddressNumbers) → ((p : Path) → number (address_of p) ≡ numbers (address_of p)) → ((p : Path) → number (Listing ∷ address_of p) ≡ numbers (Listing ∷ address_of p))
     → (d : Path) → directory_of f.files number d ≡ directory_of f.files numbers d
 same_directory f number numbers here listing d =
     ap (λ (t : (Path × Node) → Option (Name × Target)). map.from_entries (filter_map t f.files.entries)) (same_filter_map (target_in number d) (target_in numbers d) (λ e. by e.0 e.1 e.0))
@@ -104,7 +104,7 @@ same_directory f number numbers here listing d =
     by p there [] = refl
     by p there (n ∷ above) = ap (λ (t : Option Target). cond (same_path d above) (option_map (λ (target : Target). (n, target)) t) None) (target_same p there)
 
-module _ (session : Session) (category other : Categories) (f g : Flat) (number numbers : Numbers) where
+module _ (session : Session) (category other : Categories) (f g : Flat) (number numbers : AddressNumbers) where
   -- what is asked for at the five kinds of places is the same
   pub record AsksAlike : Type 0 where
     pub at_path : (q : Path) → node_object session category (get f.files q) ≡ node_object session other (get g.files q)
@@ -112,10 +112,10 @@ module _ (session : Session) (category other : Categories) (f g : Flat) (number 
 
   -- and for a process
   pub record AsksAlikeOf (a : Address Step) : Type 0 where
-    pub home : (q : ProcName) → a ≡ home_of q → home_object session category q (f.processes q) ≡ home_object session other q (g.processes q)
-    pub status : (q : ProcName) → a ≡ Status ∷ home_of q → status_at session category f number (Some q) ≡ status_at session other g numbers (Some q)
-    pub inside : (q : ProcName) → a ≡ Inside ∷ home_of q → inside_object session category q (f.processes q) ≡ inside_object session other q (g.processes q)
-    pub runner : (q : ProcName) → a ≡ Runner ∷ Inside ∷ home_of q → thread_object session category q (f.processes q) ≡ thread_object session other q (g.processes q)
+    pub home : (q : ProcName) → a ≡ home_address q → home_object session category q (f.processes q) ≡ home_object session other q (g.processes q)
+    pub status : (q : ProcName) → a ≡ Status ∷ home_address q → expected_status session category f number (Some q) ≡ expected_status session other g numbers (Some q)
+    pub inside : (q : ProcName) → a ≡ Inside ∷ home_address q → inside_object session category q (f.processes q) ≡ inside_object session other q (g.processes q)
+    pub runner : (q : ProcName) → a ≡ Runner ∷ Inside ∷ home_address q → thread_object session category q (f.processes q) ≡ thread_object session other q (g.processes q)
 
   -- at one address alone
   pub record AsksAlikeAt (a : Address Step) : Type 0 where
@@ -128,7 +128,7 @@ module _ (session : Session) (category other : Categories) (f g : Flat) (number 
   asked_alike_at (Left k ∷ a) files of = refl
   asked_alike_at (Slash ∷ a) files of = by (path_at (Slash ∷ a)) refl
     where
-      by : (q : Option Path) → path_at (Slash ∷ a) ≡ q → node_at session category f number q ≡ node_at session other g numbers q
+      by : (q : Option Path) → path_at (Slash ∷ a) ≡ q → expected_node session category f number q ≡ expected_node session other g numbers q
       by None is = refl
       by (Some q) is = files.at_path q (address_path (Slash ∷ a) q is)
   asked_alike_at (Listing ∷ a) files of = by (path_at a) refl
@@ -138,17 +138,17 @@ module _ (session : Session) (category other : Categories) (f g : Flat) (number 
       by (Some d) is = files.in_directory d (ap (λ (b : Address Step). Listing ∷ b) (address_path a d is))
   asked_alike_at (Named n ∷ a) files of = by (path_at (Named n ∷ a)) refl
     where
-      by : (q : Option Path) → path_at (Named n ∷ a) ≡ q → node_at session category f number q ≡ node_at session other g numbers q
+      by : (q : Option Path) → path_at (Named n ∷ a) ≡ q → expected_node session category f number q ≡ expected_node session other g numbers q
       by None is = refl
       by (Some q) is = files.at_path q (address_path (Named n ∷ a) q is)
   asked_alike_at (Home ∷ a) files of = by (process_at (Home ∷ a)) refl
     where
-      by : (q : Option ProcName) → process_at (Home ∷ a) ≡ q → home_at session category f number q ≡ home_at session other g numbers q
+      by : (q : Option ProcName) → process_at (Home ∷ a) ≡ q → expected_home session category f number q ≡ expected_home session other g numbers q
       by None is = refl
       by (Some q) is = of.home q (address_process (Home ∷ a) q is)
   asked_alike_at (Status ∷ a) files of = by (process_at a) refl
     where
-      by : (q : Option ProcName) → process_at a ≡ q → status_at session category f number q ≡ status_at session other g numbers q
+      by : (q : Option ProcName) → process_at a ≡ q → expected_status session category f number q ≡ expected_status session other g numbers q
       by None is = refl
       by (Some q) is = of.status q (ap (λ (b : Address Step). Status ∷ b) (address_process a q is))
   asked_alike_at (Inside ∷ a) files of = by (process_at a) refl
@@ -163,7 +163,7 @@ module _ (session : Session) (category other : Categories) (f g : Flat) (number 
       by (Some q) is = of.runner q (ap (λ (b : Address Step). Runner ∷ b) (address_inside a q is))
   asked_alike_at (Child n ∷ a) files of = by (process_at (Child n ∷ a)) refl
     where
-      by : (q : Option ProcName) → process_at (Child n ∷ a) ≡ q → home_at session category f number q ≡ home_at session other g numbers q
+      by : (q : Option ProcName) → process_at (Child n ∷ a) ≡ q → expected_home session category f number q ≡ expected_home session other g numbers q
       by None is = refl
       by (Some q) is = of.home q (address_process (Child n ∷ a) q is)
 
@@ -171,28 +171,28 @@ module _ (session : Session) (category other : Categories) (f g : Flat) (number 
   asked_alike files a of = asked_alike_at a (record { at_path = λ q e. files.at_path q; in_directory = λ d e. files.in_directory d }) of
 
 -- what is asked for at the addresses of a path
-module _ (session : Session) (category : Categories) (f : Flat) (number : Numbers) where
+module _ (session : Session) (category : Categories) (f : Flat) (number : AddressNumbers) where
   pub asked_path : (q : Path) → expected session category f number (address_of q) ≡ node_object session category (get f.files q)
   asked_path [] = refl
-  asked_path (n ∷ d) = ap (node_at session category f number) (path_address (n ∷ d))
+  asked_path (n ∷ d) = ap (expected_node session category f number) (path_address (n ∷ d))
 
   pub asked_listing : (d : Path) → expected session category f number (Listing ∷ address_of d) ≡ listing_at session category f number (Some d)
   asked_listing d = ap (listing_at session category f number) (path_address d)
 
 -- what is asked for at a process's addresses
-module _ (session : Session) (category : Categories) (f : Flat) (number : Numbers) (me : ProcName) where
-  pub asked_home : expected session category f number (home_of me) ≡ home_object session category me (f.processes me)
+module _ (session : Session) (category : Categories) (f : Flat) (number : AddressNumbers) (me : ProcName) where
+  pub asked_home : expected session category f number (home_address me) ≡ home_object session category me (f.processes me)
   asked_home = by me
     where
-      by : (q : ProcName) → expected session category f number (home_of q) ≡ home_object session category q (f.processes q)
+      by : (q : ProcName) → expected session category f number (home_address q) ≡ home_object session category q (f.processes q)
       by [] = refl
-      by (n ∷ p) = ap (home_at session category f number) (process_address (n ∷ p))
+      by (n ∷ p) = ap (expected_home session category f number) (process_address (n ∷ p))
 
-  pub asked_status : expected session category f number (Status ∷ home_of me) ≡ status_at session category f number (Some me)
-  asked_status = ap (status_at session category f number) (process_address me)
+  pub asked_status : expected session category f number (Status ∷ home_address me) ≡ expected_status session category f number (Some me)
+  asked_status = ap (expected_status session category f number) (process_address me)
 
-  pub asked_inside : expected session category f number (Inside ∷ home_of me) ≡ inside_object session category me (f.processes me)
+  pub asked_inside : expected session category f number (Inside ∷ home_address me) ≡ inside_object session category me (f.processes me)
   asked_inside = ap (container_inside session category f number) (process_address me)
 
-  pub asked_runner : expected session category f number (Runner ∷ Inside ∷ home_of me) ≡ thread_object session category me (f.processes me)
+  pub asked_runner : expected session category f number (Runner ∷ Inside ∷ home_address me) ≡ thread_object session category me (f.processes me)
   asked_runner = ap (thread_at session category f number) (process_address me)

@@ -6,13 +6,13 @@ use Rattle.histar_flat.specs.Words.{ProcName}
 use Rattle.histar_flat.specs.Classes.{Process}
 use Rattle.histar_layout.specs.declared.status.Child.{Child as Listed}
 use Rattle.histar_layout.specs.Status.{status_bytes}
-use Rattle.histar_refinement.specs.Addresses.{Numbers, home_of}
+use Rattle.histar_refinement.specs.Addresses.{AddressNumbers, home_address}
 use Rattle.histar_refinement.specs.Addresses.Step.{Status, Inside, Runner}
 use Rattle.histar_refinement.specs.Processes.{or_zero, status_by, process_bytes}
 
-pub alike_status : (processes others : ProcName → Option Process) (number numbers : Numbers) (q : ProcName) (x : Process)
-    → number (Inside ∷ home_of q) ≡ numbers (Inside ∷ home_of q) → number (Runner ∷ Inside ∷ home_of q) ≡ numbers (Runner ∷ Inside ∷ home_of q)
-    → ((k : ℕ) → number (home_of (k ∷ q)) ≡ numbers (home_of (k ∷ q))) → ((k : ℕ) → number (Status ∷ home_of (k ∷ q)) ≡ numbers (Status ∷ home_of (k ∷ q)))
+pub alike_status : (processes others : ProcName → Option Process) (number numbers : AddressNumbers) (q : ProcName) (x : Process)
+    → number (Inside ∷ home_address q) ≡ numbers (Inside ∷ home_address q) → number (Runner ∷ Inside ∷ home_address q) ≡ numbers (Runner ∷ Inside ∷ home_address q)
+    → ((k : ℕ) → number (home_address (k ∷ q)) ≡ numbers (home_address (k ∷ q))) → ((k : ℕ) → number (Status ∷ home_address (k ∷ q)) ≡ numbers (Status ∷ home_address (k ∷ q)))
     → ((k : ℕ) → is_some (processes (k ∷ q)) ≡ is_some (others (k ∷ q)))
     → status_by processes number q x ≡ status_by others numbers q x
 alike_status processes others number numbers q x inside runner home status there = λ i. record {
@@ -24,9 +24,9 @@ alike_status processes others number numbers q x inside runner home status there
 }
 
 -- and so the same bytes
-pub alike_bytes : (processes others : ProcName → Option Process) (number numbers : Numbers) (q : ProcName) (x : Process)
-    → number (Inside ∷ home_of q) ≡ numbers (Inside ∷ home_of q) → number (Runner ∷ Inside ∷ home_of q) ≡ numbers (Runner ∷ Inside ∷ home_of q)
-    → ((k : ℕ) → number (home_of (k ∷ q)) ≡ numbers (home_of (k ∷ q))) → ((k : ℕ) → number (Status ∷ home_of (k ∷ q)) ≡ numbers (Status ∷ home_of (k ∷ q)))
+pub alike_bytes : (processes others : ProcName → Option Process) (number numbers : AddressNumbers) (q : ProcName) (x : Process)
+    → number (Inside ∷ home_address q) ≡ numbers (Inside ∷ home_address q) → number (Runner ∷ Inside ∷ home_address q) ≡ numbers (Runner ∷ Inside ∷ home_address q)
+    → ((k : ℕ) → number (home_address (k ∷ q)) ≡ numbers (home_address (k ∷ q))) → ((k : ℕ) → number (Status ∷ home_address (k ∷ q)) ≡ numbers (Status ∷ home_address (k ∷ q)))
     → ((k : ℕ) → is_some (processes (k ∷ q)) ≡ is_some (others (k ∷ q)))
     → process_bytes processes number q x ≡ process_bytes others numbers q x
 alike_bytes processes others number numbers q x inside runner home status there = ap status_bytes (alike_status processes others number numbers q x inside runner home status there)

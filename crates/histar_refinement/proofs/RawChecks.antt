@@ -5,7 +5,7 @@ use Rattle.std.specs.FinSet as set
 use Rattle.histar_base.specs.Refusals.{◌orelse◌, unless}
 use Rattle.histar_label.specs.Levels.{Levels, is_below, is_below_raised}
 use Rattle.histar_object.specs.declared.objects.Kind.TheVariants.{Segment, Container, Thread}
-use Rattle.histar_object.specs.Objects.{Numbers, links_in, bytes_in, is_there, is_thread, is_container, is_segment}
+use Rattle.histar_object.specs.Objects.{Numbers, links_in, bytes_in, is_present, is_thread, is_container, is_segment}
 use Rattle.histar_object.specs.declared.objects.Kind.{Kind}
 use Rattle.histar_object.specs.State.{State, Found, observes, modifies}
 use Rattle.histar_rules.specs.declared.raw.Denied.{Denied}
@@ -31,7 +31,7 @@ module _ (s : State) (t : ℕ) (label clearance : Levels) (thread : s.objects t 
     -- a call on a container is refused only where the thread may not observe it
     pub container_check : no_container s t d ≡ unless (is_below_raised above label) Observe
     container_check = λ i. unless (is_thread (thread i)) NoThread
-        orelse unless (is_there (holder i)) NoEntry
+        orelse unless (is_present (holder i)) NoEntry
         orelse unless (is_container (holder i)) BadKind
         orelse unless (observes (thread i) (holder i)) Observe
 

@@ -9,26 +9,26 @@ use Rattle.std.proofs.lemmas.Option.{none-some}
 use Rattle.std.proofs.Math.Bool.{or-false}
 use mathlib.Core.Bool.{true≢false}
 use Rattle.histar_flat.specs.Words.{Name, Path, ProcName}
-use Rattle.histar_flat.specs.PathOrder.{path_cmp, same as same_name, same_path}
+use Rattle.histar_flat.specs.PathOrder.{path_cmp, same_steps as same_name, same_path}
 use Rattle.histar_flat.specs.PathOrderLaws.{path_cmp_exact}
 use Rattle.histar_flat.specs.Files.{get}
 use Rattle.histar_flat.proofs.FileLemmas.{same_name_found, same_path_found}
 use Rattle.histar_layout.specs.Directory.{Entries, IsListable, spelling}
 use Rattle.histar_layout.proofs.MapLemmas.{by_bytes, antisymmetric, listable_remove}
-use Rattle.histar_object.specs.State.{State, Found, with_bytes}
+use Rattle.histar_object.specs.State.{State, Found, with_segment_bytes}
 use Rattle.histar_container.specs.ObjectsModel.{CutsOff}
-use Rattle.histar_container.specs.Tree.{Address, Naming, wanted, without_below, under, is_under, cut, same, objects_at}
+use Rattle.histar_container.specs.Tree.{Address, Naming, wanted, without_below, under, is_under, cut, same_steps, objects_at}
 use Rattle.histar_container.proofs.Addresses.{same_tests_equality, same_itself, same_other, above}
 use Rattle.histar_rules.specs.Rules.{greatest}
 use Rattle.histar_login.specs.Boot.{boot_thread_number}
 use Rattle.histar_flat.specs.Sessions.{Session}
 use Rattle.histar_flat.specs.FlatState.{Node, Flat, is_dir, is_dir_at, is_some_and, without_below as without_below_path}
 use Rattle.histar_flat.specs.PathOrder.{under_path}
-use Rattle.histar_refinement.specs.Addresses.{Step, same_step, address_of, home_of, path_at, process_at, inside_at, boot_number}
+use Rattle.histar_refinement.specs.Addresses.{Step, same_step, address_of, home_address, path_at, process_at, inside_at, boot_number}
 use Rattle.histar_refinement.specs.Addresses.Step.{Left, Slash, Listing, Named, Home, Status, Inside, Runner, Child}
 use Rattle.histar_refinement.specs.Directories.{directory_of}
 use Rattle.histar_refinement.specs.Stands.{Stands}
-use Rattle.histar_refinement.specs.Expected.{node_object, listing_object, node_at, listing_at, home_at, status_at, container_inside, thread_at, expected}
+use Rattle.histar_refinement.specs.Expected.{node_object, listing_object, expected_node, listing_at, expected_home, expected_status, container_inside, thread_at, expected}
 use Rattle.histar_refinement.specs.LaysOut.{AreJobsGiven, Laid, LaysOut}
 use Rattle.histar_refinement.proofs.Places.{address_path, address_process, address_inside, asked_listing}
 use Rattle.histar_refinement.proofs.Steps.{step_tests_equality}
@@ -43,29 +43,29 @@ module _ (q : Path) where
   under_step : (x : Step) (a : Address Step) → path_at (x ∷ a) ≡ None → under same_step (address_of q) (x ∷ a) ≡ under same_step (address_of q) a
   under_step x a nothing = ap (λ t. t || under same_step (address_of q) a) (same_other same_step step_tests_equality (address_of q) (x ∷ a) (not_begun q a x nothing))
 
-  same_addresses : (r : Path) → same same_step (address_of q) (address_of r) ≡ same_path q r
+  same_addresses : (r : Path) → same_steps same_step (address_of q) (address_of r) ≡ same_path q r
   same_addresses r = elim (same_path_found q r) [
-    | inl e ↦ ap (λ (z : Path). same same_step (address_of q) (address_of z)) (sym e.1) ∙ same_itself same_step step_tests_equality (address_of q) ∙ sym e.0
+    | inl e ↦ ap (λ (z : Path). same_steps same_step (address_of q) (address_of z)) (sym e.1) ∙ same_itself same_step step_tests_equality (address_of q) ∙ sym e.0
     | inr e ↦ same_other same_step step_tests_equality (address_of q) (address_of r) (λ k. e.1 (same_address_path q r k)) ∙ sym e.0
   ]
 
-  not_root : same same_step (address_of q) [] ≡ false
+  not_root : same_steps same_step (address_of q) [] ≡ false
   not_root = by q
     where
-      by : (p : Path) → same same_step (address_of p) [] ≡ false
+      by : (p : Path) → same_steps same_step (address_of p) [] ≡ false
       by [] = refl
       by (n ∷ e) = refl
 
   pub under_address : (r : Path) → under same_step (address_of q) (address_of r) ≡ under_path q r
-  under_address [] = ap (λ t. same same_step (address_of q) (Slash ∷ []) || t) not_root ∙ or-false (same same_step (address_of q) (Slash ∷ [])) ∙ same_addresses []
+  under_address [] = ap (λ t. same_steps same_step (address_of q) (Slash ∷ []) || t) not_root ∙ or-false (same_steps same_step (address_of q) (Slash ∷ [])) ∙ same_addresses []
   under_address (n ∷ e) = λ i. same_addresses (n ∷ e) i || under_address e i
 
   pub under_listing : (r : Path) → under same_step (address_of q) (Listing ∷ address_of r) ≡ under_path q r
   under_listing r = under_step Listing (address_of r) refl ∙ under_address r
 
-  pub under_home : (p : ProcName) → under same_step (address_of q) (home_of p) ≡ false
+  pub under_home : (p : ProcName) → under same_step (address_of q) (home_address p) ≡ false
   under_home [] = under_step Home [] refl ∙ not_root
-  under_home (n ∷ p) = under_step (Child n) (home_of p) refl ∙ under_home p
+  under_home (n ∷ p) = under_step (Child n) (home_address p) refl ∙ under_home p
 
 module _ (session : Session) (s : State) (f : Flat) (l : Laid session s f) (m : Name) (d : Path) (D N o : ℕ)
     (at_directory : l.naming.number (address_of d) ≡ Some D) (at_listing : l.naming.number (Listing ∷ address_of d) ≡ Some N) (at_entry : l.naming.number (address_of (m ∷ d)) ≡ Some o)
@@ -99,10 +99,10 @@ module _ (session : Session) (s : State) (f : Flat) (l : Laid session s f) (m : 
 
   same_numbers : SameNumbers l.naming.number naming.number
   same_numbers = record {
-    home = λ q. kept (home_of q) (under_home (m ∷ d) q);
-    status = λ q. kept (Status ∷ home_of q) (under_step (m ∷ d) Status (home_of q) refl ∙ under_home (m ∷ d) q);
-    inside = λ q. kept (Inside ∷ home_of q) (under_step (m ∷ d) Inside (home_of q) refl ∙ under_home (m ∷ d) q);
-    runner = λ q. kept (Runner ∷ Inside ∷ home_of q) (under_step (m ∷ d) Runner (Inside ∷ home_of q) refl ∙ under_step (m ∷ d) Inside (home_of q) refl ∙ under_home (m ∷ d) q);
+    home = λ q. kept (home_address q) (under_home (m ∷ d) q);
+    status = λ q. kept (Status ∷ home_address q) (under_step (m ∷ d) Status (home_address q) refl ∙ under_home (m ∷ d) q);
+    inside = λ q. kept (Inside ∷ home_address q) (under_step (m ∷ d) Inside (home_address q) refl ∙ under_home (m ∷ d) q);
+    runner = λ q. kept (Runner ∷ Inside ∷ home_address q) (under_step (m ∷ d) Runner (Inside ∷ home_address q) refl ∙ under_step (m ∷ d) Inside (home_address q) refl ∙ under_home (m ∷ d) q);
   }
 
   directory_outside : under_path (m ∷ d) d ≡ false
@@ -124,14 +124,14 @@ module _ (session : Session) (s : State) (f : Flat) (l : Laid session s f) (m : 
   directory_kept e out other = directories_alike f.files after.files l.naming.number naming.number e e (λ n. leads_kept (n ∷ e) (out_child n e out (λ k. let tails : d ≡ e = cc in other tails)))
 
   -- below the removed path nothing is asked for
-  no_process : (x : Step) (p : ProcName) → path_at (x ∷ home_of p) ≡ None → under same_step top (x ∷ home_of p) ≡ false
-  no_process x p nothing = under_step (m ∷ d) x (home_of p) nothing ∙ under_home (m ∷ d) p
+  no_process : (x : Step) (p : ProcName) → path_at (x ∷ home_address p) ≡ None → under same_step top (x ∷ home_address p) ≡ false
+  no_process x p nothing = under_step (m ∷ d) x (home_address p) nothing ∙ under_home (m ∷ d) p
 
-  nothing_path : (a : Address Step) (o : Option Path) → under same_step top a ≡ true → path_at a ≡ o → node_at session l.category after naming.number o ≡ None
+  nothing_path : (a : Address Step) (o : Option Path) → under same_step top a ≡ true → path_at a ≡ o → expected_node session l.category after naming.number o ≡ None
   nothing_path a None e is = refl
   nothing_path a (Some r) e is = ap (node_object session l.category) (got_gone r (sym (under_address (m ∷ d) r) ∙ ap (under same_step top) (sym (address_path a r is)) ∙ e))
 
-  nothing_home : (a : Address Step) (o : Option ProcName) → under same_step top a ≡ true → process_at a ≡ o → home_at session l.category after naming.number o ≡ None
+  nothing_home : (a : Address Step) (o : Option ProcName) → under same_step top a ≡ true → process_at a ≡ o → expected_home session l.category after naming.number o ≡ None
   nothing_home a None e is = refl
   nothing_home a (Some p) e is = absurd (true≢false (sym e ∙ ap (under same_step top) (address_process a p is) ∙ under_home (m ∷ d) p))
 
@@ -150,7 +150,7 @@ module _ (session : Session) (s : State) (f : Flat) (l : Laid session s f) (m : 
   nothing_below (Home ∷ a) e = nothing_home (Home ∷ a) (process_at (Home ∷ a)) e refl
   nothing_below (Status ∷ a) e = by (process_at a) refl
     where
-      by : (q : Option ProcName) → process_at a ≡ q → status_at session l.category after naming.number q ≡ None
+      by : (q : Option ProcName) → process_at a ≡ q → expected_status session l.category after naming.number q ≡ None
       by None is = refl
       by (Some q) is = absurd (true≢false (sym e ∙ ap (λ (b : Address Step). under same_step top (Status ∷ b)) (address_process a q is) ∙ no_process Status q refl))
   nothing_below (Inside ∷ a) e = by (process_at a) refl
@@ -162,7 +162,7 @@ module _ (session : Session) (s : State) (f : Flat) (l : Laid session s f) (m : 
     where
       by : (q : Option ProcName) → inside_at a ≡ q → thread_at session l.category after naming.number q ≡ None
       by None is = refl
-      by (Some q) is = absurd (true≢false (sym e ∙ ap (λ (b : Address Step). under same_step top (Runner ∷ b)) (address_inside a q is) ∙ under_step (m ∷ d) Runner (Inside ∷ home_of q) refl ∙ no_process Inside q refl))
+      by (Some q) is = absurd (true≢false (sym e ∙ ap (λ (b : Address Step). under same_step top (Runner ∷ b)) (address_inside a q is) ∙ under_step (m ∷ d) Runner (Inside ∷ home_address q) refl ∙ no_process Inside q refl))
   nothing_below (Child k ∷ a) e = nothing_home (Child k ∷ a) (process_at (Child k ∷ a)) e refl
 
   wish_kept : (a : Address Step) → under same_step top a ≡ false → Listing ∷ address_of d ≢ a → old_asked a ≡ wish a
@@ -261,8 +261,8 @@ module _ (session : Session) (s : State) (f : Flat) (l : Laid session s f) (m : 
   jobs_removed = jobs_kept session s f l after.files (λ r there at. old_known session s f l r there (was_there r there at))
 
   -- The kernel has the objects of the flat state without the path and all below it: `unlink`, `rmdir` and `rmtree` at any depth.
-  pub laid_removed : is_dir_at f d ≡ true → (later : Laid session (with_bytes mid N (spelling smaller)) after) × (later.naming ≡ naming) × (later.category ≡ l.category)
-  laid_removed dir = subst (λ (x : Entries). (later : Laid session (with_bytes mid N (spelling x)) after) × (later.naming ≡ naming) × (later.category ≡ l.category)) directory_smaller
+  pub laid_removed : is_dir_at f d ≡ true → (later : Laid session (with_segment_bytes mid N (spelling smaller)) after) × (later.naming ≡ naming) × (later.category ≡ l.category)
+  laid_removed dir = subst (λ (x : Entries). (later : Laid session (with_segment_bytes mid N (spelling x)) after) × (later.naming ≡ naming) × (later.category ≡ l.category)) directory_smaller
       (laid_listed session s f l after.files fits_all mid naming (cut same_step old_asked top) stands_mid (subst (λ (x : ℕ). x ≤ greatest) (sym cuts.next_object) l.numbered) d N
       (sym (kept (Listing ∷ address_of d) listing_outside) ∙ at_listing) (spelling (directory_of f.files l.naming.number d)) asked_here asked_else booted listable cuts.next_category gone_then)
     where
@@ -277,5 +277,5 @@ module _ (session : Session) (s : State) (f : Flat) (l : Laid session s f) (m : 
       ]
 
   -- and so the kernel lays out the flat state without the entry
-  pub lays_out_removed : AreJobsGiven f → is_dir_at f d ≡ true → LaysOut session (with_bytes mid N (spelling smaller)) after
+  pub lays_out_removed : AreJobsGiven f → is_dir_at f d ≡ true → LaysOut session (with_segment_bytes mid N (spelling smaller)) after
   lays_out_removed given dir = record { laid = (laid_removed dir).0; jobs_given = jobs_removed given }

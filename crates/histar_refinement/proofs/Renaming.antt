@@ -13,7 +13,7 @@ use Rattle.histar_flat.proofs.FileLemmas.{same_name_found, same_path_found}
 use Rattle.histar_layout.specs.Directory.{Entries, IsListable, spelling}
 use Rattle.histar_layout.specs.declared.entry.Target.{Target}
 use Rattle.histar_layout.proofs.MapLemmas.{by_bytes, antisymmetric, entry_found, room_without, listable_insert, listable_remove}
-use Rattle.histar_object.specs.State.{State, Found, with_bytes}
+use Rattle.histar_object.specs.State.{State, Found, with_segment_bytes}
 use Rattle.histar_container.specs.Tree.{Address, Naming}
 use Rattle.histar_flat.specs.Sessions.{Session}
 use Rattle.histar_flat.specs.FlatState.{Node, Flat, is_dir, is_dir_at, is_some_and, with_renamed}
@@ -23,7 +23,7 @@ use Rattle.histar_refinement.specs.Addresses.Step.{Left, Slash, Listing, Named, 
 use Rattle.histar_refinement.specs.LeftByBoot.{left_by_boot}
 use Rattle.histar_refinement.specs.Directories.{directory_of}
 use Rattle.histar_refinement.specs.Stands.{Stands}
-use Rattle.histar_refinement.specs.Expected.{node_object, listing_object, node_at, listing_at, home_at, status_at, container_inside, thread_at, expected}
+use Rattle.histar_refinement.specs.Expected.{node_object, listing_object, expected_node, listing_at, expected_home, expected_status, container_inside, thread_at, expected}
 use Rattle.histar_refinement.specs.LaysOut.{AreJobsGiven, Laid, LaysOut}
 use Rattle.histar_refinement.proofs.Places.{address_path, asked_listing}
 use Rattle.histar_refinement.proofs.Steps.{step_tests_equality}
@@ -93,7 +93,7 @@ module _ (session : Session) (s : State) (f : Flat) (l : Laid session s f) where
           | inr t ↦ ap (λ b. turned_name n k b m ∷ turned n k d e) (sym t.0)
         ]
 
-    node_turned : (o : Option Path) → node_at session l.category f l.naming.number (option_map (turned n k d) o) ≡ node_at session l.category after naming.number o
+    node_turned : (o : Option Path) → expected_node session l.category f l.naming.number (option_map (turned n k d) o) ≡ expected_node session l.category after naming.number o
     node_turned None = refl
     node_turned (Some q) = ap (node_object session l.category) (sym (got q))
 
@@ -104,21 +104,21 @@ module _ (session : Session) (s : State) (f : Flat) (l : Laid session s f) where
     asked_else : (a : Address Step) → Listing ∷ address_of d ≢ a → asked a ≡ expected session l.category after naming.number a
     asked_else [] other = refl
     asked_else (Left q ∷ a) other = ap (λ b. cond b (left_by_boot session q) None) (same_tests n k d [] a)
-    asked_else (Slash ∷ a) other = ap (node_at session l.category f l.naming.number) (path_turned n k d (Slash ∷ a)) ∙ node_turned (path_at (Slash ∷ a))
+    asked_else (Slash ∷ a) other = ap (expected_node session l.category f l.naming.number) (path_turned n k d (Slash ∷ a)) ∙ node_turned (path_at (Slash ∷ a))
     asked_else (Listing ∷ a) other = ap (listing_at session l.category f l.naming.number) (path_turned n k d a) ∙ by (path_at a) refl
       where
         by : (o : Option Path) → path_at a ≡ o → listing_at session l.category f l.naming.number (option_map (turned n k d) o) ≡ listing_at session l.category after naming.number o
         by None is = refl
         by (Some e) is = listing_turned e (λ i. other (ap (λ (b : Address Step). Listing ∷ b) (ap address_of i ∙ sym (address_path a e is))))
-    asked_else (Named m ∷ a) other = ap (node_at session l.category f l.naming.number) (path_turned n k d (Named m ∷ a)) ∙ node_turned (path_at (Named m ∷ a))
-    asked_else (Home ∷ a) other = ap (home_at session l.category f l.naming.number) (process_turned n k d (Home ∷ a)) ∙ by (process_at (Home ∷ a))
+    asked_else (Named m ∷ a) other = ap (expected_node session l.category f l.naming.number) (path_turned n k d (Named m ∷ a)) ∙ node_turned (path_at (Named m ∷ a))
+    asked_else (Home ∷ a) other = ap (expected_home session l.category f l.naming.number) (process_turned n k d (Home ∷ a)) ∙ by (process_at (Home ∷ a))
       where
-        by : (q : Option ProcName) → home_at session l.category f l.naming.number q ≡ home_at session l.category after naming.number q
+        by : (q : Option ProcName) → expected_home session l.category f l.naming.number q ≡ expected_home session l.category after naming.number q
         by None = refl
         by (Some q) = refl
-    asked_else (Status ∷ a) other = ap (status_at session l.category f l.naming.number) (process_turned n k d a) ∙ by (process_at a)
+    asked_else (Status ∷ a) other = ap (expected_status session l.category f l.naming.number) (process_turned n k d a) ∙ by (process_at a)
       where
-        by : (q : Option ProcName) → status_at session l.category f l.naming.number q ≡ status_at session l.category after naming.number q
+        by : (q : Option ProcName) → expected_status session l.category f l.naming.number q ≡ expected_status session l.category after naming.number q
         by None = refl
         by (Some q) = same_status session l.category f after.files l.naming.number naming.number same_numbers q
     asked_else (Inside ∷ a) other = ap (container_inside session l.category f l.naming.number) (process_turned n k d a) ∙ by (process_at a)
@@ -131,9 +131,9 @@ module _ (session : Session) (s : State) (f : Flat) (l : Laid session s f) where
         by : (q : Option ProcName) → thread_at session l.category f l.naming.number q ≡ thread_at session l.category after naming.number q
         by None = refl
         by (Some q) = refl
-    asked_else (Child m ∷ a) other = ap (home_at session l.category f l.naming.number) (process_turned n k d (Child m ∷ a)) ∙ by (process_at (Child m ∷ a))
+    asked_else (Child m ∷ a) other = ap (expected_home session l.category f l.naming.number) (process_turned n k d (Child m ∷ a)) ∙ by (process_at (Child m ∷ a))
       where
-        by : (q : Option ProcName) → home_at session l.category f l.naming.number q ≡ home_at session l.category after naming.number q
+        by : (q : Option ProcName) → expected_home session l.category f l.naming.number q ≡ expected_home session l.category after naming.number q
         by None = refl
         by (Some q) = refl
 
@@ -213,8 +213,8 @@ module _ (session : Session) (s : State) (f : Flat) (l : Laid session s f) where
 
       -- The kernel has the objects of the flat state in which all below the old name is below the new one.
       pub laid_renamed : IsTrue (is_name k) → is_dir_at f d ≡ true
-          → (later : Laid session (with_bytes s N (spelling renamed_directory)) after) × (later.naming ≡ naming) × (later.category ≡ l.category)
-      laid_renamed name dir = subst (λ (x : Entries). (later : Laid session (with_bytes s N (spelling x)) after) × (later.naming ≡ naming) × (later.category ≡ l.category)) directory_renamed
+          → (later : Laid session (with_segment_bytes s N (spelling renamed_directory)) after) × (later.naming ≡ naming) × (later.category ≡ l.category)
+      laid_renamed name dir = subst (λ (x : Entries). (later : Laid session (with_segment_bytes s N (spelling x)) after) × (later.naming ≡ naming) × (later.category ≡ l.category)) directory_renamed
           (laid_listed session s f l after.files fits_all s naming asked stands_turned l.numbered d N listing_stays
           (spelling (directory_of f.files l.naming.number d)) asked_here asked_else
           (λ a q e. l.as_booted (turned_address n k d a) q (boot_turned a ∙ e)) listable refl l.boot_thread_gone)
@@ -226,5 +226,5 @@ module _ (session : Session) (s : State) (f : Flat) (l : Laid session s f) where
           ]
 
       -- and so the kernel lays out the flat state with the entry renamed
-      pub lays_out_renamed : AreJobsGiven f → IsTrue (is_name k) → is_dir_at f d ≡ true → LaysOut session (with_bytes s N (spelling renamed_directory)) after
+      pub lays_out_renamed : AreJobsGiven f → IsTrue (is_name k) → is_dir_at f d ≡ true → LaysOut session (with_segment_bytes s N (spelling renamed_directory)) after
       lays_out_renamed given name dir = record { laid = (laid_renamed name dir).0; jobs_given = jobs_renamed given }

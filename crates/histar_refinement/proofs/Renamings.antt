@@ -3,24 +3,24 @@ use Rattle.std.proofs.Common.{◌≡◌, ◌≢◌, ◌⊎◌, ℕ, Bool, true, 
 use Rattle.std.specs.Prelude.{is_some, option_map}
 use Rattle.std.proofs.lemmas.Option.{none-some, same_Some}
 use Rattle.histar_object.specs.State.{State, Found}
-use Rattle.histar_container.specs.Tree.{Address, Naming, wanted, is_child, same, objects_at}
+use Rattle.histar_container.specs.Tree.{Address, Naming, wanted, is_one_below, same_steps, objects_at}
 use Rattle.histar_container.proofs.Addresses.{TestsEquality, same_tests_equality}
 use Rattle.histar_refinement.specs.Stands.{Stands}
 
 module _ {X : Type 0} (same_step : X → X → Bool) (tells : TestsEquality same_step) (to from : Address X → Address X) (there : (a : Address X) → to (from a) ≡ a) (back : (a : Address X) → from (to a) ≡ a)
     (root : from [] ≡ []) (below : (x : X) (a : Address X) → (y : X) × (from (x ∷ a) ≡ y ∷ from a)) where
   -- the test of one address against a new name of another is that of its old name against the other
-  pub same_through : (a b : Address X) → same same_step a (to b) ≡ same same_step (from a) b
+  pub same_through : (a b : Address X) → same_steps same_step a (to b) ≡ same_steps same_step (from a) b
   same_through a b = elim (same_tests_equality same_step tells a (to b)) [
     | inl e ↦ e.0 ∙ by_equal (ap from e.1 ∙ back b) (same_tests_equality same_step tells (from a) b)
     | inr e ↦ e.0 ∙ by_other (λ k. e.1 (sym (there a) ∙ ap to k)) (same_tests_equality same_step tells (from a) b)
   ]
     where
-      by_equal : from a ≡ b → (((same same_step (from a) b ≡ true) × (from a ≡ b)) ⊎ ((same same_step (from a) b ≡ false) × (from a ≢ b))) → true ≡ same same_step (from a) b
+      by_equal : from a ≡ b → (((same_steps same_step (from a) b ≡ true) × (from a ≡ b)) ⊎ ((same_steps same_step (from a) b ≡ false) × (from a ≢ b))) → true ≡ same_steps same_step (from a) b
       by_equal k (inl t) = sym t.0
       by_equal k (inr t) = absurd (t.1 k)
 
-      by_other : from a ≢ b → (((same same_step (from a) b ≡ true) × (from a ≡ b)) ⊎ ((same same_step (from a) b ≡ false) × (from a ≢ b))) → false ≡ same same_step (from a) b
+      by_other : from a ≢ b → (((same_steps same_step (from a) b ≡ true) × (from a ≡ b)) ⊎ ((same_steps same_step (from a) b ≡ false) × (from a ≢ b))) → false ≡ same_steps same_step (from a) b
       by_other k (inl t) = absurd (k t.1)
       by_other k (inr t) = sym t.0
 
@@ -39,10 +39,10 @@ module _ {X : Type 0} (same_step : X → X → Bool) (tells : TestsEquality same
           let tails : from v ≡ b = cc in
           (z, e ∙ ap (λ (t : Address X). z ∷ t) (sym (there v) ∙ ap to tails))
 
-  child_through : (a : Address X) (o : Option (Address X)) → is_child same_step (from a) o ≡ is_child same_step a (option_map to o)
+  child_through : (a : Address X) (o : Option (Address X)) → is_one_below same_step (from a) o ≡ is_one_below same_step a (option_map to o)
   child_through a None = refl
-  child_through a (Some []) = sym (ap (λ (w : Address X). is_child same_step a (Some w)) root_stays)
-  child_through a (Some (y ∷ b)) = sym (ap (λ (w : Address X). is_child same_step a (Some w)) (step_after y b).1 ∙ same_through a b)
+  child_through a (Some []) = sym (ap (λ (w : Address X). is_one_below same_step a (Some w)) root_stays)
+  child_through a (Some (y ∷ b)) = sym (ap (λ (w : Address X). is_one_below same_step a (Some w)) (step_after y b).1 ∙ same_through a b)
 
   -- each number has the new address of its address
   abbrev pub renamed_naming : Naming X → Naming X

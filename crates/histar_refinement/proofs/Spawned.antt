@@ -10,7 +10,7 @@ use Rattle.histar_object.specs.declared.objects.Kind.TheVariants.{Segment, Conta
 use Rattle.histar_object.specs.declared.objects.Object.{Object}
 use Rattle.histar_object.specs.Objects.{thread_of}
 use Rattle.histar_rules.specs.Rights.{with_category}
-use Rattle.histar_object.specs.State.{State, Found, with_object, with_bytes}
+use Rattle.histar_object.specs.State.{State, Found, with_object, with_segment_bytes}
 use Rattle.histar_flat.specs.Sessions.{Session, has, user_number}
 use Rattle.histar_flat.specs.Classes.{Process}
 use Rattle.histar_flat.specs.FlatState.{Flat, with_child}
@@ -18,7 +18,7 @@ use Rattle.histar_refinement.specs.Categories.{IsUsed}
 use Rattle.histar_refinement.specs.Categories.CategoryName.{OfJob}
 use Rattle.histar_refinement.specs.Guards.{rights_label, rights_clearance}
 use Rattle.histar_refinement.specs.Labels.{thread_rights}
-use Rattle.histar_refinement.specs.Addresses.{same_step, home_of}
+use Rattle.histar_refinement.specs.Addresses.{same_step, home_address}
 use Rattle.histar_refinement.specs.Addresses.Step.{Status, Inside, Runner}
 use Rattle.histar_refinement.specs.Expected.{thread_object, expected}
 use Rattle.histar_refinement.specs.LaysOut.{LaysOut, Laid}
@@ -30,7 +30,7 @@ use Rattle.histar_refinement.proofs.Beside.{Beside, beside_itself, beside_added,
 use Rattle.histar_refinement.proofs.Spawning.{outer, inner, label, clearance, child_written, own_written, laid_born, job_used, given_then}
 
 -- the thread of a process that runs
-module _ (session : Session) (s : State) (f : Flat) (l : Laid session s f) (me : ProcName) (p : Process) (here : f.processes me ≡ Some p) (runs : p.exited ≡ None) (T : ℕ) (at_thread : l.naming.number (Runner ∷ Inside ∷ home_of me) ≡ Some T) where
+module _ (session : Session) (s : State) (f : Flat) (l : Laid session s f) (me : ProcName) (p : Process) (here : f.processes me ≡ Some p) (runs : p.exited ≡ None) (T : ℕ) (at_thread : l.naming.number (Runner ∷ Inside ∷ home_address me) ≡ Some T) where
   abbrev pub own_label : Levels
   own_label = rights_label l.category (thread_rights session me p)
 
@@ -39,12 +39,12 @@ module _ (session : Session) (s : State) (f : Flat) (l : Laid session s f) (me :
 
   pub thread_stands : s.objects T ≡ Some (thread_of own_label own_clearance)
   thread_stands = bare_is (s.objects T) (thread_of own_label own_clearance) refl
-      (at_number same_step step_tests_equality s l.naming (expected session l.category f l.naming.number) l.stands (Runner ∷ Inside ∷ home_of me) T at_thread
+      (at_number same_step step_tests_equality s l.naming (expected session l.category f l.naming.number) l.stands (Runner ∷ Inside ∷ home_address me) T at_thread
       ∙ asked_runner session l.category f l.naming.number me ∙ ap (thread_object session l.category me) here
       ∙ ap (λ (e : Option ℕ). elim e as (λ _. Found) [ None ↦ Some (thread_of own_label own_clearance) | Some n ↦ None ]) runs)
 
   pub below_next : T < s.next_object
-  below_next = number_below same_step step_tests_equality s l.naming (expected session l.category f l.naming.number) l.stands (Runner ∷ Inside ∷ home_of me) T at_thread
+  below_next = number_below same_step step_tests_equality s l.naming (expected session l.category f l.naming.number) l.stands (Runner ∷ Inside ∷ home_address me) T at_thread
 
   pub beside_start : Beside T own_label own_clearance s s
   beside_start = beside_itself T own_label own_clearance s below_next thread_stands
@@ -52,7 +52,7 @@ module _ (session : Session) (s : State) (f : Flat) (l : Laid session s f) (me :
 -- the five calls of a birth that make and write objects
 abbrev pub births : State → ℕ → ℕ → Object Levels → Object Levels → Object Levels → Object Levels → List ℕ → State
 births t C S one two three four bytes =
-    with_bytes (with_object (with_object (with_object (with_object t C one) t.next_object two) (t.next_object + 1) three) t.next_object four) S bytes
+    with_segment_bytes (with_object (with_object (with_object (with_object t C one) t.next_object two) (t.next_object + 1) three) t.next_object four) S bytes
 
 pub beside_births : (T : ℕ) (own most : Levels) (t u : State) (C S : ℕ) (one two three four : Object Levels) (bytes : List ℕ) → Beside T own most t u → Beside T own most (births t C S one two three four bytes) (births u C S one two three four bytes)
 beside_births T own most t u C S one two three four bytes b =
@@ -62,12 +62,12 @@ beside_births T own most t u C S one two three four bytes b =
     let fourth = beside_added T own most (with_object (with_object (with_object t C one) u.next_object two) (u.next_object + 1) three) (with_object (with_object (with_object u C one) u.next_object two) (u.next_object + 1) three) u.next_object four third in
     subst_next (beside_written T own most (with_object (with_object (with_object (with_object t C one) u.next_object two) (u.next_object + 1) three) u.next_object four) (with_object (with_object (with_object (with_object u C one) u.next_object two) (u.next_object + 1) three) u.next_object four) S bytes fourth)
   where
-    subst_next : Beside T own most (with_bytes (with_object (with_object (with_object (with_object t C one) u.next_object two) (u.next_object + 1) three) u.next_object four) S bytes) (births u C S one two three four bytes)
+    subst_next : Beside T own most (with_segment_bytes (with_object (with_object (with_object (with_object t C one) u.next_object two) (u.next_object + 1) three) u.next_object four) S bytes) (births u C S one two three four bytes)
         → Beside T own most (births t C S one two three four bytes) (births u C S one two three four bytes)
-    subst_next = subst (λ (m : ℕ). Beside T own most (with_bytes (with_object (with_object (with_object (with_object t C one) m two) (m + 1) three) m four) S bytes) (births u C S one two three four bytes)) (sym b.next)
+    subst_next = subst (λ (m : ℕ). Beside T own most (with_segment_bytes (with_object (with_object (with_object (with_object t C one) m two) (m + 1) three) m four) S bytes) (births u C S one two three four bytes)) (sym b.next)
 
 module _ (session : Session) (s : State) (f : Flat) (l : LaysOut session s f) (me : ProcName) (p : Process) (here : f.processes me ≡ Some p) (runs : p.exited ≡ None) (room : p.born < 64)
-    (C S T : ℕ) (at_home : l.laid.naming.number (home_of me) ≡ Some C) (at_status : l.laid.naming.number (Status ∷ home_of me) ≡ Some S) (at_thread : l.laid.naming.number (Runner ∷ Inside ∷ home_of me) ≡ Some T) (few : s.next_object + 3 < greatest) where
+    (C S T : ℕ) (at_home : l.laid.naming.number (home_address me) ≡ Some C) (at_status : l.laid.naming.number (Status ∷ home_address me) ≡ Some S) (at_thread : l.laid.naming.number (Runner ∷ Inside ∷ home_address me) ≡ Some T) (few : s.next_object + 3 < greatest) where
   abbrev m : Laid session s f
   m = l.laid
 

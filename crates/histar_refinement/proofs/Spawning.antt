@@ -11,7 +11,7 @@ use Rattle.histar_flat.specs.Files.{get}
 use Rattle.histar_flat.proofs.FileLemmas.{same_name_found}
 use Rattle.histar_label.specs.Levels.{Levels}
 use Rattle.histar_layout.specs.Directory.{Entries, IsListable, spelling}
-use Rattle.histar_object.specs.Objects.{holding, is_there, is_container}
+use Rattle.histar_object.specs.Objects.{holding, is_present, is_container}
 use Rattle.histar_object.specs.State.{State, Found}
 use Rattle.histar_container.specs.Tree.{Address, Naming}
 use Rattle.histar_rules.specs.Rules.{greatest}
@@ -24,12 +24,13 @@ use Rattle.histar_refinement.specs.Categories.{CategoryName, Categories, AreDiff
 use Rattle.histar_refinement.specs.Categories.CategoryName.{OfBoot, ReadsUser, WritesUser, ReadsGroup, WritesGroup, ReadsProcess, WritesProcess, OfJob}
 use Rattle.histar_refinement.specs.Guards.{guard_label, rights_label, rights_clearance}
 use Rattle.histar_refinement.specs.Labels.{process_guard, inside_guard, thread_rights}
-use Rattle.histar_refinement.specs.Addresses.{Step, same_step, address_of, home_of, path_at, boot_number}
+use Rattle.histar_refinement.specs.Addresses.{Step, same_step, address_of, home_address, path_at, boot_number}
 use Rattle.histar_refinement.specs.Addresses.Step.{Left, Slash, Listing, Named, Home, Status, Inside, Runner, Child}
 use Rattle.histar_refinement.specs.Processes.{process_bytes}
 use Rattle.histar_refinement.specs.Directories.{directory_of}
 use Rattle.histar_refinement.specs.Stands.{Stands}
-use Rattle.histar_refinement.specs.Expected.{segment, listing_object, home_object, status_object, inside_object, thread_object, bytes_for, status_at, expected}
+use Rattle.histar_refinement.specs.Expected.{listing_object, home_object, status_object, inside_object, thread_object, bytes_for, expected_status, expected}
+use Rattle.histar_login.specs.Start.{segment}
 use Rattle.histar_refinement.specs.LaysOut.{IsInOrder, AreInOrder, IsProcess, Laid}
 use Rattle.histar_refinement.proofs.ProcessBytes.{alike_bytes}
 use Rattle.histar_refinement.proofs.Members.{first_of, second_of}
@@ -67,7 +68,7 @@ above (x ∷ a) = a
 module _ (session : Session) (s : State) (f : Flat) (l : Laid session s f) (me : ProcName) (p : Process) (here : f.processes me ≡ Some p) (runs : p.exited ≡ None) (room : p.born < 64)
     (chain : List ProcName) (chain_used : (job : ProcName) → has chain job ≡ true → IsUsed session f (OfJob job)) (chain_ordered : AreInOrder l.category chain)
     (chain_free : is_some (user_number session p.user) ≡ false → chain ≡ [])
-    (C S : ℕ) (at_home : l.naming.number (home_of me) ≡ Some C) (at_status : l.naming.number (Status ∷ home_of me) ≡ Some S) where
+    (C S : ℕ) (at_home : l.naming.number (home_address me) ≡ Some C) (at_status : l.naming.number (Status ∷ home_address me) ≡ Some S) where
   -- the child, and its parent then
   abbrev pub child : ProcName
   child = (p.born + 1) ∷ me
@@ -184,21 +185,21 @@ module _ (session : Session) (s : State) (f : Flat) (l : Laid session s f) (me :
   old_asked = expected session l.category f l.naming.number
 
   -- nothing stands where the child is to stand, and its parent's container stands
-  pub holder : is_container (old_asked (home_of me)) ≡ true
+  pub holder : is_container (old_asked (home_address me)) ≡ true
   holder = ap is_container (asked_home session l.category f l.naming.number me) ∙ ap (λ (o : Option Process). is_container (home_object session l.category me o)) here
 
-  pub no_home : is_there (old_asked (home_of child)) ≡ false
-  no_home = ap is_there (asked_home session l.category f l.naming.number child) ∙ ap (λ (o : Option Process). is_there (home_object session l.category child o)) no_child
+  pub no_home : is_present (old_asked (home_address child)) ≡ false
+  no_home = ap is_present (asked_home session l.category f l.naming.number child) ∙ ap (λ (o : Option Process). is_present (home_object session l.category child o)) no_child
 
-  pub no_inside : is_there (old_asked (Inside ∷ home_of child)) ≡ false
-  no_inside = ap is_there (asked_inside session l.category f l.naming.number child) ∙ ap (λ (o : Option Process). is_there (inside_object session l.category child o)) no_child
+  pub no_inside : is_present (old_asked (Inside ∷ home_address child)) ≡ false
+  no_inside = ap is_present (asked_inside session l.category f l.naming.number child) ∙ ap (λ (o : Option Process). is_present (inside_object session l.category child o)) no_child
 
-  pub no_runner : is_there (old_asked (Runner ∷ Inside ∷ home_of child)) ≡ false
-  no_runner = ap is_there (asked_runner session l.category f l.naming.number child) ∙ ap (λ (o : Option Process). is_there (thread_object session l.category child o)) no_child
+  pub no_runner : is_present (old_asked (Runner ∷ Inside ∷ home_address child)) ≡ false
+  no_runner = ap is_present (asked_runner session l.category f l.naming.number child) ∙ ap (λ (o : Option Process). is_present (thread_object session l.category child o)) no_child
 
-  pub no_status : is_there (old_asked (Status ∷ home_of child)) ≡ false
-  no_status = ap is_there (asked_status session l.category f l.naming.number child)
-      ∙ ap (λ (o : Option Process). is_there (status_object session l.category (bytes_for session l.category f l.naming.number child o) child o)) no_child
+  pub no_status : is_present (old_asked (Status ∷ home_address child)) ≡ false
+  no_status = ap is_present (asked_status session l.category f l.naming.number child)
+      ∙ ap (λ (o : Option Process). is_present (status_object session l.category (bytes_for session l.category f l.naming.number child o) child o)) no_child
 
   -- the numbers after the birth don't hang on what is written
   abbrev pub naming : Naming Step
@@ -214,12 +215,12 @@ module _ (session : Session) (s : State) (f : Flat) (l : Laid session s f) (me :
   abbrev pub state_born : State
   state_born = born_state s l.naming old_asked l.stands me (p.born + 1) C S at_home at_status holder no_home no_inside no_runner no_status outer inner label clearance child_written own_written
 
-  kept : (b : Address Step) → home_of child ≢ b → Inside ∷ home_of child ≢ b → Runner ∷ Inside ∷ home_of child ≢ b → Status ∷ home_of child ≢ b → naming.number b ≡ l.naming.number b
+  kept : (b : Address Step) → home_address child ≢ b → Inside ∷ home_address child ≢ b → Runner ∷ Inside ∷ home_address child ≢ b → Status ∷ home_address child ≢ b → naming.number b ≡ l.naming.number b
   kept = number_kept s l.naming old_asked l.stands me (p.born + 1) C S at_home at_status holder no_home no_inside no_runner no_status outer inner label clearance [] []
 
   -- addresses of paths, and of other processes
   pub kept_path : (q : Path) → l.naming.number (address_of q) ≡ naming.number (address_of q)
-  kept_path q = sym (kept (address_of q) (not_path q (home_of child) refl) (not_path q (Inside ∷ home_of child) refl) (not_path q (Runner ∷ Inside ∷ home_of child) refl) (not_path q (Status ∷ home_of child) refl))
+  kept_path q = sym (kept (address_of q) (not_path q (home_address child) refl) (not_path q (Inside ∷ home_address child) refl) (not_path q (Runner ∷ Inside ∷ home_address child) refl) (not_path q (Status ∷ home_address child) refl))
 
   unlike : (a b : Address Step) → kind_of a ≢ kind_of b → a ≢ b
   unlike a b other e = other (ap kind_of e)
@@ -228,39 +229,39 @@ module _ (session : Session) (s : State) (f : Flat) (l : Laid session s f) (me :
   unfolding kind_of
   kept_listing q = sym (kept (Listing ∷ address_of q) (unlike _ _ (λ k. absurd (omega (arith, k)))) (unlike _ _ (λ k. absurd (omega (arith, k)))) (unlike _ _ (λ k. absurd (omega (arith, k)))) (unlike _ _ (λ k. absurd (omega (arith, k)))))
 
-  home_apart : (q : ProcName) → q ≢ child → home_of child ≢ home_of q
+  home_apart : (q : ProcName) → q ≢ child → home_address child ≢ home_address q
   home_apart q other e = other (sym (same_home child q e))
 
-  not_status : (q : ProcName) → kind_of (home_of q) ≢ 5
+  not_status : (q : ProcName) → kind_of (home_address q) ≢ 5
   unfolding kind_of
   not_status [] e = absurd (omega (arith, e))
   not_status (n ∷ q) e = absurd (omega (arith, e))
 
-  not_inside : (q : ProcName) → kind_of (home_of q) ≢ 6
+  not_inside : (q : ProcName) → kind_of (home_address q) ≢ 6
   unfolding kind_of
   not_inside [] e = absurd (omega (arith, e))
   not_inside (n ∷ q) e = absurd (omega (arith, e))
 
-  not_runner : (q : ProcName) → kind_of (home_of q) ≢ 7
+  not_runner : (q : ProcName) → kind_of (home_address q) ≢ 7
   unfolding kind_of
   not_runner [] e = absurd (omega (arith, e))
   not_runner (n ∷ q) e = absurd (omega (arith, e))
 
-  pub kept_home : (q : ProcName) → q ≢ child → l.naming.number (home_of q) ≡ naming.number (home_of q)
+  pub kept_home : (q : ProcName) → q ≢ child → l.naming.number (home_address q) ≡ naming.number (home_address q)
   unfolding kind_of
-  kept_home q other = sym (kept (home_of q) (home_apart q other) (λ e. not_inside q (sym (ap kind_of e))) (λ e. not_runner q (sym (ap kind_of e))) (λ e. not_status q (sym (ap kind_of e))))
+  kept_home q other = sym (kept (home_address q) (home_apart q other) (λ e. not_inside q (sym (ap kind_of e))) (λ e. not_runner q (sym (ap kind_of e))) (λ e. not_status q (sym (ap kind_of e))))
 
-  pub kept_status : (q : ProcName) → q ≢ child → l.naming.number (Status ∷ home_of q) ≡ naming.number (Status ∷ home_of q)
+  pub kept_status : (q : ProcName) → q ≢ child → l.naming.number (Status ∷ home_address q) ≡ naming.number (Status ∷ home_address q)
   unfolding kind_of above
-  kept_status q other = sym (kept (Status ∷ home_of q) (unlike _ _ (λ k. absurd (omega (arith, k)))) (unlike _ _ (λ k. absurd (omega (arith, k)))) (unlike _ _ (λ k. absurd (omega (arith, k)))) (λ e. home_apart q other (ap above e)))
+  kept_status q other = sym (kept (Status ∷ home_address q) (unlike _ _ (λ k. absurd (omega (arith, k)))) (unlike _ _ (λ k. absurd (omega (arith, k)))) (unlike _ _ (λ k. absurd (omega (arith, k)))) (λ e. home_apart q other (ap above e)))
 
-  pub kept_inside : (q : ProcName) → q ≢ child → l.naming.number (Inside ∷ home_of q) ≡ naming.number (Inside ∷ home_of q)
+  pub kept_inside : (q : ProcName) → q ≢ child → l.naming.number (Inside ∷ home_address q) ≡ naming.number (Inside ∷ home_address q)
   unfolding kind_of above
-  kept_inside q other = sym (kept (Inside ∷ home_of q) (unlike _ _ (λ k. absurd (omega (arith, k)))) (λ e. home_apart q other (ap above e)) (unlike _ _ (λ k. absurd (omega (arith, k)))) (unlike _ _ (λ k. absurd (omega (arith, k)))))
+  kept_inside q other = sym (kept (Inside ∷ home_address q) (unlike _ _ (λ k. absurd (omega (arith, k)))) (λ e. home_apart q other (ap above e)) (unlike _ _ (λ k. absurd (omega (arith, k)))) (unlike _ _ (λ k. absurd (omega (arith, k)))))
 
-  pub kept_runner : (q : ProcName) → q ≢ child → l.naming.number (Runner ∷ Inside ∷ home_of q) ≡ naming.number (Runner ∷ Inside ∷ home_of q)
+  pub kept_runner : (q : ProcName) → q ≢ child → l.naming.number (Runner ∷ Inside ∷ home_address q) ≡ naming.number (Runner ∷ Inside ∷ home_address q)
   unfolding kind_of above
-  kept_runner q other = sym (kept (Runner ∷ Inside ∷ home_of q) (unlike _ _ (λ k. absurd (omega (arith, k)))) (unlike _ _ (λ k. absurd (omega (arith, k)))) (λ e. home_apart q other (ap (λ (a : Address Step). above (above a)) e)) (unlike _ _ (λ k. absurd (omega (arith, k)))))
+  kept_runner q other = sym (kept (Runner ∷ Inside ∷ home_address q) (unlike _ _ (λ k. absurd (omega (arith, k)))) (unlike _ _ (λ k. absurd (omega (arith, k)))) (λ e. home_apart q other (ap (λ (a : Address Step). above (above a)) e)) (unlike _ _ (λ k. absurd (omega (arith, k)))))
 
   -- whether another process is there hasn't changed
   pub there_alike : (x : ProcName) → x ≢ child → is_some (f.processes x) ≡ is_some (after.processes x)
@@ -299,22 +300,22 @@ module _ (session : Session) (s : State) (f : Flat) (l : Laid session s f) (me :
     | inr (inr e) ↦ ap (object category q) (sym (at_other q e.0 e.1))
   ]
 
-  status_alike : (q : ProcName) → q ≢ child → q ≢ me → status_at session l.category f l.naming.number (Some q) ≡ status_at session category after naming.number (Some q)
+  status_alike : (q : ProcName) → q ≢ child → q ≢ me → expected_status session l.category f l.naming.number (Some q) ≡ expected_status session category after naming.number (Some q)
   status_alike q not_child not_me = by (f.processes q) refl ∙ sym (ap (λ (o : Option Process). status_object session category (bytes_for session category after naming.number q o) q o) (at_other q not_child not_me))
     where
       by : (o : Option Process) → f.processes q ≡ o → status_object session l.category (bytes_for session l.category f l.naming.number q o) q o ≡ status_object session category (bytes_for session category after naming.number q o) q o
       by None e = refl
       by (Some x) e = λ i. segment (keep_process_label session f l.category category keeps q x e i) (same_bytes q x not_child not_me i)
 
-  wish_other : (a : Address Step) → home_of child ≢ a → Inside ∷ home_of child ≢ a → Runner ∷ Inside ∷ home_of child ≢ a → Status ∷ home_of child ≢ a → Status ∷ home_of me ≢ a → old_asked a ≡ wish a
+  wish_other : (a : Address Step) → home_address child ≢ a → Inside ∷ home_address child ≢ a → Runner ∷ Inside ∷ home_address child ≢ a → Status ∷ home_address child ≢ a → Status ∷ home_address me ≢ a → old_asked a ≡ wish a
   wish_other a not_home not_inner not_thread not_segment not_own = asked_alike session l.category category f after l.naming.number naming.number files_alike a (record {
-    home = λ q is. object_alike (home_object session) (λ x. keep_home session f l.category category keeps x (f.processes x) refl) refl q (λ e. not_home (ap home_of (sym e) ∙ sym is));
-    status = λ q is. status_alike q (λ e. not_segment (ap (λ (x : ProcName). Status ∷ home_of x) (sym e) ∙ sym is)) (λ e. not_own (ap (λ (x : ProcName). Status ∷ home_of x) (sym e) ∙ sym is));
-    inside = λ q is. object_alike (inside_object session) (λ x. keep_inside session f l.category category keeps x (f.processes x) refl) refl q (λ e. not_inner (ap (λ (x : ProcName). Inside ∷ home_of x) (sym e) ∙ sym is));
-    runner = λ q is. object_alike (thread_object session) (λ x. keep_runner session f l.category category keeps x (f.processes x) refl) refl q (λ e. not_thread (ap (λ (x : ProcName). Runner ∷ Inside ∷ home_of x) (sym e) ∙ sym is));
+    home = λ q is. object_alike (home_object session) (λ x. keep_home session f l.category category keeps x (f.processes x) refl) refl q (λ e. not_home (ap home_address (sym e) ∙ sym is));
+    status = λ q is. status_alike q (λ e. not_segment (ap (λ (x : ProcName). Status ∷ home_address x) (sym e) ∙ sym is)) (λ e. not_own (ap (λ (x : ProcName). Status ∷ home_address x) (sym e) ∙ sym is));
+    inside = λ q is. object_alike (inside_object session) (λ x. keep_inside session f l.category category keeps x (f.processes x) refl) refl q (λ e. not_inner (ap (λ (x : ProcName). Inside ∷ home_address x) (sym e) ∙ sym is));
+    runner = λ q is. object_alike (thread_object session) (λ x. keep_runner session f l.category category keeps x (f.processes x) refl) refl q (λ e. not_thread (ap (λ (x : ProcName). Runner ∷ Inside ∷ home_address x) (sym e) ∙ sym is));
   })
 
-  wish_own : option_map (holding own_written) (old_asked (Status ∷ home_of me)) ≡ wish (Status ∷ home_of me)
+  wish_own : option_map (holding own_written) (old_asked (Status ∷ home_address me)) ≡ wish (Status ∷ home_address me)
   wish_own =
       ap (option_map (holding own_written)) (asked_status session l.category f l.naming.number me ∙ ap (λ (o : Option Process). status_object session l.category (bytes_for session l.category f l.naming.number me o) me o) here)
       ∙ ap (λ (m : Levels). segment m own_written) (keep_process_label session f l.category category keeps me p here)

@@ -13,19 +13,20 @@ use Rattle.histar_flat.specs.FlatState.Content.{Dir, File}
 use Rattle.histar_label.specs.Levels.{Levels}
 use Rattle.histar_object.specs.declared.objects.Kind.{Kind}
 use Rattle.histar_object.specs.declared.objects.Kind.TheVariants.{Segment, Container, Thread, Gate}
-use Rattle.histar_object.specs.Objects.{Numbers as Links, links_in, label_there, is_there, is_container, thread_of}
+use Rattle.histar_object.specs.Objects.{Numbers as Links, links_in, label_there, is_present, is_container, thread_of}
 use Rattle.histar_object.specs.State.{State, Found}
-use Rattle.histar_container.specs.Tree.{Address, is_child}
+use Rattle.histar_container.specs.Tree.{Address, is_one_below}
 use Rattle.histar_container.proofs.Addresses.{same_itself}
 use Rattle.histar_container.proofs.Links.{none_linked}
 use Rattle.histar_layout.specs.Directory.{spelling}
 use Rattle.histar_refinement.specs.Guards.{Guard, guard_label, rights_label, rights_clearance}
 use Rattle.histar_refinement.specs.Labels.{class_guard, thread_rights}
-use Rattle.histar_refinement.specs.Addresses.{Step, same_step, address_of, home_of}
+use Rattle.histar_refinement.specs.Addresses.{Step, same_step, address_of, home_address}
 use Rattle.histar_refinement.specs.Addresses.Step.{Slash, Listing, Named, Inside, Runner}
 use Rattle.histar_refinement.specs.Directories.{directory_of}
 use Rattle.histar_refinement.specs.Stands.{kind_bare, bare}
-use Rattle.histar_refinement.specs.Expected.{container, segment, content_kind, guarded_object, node_object, listing_object, thread_object, expected}
+use Rattle.histar_refinement.specs.Expected.{bare_container, content_kind, guarded_object, node_object, listing_object, thread_object, expected}
+use Rattle.histar_login.specs.Start.{segment}
 use Rattle.histar_refinement.specs.LaysOut.{Laid}
 use Rattle.histar_refinement.proofs.Steps.{step_tests_equality}
 use Rattle.histar_refinement.proofs.Moving.{bare_is, at_number}
@@ -33,7 +34,7 @@ use Rattle.histar_refinement.proofs.Places.{asked_runner, asked_path, asked_list
 use Rattle.histar_refinement.proofs.FileRows.{numbered_path, nothing_in}
 
 -- a container but for its links is one with some links
-container_kind : (label : Levels) (k : Kind Levels) (m : Levels) → ◌≡◌ {A = Found} (Some (record { label = label; kind = kind_bare k })) (container m)
+container_kind : (label : Levels) (k : Kind Levels) (m : Levels) → ◌≡◌ {A = Found} (Some (record { label = label; kind = kind_bare k })) (bare_container m)
     → (links : Links) × (◌≡◌ {A = Found} (Some (record { label = label; kind = k })) (Some (record { label = m; kind = Container links })))
 container_kind label (Segment bytes) m e = absurd (true≢false (sym (ap is_container e)))
 container_kind label (Container links) m e =
@@ -42,7 +43,7 @@ container_kind label (Container links) m e =
 container_kind label (Thread clearance) m e = absurd (true≢false (sym (ap is_container e)))
 container_kind label (Gate clearance entry) m e = absurd (true≢false (sym (ap is_container e)))
 
-pub bare_container_is : (found : Found) (m : Levels) → bare found ≡ container m → (links : Links) × (found ≡ Some (record { label = m; kind = Container links }))
+pub bare_container_is : (found : Found) (m : Levels) → bare found ≡ bare_container m → (links : Links) × (found ≡ Some (record { label = m; kind = Container links }))
 bare_container_is None m e = absurd (none-some (record { label = m; kind = Container set.empty }) e)
 bare_container_is (Some x) m e = container_kind x.label x.kind m e
 
@@ -60,10 +61,10 @@ module _ (session : Session) (s : State) (f : Flat) (l : Laid session s f) where
   asked = expected session l.category f l.naming.number
 
   -- the thread of a process that runs
-  pub thread_found : (me : ProcName) (p : Process) → f.processes me ≡ Some p → p.exited ≡ None → (t : ℕ) → l.naming.number (Runner ∷ Inside ∷ home_of me) ≡ Some t
+  pub thread_found : (me : ProcName) (p : Process) → f.processes me ≡ Some p → p.exited ≡ None → (t : ℕ) → l.naming.number (Runner ∷ Inside ∷ home_address me) ≡ Some t
       → s.objects t ≡ Some (thread_of (rights_label l.category (thread_rights session me p)) (rights_clearance l.category (thread_rights session me p)))
   thread_found me p here running t at_thread = bare_is (s.objects t) (thread_of (rights_label l.category (thread_rights session me p)) (rights_clearance l.category (thread_rights session me p))) refl
-      (at_number same_step step_tests_equality s l.naming asked l.stands (Runner ∷ Inside ∷ home_of me) t at_thread
+      (at_number same_step step_tests_equality s l.naming asked l.stands (Runner ∷ Inside ∷ home_address me) t at_thread
       ∙ asked_runner session l.category f l.naming.number me ∙ ap (thread_object session l.category me) here
       ∙ (λ i. elim (running i) as (λ _. Found) [ None ↦ Some (thread_of (rights_label l.category (thread_rights session me p)) (rights_clearance l.category (thread_rights session me p))) | Some n ↦ None ]))
 
@@ -99,23 +100,23 @@ module _ (session : Session) (s : State) (f : Flat) (l : Laid session s f) where
   pub step_linked : (x : Step) (a : Address Step) (above below : ℕ) → l.naming.number a ≡ Some above → l.naming.number (x ∷ a) ≡ Some below → set.contains (links_in (s.objects above)) below ≡ true
   step_linked x a above below at_above at_below =
       l.stands.tree.links above below a (l.stands.tree.addressed a above at_above)
-      ∙ ap (is_child same_step a) (l.stands.tree.addressed (x ∷ a) below at_below)
+      ∙ ap (is_one_below same_step a) (l.stands.tree.addressed (x ∷ a) below at_below)
       ∙ same_itself same_step step_tests_equality a
 
   -- what has a directory segment is a directory
   pub listed_is_dir : (d : Path) → is_some (l.naming.number (Listing ∷ address_of d)) ≡ true → (class : Class) × (get f.files d ≡ Some (record { class = class; content = Dir }))
   listed_is_dir d numbered = by (get f.files d) refl
     where
-      there : is_there (listing_object session l.category (spelling (directory_of f.files l.naming.number d)) (get f.files d)) ≡ true
-      there = sym (l.stands.named (Listing ∷ address_of d) ∙ ap is_there (asked_listing session l.category f l.naming.number d)) ∙ numbered
+      there : is_present (listing_object session l.category (spelling (directory_of f.files l.naming.number d)) (get f.files d)) ≡ true
+      there = sym (l.stands.named (Listing ∷ address_of d) ∙ ap is_present (asked_listing session l.category f l.naming.number d)) ∙ numbered
 
       by : (o : Option Node) → get f.files d ≡ o → (class : Class) × (get f.files d ≡ Some (record { class = class; content = Dir }))
-      by None is = absurd (true≢false (sym there ∙ ap (λ (x : Option Node). is_there (listing_object session l.category (spelling (directory_of f.files l.naming.number d)) x)) is))
+      by None is = absurd (true≢false (sym there ∙ ap (λ (x : Option Node). is_present (listing_object session l.category (spelling (directory_of f.files l.naming.number d)) x)) is))
       by (Some x) is = of x.content refl
         where
           of : (c : Content) → x.content ≡ c → (class : Class) × (get f.files d ≡ Some (record { class = class; content = Dir }))
           of Dir same = (x.class, is ∙ ap (λ (c : Content). Some (record { class = x.class; content = c })) same)
-          of (File old) same = absurd (true≢false (sym there ∙ ap (λ (y : Option Node). is_there (listing_object session l.category (spelling (directory_of f.files l.naming.number d)) y)) (is ∙ ap (λ (c : Content). Some (record { class = x.class; content = c })) same)))
+          of (File old) same = absurd (true≢false (sym there ∙ ap (λ (y : Option Node). is_present (listing_object session l.category (spelling (directory_of f.files l.naming.number d)) y)) (is ∙ ap (λ (c : Content). Some (record { class = x.class; content = c })) same)))
 
   -- `/` is a directory
   pub root_is_dir : (class : Class) × (get f.files [] ≡ Some (record { class = class; content = Dir }))

@@ -19,13 +19,13 @@ use Rattle.histar_layout.proofs.MapLemmas.{entries-empty, listable_empty}
 use Rattle.histar_object.specs.declared.objects.Kind.{Kind}
 use Rattle.histar_object.specs.declared.objects.Kind.TheVariants.{Segment, Container, Gate}
 use Rattle.histar_object.specs.declared.objects.Entry.TheVariants.{Login}
-use Rattle.histar_object.specs.Objects.{Objects, is_there, thread_of}
+use Rattle.histar_object.specs.Objects.{Objects, is_present, thread_of}
 use Rattle.histar_object.specs.State.{Found}
 use Rattle.histar_container.specs.Tree.{Address, objects_at}
 use Rattle.histar_container.proofs.Addresses.{same_tests_equality}
 use Rattle.histar_calls.specs.Categories.{write_category}
 use Rattle.histar_calls.specs.Labelling.{written_by, guarded_by, owner_label, cleared_at}
-use Rattle.histar_login.specs.Start.{numbered, declared, of_user, of_users, of_directory, of_process, user_table, start_objects, start_state, object_at, process_bytes, own_read_category, own_write_category}
+use Rattle.histar_login.specs.Start.{numbered, declared, of_user, of_users, of_directory, of_process, user_table, start_objects, start_state, object_at, first_process_bytes, own_read_category, own_write_category, segment}
 use Rattle.histar_flat.specs.Sessions.{Session, user_number}
 use Rattle.histar_flat.specs.Classes.{Process, nobody, knows}
 use Rattle.histar_flat.specs.Classes.Class.{Readable}
@@ -37,11 +37,11 @@ use Rattle.histar_refinement.specs.Categories.CategoryName.{OfBoot, ReadsUser, W
 use Rattle.histar_refinement.specs.Guards.{Rights, guard_label, rights_label, rights_clearance}
 use Rattle.histar_refinement.specs.Labels.{class_guard, readable_guard, owned_as}
 use Rattle.histar_refinement.specs.LeftByBoot.{left_by_boot, left_for_user}
-use Rattle.histar_refinement.specs.Addresses.{Step, Numbers, same_step, same_address, if_at, path_at, process_at, inside_at, boot_number}
+use Rattle.histar_refinement.specs.Addresses.{Step, AddressNumbers, same_step, same_address, if_at, path_at, process_at, inside_at, boot_number}
 use Rattle.histar_refinement.specs.Addresses.Step.{Left, Slash, Listing, Named, Home, Status, Inside, Runner, Child}
 use Rattle.histar_refinement.specs.Directories.{directory_of}
 use Rattle.histar_refinement.specs.Stands.{bare, Stands}
-use Rattle.histar_refinement.specs.Expected.{container, segment, node_object, listing_object, guarded_object, node_at, listing_at, home_at, status_at, container_inside, thread_at, expected}
+use Rattle.histar_refinement.specs.Expected.{bare_container, node_object, listing_object, guarded_object, expected_node, listing_at, expected_home, expected_status, container_inside, thread_at, expected}
 use Rattle.histar_refinement.specs.LaysOut.{IsInOrder, IsProcess, Laid, LaysOut}
 use Rattle.histar_refinement.proofs.Steps.{step_tests_equality}
 use Rattle.histar_refinement.proofs.Places.{address_process, address_inside}
@@ -75,7 +75,7 @@ module _ (session : Session) (some_user : 0 < length session.users) where
   nothing_named : (name : Name) (d : Path) → get f.files (name ∷ d) ≡ None
   nothing_named name d = get_other empty [] slash_node (name ∷ d) (λ e. cc)
 
-  nothing_spelled : (number : Numbers) (d : Path) → spelling (directory_of f.files number d) ≡ []
+  nothing_spelled : (number : AddressNumbers) (d : Path) → spelling (directory_of f.files number d) ≡ []
   nothing_spelled number d = ap (flat_map entry_bytes) entries-empty
 
   -- what is there at the start, and which names are used
@@ -124,7 +124,7 @@ module _ (session : Session) (some_user : 0 < length session.users) where
   abbrev objects : Objects Levels
   objects = object_at (start_objects session)
 
-  abbrev number : Numbers
+  abbrev number : AddressNumbers
   number = start_number n
 
   abbrev wish : Address Step → Found
@@ -149,7 +149,7 @@ module _ (session : Session) (some_user : 0 < length session.users) where
       by true = h
       by false = refl
 
-  bare_there : (found : Found) → is_there (bare found) ≡ is_there found
+  bare_there : (found : Found) → is_present (bare found) ≡ is_present found
   bare_there None = refl
   bare_there (Some o) = refl
 
@@ -200,13 +200,13 @@ module _ (session : Session) (some_user : 0 < length session.users) where
       ap (λ (i : Option ℕ). guarded_object session (start_category session) kind (option_map readable_guard i)) (first_numbered session.users some_user)
       ∙ ap (λ (l : Levels). Some (record { label = l; kind = kind })) root_label
 
-  slash_expected : node_at session (start_category session) f number (Some []) ≡ bare (objects (4 + 2 * n))
+  slash_expected : expected_node session (start_category session) f number (Some []) ≡ bare (objects (4 + 2 * n))
   slash_expected = ap (node_object session (start_category session)) slash_got ∙ slash_guarded (Container set.empty) ∙ sym (ap bare (slash_stands session))
 
   listing_expected : listing_at session (start_category session) f number (Some []) ≡ bare (objects (5 + 2 * n))
   listing_expected = (λ i. listing_object session (start_category session) (nothing_spelled number [] i) (slash_got i)) ∙ slash_guarded (Segment []) ∙ sym (ap bare (listing_stands session))
 
-  node_if : (b : Bool) → node_at session (start_category session) f number (cond b (Some []) None) ≡ cond b (bare (objects (4 + 2 * n))) None
+  node_if : (b : Bool) → expected_node session (start_category session) f number (cond b (Some []) None) ≡ cond b (bare (objects (4 + 2 * n))) None
   node_if true = slash_expected
   node_if false = refl
 
@@ -214,7 +214,7 @@ module _ (session : Session) (some_user : 0 < length session.users) where
   listing_if true = listing_expected
   listing_if false = refl
 
-  no_node : (name : Name) (d : Option Path) → node_at session (start_category session) f number (option_map (λ q. name ∷ q) d) ≡ None
+  no_node : (name : Name) (d : Option Path) → expected_node session (start_category session) f number (option_map (λ q. name ∷ q) d) ≡ None
   no_node name None = refl
   no_node name (Some d) = ap (node_object session (start_category session)) (nothing_named name d)
 
@@ -245,16 +245,16 @@ module _ (session : Session) (some_user : 0 < length session.users) where
       by (Some []) is other = absurd (other (sym (address_inside a [] is)))
       by (Some (n ∷ q)) is other = others n q
 
-  home_if : (b : Bool) → home_at session (start_category session) f number (cond b (Some []) None) ≡ cond b (bare (objects (6 + 2 * n))) None
-  home_if true = ap (λ q. container (guarded_by [] (q ∷ []))) own_write_number ∙ sym (ap bare (home_stands session))
+  home_if : (b : Bool) → expected_home session (start_category session) f number (cond b (Some []) None) ≡ cond b (bare (objects (6 + 2 * n))) None
+  home_if true = ap (λ q. bare_container (guarded_by [] (q ∷ []))) own_write_number ∙ sym (ap bare (home_stands session))
   home_if false = refl
 
   inside_expected : container_inside session (start_category session) f number (Some []) ≡ bare (objects (7 + 2 * n))
-  inside_expected = (λ i. container (guarded_by (own_number i ∷ []) (own_write_number i ∷ []))) ∙ sym (ap bare (inside_stands session))
+  inside_expected = (λ i. bare_container (guarded_by (own_number i ∷ []) (own_write_number i ∷ []))) ∙ sym (ap bare (inside_stands session))
 
-  status_expected : status_at session (start_category session) f number (Some []) ≡ bare (objects (9 + 2 * n))
+  status_expected : expected_status session (start_category session) f number (Some []) ≡ bare (objects (9 + 2 * n))
   status_expected =
-      (λ i. segment (guarded_by [] (own_write_number i ∷ [])) (append-nil (process_bytes (7 + 2 * n) (8 + 2 * n)) i))
+      (λ i. segment (guarded_by [] (own_write_number i ∷ [])) (append-nil (first_process_bytes (7 + 2 * n) (8 + 2 * n)) i))
       ∙ sym (ap bare (status_stands session))
 
   runner_expected : user_number session nobody ≡ None → thread_at session (start_category session) f number (Some []) ≡ bare (objects (8 + 2 * n))
@@ -279,19 +279,19 @@ module _ (session : Session) (some_user : 0 < length session.users) where
     start_expected (Named name ∷ a) = sym (no_node name (path_at a))
     start_expected (Home ∷ a) = found_if [] a (Some (6 + 2 * n)) _ refl ∙ sym (home_if (same_address [] a))
     start_expected (Status ∷ a) = found_if process_address a (Some (9 + 2 * n)) _ refl
-        ∙ sym (process_wish (status_at session (start_category session) f number) _ refl status_expected (λ n q. refl) a)
+        ∙ sym (process_wish (expected_status session (start_category session) f number) _ refl status_expected (λ n q. refl) a)
     start_expected (Inside ∷ a) = found_if process_address a (Some (7 + 2 * n)) _ refl
         ∙ sym (process_wish (container_inside session (start_category session) f number) _ refl inside_expected (λ n q. refl) a)
     start_expected (Runner ∷ a) = found_if inside_address a (Some (8 + 2 * n)) _ refl
         ∙ sym (inside_wish (thread_at session (start_category session) f number) _ refl (runner_expected no_one) (λ n q. refl) a)
     start_expected (Child n ∷ a) = by (process_at a)
       where
-        by : (q : Option ProcName) → None ≡ home_at session (start_category session) f number (option_map (λ p. n ∷ p) q)
+        by : (q : Option ProcName) → None ≡ expected_home session (start_category session) f number (option_map (λ p. n ∷ p) q)
         by None = refl
         by (Some q) = refl
 
     -- an address has a number exactly where the flat state asks for something
-    number_there : (a : Address Step) (found : Option ℕ) → number a ≡ found → is_some found ≡ is_there (option_and_then objects found)
+    number_there : (a : Address Step) (found : Option ℕ) → number a ≡ found → is_some found ≡ is_present (option_and_then objects found)
     number_there a None e = refl
     number_there a (Some q) e = sym (place_there session q a (place_of_number n q a e))
 
@@ -299,7 +299,7 @@ module _ (session : Session) (some_user : 0 < length session.users) where
     start_stands = record {
       tree = start_laid session;
       objects = start_expected;
-      named = λ a. number_there a (number a) refl ∙ sym (bare_there (objects_at objects (start_naming n) a)) ∙ ap is_there (start_expected a);
+      named = λ a. number_there a (number a) refl ∙ sym (bare_there (objects_at objects (start_naming n) a)) ∙ ap is_present (start_expected a);
     }
 
     as_booted_then : (a : Address Step) (q : ℕ) → boot_number n a ≡ Some q → number a ≡ Some q

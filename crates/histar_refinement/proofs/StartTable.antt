@@ -7,18 +7,18 @@ use Rattle.histar_flat.specs.declared.calls.User.{User}
 use Rattle.histar_flat.specs.Sessions.{Session}
 use Rattle.histar_label.specs.Levels.{Levels}
 use Rattle.histar_object.specs.declared.objects.Kind.TheVariants.{Thread}
-use Rattle.histar_object.specs.Objects.{is_there, links_in}
+use Rattle.histar_object.specs.Objects.{is_present, links_in}
 use Rattle.histar_object.specs.State.{Found}
 use Rattle.histar_calls.specs.Categories.{write_category}
 use Rattle.histar_calls.specs.Labelling.{written_by, secret_of, owner_of, cleared_of}
-use Rattle.histar_login.specs.Start.{boot_category, declared, own_read_category, own_write_category, segment, container, numbered, of_user, of_users, of_directory, of_process, process_bytes, user_table, start_objects, object_at}
+use Rattle.histar_login.specs.Start.{root_category, declared, own_read_category, own_write_category, segment, container, numbered, of_user, of_users, of_directory, of_process, first_process_bytes, user_table, start_objects, object_at}
 use Rattle.histar_login.proofs.Stages.{length-numbered}
 use Rattle.histar_refinement.proofs.StartNumbers.{is_left}
 use Rattle.histar_refinement.specs.Stands.{bare}
 
 -- something stands there that is no container
 pub record IsPlain (found : Found) : Type 0 where
-  pub there : is_there found ≡ true
+  pub there : is_present found ≡ true
   pub bared : bare found ≡ found
   pub linkless : links_in found ≡ set.empty
 
@@ -62,7 +62,7 @@ module _ (session : Session) where
   left_plain (suc (suc zero)) e = absurd (grind (arith, nat_tests))
   left_plain (suc (suc (suc k))) e =
       let back = drop 1 (of_directory n session ++ of_process n owners) in
-      subst IsPlain (sym (from_users k)) (users_plain session 1 session.users (written_by boot_category) (user_table session) back k (grind (arith, nat_tests)))
+      subst IsPlain (sym (from_users k)) (users_plain session 1 session.users (written_by root_category) (user_table session) back k (grind (arith, nat_tests)))
 
   -- `/` links its directory segment, and the first user alone may write it
   pub slash_stands : object_at (start_objects session) (4 + 2 * n) ≡ container (written_by (write_category 1)) ((5 + 2 * n) ∷ [])
@@ -86,7 +86,7 @@ module _ (session : Session) where
   runner_stands = last_at 5 _ (omega arith)
 
   -- the process segment names the internal container and the thread
-  pub status_stands : object_at (start_objects session) (9 + 2 * n) ≡ segment (written_by (own_write_category owners)) (process_bytes (7 + 2 * n) (8 + 2 * n))
+  pub status_stands : object_at (start_objects session) (9 + 2 * n) ≡ segment (written_by (own_write_category owners)) (first_process_bytes (7 + 2 * n) (8 + 2 * n))
   status_stands = last_at 6 _ (omega arith)
 
   -- nothing stands behind the process segment

@@ -9,9 +9,9 @@ use Rattle.std.proofs.lemmas.Option.{same_Some}
 use Rattle.std.proofs.Math.Bool.{or-false}
 use Rattle.histar_flat.specs.Sessions.{Session}
 use Rattle.histar_label.specs.Levels.{Levels}
-use Rattle.histar_object.specs.Objects.{Objects, is_there, links_in}
+use Rattle.histar_object.specs.Objects.{Objects, is_present, links_in}
 use Rattle.histar_object.specs.State.{Found}
-use Rattle.histar_container.specs.Tree.{Address, Naming, wanted, same, is_child, IsLaid, objects_at}
+use Rattle.histar_container.specs.Tree.{Address, Naming, wanted, same_steps, is_one_below, IsLaid, objects_at}
 use Rattle.histar_container.proofs.Addresses.{same_itself, same_other}
 use Rattle.histar_login.specs.Start.{start_objects, start_state, object_at}
 use Rattle.histar_refinement.specs.Addresses.{Step, same_step}
@@ -38,7 +38,7 @@ module _ (n : ℕ) where
   -- what has an address has this one
   abbrev is_this : Address Step → Option (Address Step) → Bool
   is_this here None = false
-  is_this here (Some b) = same same_step here b
+  is_this here (Some b) = same_steps same_step here b
 
   -- a number is the one of an address exactly where it has this address
   number_is : (m c : ℕ) (here : Address Step) → Place n here m → nat_eq m c ≡ is_this here (start_address n c)
@@ -54,19 +54,19 @@ module _ (n : ℕ) where
           other (same_Some m c numbers))
 
   -- a test of addresses tells what is one step below an address, where it does for those that have a number
-  child_is : (a : Address Step) (t : Option (Address Step) → Bool) → t None ≡ false → ((b : Address Step) (q : ℕ) → Place n b q → t (Some b) ≡ is_child same_step a (Some b))
-      → (c : ℕ) → t (start_address n c) ≡ is_child same_step a (start_address n c)
+  child_is : (a : Address Step) (t : Option (Address Step) → Bool) → t None ≡ false → ((b : Address Step) (q : ℕ) → Place n b q → t (Some b) ≡ is_one_below same_step a (Some b))
+      → (c : ℕ) → t (start_address n c) ≡ is_one_below same_step a (start_address n c)
   child_is a t nowhere at c = elim (seen n c) [
-    | placed b p e ↦ ap t e ∙ at b c p ∙ sym (ap (is_child same_step a) e)
-    | unplaced f e ↦ ap t e ∙ nowhere ∙ sym (ap (is_child same_step a) e)
+    | placed b p e ↦ ap t e ∙ at b c p ∙ sym (ap (is_one_below same_step a) e)
+    | unplaced f e ↦ ap t e ∙ nowhere ∙ sym (ap (is_one_below same_step a) e)
   ]
 
   -- nothing stands below what is none of the four containers
-  no_child : (a : Address Step) → same same_step a [] ≡ false → same same_step a (Slash ∷ []) ≡ false → same same_step a process_address ≡ false → same same_step a inside_address ≡ false
-      → (c : ℕ) → false ≡ is_child same_step a (start_address n c)
+  no_child : (a : Address Step) → same_steps same_step a [] ≡ false → same_steps same_step a (Slash ∷ []) ≡ false → same_steps same_step a process_address ≡ false → same_steps same_step a inside_address ≡ false
+      → (c : ℕ) → false ≡ is_one_below same_step a (start_address n c)
   no_child a not_root not_slash not_home not_inside = child_is a (λ found. false) refl at
     where
-      at : (b : Address Step) (p : ℕ) → Place n b p → false ≡ is_child same_step a (Some b)
+      at : (b : Address Step) (p : ℕ) → Place n b p → false ≡ is_one_below same_step a (Some b)
       at b p (on_root q e) = refl
       at b p (on_left q e) = sym not_root
       at b p (on_slash q e) = sym not_root
@@ -77,8 +77,8 @@ module _ (n : ℕ) where
       at b p (on_status q e) = sym not_home
 
   -- a container that links one number links what stands below it, where this is the number of its one child
-  one_link : (m : ℕ) (a here : Address Step) → Place n here m → ((b : Address Step) (q : ℕ) → Place n b q → same same_step here b ≡ is_child same_step a (Some b))
-      → (c : ℕ) → set.contains (set.from_list {R = nat_cmp} (m ∷ [])) c ≡ is_child same_step a (start_address n c)
+  one_link : (m : ℕ) (a here : Address Step) → Place n here m → ((b : Address Step) (q : ℕ) → Place n b q → same_steps same_step here b ≡ is_one_below same_step a (Some b))
+      → (c : ℕ) → set.contains (set.from_list {R = nat_cmp} (m ∷ [])) c ≡ is_one_below same_step a (start_address n c)
   one_link m a here p at c = set.contains-from_list_nat (m ∷ []) c ∙ or-false (nat_eq m c) ∙ number_is m c here p ∙ child_is a (is_this here) refl at c
 
   -- a number is one of those in the root container
@@ -86,7 +86,7 @@ module _ (n : ℕ) where
   in_root q = (nat_le 3 q && nat_lt q (3 + (2 + 2 * n))) || (nat_eq (6 + 2 * n) q || false)
 
   -- the root container links 3 to 4 + 2n, and 6 + 2n
-  root_links : (c : ℕ) → set.contains (set.from_list {R = nat_cmp} (range_with_len 3 (2 + 2 * n) ++ (6 + 2 * n) ∷ [])) c ≡ is_child same_step [] (start_address n c)
+  root_links : (c : ℕ) → set.contains (set.from_list {R = nat_cmp} (range_with_len 3 (2 + 2 * n) ++ (6 + 2 * n) ∷ [])) c ≡ is_one_below same_step [] (start_address n c)
   root_links c =
       set.contains-from_list_nat (range_with_len 3 (2 + 2 * n) ++ (6 + 2 * n) ∷ []) c
       ∙ in_row 3 (2 + 2 * n) c ((6 + 2 * n) ∷ [])
@@ -95,7 +95,7 @@ module _ (n : ℕ) where
       not_linked : (q : ℕ) → ((q < 3) ⊎ (q ≡ 5 + 2 * n) ⊎ (6 + 2 * n < q)) → in_root q ≡ false
       not_linked q h = grind (arith, nat_tests)
 
-      at : (b : Address Step) (p : ℕ) → Place n b p → in_root p ≡ is_child same_step [] (Some b)
+      at : (b : Address Step) (p : ℕ) → Place n b p → in_root p ≡ is_one_below same_step [] (Some b)
       at b p (on_root q e) = not_linked q (inl (omega arith))
       at b p (on_left q e) = grind (arith, nat_tests)
       at b p (on_slash q e) = grind (arith, nat_tests)
@@ -108,23 +108,23 @@ module _ (n : ℕ) where
       free : IsFree n c → in_root c ≡ false
       free f = grind (arith, nat_tests)
 
-      by : Seen n c → in_root c ≡ is_child same_step [] (start_address n c)
-      by (placed b p e) = at b c p ∙ sym (ap (is_child same_step []) e)
-      by (unplaced f e) = free f ∙ sym (ap (is_child same_step []) e)
+      by : Seen n c → in_root c ≡ is_one_below same_step [] (start_address n c)
+      by (placed b p e) = at b c p ∙ sym (ap (is_one_below same_step []) e)
+      by (unplaced f e) = free f ∙ sym (ap (is_one_below same_step []) e)
 
   -- `/` links its directory segment
-  slash_links : (c : ℕ) → set.contains (set.from_list {R = nat_cmp} ((5 + 2 * n) ∷ [])) c ≡ is_child same_step (Slash ∷ []) (start_address n c)
+  slash_links : (c : ℕ) → set.contains (set.from_list {R = nat_cmp} ((5 + 2 * n) ∷ [])) c ≡ is_one_below same_step (Slash ∷ []) (start_address n c)
   slash_links = one_link (5 + 2 * n) (Slash ∷ []) (Listing ∷ Slash ∷ []) (on_listing (5 + 2 * n) refl) at
     where
-      at : (b : Address Step) (p : ℕ) → Place n b p → same same_step (Listing ∷ Slash ∷ []) b ≡ is_child same_step (Slash ∷ []) (Some b)
+      at : (b : Address Step) (p : ℕ) → Place n b p → same_steps same_step (Listing ∷ Slash ∷ []) b ≡ is_one_below same_step (Slash ∷ []) (Some b)
       at b p (on_root q e) = refl
       at b p other = refl
 
   -- the internal container links the thread
-  inside_links : (c : ℕ) → set.contains (set.from_list {R = nat_cmp} ((8 + 2 * n) ∷ [])) c ≡ is_child same_step inside_address (start_address n c)
+  inside_links : (c : ℕ) → set.contains (set.from_list {R = nat_cmp} ((8 + 2 * n) ∷ [])) c ≡ is_one_below same_step inside_address (start_address n c)
   inside_links = one_link (8 + 2 * n) inside_address (Runner ∷ inside_address) (on_runner (8 + 2 * n) refl) at
     where
-      at : (b : Address Step) (p : ℕ) → Place n b p → same same_step (Runner ∷ inside_address) b ≡ is_child same_step inside_address (Some b)
+      at : (b : Address Step) (p : ℕ) → Place n b p → same_steps same_step (Runner ∷ inside_address) b ≡ is_one_below same_step inside_address (Some b)
       at b p (on_root q e) = refl
       at b p other = refl
 
@@ -133,14 +133,14 @@ module _ (n : ℕ) where
   in_home found = is_this inside_address found || is_this (Status ∷ process_address) found
 
   -- the container of process 0 links its internal container and its process segment
-  home_links : (c : ℕ) → set.contains (set.from_list {R = nat_cmp} ((7 + 2 * n) ∷ (9 + 2 * n) ∷ [])) c ≡ is_child same_step process_address (start_address n c)
+  home_links : (c : ℕ) → set.contains (set.from_list {R = nat_cmp} ((7 + 2 * n) ∷ (9 + 2 * n) ∷ [])) c ≡ is_one_below same_step process_address (start_address n c)
   home_links c =
       set.contains-from_list_nat ((7 + 2 * n) ∷ (9 + 2 * n) ∷ []) c
       ∙ ap (λ b. nat_eq (7 + 2 * n) c || b) (or-false (nat_eq (9 + 2 * n) c))
       ∙ (λ i. number_is (7 + 2 * n) c inside_address (on_inside (7 + 2 * n) refl) i || number_is (9 + 2 * n) c (Status ∷ process_address) (on_status (9 + 2 * n) refl) i)
       ∙ child_is process_address in_home refl at c
     where
-      at : (b : Address Step) (p : ℕ) → Place n b p → in_home (Some b) ≡ is_child same_step process_address (Some b)
+      at : (b : Address Step) (p : ℕ) → Place n b p → in_home (Some b) ≡ is_one_below same_step process_address (Some b)
       at b p (on_root q e) = refl
       at b p other = refl
 
@@ -210,7 +210,7 @@ module _ (session : Session) where
   no_links q c h = ap (λ s. set.contains s c) h ∙ set.contains-empty nat_cmp c
 
   -- an object links exactly what stands one step below it
-  place_links : (q c : ℕ) (a : Address Step) → Place n a q → set.contains (links_in (objects q)) c ≡ is_child same_step a (start_address n c)
+  place_links : (q c : ℕ) (a : Address Step) → Place n a q → set.contains (links_in (objects q)) c ≡ is_one_below same_step a (start_address n c)
   place_links p c b (on_root q e) = same_links q c _ _ (ap objects e) (root_links n c)
   place_links p c b (on_left q e) = no_links q c (left_plain session q e).linkless ∙ no_child n (Left q ∷ []) refl refl refl refl c
   place_links p c b (on_slash q e) = same_links q c _ _ (ap objects e ∙ slash_stands session) (slash_links n c)
@@ -221,15 +221,15 @@ module _ (session : Session) where
   place_links p c b (on_status q e) = no_links q c (ap links_in (ap objects e ∙ status_stands session)) ∙ no_child n (Status ∷ process_address) refl refl refl refl c
 
   -- something stands where there is an address
-  pub place_there : (q : ℕ) (a : Address Step) → Place n a q → is_there (objects q) ≡ true
-  place_there p b (on_root q e) = ap is_there (ap objects e)
+  pub place_there : (q : ℕ) (a : Address Step) → Place n a q → is_present (objects q) ≡ true
+  place_there p b (on_root q e) = ap is_present (ap objects e)
   place_there p b (on_left q e) = (left_plain session q e).there
-  place_there p b (on_slash q e) = ap is_there (ap objects e ∙ slash_stands session)
-  place_there p b (on_listing q e) = ap is_there (ap objects e ∙ listing_stands session)
-  place_there p b (on_home q e) = ap is_there (ap objects e ∙ home_stands session)
-  place_there p b (on_inside q e) = ap is_there (ap objects e ∙ inside_stands session)
-  place_there p b (on_runner q e) = ap is_there (ap objects e ∙ runner_stands session)
-  place_there p b (on_status q e) = ap is_there (ap objects e ∙ status_stands session)
+  place_there p b (on_slash q e) = ap is_present (ap objects e ∙ slash_stands session)
+  place_there p b (on_listing q e) = ap is_present (ap objects e ∙ listing_stands session)
+  place_there p b (on_home q e) = ap is_present (ap objects e ∙ home_stands session)
+  place_there p b (on_inside q e) = ap is_present (ap objects e ∙ inside_stands session)
+  place_there p b (on_runner q e) = ap is_present (ap objects e ∙ runner_stands session)
+  place_there p b (on_status q e) = ap is_present (ap objects e ∙ status_stands session)
 
   -- the objects at the start are laid
   pub start_laid : IsLaid same_step objects (start_state session).next_object (objects_at objects (start_naming n)) (start_naming n)

@@ -10,11 +10,11 @@ use Rattle.histar_flat.specs.Words.{ProcName}
 use Rattle.histar_flat.specs.Sessions.{Session}
 use Rattle.histar_flat.specs.Classes.{Process}
 use Rattle.histar_flat.specs.FlatState.{Flat, was_given, is_given}
-use Rattle.histar_object.specs.Objects.{bytes_in, is_there}
+use Rattle.histar_object.specs.Objects.{bytes_in, is_present}
 use Rattle.histar_object.specs.State.{State}
 use Rattle.histar_layout.specs.declared.status.Child.{Child as Listed}
 use Rattle.histar_layout.specs.Status.{ProcessStatus, child_at}
-use Rattle.histar_refinement.specs.Addresses.{Numbers, home_of}
+use Rattle.histar_refinement.specs.Addresses.{AddressNumbers, home_address}
 use Rattle.histar_refinement.specs.Addresses.Step.{Home, Status, Inside, Runner, Child}
 use Rattle.histar_refinement.specs.Expected.{home_object, status_object, thread_object, bytes_for}
 use Rattle.histar_refinement.specs.LaysOut.{Laid}
@@ -28,7 +28,7 @@ use Rattle.histar_refinement.proofs.StatusLaid.{holds_status}
 
 -- ---- a child in the list of children
 
-module _ (number : Numbers) (me : ProcName) (test : ℕ → Bool) (n : ℕ) where
+module _ (number : AddressNumbers) (me : ProcName) (test : ℕ → Bool) (n : ℕ) where
   abbrev listed_from : ℕ → ℕ → Option Listed
   listed_from a k = child_at (map (listed_by number me) (filter test (range_with_len a k))) n
 
@@ -71,26 +71,26 @@ zero_there (Some q) k some e = ap Some e
 
 module _ (session : Session) (s : State) (f : Flat) (l : Laid session s f) where
   -- the addresses of a process have numbers where it is there
-  pub numbered_home : (me : ProcName) → is_some (l.naming.number (home_of me)) ≡ is_some (f.processes me)
-  numbered_home me = l.stands.named (home_of me) ∙ ap is_there (asked_home session l.category f l.naming.number me) ∙ by (f.processes me)
+  pub numbered_home : (me : ProcName) → is_some (l.naming.number (home_address me)) ≡ is_some (f.processes me)
+  numbered_home me = l.stands.named (home_address me) ∙ ap is_present (asked_home session l.category f l.naming.number me) ∙ by (f.processes me)
     where
-      by : (o : Option Process) → is_there (home_object session l.category me o) ≡ is_some o
+      by : (o : Option Process) → is_present (home_object session l.category me o) ≡ is_some o
       by None = refl
       by (Some p) = refl
 
-  pub numbered_status : (me : ProcName) → is_some (l.naming.number (Status ∷ home_of me)) ≡ is_some (f.processes me)
-  numbered_status me = l.stands.named (Status ∷ home_of me) ∙ ap is_there (asked_status session l.category f l.naming.number me) ∙ by (f.processes me)
+  pub numbered_status : (me : ProcName) → is_some (l.naming.number (Status ∷ home_address me)) ≡ is_some (f.processes me)
+  numbered_status me = l.stands.named (Status ∷ home_address me) ∙ ap is_present (asked_status session l.category f l.naming.number me) ∙ by (f.processes me)
     where
-      by : (o : Option Process) → is_there (status_object session l.category (bytes_for session l.category f l.naming.number me o) me o) ≡ is_some o
+      by : (o : Option Process) → is_present (status_object session l.category (bytes_for session l.category f l.naming.number me o) me o) ≡ is_some o
       by None = refl
       by (Some p) = refl
 
   -- and its thread has one where it runs
-  pub numbered_runner : (me : ProcName) (p : Process) → f.processes me ≡ Some p → p.exited ≡ None → is_some (l.naming.number (Runner ∷ Inside ∷ home_of me)) ≡ true
+  pub numbered_runner : (me : ProcName) (p : Process) → f.processes me ≡ Some p → p.exited ≡ None → is_some (l.naming.number (Runner ∷ Inside ∷ home_address me)) ≡ true
   numbered_runner me p here running =
-      l.stands.named (Runner ∷ Inside ∷ home_of me) ∙ ap is_there (asked_runner session l.category f l.naming.number me ∙ ap (thread_object session l.category me) here) ∙ by p.exited running
+      l.stands.named (Runner ∷ Inside ∷ home_address me) ∙ ap is_present (asked_runner session l.category f l.naming.number me ∙ ap (thread_object session l.category me) here) ∙ by p.exited running
     where
-      by : (e : Option ℕ) → e ≡ None → is_there (thread_object session l.category me (Some (record p { exited = e }))) ≡ true
+      by : (e : Option ℕ) → e ≡ None → is_present (thread_object session l.category me (Some (record p { exited = e }))) ≡ true
       by None is = refl
       by (Some n) is = absurd (none-some n (sym is))
 
@@ -103,13 +103,13 @@ module _ (session : Session) (s : State) (f : Flat) (l : Laid session s f) where
       (grind (arith, nat_tests, low), grind (arith, nat_tests, high))
 
   -- The segments lead to the numbers of each process.
-  pub status_found : (me : ProcName) (p : Process) (c g : ℕ) → f.processes me ≡ Some p → l.naming.number (home_of me) ≡ Some c → l.naming.number (Status ∷ home_of me) ≡ Some g → IsStatusSegment session s me c g
+  pub status_found : (me : ProcName) (p : Process) (c g : ℕ) → f.processes me ≡ Some p → l.naming.number (home_address me) ≡ Some c → l.naming.number (Status ∷ home_address me) ≡ Some g → IsStatusSegment session s me c g
   status_found [] p c g here home status =
       (same_Some c _ (sym home ∙ l.as_booted (Home ∷ []) _ refl), same_Some g _ (sym status ∙ l.as_booted (Status ∷ Home ∷ []) _ refl))
   status_found (n ∷ me) p c g here home status =
-      let c_above = some_of (l.naming.number (home_of me)) (l.stands.tree.held (Child n) (home_of me) (ap is_some home)) in
+      let c_above = some_of (l.naming.number (home_address me)) (l.stands.tree.held (Child n) (home_address me) (ap is_some home)) in
       let above = some_of (f.processes me) (sym (numbered_home me) ∙ ap is_some c_above.1) in
-      let g_above = some_of (l.naming.number (Status ∷ home_of me)) (numbered_status me ∙ ap is_some above.1) in
+      let g_above = some_of (l.naming.number (Status ∷ home_address me)) (numbered_status me ∙ ap is_some above.1) in
       let range = child_range n me above.0 above.1 (ap is_some here) in (
         c_above.0,
         g_above.0,
@@ -121,7 +121,7 @@ module _ (session : Session) (s : State) (f : Flat) (l : Laid session s f) where
       )
 
   -- And they lead to no others.
-  pub status_back : (me : ProcName) (c g : ℕ) → IsStatusSegment session s me c g → (p : Process) × (f.processes me ≡ Some p) × (l.naming.number (home_of me) ≡ Some c) × (l.naming.number (Status ∷ home_of me) ≡ Some g)
+  pub status_back : (me : ProcName) (c g : ℕ) → IsStatusSegment session s me c g → (p : Process) × (f.processes me ≡ Some p) × (l.naming.number (home_address me) ≡ Some c) × (l.naming.number (Status ∷ home_address me) ≡ Some g)
   status_back [] c g found =
       let first = some_of (f.processes []) l.first in
       (first.0, first.1, l.as_booted (Home ∷ []) _ refl ∙ ap Some (sym found.0), l.as_booted (Status ∷ Home ∷ []) _ refl ∙ ap Some (sym found.1))
@@ -132,19 +132,19 @@ module _ (session : Session) (s : State) (f : Flat) (l : Laid session s f) where
       let there = some_of (f.processes (n ∷ me)) listed.0 in (
         there.0,
         there.1,
-        zero_there (l.naming.number (home_of (n ∷ me))) c (numbered_home (n ∷ me) ∙ listed.0) (ap (λ (x : Listed). x.container) listed.1),
-        zero_there (l.naming.number (Status ∷ home_of (n ∷ me))) g (numbered_status (n ∷ me) ∙ listed.0) (ap (λ (x : Listed). x.segment) listed.1),
+        zero_there (l.naming.number (home_address (n ∷ me))) c (numbered_home (n ∷ me) ∙ listed.0) (ap (λ (x : Listed). x.container) listed.1),
+        zero_there (l.naming.number (Status ∷ home_address (n ∷ me))) g (numbered_status (n ∷ me) ∙ listed.0) (ap (λ (x : Listed). x.segment) listed.1),
       )
 
   -- The thread of a process that runs is found.
-  pub thread_led : (me : ProcName) (p : Process) (t : ℕ) → f.processes me ≡ Some p → p.exited ≡ None → l.naming.number (Runner ∷ Inside ∷ home_of me) ≡ Some t → IsThreadOf session s me t
+  pub thread_led : (me : ProcName) (p : Process) (t : ℕ) → f.processes me ≡ Some p → p.exited ≡ None → l.naming.number (Runner ∷ Inside ∷ home_address me) ≡ Some t → IsThreadOf session s me t
   thread_led me p t here running runner =
-      let c = some_of (l.naming.number (home_of me)) (numbered_home me ∙ ap is_some here) in
-      let g = some_of (l.naming.number (Status ∷ home_of me)) (numbered_status me ∙ ap is_some here) in
+      let c = some_of (l.naming.number (home_address me)) (numbered_home me ∙ ap is_some here) in
+      let g = some_of (l.naming.number (Status ∷ home_address me)) (numbered_status me ∙ ap is_some here) in
       (c.0, g.0, status_by f.processes l.naming.number me p, status_found me p c.0 g.0 here c.1 g.1, holds_status session s f l me p g.0 here g.1, running, ap or_zero runner)
 
   -- And what is found is the thread of a process that runs.
-  pub thread_back : (me : ProcName) (t : ℕ) → IsThreadOf session s me t → (p : Process) × (f.processes me ≡ Some p) × (p.exited ≡ None) × (l.naming.number (Runner ∷ Inside ∷ home_of me) ≡ Some t)
+  pub thread_back : (me : ProcName) (t : ℕ) → IsThreadOf session s me t → (p : Process) × (f.processes me ≡ Some p) × (p.exited ≡ None) × (l.naming.number (Runner ∷ Inside ∷ home_address me) ≡ Some t)
   thread_back me t found =
       let there = status_back me found.0 found.1 found.3 in
       let same = same_status (bytes_in (s.objects found.1)) found.2 (status_by f.processes l.naming.number me there.0) found.4 (holds_status session s f l me there.0 found.1 there.1 there.3) in
@@ -152,5 +152,5 @@ module _ (session : Session) (s : State) (f : Flat) (l : Laid session s f) where
         there.0,
         there.1,
         running,
-        zero_there (l.naming.number (Runner ∷ Inside ∷ home_of me)) t (numbered_runner me there.0 there.1 running) (sym (ap (λ (x : ProcessStatus). x.thread) same) ∙ found.6),
+        zero_there (l.naming.number (Runner ∷ Inside ∷ home_address me)) t (numbered_runner me there.0 there.1 running) (sym (ap (λ (x : ProcessStatus). x.thread) same) ∙ found.6),
       )

@@ -12,7 +12,7 @@ use Rattle.histar_flat.specs.Sessions.{Session}
 use Rattle.histar_flat.specs.Classes.{Process}
 use Rattle.histar_flat.specs.FlatState.{Flat}
 use Rattle.histar_layout.specs.Status.{IsChild, IsStatus}
-use Rattle.histar_refinement.specs.Addresses.{Step, home_of}
+use Rattle.histar_refinement.specs.Addresses.{Step, home_address}
 use Rattle.histar_refinement.specs.Addresses.Step.{Status, Inside, Runner}
 use Rattle.histar_refinement.specs.Stands.{bare}
 use Rattle.histar_refinement.specs.Processes.{or_zero, listed_by, status_by, children}
@@ -34,18 +34,18 @@ module _ (session : Session) (s : State) (f : Flat) (l : Laid session s f) where
 
   each_small : (me : ProcName) (ns : List ℕ) → AllByRecursion IsChild (map (listed_by l.naming.number me) ns)
   each_small me [] = tt
-  each_small me (n ∷ ns) = ((number_small (home_of (n ∷ me)), number_small (Status ∷ home_of (n ∷ me))), each_small me ns)
+  each_small me (n ∷ ns) = ((number_small (home_address (n ∷ me)), number_small (Status ∷ home_address (n ∷ me))), each_small me ns)
 
   -- the process segment is the status that the naming tells
-  pub holds_status : (me : ProcName) (p : Process) (g : ℕ) → f.processes me ≡ Some p → l.naming.number (Status ∷ home_of me) ≡ Some g
+  pub holds_status : (me : ProcName) (p : Process) (g : ℕ) → f.processes me ≡ Some p → l.naming.number (Status ∷ home_address me) ≡ Some g
       → IsStatus (bytes_in (s.objects g)) (status_by f.processes l.naming.number me p)
   holds_status me p g is at = record {
-    internal = number_small (Inside ∷ home_of me);
-    thread = number_small (Runner ∷ Inside ∷ home_of me);
+    internal = number_small (Inside ∷ home_address me);
+    thread = number_small (Runner ∷ Inside ∷ home_address me);
     each = each_small me (children f.processes me p.born);
     spelled =
         sym (bytes_bare (s.objects g))
         ∙ ap (λ (q : Option ℕ). bytes_in (bare (option_and_then s.objects q))) (sym at)
-        ∙ ap bytes_in (l.stands.objects (Status ∷ home_of me) ∙ asked_status session l.category f l.naming.number me)
+        ∙ ap bytes_in (l.stands.objects (Status ∷ home_address me) ∙ asked_status session l.category f l.naming.number me)
         ∙ ap (λ (o : Option Process). bytes_in (status_object session l.category (bytes_for session l.category f l.naming.number me o) me o)) is;
   }

@@ -14,7 +14,7 @@ use Rattle.histar_flat.proofs.Finding.{first, second, find_first, find_later}
 use Rattle.histar_container.specs.Tree.{Address}
 use Rattle.histar_container.proofs.Addresses.{same_tests_equality, same_itself, same_other}
 use Rattle.histar_flat.specs.FlatState.{moved}
-use Rattle.histar_refinement.specs.Addresses.{Step, same_step, same_address, address_of, home_of, path_at, process_at, inside_at}
+use Rattle.histar_refinement.specs.Addresses.{Step, same_step, same_address, address_of, home_address, path_at, process_at, inside_at}
 use Rattle.histar_refinement.specs.Addresses.Step.{Left, Slash, Listing, Named, Home, Status, Inside, Runner, Child}
 use Rattle.histar_refinement.proofs.Steps.{step_tests_equality}
 use Rattle.histar_refinement.proofs.Places.{address_path}
@@ -179,7 +179,7 @@ module _ (n k : Name) where
     turned_path_address [] = refl
     turned_path_address (m ∷ e) = λ i. Named (turned_name (same_places e i) m) ∷ turned_path_address e i
 
-    pub turned_home : (p : ProcName) → turned_address (home_of p) ≡ home_of p
+    pub turned_home : (p : ProcName) → turned_address (home_address p) ≡ home_address p
     turned_home [] = refl
     turned_home (m ∷ p) = ap (λ (a : Address Step). Child m ∷ a) (turned_home p)
 

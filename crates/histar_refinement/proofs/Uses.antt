@@ -22,7 +22,7 @@ use Rattle.histar_refinement.specs.Categories.{CategoryName, Categories, same_ca
 use Rattle.histar_refinement.specs.Categories.CategoryName.{ReadsUser, WritesUser, ReadsGroup, WritesGroup, ReadsProcess, WritesProcess, OfJob}
 use Rattle.histar_refinement.specs.Guards.{Guard, guard_label, rights_label, rights_clearance}
 use Rattle.histar_refinement.specs.Labels.{class_guard, private_guard, readable_guard, scratch_guard, group_guard, open_guard, process_guard, inside_guard, reading, writing, owned_as, thread_rights}
-use Rattle.histar_refinement.specs.Expected.{container, guarded_object, content_kind, node_object, listing_object, home_object, inside_object, thread_object}
+use Rattle.histar_refinement.specs.Expected.{bare_container, guarded_object, content_kind, node_object, listing_object, home_object, inside_object, thread_object}
 use Rattle.histar_refinement.specs.LaysOut.{AreInOrder, IsRisingFrom}
 use Rattle.histar_refinement.proofs.CategoryTests.{same_told}
 use Rattle.histar_refinement.proofs.AmongNames.{each_none, each_one, each_head, each_append}
@@ -167,11 +167,11 @@ module _ (session : Session) (f : Flat) where
 
     pub keep_home : (q : ProcName) (o : Option Process) → f.processes q ≡ o → home_object session category q o ≡ home_object session other q o
     keep_home q None at = refl
-    keep_home q (Some p) at = ap container (keep_process_label q p at)
+    keep_home q (Some p) at = ap bare_container (keep_process_label q p at)
 
     pub keep_inside : (q : ProcName) (o : Option Process) → f.processes q ≡ o → inside_object session category q o ≡ inside_object session other q o
     keep_inside q None at = refl
-    keep_inside q (Some p) at = λ i. elim p.exited as (λ _. Found) [ None ↦ container (keep_inside_label q p at i) | Some n ↦ None ]
+    keep_inside q (Some p) at = λ i. elim p.exited as (λ _. Found) [ None ↦ bare_container (keep_inside_label q p at i) | Some n ↦ None ]
 
     pub keep_runner : (q : ProcName) (o : Option Process) → f.processes q ≡ o → thread_object session category q o ≡ thread_object session other q o
     keep_runner q None at = refl

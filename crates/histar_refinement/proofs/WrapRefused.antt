@@ -7,14 +7,14 @@ use Rattle.histar_object.specs.State.{State}
 use Rattle.histar_flat.specs.Sessions.{Session}
 use Rattle.histar_flat.specs.Classes.{Process}
 use Rattle.histar_flat.specs.FlatState.{Flat}
-use Rattle.histar_refinement.specs.Addresses.{home_of}
+use Rattle.histar_refinement.specs.Addresses.{home_address}
 use Rattle.histar_refinement.specs.Addresses.Step.{Inside, Runner}
 use Rattle.histar_refinement.specs.LaysOut.{LaysOut}
 use Rattle.histar_refinement.proofs.Beside.{beside_uncounted, own_set, back}
 use Rattle.histar_refinement.proofs.Spawned.{own_label, own_clearance, beside_start}
 use Rattle.histar_refinement.proofs.Counting.{laid_more}
 
-module _ (session : Session) (s : State) (f : Flat) (l : LaysOut session s f) (me : ProcName) (p : Process) (here : f.processes me ≡ Some p) (runs : p.exited ≡ None) (T : ℕ) (at_thread : l.laid.naming.number (Runner ∷ Inside ∷ home_of me) ≡ Some T) where
+module _ (session : Session) (s : State) (f : Flat) (l : LaysOut session s f) (me : ProcName) (p : Process) (here : f.processes me ≡ Some p) (runs : p.exited ≡ None) (T : ℕ) (at_thread : l.laid.naming.number (Runner ∷ Inside ∷ home_address me) ≡ Some T) where
   abbrev pub state_refused : State
   state_refused = own_set T (with_category s T) (own_label session s f l.laid me p here runs T at_thread) (own_clearance session s f l.laid me p here runs T at_thread)
 

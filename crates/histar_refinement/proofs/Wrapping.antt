@@ -17,7 +17,7 @@ use Rattle.histar_object.specs.declared.objects.Kind.TheVariants.{Segment, Conta
 use Rattle.histar_object.specs.declared.objects.Object.{Object}
 use Rattle.histar_rules.specs.Rules.{greatest}
 use Rattle.histar_rules.specs.Rights.{with_category}
-use Rattle.histar_object.specs.State.{State, with_object, with_bytes, with_next_category}
+use Rattle.histar_object.specs.State.{State, with_object, with_segment_bytes, with_next_category}
 use Rattle.histar_container.specs.Tree.{Naming}
 use Rattle.histar_flat.specs.Sessions.{Session, has, user_number}
 use Rattle.histar_flat.specs.Classes.{Class, Process}
@@ -31,7 +31,7 @@ use Rattle.histar_refinement.specs.Categories.{CategoryName, Categories, IsMade,
 use Rattle.histar_refinement.specs.Categories.CategoryName.{OfJob}
 use Rattle.histar_refinement.specs.Guards.{Guard, guard_label}
 use Rattle.histar_refinement.specs.Labels.{class_guard, scratch_guard}
-use Rattle.histar_refinement.specs.Addresses.{Step, address_of, home_of}
+use Rattle.histar_refinement.specs.Addresses.{Step, address_of, home_address}
 use Rattle.histar_refinement.specs.Addresses.Step.{Listing, Status, Inside, Runner}
 use Rattle.histar_refinement.specs.Directories.{directory_of}
 use Rattle.histar_refinement.specs.LaysOut.{AreInOrder, LaysOut, Laid}
@@ -61,9 +61,9 @@ pub record Wrapper (session : Session) (s : State) (f : Flat) (l : LaysOut sessi
   pub thread : ℕ
   pub container : ℕ
   pub listing : ℕ
-  pub at_home : l.laid.naming.number (home_of me) ≡ Some home
-  pub at_status : l.laid.naming.number (Status ∷ home_of me) ≡ Some segment
-  pub at_thread : l.laid.naming.number (Runner ∷ Inside ∷ home_of me) ≡ Some thread
+  pub at_home : l.laid.naming.number (home_address me) ≡ Some home
+  pub at_status : l.laid.naming.number (Status ∷ home_address me) ≡ Some segment
+  pub at_thread : l.laid.naming.number (Runner ∷ Inside ∷ home_address me) ≡ Some thread
   pub at_container : l.laid.naming.number (address_of directory) ≡ Some container
   pub at_listing : l.laid.naming.number (Listing ∷ address_of directory) ≡ Some listing
   pub few : s.next_object + 1 < greatest
@@ -117,13 +117,13 @@ module _ (session : Session) (s : State) (f : Flat) (l : LaysOut session s f) (m
   abbrev N : ℕ
   N = it.listing
 
-  abbrev at_home : l.laid.naming.number (home_of me) ≡ Some C
+  abbrev at_home : l.laid.naming.number (home_address me) ≡ Some C
   at_home = it.at_home
 
-  abbrev at_status : l.laid.naming.number (Status ∷ home_of me) ≡ Some S
+  abbrev at_status : l.laid.naming.number (Status ∷ home_address me) ≡ Some S
   at_status = it.at_status
 
-  abbrev at_thread : l.laid.naming.number (Runner ∷ Inside ∷ home_of me) ≡ Some T
+  abbrev at_thread : l.laid.naming.number (Runner ∷ Inside ∷ home_address me) ≡ Some T
   at_thread = it.at_thread
 
   abbrev at_D : l.laid.naming.number (address_of d) ≡ Some D
@@ -226,7 +226,7 @@ module _ (session : Session) (s : State) (f : Flat) (l : LaysOut session s f) (m
   written = spelling (map.insert (directory_of f.files m.naming.number d) n (targets.Directory s.next_object (s.next_object + 1)))
 
   abbrev pub made_state : State
-  made_state = with_bytes (with_object (with_object (with_next_category s) D new_container) s.next_object new_segment) N written
+  made_state = with_segment_bytes (with_object (with_object (with_next_category s) D new_container) s.next_object new_segment) N written
 
   -- Once the parent's directory has room for it.
   module _ (is_named : IsTrue (is_name n)) (room_above : length (entries_in f d) < most_entries) where
@@ -243,13 +243,13 @@ module _ (session : Session) (s : State) (f : Flat) (l : LaysOut session s f) (m
     pub k_numbers : SameNumbers l.laid.naming.number k.naming.number
     k_numbers = subst (λ (x : Naming Step × Naming Step). SameNumbers x.0.number x.1.number) (λ j. (named.1 j, sym made.1 j)) numbers
 
-    pub k_home : k.naming.number (home_of me) ≡ Some C
+    pub k_home : k.naming.number (home_address me) ≡ Some C
     k_home = sym (k_numbers.home me) ∙ at_home
 
-    pub k_status : k.naming.number (Status ∷ home_of me) ≡ Some S
+    pub k_status : k.naming.number (Status ∷ home_address me) ≡ Some S
     k_status = sym (k_numbers.status me) ∙ at_status
 
-    pub k_thread : k.naming.number (Runner ∷ Inside ∷ home_of me) ≡ Some T
+    pub k_thread : k.naming.number (Runner ∷ Inside ∷ home_address me) ≡ Some T
     k_thread = sym (k_numbers.runner me) ∙ at_thread
 
     pub is_declared : is_some (user_number session p.user) ≡ true
@@ -272,7 +272,7 @@ module _ (session : Session) (s : State) (f : Flat) (l : LaysOut session s f) (m
     most = own_clearance session s f l.laid me p here runs T at_thread
 
     abbrev pub state_directory : State
-    state_directory = with_bytes (with_object (with_object (with_category s T) D new_container) s.next_object new_segment) N written
+    state_directory = with_segment_bytes (with_object (with_object (with_category s T) D new_container) s.next_object new_segment) N written
 
     pub beside : Beside T own most state_directory made_state
     beside =

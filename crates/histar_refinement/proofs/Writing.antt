@@ -9,14 +9,14 @@ use Rattle.histar_flat.proofs.FileLemmas.{same_path_found, get_other, get_new}
 use Rattle.histar_label.specs.Levels.{Levels}
 use Rattle.histar_layout.specs.Directory.{IsListable, spelling}
 use Rattle.histar_object.specs.Objects.{Objects, changed_at, holding}
-use Rattle.histar_object.specs.State.{State, Found, with_bytes}
+use Rattle.histar_object.specs.State.{State, Found, with_segment_bytes}
 use Rattle.histar_container.specs.Tree.{Address, set_at}
 use Rattle.histar_container.proofs.Addresses.{same_tests_equality}
 use Rattle.histar_container.proofs.Trees.{kind_held_links}
 use Rattle.histar_login.specs.Boot.{boot_thread_number}
 use Rattle.histar_flat.specs.Sessions.{Session}
 use Rattle.histar_flat.specs.Classes.{Class}
-use Rattle.histar_flat.specs.FlatState.{Node, Flat, is_some_and, is_dir, is_dir_at, class_of, with_node, with_bytes as with_file_bytes}
+use Rattle.histar_flat.specs.FlatState.{Node, Flat, is_some_and, is_dir, is_dir_at, class_of, with_node, with_segment_bytes as with_file_bytes}
 use Rattle.histar_flat.specs.FlatState.Content.{File}
 use Rattle.histar_refinement.specs.Addresses.{Step, same_step, address_of}
 use Rattle.histar_refinement.specs.Directories.{target_for, directory_of}
@@ -59,7 +59,7 @@ module _ (session : Session) (s : State) (f : Flat) (l : Laid session s f) (q : 
     | inr e ↦ λ i. listing_object session l.category (spelling (directory_all d i)) (sym (got_else d e.1) i)
   ]
 
-  stands_then : Stands same_step (with_bytes s O bytes) l.naming (set_at same_step old_asked (address_of q) (option_map (holding bytes) (old_asked (address_of q))))
+  stands_then : Stands same_step (with_segment_bytes s O bytes) l.naming (set_at same_step old_asked (address_of q) (option_map (holding bytes) (old_asked (address_of q))))
   stands_then = stands_changed same_step step_tests_equality s l.naming old_asked l.stands O (address_of q) (holding bytes) at_file (λ x. kind_held_links bytes x.kind) (bare_held bytes)
 
   asks : (a : Address Step) → set_at same_step old_asked (address_of q) (option_map (holding bytes) (old_asked (address_of q))) a ≡ expected session l.category after l.naming.number a
@@ -97,10 +97,10 @@ module _ (session : Session) (s : State) (f : Flat) (l : Laid session s f) (q : 
   ]
 
   -- The kernel has the objects of the flat state with the new bytes: `write`, and `append` where these are the old ones with more.
-  pub laid_overwritten : (later : Laid session (with_bytes s O bytes) (with_file_bytes f q bytes)) × (later.naming ≡ l.naming) × (later.category ≡ l.category)
-  laid_overwritten = subst (λ (c : Class). (later : Laid session (with_bytes s O bytes) (with_node f q c (File bytes))) × (later.naming ≡ l.naming) × (later.category ≡ l.category)) (sym (ap class_of at))
-      (laid_files session s f l after.files all_fit (with_bytes s O bytes) l.naming
-      (stands_same same_step (with_bytes s O bytes) (with_bytes s O bytes) l.naming _ (expected session l.category after l.naming.number) stands_then asks (λ k. refl) refl) l.numbered
+  pub laid_overwritten : (later : Laid session (with_segment_bytes s O bytes) (with_file_bytes f q bytes)) × (later.naming ≡ l.naming) × (later.category ≡ l.category)
+  laid_overwritten = subst (λ (c : Class). (later : Laid session (with_segment_bytes s O bytes) (with_node f q c (File bytes))) × (later.naming ≡ l.naming) × (later.category ≡ l.category)) (sym (ap class_of at))
+      (laid_files session s f l after.files all_fit (with_segment_bytes s O bytes) l.naming
+      (stands_same same_step (with_segment_bytes s O bytes) (with_segment_bytes s O bytes) l.naming _ (expected session l.category after l.naming.number) stands_then asks (λ k. refl) refl) l.numbered
       l.as_booted (λ d is. subst IsListable (directory_all d) (l.listable d (was_dir d is))) refl (by_bytes s.objects boot_thread_number l.boot_thread_gone))
 
   all_known : (p : Path) (there : Node) → get after.files p ≡ Some there → AreKnown session s f l there.class
@@ -116,5 +116,5 @@ module _ (session : Session) (s : State) (f : Flat) (l : Laid session s f) (q : 
   jobs_overwritten = subst (λ (c : Class). AreJobsGiven f → AreJobsGiven (with_node f q c (File bytes))) (sym (ap class_of at)) (jobs_kept session s f l after.files all_known)
 
   -- and so the kernel lays out the flat state with the new bytes
-  pub lays_out_overwritten : AreJobsGiven f → LaysOut session (with_bytes s O bytes) (with_file_bytes f q bytes)
+  pub lays_out_overwritten : AreJobsGiven f → LaysOut session (with_segment_bytes s O bytes) (with_file_bytes f q bytes)
   lays_out_overwritten given = record { laid = laid_overwritten.0; jobs_given = jobs_overwritten given }

@@ -10,7 +10,7 @@ use Rattle.histar_flat.specs.FlatState.Content.{Dir, File}
 use Rattle.histar_layout.specs.Directory.{Entries}
 use Rattle.histar_layout.specs.declared.entry.Target.{Target}
 use Rattle.histar_layout.specs.declared.entry.Target.TheVariants as targets
-use Rattle.histar_refinement.specs.Addresses.{Numbers, address_of}
+use Rattle.histar_refinement.specs.Addresses.{AddressNumbers, address_of}
 use Rattle.histar_refinement.specs.Addresses.Step.{Listing}
 
 -- a directory's container and directory segment, where both have numbers
@@ -20,19 +20,19 @@ both_numbers (Some container) None = None
 both_numbers (Some container) (Some listing) = Some (targets.Directory container listing)
 
 -- where the entry of a path leads: to a file's segment, or to a directory's container and directory segment
-abbrev pub target_for : Numbers → Path × Node → Option Target
+abbrev pub target_for : AddressNumbers → Path × Node → Option Target
 target_for number e = elim e.1.content [
   | Dir ↦ both_numbers (number (address_of e.0)) (number (Listing ∷ address_of e.0))
   | File bytes ↦ option_map targets.File (number (address_of e.0))
 ]
 
 -- the entry of the directory d that a path is, if it is one, with where it leads
-abbrev pub target_in : Numbers → Path → Path × Node → Option (Name × Target)
+abbrev pub target_in : AddressNumbers → Path → Path × Node → Option (Name × Target)
 target_in number d e = elim e.0 [
   | [] ↦ None
   | n ∷ above ↦ cond (same_path d above) (option_map (λ target. (n, target)) (target_for number e)) None
 ]
 
 -- the entries of the directory d, and where each leads
-abbrev pub directory_of : Files Node → Numbers → Path → Entries
+abbrev pub directory_of : Files Node → AddressNumbers → Path → Entries
 directory_of files number d = map.from_entries (filter_map (target_in number d) files.entries)

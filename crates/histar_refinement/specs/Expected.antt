@@ -14,22 +14,19 @@ use Rattle.histar_object.specs.Objects.{thread_of}
 use Rattle.histar_object.specs.State.{Found}
 use Rattle.histar_container.specs.Tree.{Address}
 use Rattle.histar_layout.specs.Directory.{spelling}
+use Rattle.histar_login.specs.Start.{segment}
 use Rattle.histar_refinement.specs.Categories.{Categories, booted}
 use Rattle.histar_refinement.specs.Guards.{Guard, guard_label, rights_label, rights_clearance}
 use Rattle.histar_refinement.specs.Labels.{boot_guard, class_guard, process_guard, inside_guard, thread_rights}
 use Rattle.histar_refinement.specs.LeftByBoot.{left_by_boot}
-use Rattle.histar_refinement.specs.Addresses.{Step, Numbers, if_at, path_at, process_at, inside_at}
+use Rattle.histar_refinement.specs.Addresses.{Step, AddressNumbers, if_at, path_at, process_at, inside_at}
 use Rattle.histar_refinement.specs.Addresses.Step.{Left, Slash, Listing, Named, Home, Status, Inside, Runner, Child}
 use Rattle.histar_refinement.specs.Processes.{process_bytes}
 use Rattle.histar_refinement.specs.Directories.{directory_of}
 
 -- a container with this label, which links nothing
-abbrev pub container : Levels → Found
-container label = Some (record { label = label; kind = Container set.empty })
-
--- a segment with this label and these bytes
-abbrev pub segment : Levels → List ℕ → Found
-segment label bytes = Some (record { label = label; kind = Segment bytes })
+abbrev pub bare_container : Levels → Found
+bare_container label = Some (record { label = label; kind = Container set.empty })
 
 -- a directory is a container, and a file a segment with its bytes
 abbrev pub content_kind : Content → Kind Levels
@@ -54,7 +51,7 @@ module _ (session : Session) (category : Categories) where
   -- the container of a process that is there
   abbrev pub home_object : ProcName → Option Process → Found
   home_object me None = None
-  home_object me (Some p) = container (guard_label category (process_guard me p))
+  home_object me (Some p) = bare_container (guard_label category (process_guard me p))
 
   -- its process segment, with the container's label
   abbrev pub status_object : List ℕ → ProcName → Option Process → Found
@@ -64,7 +61,7 @@ module _ (session : Session) (category : Categories) where
   -- its internal container, which a process that has exited has no more
   abbrev pub inside_object : ProcName → Option Process → Found
   inside_object me None = None
-  inside_object me (Some p) = elim p.exited [ None ↦ container (guard_label category (inside_guard me p)) | Some n ↦ None ]
+  inside_object me (Some p) = elim p.exited [ None ↦ bare_container (guard_label category (inside_guard me p)) | Some n ↦ None ]
 
   -- its thread, which a process that has exited has no more
   abbrev pub thread_object : ProcName → Option Process → Found
@@ -74,11 +71,11 @@ module _ (session : Session) (category : Categories) where
     | Some n ↦ None
   ]
 
-  module _ (f : Flat) (number : Numbers) where
+  module _ (f : Flat) (number : AddressNumbers) where
     -- what stands at a path
-    abbrev pub node_at : Option Path → Found
-    node_at None = None
-    node_at (Some q) = node_object (get f.files q)
+    abbrev pub expected_node : Option Path → Found
+    expected_node None = None
+    expected_node (Some q) = node_object (get f.files q)
 
     -- the directory segment of the directory at a path
     abbrev pub listing_at : Option Path → Found
@@ -86,9 +83,9 @@ module _ (session : Session) (category : Categories) where
     listing_at (Some d) = listing_object (spelling (directory_of f.files number d)) (get f.files d)
 
     -- the container of a process
-    abbrev pub home_at : Option ProcName → Found
-    home_at None = None
-    home_at (Some me) = home_object me (f.processes me)
+    abbrev pub expected_home : Option ProcName → Found
+    expected_home None = None
+    expected_home (Some me) = home_object me (f.processes me)
 
     -- the bytes of its process segment
     abbrev pub bytes_for : ProcName → Option Process → List ℕ
@@ -96,9 +93,9 @@ module _ (session : Session) (category : Categories) where
     bytes_for me (Some p) = process_bytes f.processes number me p
 
     -- its process segment
-    abbrev pub status_at : Option ProcName → Found
-    status_at None = None
-    status_at (Some me) = status_object (bytes_for me (f.processes me)) me (f.processes me)
+    abbrev pub expected_status : Option ProcName → Found
+    expected_status None = None
+    expected_status (Some me) = status_object (bytes_for me (f.processes me)) me (f.processes me)
 
     -- its internal container
     abbrev pub container_inside : Option ProcName → Found
@@ -114,13 +111,13 @@ module _ (session : Session) (category : Categories) where
     -- in a directory its directory segment and its entries; in a process's container its process segment, the containers of its
     -- children and its internal container, and in that the thread.
     abbrev pub expected : Address Step → Found
-    expected [] = container (guard_label (booted session) boot_guard)
+    expected [] = bare_container (guard_label (booted session) boot_guard)
     expected (Left q ∷ a) = if_at [] a (left_by_boot session q)
-    expected (Slash ∷ a) = node_at (path_at (Slash ∷ a))
+    expected (Slash ∷ a) = expected_node (path_at (Slash ∷ a))
     expected (Listing ∷ a) = listing_at (path_at a)
-    expected (Named n ∷ a) = node_at (path_at (Named n ∷ a))
-    expected (Home ∷ a) = home_at (process_at (Home ∷ a))
-    expected (Status ∷ a) = status_at (process_at a)
+    expected (Named n ∷ a) = expected_node (path_at (Named n ∷ a))
+    expected (Home ∷ a) = expected_home (process_at (Home ∷ a))
+    expected (Status ∷ a) = expected_status (process_at a)
     expected (Inside ∷ a) = container_inside (process_at a)
     expected (Runner ∷ a) = thread_at (inside_at a)
-    expected (Child n ∷ a) = home_at (process_at (Child n ∷ a))
+    expected (Child n ∷ a) = expected_home (process_at (Child n ∷ a))

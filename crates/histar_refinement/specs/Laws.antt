@@ -8,7 +8,7 @@ use Rattle.histar_flat.specs.Classes.{Process, may_read, may_write}
 use Rattle.histar_flat.specs.FlatState.{Node, Flat, is_dir_at}
 use Rattle.histar_flat.specs.FlatCalls.{running}
 use Rattle.histar_flat.specs.Meaning.{boot}
-use Rattle.histar_object.specs.Objects.{is_there}
+use Rattle.histar_object.specs.Objects.{is_present}
 use Rattle.histar_object.specs.State.{State, observes, modifies}
 use Rattle.histar_container.specs.Tree.{Reached}
 use Rattle.histar_rules.specs.Rules.{greatest}
@@ -19,7 +19,7 @@ use Rattle.histar_login.specs.Start.{places_of, start_state}
 use Rattle.histar_refinement.specs.Sessions.{IsSession}
 use Rattle.histar_refinement.specs.Categories.{CategoryName}
 use Rattle.histar_refinement.specs.Categories.CategoryName.{ReadsProcess, WritesProcess}
-use Rattle.histar_refinement.specs.Addresses.{address_of, home_of}
+use Rattle.histar_refinement.specs.Addresses.{address_of, home_address}
 use Rattle.histar_refinement.specs.Addresses.Step.{Listing, Status, Inside, Runner}
 use Rattle.histar_refinement.specs.LaysOut.{Laid, LaysOut}
 use Rattle.histar_refinement.specs.Lines.{IsThreadOf, IsDirectoryAt}
@@ -31,7 +31,7 @@ module _ (session : Session) (s : State) (f : Flat) (l : Laid session s f) where
 
   -- the thread is that of the process, which runs
   abbrev pub RunsAs : ProcName → Process → ℕ → Type 0
-  RunsAs me p t = (f.processes me ≡ Some p) × (p.exited ≡ None) × (l.naming.number (Runner ∷ Inside ∷ home_of me) ≡ Some t)
+  RunsAs me p t = (f.processes me ≡ Some p) × (p.exited ≡ None) × (l.naming.number (Runner ∷ Inside ∷ home_address me) ≡ Some t)
 
 -- a thread may observe what is of a class exactly where its process may read it
 abbrev pub ThreadsObserveWhatIsRead : Type 0
@@ -49,7 +49,7 @@ ThreadsModifyWhatIsWritten = (session : Session) (s : State) (f : Flat) (l : Lai
 
 -- each object that there is is reached from the root container by links
 abbrev pub ObjectsAreReached : Type 0
-ObjectsAreReached = (session : Session) (s : State) (f : Flat) → LaysOut session s f → (q : ℕ) → is_there (s.objects q) ≡ true → Reached s.objects root_number q
+ObjectsAreReached = (session : Session) (s : State) (f : Flat) → LaysOut session s f → (q : ℕ) → is_present (s.objects q) ≡ true → Reached s.objects root_number q
 
 -- Two processes are the same; or both have exited with the same number, were in the same jobs and had as many children, and
 -- nothing is said of their users and of the jobs that they held.
@@ -72,8 +72,8 @@ ThreadsAreFound = (session : Session) (s : State) (f : Flat) (l : Laid session s
 -- A process that runs, as it is found: its container and its process segment, its thread, and the numbers of its own two categories.
 pub record IsCallerOf (session : Session) (s : State) (f : Flat) (l : Laid session s f) (me : ProcName) (p : Process) (caller : Caller) : Type 0 where
   pub runs : RunsAs session s f l me p caller.thread
-  pub home : l.naming.number (home_of me) ≡ Some caller.home.container
-  pub segment : l.naming.number (Status ∷ home_of me) ≡ Some caller.home.segment
+  pub home : l.naming.number (home_address me) ≡ Some caller.home.container
+  pub segment : l.naming.number (Status ∷ home_address me) ≡ Some caller.home.segment
   pub reads : l.category (ReadsProcess me) ≡ caller.read
   pub writes : l.category (WritesProcess me) ≡ caller.write
 

@@ -5,7 +5,7 @@ use Rattle.histar_flat.specs.Words.{ProcName}
 use Rattle.histar_flat.specs.Classes.{Process}
 use Rattle.histar_layout.specs.declared.status.Child.{Child}
 use Rattle.histar_layout.specs.Status.{ProcessStatus, status_bytes}
-use Rattle.histar_refinement.specs.Addresses.{Numbers, home_of}
+use Rattle.histar_refinement.specs.Addresses.{AddressNumbers, home_address}
 use Rattle.histar_refinement.specs.Addresses.Step.{Status, Inside, Runner}
 
 -- the number, or 0 where there is none
@@ -18,19 +18,19 @@ abbrev pub children : (ProcName → Option Process) → ProcName → ℕ → Lis
 children processes me born = filter (λ n. is_some (processes (n ∷ me))) (range_with_len 1 born)
 
 -- a child of a process, with the numbers of its objects
-abbrev pub listed_by : Numbers → ProcName → ℕ → Child
-listed_by number me n = record { number = n; container = or_zero (number (home_of (n ∷ me))); segment = or_zero (number (Status ∷ home_of (n ∷ me))) }
+abbrev pub listed_by : AddressNumbers → ProcName → ℕ → Child
+listed_by number me n = record { number = n; container = or_zero (number (home_address (n ∷ me))); segment = or_zero (number (Status ∷ home_address (n ∷ me))) }
 
 -- what the segment of a process tells
-abbrev pub status_by : (ProcName → Option Process) → Numbers → ProcName → Process → ProcessStatus
+abbrev pub status_by : (ProcName → Option Process) → AddressNumbers → ProcName → Process → ProcessStatus
 status_by processes number me p = record {
   exited = p.exited;
   born = p.born;
-  internal = or_zero (number (Inside ∷ home_of me));
-  thread = or_zero (number (Runner ∷ Inside ∷ home_of me));
+  internal = or_zero (number (Inside ∷ home_address me));
+  thread = or_zero (number (Runner ∷ Inside ∷ home_address me));
   children = map (listed_by number me) (children processes me p.born);
 }
 
 -- the bytes of a process's segment
-abbrev pub process_bytes : (ProcName → Option Process) → Numbers → ProcName → Process → List ℕ
+abbrev pub process_bytes : (ProcName → Option Process) → AddressNumbers → ProcName → Process → List ℕ
 process_bytes processes number me p = status_bytes (status_by processes number me p)

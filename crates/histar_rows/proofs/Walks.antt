@@ -38,10 +38,10 @@ use Rattle.histar_calls.specs.declared.ending.Stopped.{Stopped}
 use Rattle.histar_calls.specs.declared.directory.Directory.{Directory}
 use Rattle.histar_calls.specs.declared.places.Place.{Place}
 use Rattle.histar_calls.specs.Programs.{Program, Runs}
-use Rattle.histar_calls.specs.Parts.{ask, given, list, read_directory, look_in, find_place, walk, directory_at}
+use Rattle.histar_calls.specs.Parts.{ask, given, list, read_directory, look_in, find_place, walk_to, directory_at}
 use Rattle.histar_login.specs.Start.{places_of}
 use Rattle.histar_refinement.specs.Sessions.{IsSession}
-use Rattle.histar_refinement.specs.Addresses.{Numbers, address_of, slash_number, slash_listing_number}
+use Rattle.histar_refinement.specs.Addresses.{AddressNumbers, address_of, slash_number, slash_listing_number}
 use Rattle.histar_refinement.specs.Addresses.Step.{Slash, Listing}
 use Rattle.histar_refinement.specs.Directories.{both_numbers, directory_of, target_for}
 use Rattle.histar_refinement.specs.Laws.{RunsAs}
@@ -126,7 +126,7 @@ module _ (line t : ℕ) where
       among_after (calls ++ last ∷ []) (entry_of line t call None) (entries_of line t (all_granted (before ++ calls) ++ (last, Some denied) ∷ [])) (among_refused_behind before calls last denied)
 
 module _ (session : Session) (ok : IsSession session) (s : State) (f : Flat) (me : ProcName) (t : ℕ) (ready : IsReady session s f me t) where
-  abbrev pub numbers : Numbers
+  abbrev pub numbers : AddressNumbers
   numbers = ready.lays_out.laid.naming.number
 
   abbrev p : Process
@@ -422,8 +422,8 @@ module _ (session : Session) (ok : IsSession session) (old new : KernelModel) (f
             ∙ (λ i. calls_to d ++ map read (if not (is_some (is i)) && is_dir_at f (n ∷ d) then (n ∷ d) ∷ [] else [])) ∙ append-nil (calls_to d)
 
     -- The walk into a directory: it is refused as the flat rules refuse the call, or the call goes on with the directory.
-    pub walk_step_behind : (d : Path) (rest : Directory → Program) → Runs (walk (places_of (length session.users)) d rest) start new t result → Refuses d → GoesOn d rest → Row
-    unfolding walk read_directory
+    pub walk_step_behind : (d : Path) (rest : Directory → Program) → Runs (walk_to (places_of (length session.users)) d rest) start new t result → Refuses d → GoesOn d rest → Row
+    unfolding walk_to read_directory
     walk_step_behind d rest run refuses go_on =
         reading_step d (λ place bytes. list bytes (λ entries. rest (record { place = place; entries = entries }))) run refuses
         (λ open_so_far mid stays chain bytes is on.
@@ -440,7 +440,7 @@ module _ (session : Session) (ok : IsSession session) (old new : KernelModel) (f
         (subst (λ (target : Option Target). Runs (rest (place_at session ok (state old) f me t ready d) target) mid new t result) (found_in_directory bytes (entries_at d) n is) on))
 
   -- the same of a walk with which the call begins
-  pub walk_step : (d : Path) (rest : Directory → Program) → Runs (walk (places_of (length session.users)) d rest) old new t result → Refuses d → GoesOn [] old refl (same_kernel old) d rest → Row
+  pub walk_step : (d : Path) (rest : Directory → Program) → Runs (walk_to (places_of (length session.users)) d rest) old new t result → Refuses d → GoesOn [] old refl (same_kernel old) d rest → Row
   walk_step d rest run refuses go_on = walk_step_behind [] old refl (same_kernel old) d rest run refuses go_on
 
   -- and of a look-up

@@ -23,7 +23,7 @@ use Rattle.histar_rules.specs.Rules.{check, Leaves, greatest, has_number}
 use Rattle.histar_rules.specs.Sound.{root_number}
 use Rattle.histar_syscall.specs.declared.trace.TraceEntry.{TraceEntry}
 use Rattle.histar_syscall.specs.declared.answers.Answer.TheVariants as answers
-use Rattle.histar_syscall.specs.Answers.{answer}
+use Rattle.histar_syscall.specs.Answers.{raw_answer}
 use Rattle.histar_syscall.specs.KernelModel.{KernelModel, state}
 use Rattle.histar_syscall.specs.Runs.{IsBy, IsRun, some_label_refusal, some_range_refusal}
 use Rattle.histar_calls.specs.declared.ending.Stopped.{Stopped}
@@ -64,7 +64,7 @@ pub record EndsWithRead (s : State) (entries : List TraceEntry) (bytes : List �
   pub before : State
   pub run : IsRun s front before
   pub granted : last.denied ≡ None
-  pub answers : answer before last.thread last.call ≡ Some (answers.Bytes bytes)
+  pub answers : raw_answer before last.thread last.call ≡ Some (answers.Bytes bytes)
 
 -- these raw calls are among the entries, in their order
 abbrev pub AreAmong : List RawCall → List TraceEntry → Type 0

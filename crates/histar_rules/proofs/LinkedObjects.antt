@@ -11,7 +11,7 @@ use Rattle.histar_object.specs.declared.objects.Kind.{Kind}
 use Rattle.histar_object.specs.declared.objects.Kind.TheVariants.{Segment, Container, Thread, Gate}
 use Rattle.histar_object.specs.Objects.{Numbers, objects_of, thread_of, bytes_in, label_there, is_thread, is_segment, is_gate, kind_is_segment, kind_is_gate}
 use Rattle.histar_object.specs.State.{observes, modifies, in_range}
-use Rattle.histar_rules.specs.Rights.{in_span, is_let_in, is_under, in_gate, lies_between}
+use Rattle.histar_rules.specs.Rights.{in_span, is_let_in, is_own_below, in_gate, lies_between}
 use Rattle.histar_container.specs.Shown.{kind_by, object_by, shown, AllStand}
 use Rattle.histar_container.proofs.Shows.{shows}
 use Rattle.histar_rules.specs.declared.limits.Next.{Next}
@@ -130,9 +130,9 @@ module _ {Id : Type 0} (labels : Id → Option Levels) (es : List (ℕ × Object
           let made = unless (is_made next.category wanted) Range orelse unless (is_made next.category clearance) Range orelse unless (is_made next.category shown_label) Range in
           ap (λ (f : Option Denied). (f orelse unless (is_gate (objects_of (shown labels es) o)) BadKind)
           orelse unless (is_let_in (objects_of (shown labels es) t) (objects_of (shown labels es) o)) NoWay
-          orelse unless (is_under (objects_of (shown labels es) t) shown_label) NoWay
+          orelse unless (is_own_below (objects_of (shown labels es) t) shown_label) NoWay
           orelse unless (in_gate (objects_of (shown labels es) t) (objects_of (shown labels es) o) wanted clearance) Range orelse made) linked
-          ∙ (λ i. unless (is_gate (E i)) BadKind orelse unless (is_let_in (T i) (E i)) NoWay orelse unless (is_under (T i) shown_label) NoWay orelse unless (in_gate (T i) (E i) wanted clearance) Range orelse made)
+          ∙ (λ i. unless (is_gate (E i)) BadKind orelse unless (is_let_in (T i) (E i)) NoWay orelse unless (is_own_below (T i) shown_label) NoWay orelse unless (in_gate (T i) (E i) wanted clearance) Range orelse made)
           ∙ (λ i. unless (is_below (sym own_is i) (sym limit_is i)) NoWay orelse unless (is_below (sym own_is i) shown_label) NoWay
           orelse unless (lies_between (sym own_is i) (sym given_is i) wanted clearance (sym most_is i) (sym limit_is i)) Range orelse made)
 

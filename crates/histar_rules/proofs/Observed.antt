@@ -11,7 +11,7 @@ use Rattle.histar_object.specs.declared.objects.Entry.{Entry}
 use Rattle.histar_object.specs.declared.objects.Object.{Object}
 use Rattle.histar_object.specs.declared.objects.Kind.{Kind}
 use Rattle.histar_object.specs.declared.objects.Kind.TheVariants.{Segment, Container, Thread, Gate}
-use Rattle.histar_object.specs.Objects.{Numbers, objects_of, thread_of, links_in, is_there, is_container, is_thread, kind_is_thread, kind_is_container}
+use Rattle.histar_object.specs.Objects.{Numbers, objects_of, thread_of, links_in, is_present, is_container, is_thread, kind_is_thread, kind_is_container}
 use Rattle.histar_object.specs.State.{Found, observes, modifies}
 use Rattle.histar_container.specs.Shown.{kind_by, object_by, shown, AllStand}
 use Rattle.histar_container.proofs.Shows.{shows}
@@ -71,7 +71,7 @@ module _ {Id : Type 0} (labels : Id → Option Levels) (es : List (ℕ × Object
 
   -- where there is no thread, this is told
   pub thread_missing : (t d : ℕ) → is_thread (objects_of es t) ≡ false → no_container (state_shown labels es) t d ≡ Some NoThread
-  thread_missing t d e = ap (λ b. unless b NoThread orelse unless (is_there (objects_of (shown labels es) d)) NoEntry orelse unless (is_container (objects_of (shown labels es) d)) BadKind orelse unless (observes (objects_of (shown labels es) t) (objects_of (shown labels es) d)) Observe)
+  thread_missing t d e = ap (λ b. unless b NoThread orelse unless (is_present (objects_of (shown labels es) d)) NoEntry orelse unless (is_container (objects_of (shown labels es) d)) BadKind orelse unless (observes (objects_of (shown labels es) t) (objects_of (shown labels es) d)) Observe)
       (ap is_thread (shows labels es t) ∙ thread_by (objects_of es t) ∙ e)
 
   first_of : (there container : Bool) (later : Option Denied) (denied : Denied) → (unless there NoEntry orelse unless container BadKind) ≡ Some denied → (unless there NoEntry orelse unless container BadKind orelse later) ≡ Some denied
@@ -81,13 +81,13 @@ module _ {Id : Type 0} (labels : Id → Option Levels) (es : List (ℕ × Object
 
   -- where there is a thread and no container, this is told
   pub container_missing : (t d : ℕ) (own own_clearance : Id) (denied : Denied) → objects_of es t ≡ Some (thread_of own own_clearance)
-      → (unless (is_there (objects_of es d)) NoEntry orelse unless (is_container (objects_of es d)) BadKind) ≡ Some denied → no_container (state_shown labels es) t d ≡ Some denied
+      → (unless (is_present (objects_of es d)) NoEntry orelse unless (is_container (objects_of es d)) BadKind) ≡ Some denied → no_container (state_shown labels es) t d ≡ Some denied
   container_missing t d own own_clearance denied thread e =
-      let there = ap is_there (shows labels es d) ∙ there_by labels (objects_of es d) in
+      let there = ap is_present (shows labels es d) ∙ there_by labels (objects_of es d) in
       let container = ap is_container (shows labels es d) ∙ container_by (objects_of es d) in
       let D = objects_of (shown labels es) d in
-      ap (λ (T : Found). unless (is_thread T) NoThread orelse unless (is_there D) NoEntry orelse unless (is_container D) BadKind orelse unless (observes T D) Observe) (object_shown t (thread_of own own_clearance) thread)
-      ∙ first_of (is_there D) (is_container D) _ denied ((λ i. unless (there i) NoEntry orelse unless (container i) BadKind) ∙ e)
+      ap (λ (T : Found). unless (is_thread T) NoThread orelse unless (is_present D) NoEntry orelse unless (is_container D) BadKind orelse unless (observes T D) Observe) (object_shown t (thread_of own own_clearance) thread)
+      ∙ first_of (is_present D) (is_container D) _ denied ((λ i. unless (there i) NoEntry orelse unless (container i) BadKind) ∙ e)
 
   -- where there are both, whether the thread observes the container decides
   pub container_found : (t d : ℕ) (own own_clearance label : Id) (links : Numbers) (observed : Bool) → objects_of es t ≡ Some (thread_of own own_clearance) → objects_of es d ≡ Some (container_of label links)
@@ -95,7 +95,7 @@ module _ {Id : Type 0} (labels : Id → Option Levels) (es : List (ℕ × Object
   container_found t d own own_clearance label links observed thread container is =
       let T = object_shown t (thread_of own own_clearance) thread in
       let D = object_shown d (container_of label links) container in
-      (λ i. unless (is_thread (T i)) NoThread orelse unless (is_there (D i)) NoEntry orelse unless (is_container (D i)) BadKind orelse unless (observes (T i) (D i)) Observe)
+      (λ i. unless (is_thread (T i)) NoThread orelse unless (is_present (D i)) NoEntry orelse unless (is_container (D i)) BadKind orelse unless (observes (T i) (D i)) Observe)
       ∙ ap (λ b. unless b Observe) (sym is)
 
   -- where a thread observes a container, whether it modifies it decides

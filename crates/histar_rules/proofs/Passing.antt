@@ -4,7 +4,7 @@ use Rattle.std.specs.Prelude.{not}
 use Rattle.std.specs.FinSet as set
 use mathlib.Core.Bool.{false≢true}
 use Rattle.histar_base.specs.Refusals.{unless, ◌orelse◌}
-use Rattle.histar_object.specs.Objects.{is_there, is_container, is_thread, links_in, label_there}
+use Rattle.histar_object.specs.Objects.{is_present, is_container, is_thread, links_in, label_there}
 use Rattle.histar_object.specs.State.{State, Found}
 use Rattle.histar_container.specs.Tree.{AreTree}
 use Rattle.histar_container.proofs.Trees.{linked_there}
@@ -41,11 +41,11 @@ caller_is s t e = unless_none (is_thread (s.objects t)) NoThread e
 pub container_is : (s : State) (t d : ℕ) → no_container s t d ≡ None → is_container (s.objects d) ≡ true
 container_is s t d e =
     let there = rest (no_thread s t) _ e in
-    let container = (passes (is_there (s.objects d)) NoEntry _ there).1 in
+    let container = (passes (is_present (s.objects d)) NoEntry _ there).1 in
     (passes (is_container (s.objects d)) BadKind _ container).0
 
 -- what is there has a label
-no_label : (o : Found) → is_there o ≡ true → label_there o ≡ None → ⊥
+no_label : (o : Found) → is_present o ≡ true → label_there o ≡ None → ⊥
 no_label None there none = absurd (false≢true there)
 no_label (Some o) there none = absurd cc
 

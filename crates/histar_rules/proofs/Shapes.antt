@@ -5,11 +5,11 @@ use Rattle.histar_label.specs.Levels.{Levels}
 use Rattle.histar_object.specs.declared.objects.Kind.{Kind}
 use Rattle.histar_object.specs.declared.objects.Kind.TheVariants.{Segment, Container, Thread, Gate}
 use Rattle.histar_object.specs.declared.objects.Object.{Object}
-use Rattle.histar_object.specs.Objects.{kind_is_thread, is_there, is_thread, kind_links, links_in}
+use Rattle.histar_object.specs.Objects.{kind_is_thread, is_present, is_thread, kind_links, links_in}
 use Rattle.histar_rules.specs.Rights.{kind_with_three_at, kind_with_clearance}
 
 -- a thread is there
-pub thread_there : (o : Option (Object Levels)) → is_thread o ≡ true → is_there o ≡ true
+pub thread_there : (o : Option (Object Levels)) → is_thread o ≡ true → is_present o ≡ true
 thread_there None thread = thread
 thread_there (Some o) thread = refl
 

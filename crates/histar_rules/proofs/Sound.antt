@@ -13,8 +13,8 @@ use Rattle.histar_object.specs.declared.objects.Kind.TheVariants.{Segment, Conta
 use Rattle.histar_object.specs.declared.objects.Kind.TheVariants as gates
 use Rattle.histar_object.specs.declared.objects.Object.{Object}
 use Rattle.histar_object.specs.Objects.{holding, thread_of, links_in, bytes_in, kind_links, is_container, is_thread, kind_is_segment, kind_is_container, kind_is_thread, kind_clearance, no_objects, put}
-use Rattle.histar_rules.specs.Rights.{with_star_at, with_label, with_clearance, with_changed, with_category, in_span, may_clear, is_let_in, is_under, in_gate}
-use Rattle.histar_object.specs.State.{State, in_range, with_object, with_own, with_bytes, root_object, boot_thread, empty_state}
+use Rattle.histar_rules.specs.Rights.{with_star_at, with_label, with_clearance, with_changed, with_category, in_span, may_clear, is_let_in, is_own_below, in_gate}
+use Rattle.histar_object.specs.State.{State, in_range, with_object, with_own, with_segment_bytes, root_object, boot_thread, empty_state}
 use Rattle.histar_container.specs.ObjectsModel.{ObjectsModel, CutsOff, state_of}
 use Rattle.histar_container.specs.Tree.{IsTree}
 use Rattle.histar_container.proofs.Trees.{tree_put, tree_changed, tree_held, tree_new, tree_cut, reached_decided}
@@ -79,7 +79,7 @@ module _ (s : State) (sound : IsSound s) where
   }
 
   -- a segment is given other bytes
-  sound_bytes : (n : ℕ) (bytes : List ℕ) → IsSound (with_bytes s n bytes)
+  sound_bytes : (n : ℕ) (bytes : List ℕ) → IsSound (with_segment_bytes s n bytes)
   sound_bytes n bytes = record {
     tree = tree_held s.objects root_number s.next_object sound.tree n bytes;
     labelled = labelled_changed s.next_category s.objects sound.labelled n (holding bytes) (λ o i. well_holding s.next_category bytes o (sound.labelled n o i));
@@ -146,7 +146,7 @@ module _ (s : State) (t : ℕ) (sound : IsSound s) where
   entered : (d o : ℕ) (wanted clearance shown : Levels) → check s t (Enter d o wanted clearance shown) ≡ None → IsSound (with_own s t wanted clearance)
   entered d o wanted clearance shown e =
       let let_in = passes (is_let_in (s.objects t) (s.objects o)) Gate _ (rest (no_gate s t d o) _ e) in
-      let under = passes (is_under (s.objects t) shown) Gate _ let_in.1 in
+      let under = passes (is_own_below (s.objects t) shown) Gate _ let_in.1 in
       let ranged = passes (in_gate (s.objects t) (s.objects o) wanted clearance) Range _ under.1 in
       let made = passes (known s wanted) Range _ ranged.1 in
       let cleared = passes (known s clearance) Range _ made.1 in

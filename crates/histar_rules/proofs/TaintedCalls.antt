@@ -15,8 +15,8 @@ use Rattle.histar_object.specs.declared.objects.Kind.TheVariants.{Segment, Conta
 use Rattle.histar_object.specs.declared.objects.Kind.TheVariants as gates
 use Rattle.histar_object.specs.declared.objects.Object.{Object}
 use Rattle.histar_object.specs.Objects.{Objects, put, changed_at, with_new, linking, unlinking, holding, thread_of, links_in, bytes_in, kind_clearance, kind_is_thread, kind_is_gate, is_thread, is_gate}
-use Rattle.histar_rules.specs.Rights.{both, with_star_at, with_label, with_clearance, with_changed, with_category, in_span, is_let_in, is_under, in_gate}
-use Rattle.histar_object.specs.State.{State, Found, between, in_range, modifies, with_object, with_own, with_bytes}
+use Rattle.histar_rules.specs.Rights.{both, with_star_at, with_label, with_clearance, with_changed, with_category, in_span, is_let_in, is_own_below, in_gate}
+use Rattle.histar_object.specs.State.{State, Found, between, in_range, modifies, with_object, with_own, with_segment_bytes}
 use Rattle.histar_container.specs.ObjectsModel.{CutsOff}
 use Rattle.histar_container.specs.Tree.{Reached, here, there, IsCut}
 use Rattle.histar_container.proofs.TableMoves.{put_here, put_other, changed_here, changed_other}
@@ -228,11 +228,11 @@ module _ (v : ℕ) where
         let h = link_caller d o (first (no_link s t d o) _ gate) in
         let is = unless_none (is_gate (s.objects o)) BadKind (rest (no_link s t d o) _ gate) in
         let let_in = passes (is_let_in (s.objects t) (s.objects o)) Gate _ (rest (no_gate s t d o) _ e) in
-        let under = passes (is_under (s.objects t) shown) Gate _ let_in.1 in
+        let under = passes (is_own_below (s.objects t) shown) Gate _ let_in.1 in
         let ranged = passes (in_gate (s.objects t) (s.objects o) wanted clearance) Range _ under.1 in
         put_moves s.objects t (thread_of wanted clearance) h (gate_tainted (s.objects t) (s.objects o) wanted clearance h (gate_closed o is) ranged.0)
 
-    write_moves : (d o keep : ℕ) (bytes new : List ℕ) → check s t (Write d o keep bytes) ≡ None → (q : ℕ) → Moved v s.objects (with_bytes s o new).objects q
+    write_moves : (d o keep : ℕ) (bytes new : List ℕ) → check s t (Write d o keep bytes) ≡ None → (q : ℕ) → Moved v s.objects (with_segment_bytes s o new).objects q
     write_moves d o keep bytes new e =
         let segment = first (no_segment s t d o) _ e in
         let h = link_caller d o (first (no_link s t d o) _ segment) in
@@ -267,7 +267,7 @@ module _ (v : ℕ) where
         to new (with_object s d (record { label = label; kind = gates.Gate clearance entry })) is (making_moves d (record { label = label; kind = gates.Gate clearance entry }) (in_span (s.objects t) label clearance) _ (span_tainted (s.objects t) label clearance) e)
     granted_moves (Enter d o wanted clearance shown) new e is = to new (with_own s t wanted clearance) is (enter_moves d o wanted clearance shown e)
     granted_moves (Read d o) new e is = to new s is (λ q. stays refl)
-    granted_moves (Write d o keep bytes) new e is = to new (with_bytes s o (take keep (bytes_in (s.objects o)) ++ bytes)) is (write_moves d o keep bytes (take keep (bytes_in (s.objects o)) ++ bytes) e)
+    granted_moves (Write d o keep bytes) new e is = to new (with_segment_bytes s o (take keep (bytes_in (s.objects o)) ++ bytes)) is (write_moves d o keep bytes (take keep (bytes_in (s.objects o)) ++ bytes) e)
     granted_moves (Unlink d o) new e is = unlink_moves d o new e is
     granted_moves (LabelOf d o) new e is = to new s is (λ q. stays refl)
 

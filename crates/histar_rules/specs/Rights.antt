@@ -28,12 +28,12 @@ abbrev pub may_clear : Found → Levels → Bool
 may_clear t clearance = holds_of t (λ own own_clearance. is_below own clearance && is_below_join_raised clearance own_clearance own)
 
 -- t's own label is below a label
-abbrev pub is_under : Found → Levels → Bool
-is_under t label = holds_of t (λ own own_clearance. is_below own label)
+abbrev pub is_own_below : Found → Levels → Bool
+is_own_below t label = holds_of t (λ own own_clearance. is_below own label)
 
 -- t's own label is below the clearance of a gate
 abbrev pub is_let_in : Found → Found → Bool
-is_let_in t gate = holds_of gate (λ gate_label gate_clearance. is_under t gate_clearance)
+is_let_in t gate = holds_of gate (λ gate_label gate_clearance. is_own_below t gate_clearance)
 
 -- a label is above the floor of two labels, and a clearance above the label lies below the greater of two clearances
 abbrev pub lies_between : Levels → Levels → Levels → Levels → Levels → Levels → Bool

@@ -3,12 +3,12 @@ use Rattle.std.specs.Prelude.{◌≡◌, ℕ, ◌+◌, ◌<◌, Bool, not, List,
 use Rattle.std.specs.FinSet as set
 use Rattle.histar_base.specs.Refusals.{unless, ◌orelse◌}
 use Rattle.histar_label.specs.Levels.{Levels, is_made, has_star}
-use Rattle.histar_object.specs.Objects.{is_there, is_segment, is_container, is_thread, is_gate, thread_of, links_in, bytes_in, objects_of, label_there, clearance_there, entry_there}
+use Rattle.histar_object.specs.Objects.{is_present, is_segment, is_container, is_thread, is_gate, thread_of, links_in, bytes_in, objects_of, label_there, clearance_there, entry_there}
 use Rattle.histar_object.specs.declared.objects.Entry.{Entry}
 use Rattle.histar_object.specs.declared.objects.Kind.TheVariants.{Segment, Container}
 use Rattle.histar_object.specs.declared.objects.Kind.TheVariants as gates
-use Rattle.histar_rules.specs.Rights.{in_span, may_clear, is_under, is_let_in, in_gate, with_label, with_clearance, with_changed, with_category}
-use Rattle.histar_object.specs.State.{State, observes, modifies, in_range, with_object, with_own, with_bytes}
+use Rattle.histar_rules.specs.Rights.{in_span, may_clear, is_own_below, is_let_in, in_gate, with_label, with_clearance, with_changed, with_category}
+use Rattle.histar_object.specs.State.{State, observes, modifies, in_range, with_object, with_own, with_segment_bytes}
 use Rattle.histar_container.specs.ObjectsModel.{ObjectsModel, CutsOff, state_of}
 use Rattle.histar_rules.specs.declared.raw.Denied.{Denied}
 use Rattle.histar_rules.specs.declared.raw.Denied.TheVariants.{Observe, Modify, Range, Gate, NoEntry, NoThread, BadKind, TooBig}
@@ -29,7 +29,7 @@ no_thread s t = unless (is_thread (s.objects t)) NoThread
 abbrev pub no_container : State → ℕ → ℕ → Option Denied
 no_container s t d =
     no_thread s t
-    orelse unless (is_there (s.objects d)) NoEntry
+    orelse unless (is_present (s.objects d)) NoEntry
     orelse unless (is_container (s.objects d)) BadKind
     orelse unless (observes (s.objects t) (s.objects d)) Observe
 
@@ -104,7 +104,7 @@ check s t (MakeGate d label clearance entry) = no_new_owner s t d label clearanc
 check s t (Enter d o wanted clearance shown) =
     no_gate s t d o
     orelse unless (is_let_in (s.objects t) (s.objects o)) Gate
-    orelse unless (is_under (s.objects t) shown) Gate
+    orelse unless (is_own_below (s.objects t) shown) Gate
     orelse unless (in_gate (s.objects t) (s.objects o) wanted clearance) Range
     orelse unless (known s wanted) Range
     orelse unless (known s clearance) Range
@@ -147,7 +147,7 @@ Changes s t (MakeThread d label clearance) new = new ≡ with_object s d (thread
 Changes s t (MakeGate d label clearance entry) new = new ≡ with_object s d (record { label = label; kind = gates.Gate clearance entry })
 Changes s t (Enter d o wanted clearance shown) new = new ≡ with_own s t wanted clearance
 Changes s t (Read d o) new = new ≡ s
-Changes s t (Write d o keep bytes) new = new ≡ with_bytes s o (take keep (bytes_in (s.objects o)) ++ bytes)
+Changes s t (Write d o keep bytes) new = new ≡ with_segment_bytes s o (take keep (bytes_in (s.objects o)) ++ bytes)
 Changes s t (Unlink d o) new = CutsOff s d o new
 Changes s t (LabelOf d o) new = new ≡ s
 

@@ -5,7 +5,7 @@ ghost use Rattle.std.specs.FinSet as set;
 ghost use Rattle.histar_label.specs.Levels.{Levels};
 ghost use Rattle.histar_label.specs.Store.{label_at, Keeps};
 ghost use Rattle.histar_object.specs.Objects.{objects_of, put, changed_at, with_new, holding, no_objects, thread_of, is_thread, links_in, bytes_there, bytes_in, label_there};
-ghost use Rattle.histar_object.specs.State.{with_object, with_next, with_next_category, with_own, with_bytes};
+ghost use Rattle.histar_object.specs.State.{with_object, with_next, with_next_category, with_own, with_segment_bytes};
 ghost use Rattle.histar_container.specs.Shown.{objects_shown, kind_by, AllStand, KindStands, IsKept};
 ghost use Rattle.histar_container.specs.ObjectsModel.{state_of, CutsOff};
 ghost use Rattle.histar_container.specs.Tree.{AreTree};
@@ -380,7 +380,7 @@ impl<S: LabelStore + Drop> LabelledObjects<S> {
         keep: u32,
         bytes: &Bytes,
     ) -> Result<(), AllocError>
-        ensures ok { OnOk result (state_of self.new ≡ with_bytes (state_of self.old) segment
+        ensures ok { OnOk result (state_of self.new ≡ with_segment_bytes (state_of self.old) segment
             (take keep (bytes_in (objects_of self.old.objects segment)) ++ bytes.now)) }
         ensures err { OnErr result (state_of self.new ≡ state_of self.old) }
     {

@@ -2,7 +2,7 @@
 ghost use Rattle.std.specs.Prelude.{◌≡◌, IfOk, IsSome, Some};
 ghost use Rattle.histar_base.specs.Refusals.{unless, ◌orelse◌};
 ghost use Rattle.histar_label.specs.Store.{label_at};
-ghost use Rattle.histar_object.specs.Objects.{objects_of, thread_of, is_there, is_container};
+ghost use Rattle.histar_object.specs.Objects.{objects_of, thread_of, is_present, is_container};
 ghost use Rattle.histar_container.specs.Shown.{AllStand};
 ghost use Rattle.histar_rules.specs.Finds.{FindsThread, container_of, state_shown, state_with};
 ghost use Rattle.histar_rules.specs.Rules.{no_container, no_making, no_new, no_new_owner, no_link, FailsAt};
@@ -45,7 +45,7 @@ pub(crate) fn container_in<L: Copy>(
     table: &Table<L>,
     container: ObjId,
 ) -> Result<(L, &Links), Denied>
-    ensures answer { FailsAt (unless (is_there (objects_of table.now container)) NoEntry
+    ensures answer { FailsAt (unless (is_present (objects_of table.now container)) NoEntry
         orelse unless (is_container (objects_of table.now container)) BadKind) result }
     ensures found { IfOk result (λ found. objects_of table.now container ≡ Some (container_of found.0 found.1.now)) }
 {

@@ -11,22 +11,22 @@ use std::alloc::{AllocError, AllocFailed, Global};
 #[derive(Clone, Copy, Debug, PartialEq, Eq)]
 pub enum Denied {
     /// The thread may not observe the container or the object.
-    Observe,
+    Observe = 1,
     /// The thread may not modify the container or the object.
-    Modify,
+    Modify = 2,
     /// A label that was handed in lies outside its range, names a category that was never made, or
     /// has star where no owner may be.
-    Range,
+    Range = 3,
     /// The thread may not enter the gate.
-    Gate,
+    Gate = 4,
     /// No object has the number, or the container doesn't link it.
-    NoEntry,
+    NoEntry = 5,
     /// The caller is no thread.
-    NoThread,
+    NoThread = 6,
     /// The object is of another kind than the call wants.
-    BadKind,
+    BadKind = 7,
     /// More than 4,096 bytes, or a counter at its greatest value.
-    TooBig,
+    TooBig = 8,
 }
 
 /// A raw call: the calls of HiStar's kernel (OSDI 2006), in this kernel's profile. The rules of all

@@ -7,7 +7,7 @@ use Rattle.histar_script.specs.declared.fault.Fault.TheVariants.{BadScript}
 use Rattle.histar_script.specs.Lines.{lines_of}
 use Rattle.histar_script.specs.Script.{Reading, nothing_read}
 use Rattle.histar_script.specs.Reading.{with_line, with_lines, reading}
-use Rattle.histar_script.specs.Grammar.{TakesAll, IsScript, IsFirstBad}
+use Rattle.histar_script.specs.Grammar.{TakesLines, IsScript, IsFirstBad}
 use Rattle.histar_script.proofs.ScriptsBack.{after, line_again, found_from}
 use Rattle.histar_script.proofs.FirstBad.{first_bad}
 
@@ -37,7 +37,7 @@ unfolding reading
 answered text = lines_so nothing_read 0 (lines_of text)
 
 -- lines that are taken without a user are bad after their last
-userless : (s : Reading) (n : ℕ) (lines : List (List ℕ)) (t : Reading) → TakesAll s n lines t → t.session.users ≡ [] → with_lines s n lines ≡ Err (BadScript (n + length lines + 1))
+userless : (s : Reading) (n : ℕ) (lines : List (List ℕ)) (t : Reading) → TakesLines s n lines t → t.session.users ≡ [] → with_lines s n lines ≡ Err (BadScript (n + length lines + 1))
 unfolding with_lines
 userless s n [] t taken none =
     let here : s.session.users ≡ [] = ap (λ (x : Reading). x.session.users) (sym taken) ∙ none in
@@ -74,7 +74,7 @@ unfolding reading
 bad_at_end text n bad past =
     let bound = bad.close.1 in
     let all : take (n - 1) (lines_of text) ≡ lines_of text = take_all (n - 1) (lines_of text) (omega arith) in
-    let taken = subst (λ (lines : List (List ℕ)). TakesAll nothing_read 0 lines bad.before.0) all bad.before.1 in
+    let taken = subst (λ (lines : List (List ℕ)). TakesLines nothing_read 0 lines bad.before.0) all bad.before.1 in
     let number : 0 + length (lines_of text) + 1 ≡ n = omega arith in
     userless nothing_read 0 (lines_of text) bad.before.0 taken (bad.before.2 past) ∙ ap (λ (k : ℕ). Err (BadScript k)) number
 

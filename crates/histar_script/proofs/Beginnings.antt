@@ -11,7 +11,7 @@ use Rattle.histar_script.specs.declared.items.Item.{Item}
 use Rattle.histar_script.specs.declared.items.Item.TheVariants as items
 use Rattle.histar_script.specs.Lines.{lines_of, is_plain, is_plain_byte, most_line_bytes}
 use Rattle.histar_script.specs.Script.{Reading, IsMembership, nothing_read}
-use Rattle.histar_script.specs.Grammar.{Says, Adds, Takes, TakesAll, BeginsSome}
+use Rattle.histar_script.specs.Grammar.{Says, Adds, Takes, TakesLines, BeginsSome}
 
 -- a byte that ends no line
 abbrev is_no_end : ℕ → Bool
@@ -60,12 +60,12 @@ said_is_one_line line i (inl h) = rw h.0 refl
 said_is_one_line line i (inr h) = plain_bytes line (and_parts (leb (length line) most_line_bytes) (list_all is_plain_byte line) h.0).1
 
 -- lines that are taken are lines each
-taken_are_lines : (s : Reading) (k : ℕ) (lines : List (List ℕ)) (t : Reading) → TakesAll s k lines t → AllByRecursion IsOneLine lines
+taken_are_lines : (s : Reading) (k : ℕ) (lines : List (List ℕ)) (t : Reading) → TakesLines s k lines t → AllByRecursion IsOneLine lines
 taken_are_lines s k [] t h = tt
 taken_are_lines s k (line ∷ lines) t h = (said_is_one_line line h.1.0 h.1.1, taken_are_lines h.0 (k + 1) lines t h.2)
 
 -- one more line is taken after the others
-takes_on : (s : Reading) (k n : ℕ) (lines : List (List ℕ)) (t : Reading) (line : List ℕ) (u : Reading) → TakesAll s k lines t → n ≡ k + length lines + 1 → Takes t n line u → TakesAll s k (lines ++ line ∷ []) u
+takes_on : (s : Reading) (k n : ℕ) (lines : List (List ℕ)) (t : Reading) (line : List ℕ) (u : Reading) → TakesLines s k lines t → n ≡ k + length lines + 1 → Takes t n line u → TakesLines s k (lines ++ line ∷ []) u
 takes_on s k n [] t line u h is next = let number : n ≡ k + 1 = omega arith in (u, subst (λ (x : ℕ). Takes s x line u) number (subst (λ (x : Reading). Takes x n line u) h next), refl)
 takes_on s k n (first ∷ lines) t line u h is next = (h.0, h.1, takes_on h.0 (k + 1) n lines t line u h.2 (omega arith) next)
 
@@ -94,7 +94,7 @@ still s t n (items.Call p c) here added = λ e.
     absurd (omega arith)
 
 -- without a user there is no call and no group
-stays_blank : (s : Reading) (k : ℕ) (lines : List (List ℕ)) (t : Reading) → IsBlank s → TakesAll s k lines t → IsBlank t
+stays_blank : (s : Reading) (k : ℕ) (lines : List (List ℕ)) (t : Reading) → IsBlank s → TakesLines s k lines t → IsBlank t
 stays_blank s k [] t here h = subst IsBlank (sym h) here
 stays_blank s k (line ∷ lines) t here h = stays_blank h.0 (k + 1) lines t (still s h.0 (k + 1) h.1.0 here h.1.2) h.2
 
@@ -130,7 +130,7 @@ unfolding lines_of
 no_lines_left = refl
 
 -- where there is no user yet, the user line makes a script
-begun_without : (lines : List (List ℕ)) (t : Reading) → TakesAll nothing_read 0 lines t → t.session.users ≡ [] → BeginsSome lines
+begun_without : (lines : List (List ℕ)) (t : Reading) → TakesLines nothing_read 0 lines t → t.session.users ≡ [] → BeginsSome lines
 begun_without lines t h none =
     let is : lines_of (with_ends lines ++ user_line) ≡ lines ++ user_line ∷ [] = lines_back lines user_line (taken_are_lines nothing_read 0 lines t h) ∙ ap (λ (l : List (List ℕ)). lines ++ l) user_line_alone in
     let next = takes_user t (length lines + 1) none (stays_blank nothing_read 0 lines t (λ _. (refl, refl)) h) in
@@ -138,21 +138,21 @@ begun_without lines t h none =
       with_ends lines ++ user_line,
       with_a t,
       ap (take (length lines)) is ∙ take_at lines (user_line ∷ []) (length lines) refl,
-      (subst (λ (l : List (List ℕ)). TakesAll nothing_read 0 l (with_a t)) (sym is) all, omega (arith, length-append t.session.users (user_a ∷ []))),
+      (subst (λ (l : List (List ℕ)). TakesLines nothing_read 0 l (with_a t)) (sym is) all, omega (arith, length-append t.session.users (user_a ∷ []))),
     )
 
 -- where there is a user, the lines are a script
-begun_with : (lines : List (List ℕ)) (t : Reading) → TakesAll nothing_read 0 lines t → 0 < length t.session.users → BeginsSome lines
+begun_with : (lines : List (List ℕ)) (t : Reading) → TakesLines nothing_read 0 lines t → 0 < length t.session.users → BeginsSome lines
 begun_with lines t h some =
     let is : lines_of (with_ends lines ++ []) ≡ lines ++ [] = lines_back lines [] (taken_are_lines nothing_read 0 lines t h) ∙ ap (λ (l : List (List ℕ)). lines ++ l) no_lines_left in (
       with_ends lines ++ [],
       t,
       ap (take (length lines)) is ∙ take_at lines [] (length lines) refl,
-      (subst (λ (l : List (List ℕ)). TakesAll nothing_read 0 l t) (sym (is ∙ append-nil lines)) h, some),
+      (subst (λ (l : List (List ℕ)). TakesLines nothing_read 0 l t) (sym (is ∙ append-nil lines)) h, some),
     )
 
 -- some script begins with lines that are taken
-pub begun : (lines : List (List ℕ)) (t : Reading) → TakesAll nothing_read 0 lines t → BeginsSome lines
+pub begun : (lines : List (List ℕ)) (t : Reading) → TakesLines nothing_read 0 lines t → BeginsSome lines
 begun lines t h =
     elim (cases_lt 0 (length t.session.users)) [
       | inl some ↦ begun_with lines t h some

@@ -6,7 +6,7 @@ use Rattle.histar_script.specs.declared.fault.Fault.TheVariants.{BadScript}
 use Rattle.histar_script.specs.Lines.{lines_of}
 use Rattle.histar_script.specs.Script.{Reading, nothing_read}
 use Rattle.histar_script.specs.Reading.{with_line, with_lines, reading}
-use Rattle.histar_script.specs.Grammar.{TakesAll, BeginsNone, IsFirstBad}
+use Rattle.histar_script.specs.Grammar.{TakesLines, BeginsNone, IsFirstBad}
 use Rattle.histar_script.proofs.Chains.{none_left}
 use Rattle.histar_script.proofs.ScriptsBack.{line_takes, after, taken, lines_again}
 use Rattle.histar_script.proofs.Beginnings.{begun}
@@ -57,15 +57,15 @@ begins_none text n bad le other script same is =
 
 -- the lines before a bad line are right, by one more line
 before_step : (s : Reading) (k : ℕ) (line : List ℕ) (lines : List (List ℕ)) (n j : ℕ) (o : Option Reading) → with_line s (k + 1) line ≡ o → after (k + 1) (λ m. with_lines m (k + 1) lines) o ≡ failed n → n ≡ k + suc (suc j)
-    → ((m : Reading) → with_lines m (k + 1) lines ≡ failed n → (t : Reading) × TakesAll m (k + 1) (take j lines) t × (length lines ≤ j → t.session.users ≡ []) × (j ≤ length lines))
-    → (t : Reading) × TakesAll s k (take (suc j) (line ∷ lines)) t × (length (line ∷ lines) ≤ suc j → t.session.users ≡ []) × (suc j ≤ length (line ∷ lines))
+    → ((m : Reading) → with_lines m (k + 1) lines ≡ failed n → (t : Reading) × TakesLines m (k + 1) (take j lines) t × (length lines ≤ j → t.session.users ≡ []) × (j ≤ length lines))
+    → (t : Reading) × TakesLines s k (take (suc j) (line ∷ lines)) t × (length (line ∷ lines) ≤ suc j → t.session.users ≡ []) × (suc j ≤ length (line ∷ lines))
 before_step s k line lines n j None met bad is later = let same : k + 1 ≡ n = same_line (k + 1) n bad in absurd (omega arith)
 before_step s k line lines n j (Some m) met bad is later =
     let r = later m bad in
     (r.0, (m, line_takes s (k + 1) line m met, r.1), (λ le. r.2 (omega arith)), omega (arith, r.3))
 
 -- the lines before a bad line are right
-before_bad : (s : Reading) (k : ℕ) (lines : List (List ℕ)) (n j : ℕ) → with_lines s k lines ≡ failed n → n ≡ k + suc j → (t : Reading) × TakesAll s k (take j lines) t × (length lines ≤ j → t.session.users ≡ []) × (j ≤ length lines)
+before_bad : (s : Reading) (k : ℕ) (lines : List (List ℕ)) (n j : ℕ) → with_lines s k lines ≡ failed n → n ≡ k + suc j → (t : Reading) × TakesLines s k (take j lines) t × (length lines ≤ j → t.session.users ≡ []) × (j ≤ length lines)
 unfolding with_lines
 before_bad s k [] n zero bad is =
     elim (either_chosen (eqb (length s.session.users) 0) (failed (k + 1)) (Ok s) (failed n) bad) [ inl h ↦ (s, refl, (λ _. none_left s.session.users h.0), omega arith) | inr h ↦ absurd cc ]

@@ -11,7 +11,7 @@ use Rattle.histar_script.specs.declared.items.Item.{Item}
 use Rattle.histar_script.specs.declared.items.Item.TheVariants as items
 use Rattle.histar_script.specs.Lines.{lines_of}
 use Rattle.histar_script.specs.Script.{Reading, nothing_read, IsMembership, AreGroups, IsDeclared, IsNumbered}
-use Rattle.histar_script.specs.Grammar.{Says, Adds, TakesAll, IsScript}
+use Rattle.histar_script.specs.Grammar.{Says, Adds, TakesLines, IsScript}
 use Rattle.histar_script.proofs.ItemsBack.{spells_user, spells_group}
 
 -- a user whose name may be one
@@ -138,7 +138,7 @@ kept_item s n line (items.Call p c) t k said added =
     subst (λ (r : Reading). Kept r (n + 1)) (sym added.2) is
 
 -- all lines
-kept_all : (s : Reading) (n : ℕ) (lines : List (List ℕ)) (t : Reading) → TakesAll s n lines t → Kept s n → Kept t (n + length lines)
+kept_all : (s : Reading) (n : ℕ) (lines : List (List ℕ)) (t : Reading) → TakesLines s n lines t → Kept s n → Kept t (n + length lines)
 kept_all s n [] t h k = let end : n ≡ n + 0 = omega arith in subst (λ (m : ℕ). Kept t m) end (subst (λ (r : Reading). Kept r n) (sym h) k)
 kept_all s n (line ∷ lines) t h k =
     let far : n + 1 + length lines ≡ n + length (line ∷ lines) = omega arith in

@@ -11,7 +11,7 @@ use Rattle.histar_script.specs.declared.items.Item.{Item}
 use Rattle.histar_script.specs.declared.items.Item.TheVariants as items
 use Rattle.histar_script.specs.Script.{Reading, nothing_read, without_job}
 use Rattle.histar_script.specs.Lines.{lines_of, is_plain}
-use Rattle.histar_script.specs.Grammar.{Says, Adds, Takes, TakesAll}
+use Rattle.histar_script.specs.Grammar.{Says, Adds, Takes, TakesLines}
 use Rattle.histar_script.specs.Laws.{is_job_item, line_without, CommentsLeaveOut}
 use Rattle.histar_script.proofs.ItemsBack.{item_again}
 
@@ -62,10 +62,10 @@ module _ (job : ProcName) where
   taken old mid n line (items.Call p c, says, adds) = call_taken old mid n line p c says adds (under_process job p) refl
 
   -- and so are all lines
-  all_taken : (old new : Reading) (n : ℕ) (lines : List (List ℕ)) → TakesAll old n lines new → TakesAll (left old) n (map (line_without job) lines) (left new)
+  all_taken : (old new : Reading) (n : ℕ) (lines : List (List ℕ)) → TakesLines old n lines new → TakesLines (left old) n (map (line_without job) lines) (left new)
   all_taken old new n [] e = ap left e
   all_taken old new n (line ∷ lines) (mid, takes, rest) = (left mid, taken old mid (n + 1) line takes, all_taken mid new (n + 1) lines rest)
 
 -- so the script of these lines is what is left
 pub comments_leave_out : CommentsLeaveOut
-comments_leave_out job text other s is same = (subst (λ (lines : List (List ℕ)). TakesAll nothing_read 0 lines (without_job job s)) (sym same) (all_taken job nothing_read s 0 (lines_of text) is.0), is.1)
+comments_leave_out job text other s is same = (subst (λ (lines : List (List ℕ)). TakesLines nothing_read 0 lines (without_job job s)) (sym same) (all_taken job nothing_read s 0 (lines_of text) is.0), is.1)

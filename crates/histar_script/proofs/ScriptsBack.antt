@@ -12,7 +12,7 @@ use Rattle.histar_script.specs.declared.items.Item.TheVariants as items
 use Rattle.histar_script.specs.Lines.{lines_of}
 use Rattle.histar_script.specs.Script.{Reading, IsMembership, nothing_read, is_declared_call}
 use Rattle.histar_script.specs.Reading.{item_of, has_user, is_empty, takes_user, are_users, are_distinct, is_new_name, takes_group, takes_call, with_item, with_line, with_lines, reading}
-use Rattle.histar_script.specs.Grammar.{IsGroupText, Says, Adds, Takes, TakesAll, IsScript}
+use Rattle.histar_script.specs.Grammar.{IsGroupText, Says, Adds, Takes, TakesLines, IsScript}
 use Rattle.histar_script.proofs.Chains.{none_left, some_left, not_empty}
 use Rattle.histar_script.proofs.ItemsBack.{item_takes, item_again, spells_group}
 use Rattle.histar_script.proofs.Naming.{all_others, not_named, all_users, users_again, all_distinct, passes_distinct}
@@ -103,7 +103,7 @@ ended true f s t e = absurd cc
 ended false f s t e = (refl, cc)
 
 -- lines that are read are taken
-pub lines_take : (s : Reading) (n : ℕ) (lines : List (List ℕ)) (t : Reading) → with_lines s n lines ≡ Ok t → TakesAll s n lines t × (0 < length t.session.users)
+pub lines_take : (s : Reading) (n : ℕ) (lines : List (List ℕ)) (t : Reading) → with_lines s n lines ≡ Ok t → TakesLines s n lines t × (0 < length t.session.users)
 unfolding with_lines
 lines_take s n [] t e =
     let g = ended (eqb (length s.session.users) 0) (BadScript (n + 1)) s t e in
@@ -114,7 +114,7 @@ lines_take s n (line ∷ lines) t e =
     ((a.0, line_takes s (n + 1) line a.0 a.1, b.0), b.1)
 
 -- lines that are taken are read
-pub lines_again : (s : Reading) (n : ℕ) (lines : List (List ℕ)) (t : Reading) → TakesAll s n lines t → 0 < length t.session.users → with_lines s n lines ≡ Ok t
+pub lines_again : (s : Reading) (n : ℕ) (lines : List (List ℕ)) (t : Reading) → TakesLines s n lines t → 0 < length t.session.users → with_lines s n lines ≡ Ok t
 unfolding with_lines
 lines_again s n [] t h some =
     let some_here : eqb (length s.session.users) 0 ≡ false = not_empty s.session.users (subst (λ (x : Reading). 0 < length x.session.users) h some) in

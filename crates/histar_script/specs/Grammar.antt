@@ -99,13 +99,13 @@ abbrev pub Takes : Reading → ℕ → List ℕ → Reading → Type 0
 Takes old n line new = (item : Item) × Says line item × Adds old n item new
 
 -- the lines after the first n, one after another
-abbrev pub TakesAll : Reading → ℕ → List (List ℕ) → Reading → Type 0
-TakesAll old n [] new = new ≡ old
-TakesAll old n (line ∷ lines) new = (mid : Reading) × Takes old (n + 1) line mid × TakesAll mid (n + 1) lines new
+abbrev pub TakesLines : Reading → ℕ → List (List ℕ) → Reading → Type 0
+TakesLines old n [] new = new ≡ old
+TakesLines old n (line ∷ lines) new = (mid : Reading) × Takes old (n + 1) line mid × TakesLines mid (n + 1) lines new
 
 -- the text is this script: all its lines are taken, and there is a user
 abbrev pub IsScript : List ℕ → Reading → Type 0
-IsScript text script = TakesAll nothing_read 0 (lines_of text) script × (0 < length script.session.users)
+IsScript text script = TakesLines nothing_read 0 (lines_of text) script × (0 < length script.session.users)
 
 -- no script begins with the first n lines of this text
 abbrev pub BeginsNone : List ℕ → ℕ → Type 0
@@ -120,5 +120,5 @@ BeginsSome lines = (other : List ℕ) × (script : Reading) × (take (length lin
 pub record IsFirstBad (text : List ℕ) (n : ℕ) : Type 0 where
   pub none : n ≤ length (lines_of text) → BeginsNone text n
   pub some : BeginsSome (take (n - 1) (lines_of text))
-  pub before : (read : Reading) × TakesAll nothing_read 0 (take (n - 1) (lines_of text)) read × (length (lines_of text) < n → read.session.users ≡ [])
+  pub before : (read : Reading) × TakesLines nothing_read 0 (take (n - 1) (lines_of text)) read × (length (lines_of text) < n → read.session.users ≡ [])
   pub close : (0 < n) × (n ≤ length (lines_of text) + 1)

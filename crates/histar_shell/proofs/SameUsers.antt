@@ -21,7 +21,7 @@ use Rattle.histar_calls.specs.declared.places.Places.{Places}
 use Rattle.histar_calls.specs.Jobs.{jobs_in, is_empty}
 use Rattle.histar_calls.specs.Labelling.{secret_of}
 use Rattle.histar_calls.specs.Categories.{read_category, write_category, group_owner, owner_of_group, owners_among, owners_of, user_of, file_label, scratch_label, label_made}
-use Rattle.histar_calls.specs.ClassOf.{class_at, class_from, class_of, is_unnamed}
+use Rattle.histar_calls.specs.ClassOf.{class_at, class_from, class_shown, is_unnamed}
 use Rattle.histar_calls.specs.UserTable.{without_password, without_passwords}
 use Rattle.histar_process.specs.Kin.{categories_of, kin_of, owned_by, user_name}
 use Rattle.histar_wrap.specs.Scratch.{directory_label, jobs_with, kin_in}
@@ -62,8 +62,8 @@ module _ (session : Session) where
   count : length (without_passwords session).users ≡ length session.users
   count = as_many session.users
 
-  pub same_class : (label : Levels) → class_of (without_passwords session) label ≡ class_of session label
-  unfolding class_of
+  pub same_class : (label : Levels) → class_shown (without_passwords session) label ≡ class_shown session label
+  unfolding class_shown
   same_class label = class_from_same label session.groups session.users 1
 
   -- ---- the labels of files

@@ -22,7 +22,7 @@ use Rattle.histar_script.specs.declared.fault.Fault.{Fault}
 use Rattle.histar_script.specs.declared.fault.Fault.TheVariants.{TooLong}
 use Rattle.histar_script.specs.Lines.{lines_of, is_too_long}
 use Rattle.histar_script.specs.Script.{Reading, nothing_read, IsUserList, IsUserOf, IsMembership, AreGroups, IsDeclared}
-use Rattle.histar_script.specs.Grammar.{IsCallText, Says, Adds, TakesAll, IsScript}
+use Rattle.histar_script.specs.Grammar.{IsCallText, Says, Adds, TakesLines, IsScript}
 use Rattle.histar_script.specs.Reading.{reading, script_of}
 use Rattle.histar_script.proofs.ScriptsBack.{found_from}
 use Rattle.histar_script.proofs.Kept.{is_declared}
@@ -137,7 +137,7 @@ item_scriptable s n line (items.Call p c) t h said added =
     subst (λ (r : Reading). AreScriptable r.calls) (sym added.2) (more_scriptable s.calls (record { line = n; process = p; call = c }) h (said_scriptable line p c said))
 
 -- all lines
-lines_scriptable : (s : Reading) (n : ℕ) (lines : List (List ℕ)) (t : Reading) → TakesAll s n lines t → AreScriptable s.calls → AreScriptable t.calls
+lines_scriptable : (s : Reading) (n : ℕ) (lines : List (List ℕ)) (t : Reading) → TakesLines s n lines t → AreScriptable s.calls → AreScriptable t.calls
 lines_scriptable s n [] t h k = subst (λ (r : Reading). AreScriptable r.calls) (sym h) k
 lines_scriptable s n (line ∷ lines) t h k = lines_scriptable h.0 (n + 1) lines t h.2 (item_scriptable s (n + 1) line h.1.0 h.0 k h.1.1 h.1.2)
 

@@ -5,7 +5,7 @@ ghost use Rattle.histar_shell.specs.Machine.{AnswersLine, IsStart, IsTraced, Mak
 ghost use Rattle.histar_shell.specs.Ending.{HasTree, IsTreeIn};
 ghost use Rattle.histar_shell.specs.Meaning.{FollowsMeaning, ShowsStart};
 ghost use Rattle.histar_syscall.specs.KernelModel.{state};
-ghost use Rattle.histar_tree.specs.TreeLines.{bytes_at};
+ghost use Rattle.histar_tree.specs.TreeLines.{file_bytes_at};
 
 use histar_calls::{Places, Stopped, UserTable, append, create, list, mkdir, read, stat, write};
 use histar_flat::{ProcName, Reply, Session, UnixCall};
@@ -142,7 +142,7 @@ impl<S: LabelStore + Drop> Machine<S> {
 
     /// The bytes of a file of the tree, lent by the kernel's table. Of a directory there are none.
     pub fn bytes_of(&self, target: Target) -> &[u8]
-        ensures { result.now ≡ bytes_at (state self.now.kernel) target }
+        ensures { result.now ≡ file_bytes_at (state self.now.kernel) target }
     {
         bytes_of(&self.kernel, target)
     }

@@ -18,27 +18,27 @@ own_labels (Some label) (Some clearance) = Some (answers.OwnLabel label clearanc
 
 -- What a raw call that passes its checks answers, read off the state before it: a made category or object has the next
 -- number, and a call that asks for something is answered what was there.
-abbrev pub answer : State → ℕ → RawCall → Option Answer
-answer s t MakeCategory = Some (answers.Category s.next_category)
-answer s t OwnLabel = own_labels (label_there (s.objects t)) (clearance_there (s.objects t))
-answer s t (SetLabel label) = Some answers.Done
-answer s t (SetClearance clearance) = Some answers.Done
-answer s t (MakeSegment d label bytes) = Some (answers.Object s.next_object)
-answer s t (MakeContainer d label) = Some (answers.Object s.next_object)
-answer s t (MakeThread d label clearance) = Some (answers.Object s.next_object)
-answer s t (MakeGate d label clearance entry) = Some (answers.Object s.next_object)
-answer s t (Enter d o wanted clearance shown) = option_map answers.Entry (entry_there (s.objects o))
-answer s t (Read d o) = Some (answers.Bytes (bytes_in (s.objects o)))
-answer s t (Write d o keep bytes) = Some answers.Done
-answer s t (Unlink d o) = Some answers.Done
-answer s t (LabelOf d o) = option_map answers.Label (label_there (s.objects o))
+abbrev pub raw_answer : State → ℕ → RawCall → Option Answer
+raw_answer s t MakeCategory = Some (answers.Category s.next_category)
+raw_answer s t OwnLabel = own_labels (label_there (s.objects t)) (clearance_there (s.objects t))
+raw_answer s t (SetLabel label) = Some answers.Done
+raw_answer s t (SetClearance clearance) = Some answers.Done
+raw_answer s t (MakeSegment d label bytes) = Some (answers.Object s.next_object)
+raw_answer s t (MakeContainer d label) = Some (answers.Object s.next_object)
+raw_answer s t (MakeThread d label clearance) = Some (answers.Object s.next_object)
+raw_answer s t (MakeGate d label clearance entry) = Some (answers.Object s.next_object)
+raw_answer s t (Enter d o wanted clearance shown) = option_map answers.Entry (entry_there (s.objects o))
+raw_answer s t (Read d o) = Some (answers.Bytes (bytes_in (s.objects o)))
+raw_answer s t (Write d o keep bytes) = Some answers.Done
+raw_answer s t (Unlink d o) = Some answers.Done
+raw_answer s t (LabelOf d o) = option_map answers.Label (label_there (s.objects o))
 
 -- the same, where the bytes of a segment are lent after the call and its answer has none
 abbrev pub answer_before_lending : State → ℕ → RawCall → Option Answer
 answer_before_lending s t (Read d o) = Some answers.Done
-answer_before_lending s t call = answer s t call
+answer_before_lending s t call = raw_answer s t call
 
 -- the answer is the one that the state gives, by how a read tells its bytes
 abbrev pub IsRightAnswer : Reading → State → ℕ → RawCall → Answer → Type 0
-IsRightAnswer Copied s t call answered = answer s t call ≡ Some answered
+IsRightAnswer Copied s t call answered = raw_answer s t call ≡ Some answered
 IsRightAnswer Lent s t call answered = answer_before_lending s t call ≡ Some answered

@@ -6,7 +6,7 @@ ghost use Rattle.histar_object.specs.State.{empty_state};
 ghost use Rattle.histar_rules.specs.Rules.{IsNextNumber, AreBytesOf, AreLabelsOf, IsLabelOf, IsEntryOf};
 ghost use Rattle.histar_rules.specs.Sound.{IsSound};
 ghost use Rattle.histar_rules.specs.declared.raw.RawCall.TheVariants as calls;
-ghost use Rattle.histar_syscall.specs.Answers.{answer, IsRightAnswer};
+ghost use Rattle.histar_syscall.specs.Answers.{raw_answer, IsRightAnswer};
 ghost use Rattle.histar_syscall.specs.KernelModel.{Answered, ReadsLent, EndsAs, state};
 
 use crate::answers::{Answer, Reading};
@@ -94,7 +94,7 @@ impl<S: LabelStore + Drop> Kernel<S> {
     /// Makes one raw call of any kind.
     #[inline(always)]
     pub fn call(&mut self, alloc: Global, thread: ObjId, call: RawCall) -> Result<Answer, Refusal>
-        ensures answered { Answered self.old self.new thread call result (λ a. answer (state self.old) thread call ≡ Some a) }
+        ensures answered { Answered self.old self.new thread call result (λ a. raw_answer (state self.old) thread call ≡ Some a) }
 
         // The objects of every kernel are sound.
         ensures sound { IsSound (state self.old) × IsSound (state self.new) }

@@ -29,7 +29,7 @@ use Rattle.histar_refinement.proofs.Making.{entry_leads}
 use Rattle.histar_refinement.proofs.SameLines.{container_in, listing_in}
 use Rattle.histar_refinement.proofs.Standing.{some_unless_none, root_is_dir, parent_is_dir}
 use Rattle.histar_tree.specs.Resolve.{LeadsTo, LeadsNowhere}
-use Rattle.histar_tree.specs.TreeLines.{bytes_at}
+use Rattle.histar_tree.specs.TreeLines.{file_bytes_at}
 use Rattle.histar_tree.specs.Laws.{LeadsToNode, FlatStatesAreResolved}
 use Rattle.histar_tree.proofs.TreeLaid.{led_to_directory, led_to_file, slash_leads, bytes_held}
 
@@ -86,11 +86,11 @@ module _ (session : Session) (s : State) where
       same_kind (File bytes) target leads = ap is_directory (sym (led_to_file (l.naming.number (address_of q)) target leads).1)
 
       same_bytes : (content : Content) → get f.files q ≡ Some (record { class = class; content = content }) → (target : Target) → target_for l.naming.number (q, record { class = class; content = content }) ≡ Some target
-          → bytes_at s target ≡ bytes_of (Some (record { class = class; content = content }))
-      same_bytes Dir at target leads = ap (bytes_at s) (sym (led_to_directory (l.naming.number (address_of q)) (l.naming.number (Listing ∷ address_of q)) target leads).2)
+          → file_bytes_at s target ≡ bytes_of (Some (record { class = class; content = content }))
+      same_bytes Dir at target leads = ap (file_bytes_at s) (sym (led_to_directory (l.naming.number (address_of q)) (l.naming.number (Listing ∷ address_of q)) target leads).2)
       same_bytes (File bytes) at target leads =
           let to = led_to_file (l.naming.number (address_of q)) target leads in
-          ap (bytes_at s) (sym to.1) ∙ bytes_held session s f l q class bytes at to.0 to.2
+          ap (file_bytes_at s) (sym to.1) ∙ bytes_held session s f l q class bytes at to.0 to.2
 
     -- so what stands at a path is what it leads to
     leads_to_node : (q : Path) (node : Node) → get f.files q ≡ Some node → LeadsToNode s places q node

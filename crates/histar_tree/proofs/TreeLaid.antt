@@ -25,7 +25,7 @@ use Rattle.histar_layout.specs.declared.entry.Target.{Target}
 use Rattle.histar_layout.specs.declared.entry.Target.TheVariants as targets
 use Rattle.histar_layout.proofs.MapLemmas.{sorted_made}
 use Rattle.histar_calls.specs.declared.class.Class.{Class as ToldClass}
-use Rattle.histar_calls.specs.ClassOf.{class_of, owner_of, mode_of}
+use Rattle.histar_calls.specs.ClassOf.{class_shown, owner_shown, mode_of}
 use Rattle.histar_refinement.specs.Addresses.{address_of, slash_number, slash_listing_number}
 use Rattle.histar_refinement.specs.Addresses.Step.{Slash, Listing}
 use Rattle.histar_refinement.specs.Directories.{both_numbers, target_for, target_in, directory_of}
@@ -86,7 +86,7 @@ module _ (session : Session) (s : State) (f : Flat) (l : Laid session s f) where
   record IsTold (q : Path) (class : Class) (target : Target) : Type 0 where
     told : ToldClass
     is : node_at session s q target ≡ Some (node_of q target told)
-    owner : owner_of told ≡ class_owner class
+    owner : owner_shown told ≡ class_owner class
     mode : mode_of told ≡ class_mode class
 
   -- so tells the label of what stands at a path
@@ -96,7 +96,7 @@ module _ (session : Session) (s : State) (f : Flat) (l : Laid session s f) where
       let t = class_told session l.category l.different l.as_made there.class g.0 g.1 in
       record {
         told = t.told_class;
-        is = ap (λ (o : Option Levels). option_map (node_of q target) (option_and_then (class_of session) o)) (label_at session s f l q there at (object_of target) numbered g.0 g.1)
+        is = ap (λ (o : Option Levels). option_map (node_of q target) (option_and_then (class_shown session) o)) (label_at session s f l q there at (object_of target) numbered g.0 g.1)
             ∙ ap (option_map (node_of q target)) t.is;
         owner = t.owner;
         mode = t.mode;

@@ -12,7 +12,7 @@ use Rattle.histar_login.specs.Start.{places_of}
 use Rattle.histar_refinement.specs.LaysOut.{LaysOut}
 use Rattle.histar_tree.specs.declared.tree.TreeNode.{TreeNode}
 use Rattle.histar_tree.specs.Tree.{IsTreeOf}
-use Rattle.histar_tree.specs.TreeLines.{flat_lines, bytes_at, lines_at}
+use Rattle.histar_tree.specs.TreeLines.{flat_lines, file_bytes_at, lines_at}
 use Rattle.histar_tree.specs.Resolve.{LeadsTo, LeadsNowhere}
 use Rattle.histar_tree.specs.declared.processes.ProcessNode.{ProcessNode}
 use Rattle.histar_tree.specs.Processes.{AreProcessesOf, levels_at}
@@ -45,7 +45,7 @@ pub record LeadsToNode (s : State) (places : Places) (q : Path) (node : Node) : 
   pub target : Target
   pub leads : LeadsTo s places q target
   pub kind : is_directory target ≡ is_dir node
-  pub bytes : bytes_at s target ≡ bytes_of (Some node)
+  pub bytes : file_bytes_at s target ≡ bytes_of (Some node)
 
 -- in a state that lays out a flat state a path leads to what that has there, and else nowhere
 abbrev pub FlatStatesAreResolved : Type 0

@@ -12,7 +12,7 @@ use Rattle.histar_layout.specs.declared.entry.Target.{Target}
 use Rattle.histar_layout.specs.declared.entry.Target.TheVariants.{File, Directory}
 use Rattle.histar_calls.specs.declared.places.Places.{Places}
 use Rattle.histar_calls.specs.declared.class.Class.{Class}
-use Rattle.histar_calls.specs.ClassOf.{class_of, stat_of}
+use Rattle.histar_calls.specs.ClassOf.{class_shown, stat_of}
 use Rattle.histar_tree.specs.declared.tree.TreeNode.{TreeNode}
 use Rattle.histar_tree.specs.declared.tree.TreeError.{TreeError}
 use Rattle.histar_tree.specs.declared.tree.TreeError.TheVariants.{NotATree, OutOfMemory}
@@ -23,7 +23,7 @@ node_of q target class = record { path = q; stat = stat_of class (is_directory t
 
 -- what stands at a path where its entry leads: the object there has a label, which is of a class
 abbrev pub node_at : Session → State → Path → Target → Option TreeNode
-node_at session s q target = option_map (node_of q target) (option_and_then (class_of session) (label_there (s.objects (object_of target))))
+node_at session s q target = option_map (node_of q target) (option_and_then (class_shown session) (label_there (s.objects (object_of target))))
 
 -- a tree at a path: what it is by its path, and where its entry leads
 abbrev pub Listed : Type 1

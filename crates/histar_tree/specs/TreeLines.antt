@@ -29,13 +29,13 @@ abbrev pub flat_lines : Flat → List TreeLine
 flat_lines f = map flat_line f.files.entries
 
 -- the bytes that an entry leads to; of a directory there are none
-abbrev pub bytes_at : State → Target → List ℕ
-bytes_at s (File file) = bytes_in (s.objects file)
-bytes_at s (Directory container listing) = []
+abbrev pub file_bytes_at : State → Target → List ℕ
+file_bytes_at s (File file) = bytes_in (s.objects file)
+file_bytes_at s (Directory container listing) = []
 
 -- what is shown of a file or a directory of a state
 abbrev pub line_at : State → TreeNode → TreeLine
-line_at s node = record { path = node.path; stat = node.stat; bytes = bytes_at s node.target }
+line_at s node = record { path = node.path; stat = node.stat; bytes = file_bytes_at s node.target }
 
 -- what is shown of these, one after another
 abbrev pub lines_at : State → List TreeNode → List TreeLine

@@ -3,7 +3,7 @@ ghost use Rattle.std.specs.Prelude.{◌≡◌, ◌≤◌, length, IfOk, ok_or};
 ghost use Rattle.histar_flat.specs.Words.{most_names};
 ghost use Rattle.histar_syscall.specs.KernelModel.{state};
 ghost use Rattle.histar_tree.specs.declared.tree.TreeError.TheVariants.{NotATree};
-ghost use Rattle.histar_tree.specs.TreeLines.{bytes_at};
+ghost use Rattle.histar_tree.specs.TreeLines.{file_bytes_at};
 ghost use Rattle.histar_tree.specs.Tree.{AddsBelow, AddsTree, FindsTree, node_at};
 
 use histar_base::Bytes;
@@ -79,7 +79,7 @@ pub fn tree_of<S: LabelStore + Drop>(
 
 /// The bytes of a file of the tree, lent by the kernel's table. Of a directory there are none.
 pub fn bytes_of<'a, S: LabelStore + Drop>(kernel: &'a Kernel<S>, target: Target) -> &'a [u8]
-    ensures { result.now ≡ bytes_at (state kernel.now) target }
+    ensures { result.now ≡ file_bytes_at (state kernel.now) target }
 {
     match &target {
         Target::File(file) => kernel.bytes(*file),

@@ -2,7 +2,7 @@
 ghost use Rattle.std.specs.Prelude.{◌<◌, ◌≡◌, IfOk};
 ghost use Rattle.std.specs.FinMap as map;
 ghost use Rattle.histar_rules.specs.declared.raw.RawCall.TheVariants as calls;
-ghost use Rattle.histar_layout.specs.Directory.{most_entries};
+ghost use Rattle.histar_flat.specs.FlatCalls.{most_entries};
 ghost use Rattle.histar_calls.specs.Programs.{RunsPart};
 ghost use Rattle.histar_wrap.specs.Scratch.{ask_or_give_back, hold_job, make_scratch};
 ghost use Rattle.histar_wrap.specs.Steps.{restore, stopping};

@@ -23,7 +23,7 @@ use Rattle.histar_label.specs.Levels.{Levels, with_level}
 use Rattle.histar_object.specs.declared.objects.Kind.TheVariants.{Segment, Container, Thread}
 use Rattle.histar_object.specs.declared.objects.Object.{Object}
 use Rattle.histar_rules.specs.Rights.{with_category}
-use Rattle.histar_object.specs.State.{State, with_object, with_bytes, with_next_category}
+use Rattle.histar_object.specs.State.{State, with_object, with_segment_bytes, with_next_category}
 use Rattle.histar_rules.specs.declared.raw.Denied.TheVariants.{TooBig}
 use Rattle.histar_rules.specs.declared.raw.RawCall.{RawCall}
 use Rattle.histar_rules.specs.declared.raw.RawCall.TheVariants.{MakeSegment, SetLabel, SetClearance, Write}
@@ -49,7 +49,7 @@ use Rattle.histar_refinement.specs.Categories.{naming_next, IsServed, IsUsed}
 use Rattle.histar_refinement.specs.Categories.CategoryName.{OfJob}
 use Rattle.histar_refinement.specs.Guards.{guard_label, rights_label, rights_clearance}
 use Rattle.histar_refinement.specs.Labels.{scratch_guard}
-use Rattle.histar_refinement.specs.Addresses.{address_of, home_of}
+use Rattle.histar_refinement.specs.Addresses.{address_of, home_address}
 use Rattle.histar_refinement.specs.Addresses.Step.{Listing, Status, Inside, Runner}
 use Rattle.histar_refinement.specs.Directories.{directory_of}
 use Rattle.histar_refinement.specs.LaysOut.{AreInOrder, Laid, LaysOut}
@@ -193,13 +193,13 @@ module _ (session : Session) (ok : IsSession session) (me : ProcName) (caller : 
     listing_there : ready.lays_out.laid.naming.number (Listing ∷ address_of d) ≡ Some place.listing
     listing_there = listing_numbered session ok (state old) f me t ready d open_so_far
 
-    home_there : ready.lays_out.laid.naming.number (home_of me) ≡ Some caller.home.container
+    home_there : ready.lays_out.laid.naming.number (home_address me) ≡ Some caller.home.container
     home_there = at_home session me caller old new f result ready found
 
-    segment_there : ready.lays_out.laid.naming.number (Status ∷ home_of me) ≡ Some caller.home.segment
+    segment_there : ready.lays_out.laid.naming.number (Status ∷ home_address me) ≡ Some caller.home.segment
     segment_there = at_status session me caller old new f result ready found
 
-    thread_there : ready.lays_out.laid.naming.number (Runner ∷ Inside ∷ home_of me) ≡ Some t
+    thread_there : ready.lays_out.laid.naming.number (Runner ∷ Inside ∷ home_address me) ≡ Some t
     thread_there = at_thread session me caller old new f result ready found
 
     -- once there is a number for the directory segment
@@ -260,8 +260,8 @@ module _ (session : Session) (ok : IsSession session) (me : ProcName) (caller : 
       due_is = directory_by session (state old) f ready.lays_out.laid me p ready.caller.stands unused job_named.category category_is
           ∙ ap (λ (o : Option ℕ). guard_label job_named.category (scratch_guard (p.chain ++ child ∷ []) (or_zero o))) declared
 
-      state_is : with_bytes (with_segment session ok (state old) f me t ready d open_so_far unused i declared) place.listing written ≡ before
-      state_is = λ j. with_bytes (with_object (with_object (with_category (state old) t) place.container (record { label = due_is j; kind = Container set.empty })) number (record { label = due_is j; kind = Segment [] }))
+      state_is : with_segment_bytes (with_segment session ok (state old) f me t ready d open_so_far unused i declared) place.listing written ≡ before
+      state_is = λ j. with_segment_bytes (with_object (with_object (with_category (state old) t) place.container (record { label = due_is j; kind = Container set.empty })) number (record { label = due_is j; kind = Segment [] }))
           place.listing (spelling (map.insert (directory_of f.files (sym naming_is j).number d) m target))
 
       -- what its process and its job are there
@@ -280,13 +280,13 @@ module _ (session : Session) (ok : IsSession session) (me : ProcName) (caller : 
       held_ordered : AreInOrder later.category (p.held ++ ((p.born + 1) ∷ me) ∷ [])
       held_ordered = wrapping.k_held session (state old) f ready.lays_out me p wrapper named few_entries
 
-      home_later : later.naming.number (home_of me) ≡ Some caller.home.container
+      home_later : later.naming.number (home_address me) ≡ Some caller.home.container
       home_later = wrapping.k_home session (state old) f ready.lays_out me p wrapper named few_entries
 
-      segment_later : later.naming.number (Status ∷ home_of me) ≡ Some caller.home.segment
+      segment_later : later.naming.number (Status ∷ home_address me) ≡ Some caller.home.segment
       segment_later = wrapping.k_status session (state old) f ready.lays_out me p wrapper named few_entries
 
-      thread_later : later.naming.number (Runner ∷ Inside ∷ home_of me) ≡ Some t
+      thread_later : later.naming.number (Runner ∷ Inside ∷ home_address me) ≡ Some t
       thread_later = wrapping.k_thread session (state old) f ready.lays_out me p wrapper named few_entries
 
       stands_beside : Beside t own most before made_state
@@ -383,7 +383,7 @@ module _ (session : Session) (ok : IsSession session) (me : ProcName) (caller : 
           granted_step session f me ready.caller call old new t ready.thread result calls mid chain write (λ _. birth_then status (with_level own job Star) (with_level most job L3))
           (ap (λ (s : State). check s t write) at ∙ write_said session ok (state old) f me t ready d open_so_far unused i declared may stranger apart.0 apart.1 written few_written) runs
           (λ end done called right longer goes.
-          born (calls ++ write ∷ []) end (among_then old.line t reads calls (write ∷ []) kept) longer (called.state ∙ ap (λ (s : State). with_bytes s place.listing written) at ∙ state_is) goes)
+          born (calls ++ write ∷ []) end (among_then old.line t reads calls (write ∷ []) kept) longer (called.state ∙ ap (λ (s : State). with_segment_bytes s place.listing written) at ∙ state_is) goes)
 
   -- A wrap whose container is made is its row.
   pub job_begun : JobBegun

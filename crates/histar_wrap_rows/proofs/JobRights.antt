@@ -18,7 +18,7 @@ use Rattle.histar_refinement.specs.Categories.{CategoryName, Categories, AreDiff
 use Rattle.histar_refinement.specs.Categories.CategoryName.{OfBoot, ReadsProcess, WritesProcess, OfJob}
 use Rattle.histar_refinement.specs.Guards.{Rights, guard_label, rights_label, rights_clearance}
 use Rattle.histar_refinement.specs.Labels.{process_guard, inside_guard, thread_rights}
-use Rattle.histar_refinement.specs.Addresses.{home_of}
+use Rattle.histar_refinement.specs.Addresses.{home_address}
 use Rattle.histar_refinement.specs.Addresses.Step.{Status, Inside, Runner}
 use Rattle.histar_refinement.specs.LaysOut.{AreInOrder, Laid}
 use Rattle.histar_refinement.specs.Processes.{process_bytes}
@@ -48,9 +48,9 @@ pub record JobParent (session : Session) (s : State) (f : Flat) (l : Laid sessio
   pub home : ℕ
   pub segment : ℕ
   pub thread : ℕ
-  pub at_home : l.naming.number (home_of me) ≡ Some home
-  pub at_status : l.naming.number (Status ∷ home_of me) ≡ Some segment
-  pub at_thread : l.naming.number (Runner ∷ Inside ∷ home_of me) ≡ Some thread
+  pub at_home : l.naming.number (home_address me) ≡ Some home
+  pub at_status : l.naming.number (Status ∷ home_address me) ≡ Some segment
+  pub at_thread : l.naming.number (Runner ∷ Inside ∷ home_address me) ≡ Some thread
 
 module _ (session : Session) (s : State) (f : Flat) (l : Laid session s f) (me : ProcName) (p : Process) (parent : JobParent session s f l me p) where
   -- its fields by name
@@ -82,13 +82,13 @@ module _ (session : Session) (s : State) (f : Flat) (l : Laid session s f) (me :
   abbrev T : ℕ
   T = parent.thread
 
-  abbrev at_home : l.naming.number (home_of me) ≡ Some C
+  abbrev at_home : l.naming.number (home_address me) ≡ Some C
   at_home = parent.at_home
 
-  abbrev at_status : l.naming.number (Status ∷ home_of me) ≡ Some S
+  abbrev at_status : l.naming.number (Status ∷ home_address me) ≡ Some S
   at_status = parent.at_status
 
-  abbrev at_thread : l.naming.number (Runner ∷ Inside ∷ home_of me) ≡ Some T
+  abbrev at_thread : l.naming.number (Runner ∷ Inside ∷ home_address me) ≡ Some T
   at_thread = parent.at_thread
 
   abbrev child : ProcName

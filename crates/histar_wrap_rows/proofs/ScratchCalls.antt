@@ -16,7 +16,7 @@ use Rattle.histar_object.specs.declared.objects.Kind.TheVariants.{Segment, Conta
 use Rattle.histar_object.specs.declared.objects.Object.{Object}
 use Rattle.histar_object.specs.Objects.{is_thread}
 use Rattle.histar_rules.specs.Rights.{with_star_at, with_category}
-use Rattle.histar_object.specs.State.{State, with_object, with_bytes}
+use Rattle.histar_object.specs.State.{State, with_object, with_segment_bytes}
 use Rattle.histar_container.proofs.TableMoves.{changed_here, changed_other}
 use Rattle.histar_rules.specs.declared.raw.Denied.TheVariants.{TooBig}
 use Rattle.histar_rules.specs.declared.raw.RawCall.TheVariants.{MakeSegment, Write}
@@ -121,5 +121,5 @@ module _ (session : Session) (ok : IsSession session) (s : State) (f : Flat) (me
         (second_of (is_below own_then above) (is_below_raised above own_then) modified) modified bytes few
 
   -- The thread has the job's category then.
-  pub thread_then : (bytes : List ℕ) → (with_bytes with_segment (listing session ok s f me t ready d) bytes).objects t ≡ object own_then (Thread most_then)
+  pub thread_then : (bytes : List ℕ) → (with_segment_bytes with_segment (listing session ok s f me t ready d) bytes).objects t ≡ object own_then (Thread most_then)
   thread_then bytes = held_thread (t == listing session ok s f me t ready d) bytes (with_segment.objects t) own_then most_then then.thread

@@ -2,7 +2,7 @@ use Rattle.std.proofs.Common.{◌≡◌, ℕ, ◌+◌, ◌<◌, ◌≤◌, lengt
 use Rattle.std.specs.Prelude.{◌&&◌}
 use Rattle.std.proofs.lemmas.Option.{get_or_from_slice_get, slice_get-get_or}
 use Rattle.histar_label.specs.Levels.{level_of}
-use Rattle.histar_calls.specs.ClassOf.{class_at, class_of, group_class_from, is_plain, is_unnamed}
+use Rattle.histar_calls.specs.ClassOf.{class_at, class_shown, group_class_from, is_plain_level, is_unnamed}
 use Rattle.histar_calls.specs.UserTable.{called}
 use Rattle.histar_calls.proofs.ClassSteps.{passed_over, told_here, told_last}
 use Rattle.histar_calls.proofs.class.class_of.Goals as goal
@@ -15,11 +15,11 @@ loop-place-preserved c =
     let at : user ≡ get_or users c.loop-place.place user = sym (get_or_from_slice_get users c.loop-place.place user user (slice_get-get_or users c.loop-place.place (called []) below)) in
     let read = c.get-read.ensures ∙ ap (level_of c.args.label.now) c.read_category.ensures in
     let write = c.get-write.ensures ∙ ap (level_of c.args.label.now) c.write_category.ensures in
-    let unnamed : is_unnamed c.args.label.now (c.loop-place.place + 1) ≡ true = (λ i. is_plain (sym read i) && is_plain (sym write i)) ∙ sym c.are_plain.ensures ∙ c.if-not-are_plain.false in
+    let unnamed : is_unnamed c.args.label.now (c.loop-place.place + 1) ≡ true = (λ i. is_plain_level (sym read i) && is_plain_level (sym write i)) ∙ sym c.are_plain.ensures ∙ c.if-not-are_plain.false in
     c.loop-place.invariant ∙ passed_over c.args.label.now c.args.users.now.groups users c.loop-place.place user below at unnamed
 
 pub returns-then-not-are_plain : goal.returns-then-not-are_plain
-unfolding class_of
+unfolding class_shown
 returns-then-not-are_plain c =
     let users = c.args.users.now.users in
     let below : c.loop-place.place < length users = subst (λ (n : ℕ). c.loop-place.place < n) c.len-place-end.ensures.len c.loop-place-test.true in
@@ -27,12 +27,12 @@ returns-then-not-are_plain c =
     let at : user ≡ get_or users c.loop-place.place user = sym (get_or_from_slice_get users c.loop-place.place user user c.name_at.ensures) in
     let read = c.get-read.ensures ∙ ap (level_of c.args.label.now) c.read_category.ensures in
     let write = c.get-write.ensures ∙ ap (level_of c.args.label.now) c.write_category.ensures in
-    let named : is_unnamed c.args.label.now (c.loop-place.place + 1) ≡ false = (λ i. is_plain (sym read i) && is_plain (sym write i)) ∙ sym c.are_plain.ensures ∙ c.if-not-are_plain.true in
+    let named : is_unnamed c.args.label.now (c.loop-place.place + 1) ≡ false = (λ i. is_plain_level (sym read i) && is_plain_level (sym write i)) ∙ sym c.are_plain.ensures ∙ c.if-not-are_plain.true in
     c.class_at.ensures ∙ (λ i. class_at user.name (read i) (write i))
     ∙ sym (c.loop-place.invariant ∙ told_here c.args.label.now c.args.users.now.groups users c.loop-place.place user below at named)
 
 pub returns : goal.returns
-unfolding class_of
+unfolding class_shown
 returns c =
     let users = c.args.users.now.users in
     let end : length users ≤ c.loop-place.place = subst (λ (n : ℕ). n ≤ c.loop-place.place) c.len-place-end.ensures.len c.loop-place-test.false in

@@ -3,7 +3,7 @@ use Rattle.std.specs.Prelude.{◌&&◌}
 use Rattle.histar_flat.specs.Sessions.{Group}
 use Rattle.histar_label.specs.Levels.{level_of}
 use Rattle.histar_calls.specs.Categories.{read_category, write_category}
-use Rattle.histar_calls.specs.ClassOf.{group_class_at, group_class_from, is_plain, is_unnamed}
+use Rattle.histar_calls.specs.ClassOf.{group_class_at, group_class_from, is_plain_level, is_unnamed}
 use Rattle.histar_calls.proofs.ClassSteps.{behind, group_passed_over, group_told_here, group_told_last}
 use Rattle.histar_calls.proofs.class.group_class_of.Goals as goal
 
@@ -17,7 +17,7 @@ loop-place-preserved c =
     let read = c.get-read.ensures ∙ ap (level_of label) (c.read_category.ensures ∙ ap read_category number) in
     let write = c.get-write.ensures ∙ ap (level_of label) (c.write_category.ensures ∙ ap write_category number) in
     let next : length c.args.users.now.users + 1 + c.loop-place.place + 1 ≡ length c.args.users.now.users + 1 + (c.loop-place.place + 1) = omega arith in
-    let unnamed : is_unnamed label (length c.args.users.now.users + 1 + c.loop-place.place) ≡ true = (λ i. is_plain (sym read i) && is_plain (sym write i)) ∙ sym c.are_plain.ensures ∙ c.if-not-are_plain.false in
+    let unnamed : is_unnamed label (length c.args.users.now.users + 1 + c.loop-place.place) ≡ true = (λ i. is_plain_level (sym read i) && is_plain_level (sym write i)) ∙ sym c.are_plain.ensures ∙ c.if-not-are_plain.false in
     c.loop-place.invariant ∙ group_passed_over label (length c.args.users.now.users + 1) c.args.users.now.groups c.loop-place.place group below at unnamed
     ∙ ap (λ (first : ℕ). group_class_from label first (drop (c.loop-place.place + 1) c.args.users.now.groups)) next
 
@@ -30,7 +30,7 @@ returns-then-not-are_plain c =
     let number : c.group_owner-number.result ≡ length c.args.users.now.users + 1 + c.loop-place.place = c.group_owner-number.ensures ∙ ap (λ (n : ℕ). n + (c.loop-place.place + 1)) c.len.ensures.len ∙ behind (length c.args.users.now.users) c.loop-place.place in
     let read = c.get-read.ensures ∙ ap (level_of label) (c.read_category.ensures ∙ ap read_category number) in
     let write = c.get-write.ensures ∙ ap (level_of label) (c.write_category.ensures ∙ ap write_category number) in
-    let named : is_unnamed label (length c.args.users.now.users + 1 + c.loop-place.place) ≡ false = (λ i. is_plain (sym read i) && is_plain (sym write i)) ∙ sym c.are_plain.ensures ∙ c.if-not-are_plain.true in
+    let named : is_unnamed label (length c.args.users.now.users + 1 + c.loop-place.place) ≡ false = (λ i. is_plain_level (sym read i) && is_plain_level (sym write i)) ∙ sym c.are_plain.ensures ∙ c.if-not-are_plain.true in
     c.group_class_at.ensures ∙ (λ i. group_class_at (c.name.ensures i) (read i) (write i))
     ∙ sym (c.loop-place.invariant ∙ group_told_here label (length c.args.users.now.users + 1) c.args.users.now.groups c.loop-place.place group below at named)
 

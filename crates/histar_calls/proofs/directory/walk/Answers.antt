@@ -1,11 +1,11 @@
-use Rattle.histar_calls.specs.Parts.{walk}
+use Rattle.histar_calls.specs.Parts.{walk_to}
 use Rattle.histar_calls.proofs.Running.{fails_so}
 use Rattle.histar_calls.proofs.Directories.{walk_fails, walk_ends}
 use Rattle.histar_calls.proofs.directory.walk.Goals as goal
 
 pub returns-in_err-place : goal.returns-in_err-place
 returns-in_err-place g c =
-    fails_so c.args.thread (walk c.args.places.now c.args.names.now) c.args.kernel.now c.find_place.new.kernel c.in_err-place.field-0.0 _ c.from_residual.ensures.1
+    fails_so c.args.thread (walk_to c.args.places.now c.args.names.now) c.args.kernel.now c.find_place.new.kernel c.in_err-place.field-0.0 _ c.from_residual.ensures.1
     (walk_fails c.args.thread c.args.places.now c.args.kernel.now c.find_place.new.kernel c.args.names.now c.in_err-place.field-0.0 c.in_err-place.ensures)
 
 pub returns : goal.returns

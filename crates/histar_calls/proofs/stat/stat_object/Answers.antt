@@ -1,7 +1,7 @@
 use Rattle.std.proofs.Common.{None, Some, sym, ap, ◌∙◌}
 use Rattle.histar_flat.specs.declared.replies.Reply.TheVariants.{Stats}
 use Rattle.histar_rules.specs.declared.raw.RawCall.TheVariants.{LabelOf}
-use Rattle.histar_calls.specs.ClassOf.{class_of, stat_of}
+use Rattle.histar_calls.specs.ClassOf.{class_shown, stat_of}
 use Rattle.histar_calls.specs.Parts.{ask}
 use Rattle.histar_calls.specs.StatCall.{find_object, class_reply, stat_program}
 use Rattle.histar_calls.proofs.Running.{grants, refuses, then_call, call_fails, call_fails_so, runs_as, replies_so, stops}
@@ -27,7 +27,7 @@ returns-in_err-label g c =
     let call = LabelOf found.container found.object in
     call_fails_so t (stat_program c.args.users.now c.args.places.now c.args.path.now) old end _ _ c.from_residual-in_err-label.ensures.1
     (then_call t (find_object c.args.places.now c.args.path.now) old end _ mid found c.in_ok-found.ensures _
-    (call_fails t (ask call) mid end (λ label. class_reply found.is_directory (class_of c.args.users.now label)) _
+    (call_fails t (ask call) mid end (λ label. class_reply found.is_directory (class_shown c.args.users.now label)) _
     (refuses t call mid end _ c.in_err-label.field-0.0 c.in_err-label.ensures)))
 
 pub returns-in_default : goal.returns-in_default
@@ -41,7 +41,7 @@ returns-in_default g c =
     let label = c.in_ok-label.label in
     let call = LabelOf found.container found.object in
     then_call t (find_object c.args.places.now c.args.path.now) old end _ mid found c.in_ok-found.ensures _
-    (then_call t (ask call) mid end (λ label. class_reply found.is_directory (class_of c.args.users.now label)) end label (grants t call mid end label c.in_ok-label.ensures.0 c.in_ok-label.ensures.1) _
+    (then_call t (ask call) mid end (λ label. class_reply found.is_directory (class_shown c.args.users.now label)) end label (grants t call mid end label c.in_ok-label.ensures.0 c.in_ok-label.ensures.1) _
     (runs_as t _ (class_reply found.is_directory None) end end _ (ap (class_reply found.is_directory) (sym c.class_of.ensures ∙ c.in_default.is)) (stops t end)))
 
 pub returns : goal.returns
@@ -55,6 +55,6 @@ returns g c =
     let label = c.in_ok-label.label in
     let call = LabelOf found.container found.object in
     then_call t (find_object c.args.places.now c.args.path.now) old end _ mid found c.in_ok-found.ensures _
-    (then_call t (ask call) mid end (λ label. class_reply found.is_directory (class_of c.args.users.now label)) end label (grants t call mid end label c.in_ok-label.ensures.0 c.in_ok-label.ensures.1) _
+    (then_call t (ask call) mid end (λ label. class_reply found.is_directory (class_shown c.args.users.now label)) end label (grants t call mid end label c.in_ok-label.ensures.0 c.in_ok-label.ensures.1) _
     (runs_as t _ (class_reply found.is_directory (Some c.in-Some.class)) end end _ (ap (class_reply found.is_directory) (sym c.class_of.ensures ∙ c.in-Some.is))
     (replies_so t end (Stats (stat_of c.in-Some.class found.is_directory)) (Stats c.stat.result) (ap Stats c.stat.ensures))))

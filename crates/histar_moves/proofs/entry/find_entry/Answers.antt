@@ -1,7 +1,7 @@
 use Rattle.std.proofs.Common.{◌∙◌, ◌-◌, [], length, take, drop, refl, sym, ap, arith, Err}
 use Rattle.histar_flat.specs.declared.replies.Errno.TheVariants.{EBUSY}
 use Rattle.histar_calls.specs.declared.ending.Ending.TheVariants.{Refused}
-use Rattle.histar_calls.specs.Parts.{entry_at, target_of}
+use Rattle.histar_calls.specs.Parts.{entry_at, target_named}
 use Rattle.histar_calls.proofs.Directories.{no_names, first_of_names}
 use Rattle.histar_calls.proofs.Finding.{walk_failed, walked, decides, decides_not}
 use Rattle.histar_calls.proofs.Running.{fails_so, part_as, refuses_at_once}
@@ -27,10 +27,10 @@ unfolding find_entry
 returns-in_err-target-clause-runs g c =
     fails_so c.args.thread (find_entry c.args.places.now c.args.path.now) c.args.kernel.now c.walk.new.kernel (Refused c.in_err-target.field-0.0) _ c.from_residual-in_err-target.ensures.1
     (walked c.args.thread c.args.places.now c.args.kernel.now c.walk.new.kernel (find_entry c.args.places.now) c.args.path.now c.name-item.result (take (length c.args.path.now - 1) (drop 1 c.args.path.now)) (first_of_names c.args.path.now c.name-item.result (omega arith) c.name-item.is) (within c.name-item.result) refl c.walk.new.kernel c.in_ok-directory.directory c.in_ok-directory.ensures (Err (Refused c.in_err-target.field-0.0))
-    (decides_not c.args.thread c.walk.new.kernel (entry_of c.in_ok-directory.directory c.name-item.result) (entry_at (target_of c.in_ok-directory.directory c.name-item.result)) c.in_err-target.field-0.0 c.in_err-target.ensures))
+    (decides_not c.args.thread c.walk.new.kernel (entry_of c.in_ok-directory.directory c.name-item.result) (entry_at (target_named c.in_ok-directory.directory c.name-item.result)) c.in_err-target.field-0.0 c.in_err-target.ensures))
 
 pub returns-clause-runs : goal.returns-clause-runs
 unfolding find_entry
 returns-clause-runs g c =
     walked c.args.thread c.args.places.now c.args.kernel.now c.walk.new.kernel (find_entry c.args.places.now) c.args.path.now c.name-item.result (take (length c.args.path.now - 1) (drop 1 c.args.path.now)) (first_of_names c.args.path.now c.name-item.result (omega arith) c.name-item.is) (within c.name-item.result) refl c.walk.new.kernel c.in_ok-directory.directory c.in_ok-directory.ensures _
-    (decides c.args.thread c.walk.new.kernel (entry_of c.in_ok-directory.directory c.name-item.result) (entry_at (target_of c.in_ok-directory.directory c.name-item.result)) c.in_ok-target.target c.in_ok-target.ensures)
+    (decides c.args.thread c.walk.new.kernel (entry_of c.in_ok-directory.directory c.name-item.result) (entry_at (target_named c.in_ok-directory.directory c.name-item.result)) c.in_ok-target.target c.in_ok-target.ensures)

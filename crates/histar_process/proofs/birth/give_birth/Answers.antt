@@ -1,6 +1,6 @@
 use Rattle.std.proofs.Common.{Err}
 use Rattle.histar_rules.specs.declared.raw.RawCall.TheVariants.{Write}
-use Rattle.histar_layout.specs.Status.{status_bytes, with_child}
+use Rattle.histar_layout.specs.Status.{status_bytes, with_child_listed}
 use Rattle.histar_calls.specs.declared.ending.Ending.TheVariants.{Stopped}
 use Rattle.histar_calls.proofs.Running.{before_ask, fails_so}
 use Rattle.histar_process.specs.Birth.{birth}
@@ -107,7 +107,7 @@ returns-in_err-grown g c = λ status told.
     (with_containers t parent status kin old end k1 k2 read write container internal c.in_ok-container.ensures _
     (with_thread t parent status kin old end k2 k3 read write container internal child c.in_ok-child.ensures _
     (with_segment t parent status kin old end k3 k4 read write container internal child its c.in_ok-its.ensures _
-    (all_written t parent status kin old end k4 container its (Err Stopped) (before_ask t (Write parent.container parent.segment 0 (status_bytes (with_child container its status))) k4))))))
+    (all_written t parent status kin old end k4 container its (Err Stopped) (before_ask t (Write parent.container parent.segment 0 (status_bytes (with_child_listed container its status))) k4))))))
 
 pub returns : goal.returns
 returns g c = λ status told.

@@ -1,6 +1,6 @@
 use Rattle.std.proofs.Common.{◌≡◌, Some, Err, ap, subst}
 use Rattle.histar_rules.specs.declared.raw.Refusal.{Refusal}
-use Rattle.histar_syscall.specs.Answers.{answer}
+use Rattle.histar_syscall.specs.Answers.{raw_answer}
 use Rattle.histar_syscall.specs.KernelModel.{state, Answered}
 use Rattle.histar_raw_session.proofs.CallsAnswered.{granted, denied}
 use Rattle.histar_raw_session.proofs.session.make_call.Goals as goal
@@ -13,5 +13,5 @@ returns-in-Err-Denied g c =
     let old = c.begin.new.self in
     let t = c.args.asked.thread in
     let call = c.args.asked.call in
-    let called = subst (λ (refusal : Refusal). Answered old c.call.new.self t call (Err refusal) (λ told. answer (state old) t call ≡ Some told)) c.in-Err-Denied.field-0-is c.in-Err-Denied.ensures.answered in
+    let called = subst (λ (refusal : Refusal). Answered old c.call.new.self t call (Err refusal) (λ told. raw_answer (state old) t call ≡ Some told)) c.in-Err-Denied.field-0-is c.in-Err-Denied.ensures.answered in
     denied (state c.args.kernel.now) old c.call.new.self c.args.asked c.in-Err-Denied.denied (λ line. line.items) c.denial_line.result (ap state c.begin.ensures) called c.denial_line.ensures
