@@ -49,7 +49,9 @@ use Rattle.histar_refinement.proofs.ClassFound.{HasOwnerAndMode, class_told}
 use Rattle.histar_refinement.proofs.FileChecks.{label_said}
 use Rattle.histar_refinement.proofs.FileLabels.{label_at, no_thread_at, slash_label_said}
 use Rattle.histar_refinement.proofs.Standing.{guard_at, root_is_dir}
-use Rattle.histar_rows.specs.Rows.{IsReady, AreAmong, AreReadsOf, HasWay, HasLabel, walked}
+use Rattle.histar_rows.specs.Rows.{IsReady}
+use Rattle.histar_rows.specs.Reads.{AreAmong}
+use Rattle.histar_rows.proofs.Reads.{AreReadsOf, HasWay, HasLabel, walked_paths}
 use Rattle.histar_rows.specs.Laws.{StatsAreRows}
 use Rattle.histar_rows.proofs.Chains.{all_granted, entries_of, Chain}
 use Rattle.histar_rows.proofs.Endings.{IsBacked, ReadsAmong}
@@ -67,7 +69,7 @@ module _ (session : Session) (ok : IsSession session) (old new : KernelModel) (f
   -- the label of what stands at a path is asked for, once these raw calls were made
   module _ (q : Path) (there : Node) (at : get f.files q ≡ Some there) (D O : ℕ) (numbered : ready.lays_out.laid.naming.number (address_of q) ≡ Some O) (object_at : IsObjectAt session (state old) q D O)
       (allowed : refused session f me ready.caller.process (calls.Stat q) ≡ None) (passes : check (state old) t (raw.LabelOf D O) ≡ None)
-      (reads : List RawCall) (are_reads : AreReadsOf session (state old) (walked session (state old) f ready.caller.process q) reads) (mid : KernelModel) (stays : state mid ≡ state old) (chain : Chain old t (all_granted reads) mid) where
+      (reads : List RawCall) (are_reads : AreReadsOf session (state old) (walked_paths session (state old) f ready.caller.process q) reads) (mid : KernelModel) (stays : state mid ≡ state old) (chain : Chain old t (all_granted reads) mid) where
     abbrev call : UnixCall
     call = calls.Stat q
 

@@ -38,3 +38,4 @@ pub mod WorkedJobs
 pub mod WorkedGroups
 pub mod WorkedProcesses
 pub mod WorkedRuns
+pub mod NamedPaths

@@ -55,7 +55,9 @@ use Rattle.histar_refinement.proofs.GateLabels.{gate_label_is, gate_clearance_is
 use Rattle.histar_refinement.proofs.CallLabels.{equal_bytes, number_by_place, user_label_is, user_clearance_is}
 use Rattle.histar_login_rows.proofs.TakenLabels.{labels_taken, labels_back, kept_bytes}
 use Rattle.histar_rows.specs.Laws.{LoginsAreRows}
-use Rattle.histar_rows.specs.Rows.{AreAmong, reads_of_login, IsReady, DoesItsRow}
+use Rattle.histar_rows.specs.Rows.{IsReady, DoesItsRow}
+use Rattle.histar_rows.specs.Reads.{AreAmong}
+use Rattle.histar_rows.proofs.Reads.{reads_of_login}
 use Rattle.histar_rows.proofs.Chains.{all_granted, entries_of, Chain}
 use Rattle.histar_rows.proofs.Steps.{granted_step, refused_step, refused_at_once, answered_step}
 

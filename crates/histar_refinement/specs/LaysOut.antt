@@ -30,11 +30,8 @@ AreInOrder category jobs = IsRisingFrom 0 (map (λ job. category (OfJob job)) jo
 
 -- the jobs of a class stand in order
 abbrev pub IsInOrder : Categories → Class → Type 0
-IsInOrder category (Private owner) = Unit {0}
-IsInOrder category (Readable owner) = Unit {0}
-IsInOrder category Open = Unit {0}
 IsInOrder category (Scratch owner jobs) = AreInOrder category jobs
-IsInOrder category (Grouped group) = Unit {0}
+IsInOrder category class = Unit {0}
 
 -- A process that can be laid out: its user is declared, or is nobody, who is in no job and holds none; it holds no job that it is
 -- in, its jobs stand in order, and its counts are those that its segment has room for. Of one that has exited neither the user nor

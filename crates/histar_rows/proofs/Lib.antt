@@ -1,3 +1,4 @@
+pub mod Reads
 pub mod Chains
 pub mod Endings
 pub mod Steps

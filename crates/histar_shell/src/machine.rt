@@ -8,7 +8,7 @@ ghost use Rattle.histar_syscall.specs.KernelModel.{state};
 ghost use Rattle.histar_tree.specs.TreeLines.{file_bytes_at};
 
 use histar_calls::{Places, Stopped, UserTable, append, create, list, mkdir, read, stat, write};
-use histar_flat::{ProcName, Reply, Session, UnixCall};
+use histar_flat::{ProcName, Reply, Session, UnixCall, each_call_is_right};
 use histar_label::LabelStore;
 use histar_layout::Target;
 use histar_login::{boot, login};
@@ -104,6 +104,7 @@ impl<S: LabelStore + Drop> Machine<S> {
         if self.is_stopped {
             return Err(Stopped);
         }
+        each_call_is_right(&call);
         let Some(caller) = find_caller(&self.kernel, self.places.home, process) else {
             return Ok(Reply::Gone);
         };
