@@ -43,7 +43,7 @@ use Rattle.histar_refinement.specs.LaysOut.{LaysOut}
 use Rattle.histar_refinement.proofs.Writing.{lays_out_overwritten}
 use Rattle.histar_rows.specs.Rows.{IsReady}
 use Rattle.histar_rows.specs.Reads.{AreAmong}
-use Rattle.histar_rows.proofs.Reads.{HasWalk, HasReadsByCall}
+use Rattle.histar_rows.proofs.ReadsByCall.{HasWalk, HasReadsByCall}
 use Rattle.histar_rows.proofs.Chains.{Step, all_granted, entries_of, Chain}
 use Rattle.histar_rows.proofs.Endings.{ReadsAmong, IsBacked}
 use Rattle.histar_rows.proofs.Steps.{Goal, refused_at_once, granted_step, refused_step, answered_step}

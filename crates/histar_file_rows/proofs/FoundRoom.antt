@@ -35,7 +35,7 @@ use Rattle.histar_refinement.specs.Sessions.{IsSession}
 use Rattle.histar_refinement.proofs.Making.{count_entries}
 use Rattle.histar_rows.specs.Rows.{IsReady}
 use Rattle.histar_rows.specs.Reads.{AreAmong}
-use Rattle.histar_rows.proofs.Reads.{HasWalk, HasReadsByCall}
+use Rattle.histar_rows.proofs.ReadsByCall.{HasWalk, HasReadsByCall}
 use Rattle.histar_rows.proofs.Chains.{all_granted, entries_of, Chain, Step}
 use Rattle.histar_rows.proofs.Endings.{ReadsAmong}
 use Rattle.histar_rows.proofs.Steps.{Goal, refused_at_once}

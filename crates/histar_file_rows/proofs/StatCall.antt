@@ -51,7 +51,7 @@ use Rattle.histar_refinement.proofs.FileLabels.{label_at, no_thread_at, slash_la
 use Rattle.histar_refinement.proofs.Standing.{guard_at, root_is_dir}
 use Rattle.histar_rows.specs.Rows.{IsReady}
 use Rattle.histar_rows.specs.Reads.{AreAmong}
-use Rattle.histar_rows.proofs.Reads.{AreReadsOf, HasWay, HasLabel, walked_paths}
+use Rattle.histar_rows.proofs.ReadsByCall.{AreReadsOf, HasWay, HasLabel, walked_paths}
 use Rattle.histar_rows.specs.Laws.{StatsAreRows}
 use Rattle.histar_rows.proofs.Chains.{all_granted, entries_of, Chain}
 use Rattle.histar_rows.proofs.Endings.{IsBacked, ReadsAmong}

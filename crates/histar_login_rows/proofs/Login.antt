@@ -57,7 +57,7 @@ use Rattle.histar_login_rows.proofs.TakenLabels.{labels_taken, labels_back, kept
 use Rattle.histar_rows.specs.Laws.{LoginsAreRows}
 use Rattle.histar_rows.specs.Rows.{IsReady, DoesItsRow}
 use Rattle.histar_rows.specs.Reads.{AreAmong}
-use Rattle.histar_rows.proofs.Reads.{reads_of_login}
+use Rattle.histar_rows.proofs.ReadsByCall.{reads_of_login}
 use Rattle.histar_rows.proofs.Chains.{all_granted, entries_of, Chain}
 use Rattle.histar_rows.proofs.Steps.{granted_step, refused_step, refused_at_once, answered_step}
 

@@ -45,7 +45,7 @@ use Rattle.histar_refinement.proofs.MakingRanges.{all_known}
 use Rattle.histar_refinement.proofs.RawChecks.{read_check}
 use Rattle.histar_refinement.proofs.StatusFound.{thread_back}
 use Rattle.histar_rows.specs.Rows.{IsReady}
-use Rattle.histar_rows.proofs.Reads.{HasReadsByCall}
+use Rattle.histar_rows.proofs.ReadsByCall.{HasReadsByCall}
 use Rattle.histar_rows.proofs.Chains.{Step, all_granted, entries_of, Chain}
 use Rattle.histar_rows.proofs.Steps.{Goal, granted_step, refused_at_once}
 use Rattle.histar_process_rows.proofs.BirthObjects.{Around}

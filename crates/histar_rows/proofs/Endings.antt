@@ -30,7 +30,7 @@ use Rattle.histar_refinement.specs.LaysOut.{LaysOut}
 use Rattle.histar_refinement.specs.Lines.{IsThreadOf}
 use Rattle.histar_rows.specs.Rows.{IsRunning, IsReplyOfDenial, EndsWithRead, IsLine, IsUnanswered, IsBrokenOff, DoesItsRow}
 use Rattle.histar_rows.specs.Reads.{HasReads}
-use Rattle.histar_rows.proofs.Reads.{HasReadsByCall, reads_due}
+use Rattle.histar_rows.proofs.ReadsByCall.{HasReadsByCall, reads_due}
 use Rattle.histar_rows.proofs.Chains.{Step, all_granted, entries_of, Chain, chain_run, chain_own, all_restoring}
 
 -- what a reply needs where no raw call was refused: bytes were read last, an errno is neither EACCES nor EPERM, and it is not `gone`

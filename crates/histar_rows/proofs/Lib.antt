@@ -1,4 +1,4 @@
-pub mod Reads
+pub mod ReadsByCall
 pub mod Chains
 pub mod Endings
 pub mod Steps

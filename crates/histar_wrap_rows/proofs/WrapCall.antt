@@ -45,7 +45,7 @@ use Rattle.histar_refinement.proofs.Standing.{some_of}
 use Rattle.histar_refinement.proofs.WrapRefused.{lays_out_refused}
 use Rattle.histar_rows.specs.Rows.{IsReady, has_category}
 use Rattle.histar_rows.specs.Reads.{AreAmong}
-use Rattle.histar_rows.proofs.Reads.{HasWalk, HasWalkUnlessFull}
+use Rattle.histar_rows.proofs.ReadsByCall.{HasWalk, HasWalkUnlessFull}
 use Rattle.histar_rows.proofs.Chains.{all_granted, entries_of, Chain}
 use Rattle.histar_rows.proofs.Steps.{Goal, allowed_step, spent_step}
 use Rattle.histar_rows.proofs.Walks.{walk_reads, among_granted_behind, among_then, among_also}
