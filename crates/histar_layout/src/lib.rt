@@ -11,7 +11,7 @@ mod span;
 mod status;
 
 pub use checked::{NotADirectory, look_up_checked};
-pub use directory::{Dir, MOST_ENTRIES, one_directory, read_dir};
+pub use directory::{Dir, MOST_ENTRIES, one_directory, read_dir, write_dir};
 pub use entry::Target;
 pub use lookup::look_up;
 pub use status::{

@@ -6,7 +6,6 @@ ghost use Rattle.histar_tree.specs.declared.tree.TreeError.TheVariants.{NotATree
 ghost use Rattle.histar_tree.specs.TreeLines.{file_bytes_at};
 ghost use Rattle.histar_tree.specs.Tree.{AddsBelow, AddsTree, FindsTree, node_at};
 
-use histar_base::Bytes;
 use histar_calls::{Places, UserTable, class_of};
 use histar_flat::{Path, Stat};
 use histar_label::LabelStore;
@@ -121,8 +120,7 @@ fn push_below<S: LabelStore + Drop>(
     requires { length path.now ≤ most_names }
     ensures { AddsBelow users.now (state kernel.now) path.now listing tree.old.items tree.new.items result }
 {
-    let bytes = Bytes::copy_of(alloc, kernel.bytes(listing))?;
-    let Some(directory) = read_dir(bytes) else {
+    let Some(directory) = read_dir(alloc, kernel.bytes(listing))? else {
         return Err(TreeError::NotATree);
     };
     let entries = directory.entries(alloc)?;

@@ -2,7 +2,7 @@ use Rattle.std.proofs.Common.{List, ℕ, sym, subst, ◌∙◌}
 use Rattle.histar_layout.specs.Directory.{IsDirectory}
 use Rattle.histar_layout.specs.Spelled.{entries_of}
 use Rattle.histar_layout.proofs.Spellings.{is_spelled}
-use Rattle.histar_layout.proofs.directory.read_dir.Goals as goal
+use Rattle.histar_layout.proofs.directory.Dir.from_bytes.Goals as goal
 
 -- the bytes that are kept spell a directory
 kept : (c : goal.After-into_vec) → IsDirectory c.into_vec.result.items (entries_of c.into_vec.result.items)
