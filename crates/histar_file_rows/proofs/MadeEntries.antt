@@ -34,7 +34,7 @@ use Rattle.histar_layout.specs.declared.entry.Target.{Target}
 use Rattle.histar_layout.proofs.MapLemmas.{listable_insert}
 use Rattle.histar_calls.specs.declared.ending.Stopped.{Stopped}
 use Rattle.histar_calls.specs.Refusals.{errno_of}
-use Rattle.histar_calls.specs.Categories.{label_made}
+use Rattle.histar_layout.specs.Categories.{label_made}
 use Rattle.histar_calls.specs.Programs.{AnswerOf, IsAnswer, Program, Runs}
 use Rattle.histar_calls.specs.Programs.Program.{Answers}
 use Rattle.histar_calls.specs.Parts.{ask, write_entries, find_room}

@@ -30,7 +30,7 @@ use Rattle.histar_syscall.proofs.Runs.{same_kernel}
 use Rattle.histar_layout.specs.Listing.{is_directory, object_of}
 use Rattle.histar_layout.specs.declared.entry.Target.{Target}
 use Rattle.histar_calls.specs.declared.ending.Stopped.{Stopped}
-use Rattle.histar_calls.specs.ClassOf.{class_shown, stat_of}
+use Rattle.histar_layout.specs.ShownClass.{class_shown, stat_of}
 use Rattle.histar_calls.specs.declared.places.Place.{Place}
 use Rattle.histar_calls.specs.Programs.{Program, Runs}
 use Rattle.histar_calls.specs.Programs.Program.{Answers}
@@ -80,10 +80,10 @@ module _ (session : Session) (ok : IsSession session) (old new : KernelModel) (f
     guard = guard_at session (state old) f ready.lays_out.laid q there at
 
     tells : HasOwnerAndMode there.class (class_shown session (guard_label ready.lays_out.laid.category guard.0))
-    tells = class_told session ready.lays_out.laid.category ready.lays_out.laid.different ready.lays_out.laid.as_made there.class guard.0 guard.1
+    tells = class_told session (state old) f ready.lays_out.laid q there at guard.0 guard.1
 
     abbrev due : Reply
-    due = Stats (stat_of tells.told_class (is_dir there))
+    due = Stats (stat_of tells.shown_class (is_dir there))
 
     due_is : due ≡ stat_reply (get f.files q)
     due_is = (λ i. Stats (record { is_directory = is_dir there; owner = tells.owner i; mode = tells.mode i })) ∙ sym (ap stat_reply at)

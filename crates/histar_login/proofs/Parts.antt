@@ -18,7 +18,7 @@ use Rattle.histar_rules.specs.Sound.{root_number}
 use Rattle.histar_syscall.specs.KernelModel.{KernelModel, state, Called, Answered}
 use Rattle.histar_syscall.proofs.Runs.{granted_none, granted_more}
 use Rattle.histar_container.specs.ObjectsModel.{CutsOff}
-use Rattle.histar_calls.specs.Labelling.{written_by}
+use Rattle.histar_layout.specs.Labelling.{written_by}
 use Rattle.histar_login.specs.Start.{state_with, container, root_category}
 use Rattle.histar_login.specs.Boot.{boot_thread_number}
 use Rattle.histar_login.specs.Booting.{Part, nothing_yet, next_number, next_made, table_of, Boots, OwnsMade, Allows, IsUndenied, Passes, Grants}

@@ -4,8 +4,8 @@ ghost use Rattle.histar_object.specs.State.{empty_state};
 ghost use Rattle.histar_rules.specs.Sound.{root_number};
 ghost use Rattle.histar_rules.specs.declared.raw.RawCall.TheVariants as calls;
 ghost use Rattle.histar_syscall.specs.KernelModel.{state};
-ghost use Rattle.histar_calls.specs.Categories.{write_category};
-ghost use Rattle.histar_calls.specs.Labelling.{written_by};
+ghost use Rattle.histar_layout.specs.Categories.{write_category};
+ghost use Rattle.histar_layout.specs.Labelling.{written_by};
 ghost use Rattle.histar_login.specs.Boot.{HasBegunBoot, IsBooted, boot_thread_number, gate_call, inner_call, last_call, listing_call, outer_call, password_call, slash_call, status_call, table_call, thread_call};
 ghost use Rattle.histar_login.specs.Booting.{Allows, BeginsDirectory, BeginsOn, BeginsProcess, BeginsUser, BeginsUsers, BootsOn, Grants, HasRoom, IsAnywhere, IsBeforeDirectory, IsBeforeUser, IsFirstDirectory, IsFirstHome, IsNextCategory, IsUnderWay, IsUndenied, MakesDirectory, MakesObject, MakesProcess, MakesUser, MakesUsers, Passes, categories_part, two_categories};
 ghost use Rattle.histar_login.specs.Start.{first_process_bytes, start_state, places_of};
@@ -13,9 +13,8 @@ ghost use Rattle.histar_login.specs.Start.{first_process_bytes, start_state, pla
 use crate::gates::gate_labels;
 use crate::table::user_table;
 use histar_base::Bytes;
-use histar_calls::{
-    Home, Place, Places, Stopped, label_of, owners_among, read_category, write_category,
-};
+use histar_calls::{Home, Place, Places, Stopped};
+use histar_layout::{label_of, owners_among, read_category, write_category};
 use histar_flat::{Session, User};
 use histar_label::{Category, Label, LabelStore, Level};
 use histar_object::{Entry, ObjId};

@@ -30,7 +30,7 @@ use Rattle.histar_rules.specs.Sound.{root_number}
 use Rattle.histar_syscall.specs.KernelModel.{KernelModel, state}
 use Rattle.histar_syscall.proofs.Runs.{same_kernel}
 use Rattle.histar_calls.specs.declared.ending.Stopped.{Stopped}
-use Rattle.histar_calls.specs.Categories.{owners_of}
+use Rattle.histar_layout.specs.Categories.{owners_of}
 use Rattle.histar_calls.specs.Programs.{Program, Runs}
 use Rattle.histar_calls.specs.Programs.Program.{Answers}
 use Rattle.histar_calls.specs.Parts.{◌>>=◌, ◌>>◌, ask}
@@ -44,7 +44,7 @@ use Rattle.histar_refinement.specs.Guards.{Rights, rights_label, rights_clearanc
 use Rattle.histar_refinement.specs.Labels.{thread_rights, gate_rights}
 use Rattle.histar_refinement.specs.LaysOut.{Laid, LaysOut}
 use Rattle.histar_refinement.specs.Laws.{RunsAs}
-use Rattle.histar_refinement.proofs.SessionLemmas.{user_range}
+use Rattle.histar_layout.proofs.Declared.{user_range}
 use Rattle.histar_refinement.proofs.Standing.{thread_found}
 use Rattle.histar_refinement.proofs.StatusFound.{thread_back}
 use Rattle.histar_refinement.proofs.LeftObjects.{password_found, unnumbered_user}

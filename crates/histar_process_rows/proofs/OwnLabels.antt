@@ -8,8 +8,8 @@ use Rattle.histar_flat.specs.Sessions.{Session, user_number}
 use Rattle.histar_flat.specs.Classes.{Process, nobody}
 use Rattle.histar_flat.specs.FlatState.{Flat}
 use Rattle.histar_object.specs.State.{State}
-use Rattle.histar_calls.specs.Categories.{user_of}
-use Rattle.histar_calls.proofs.UserOf.{user_is}
+use Rattle.histar_layout.specs.Categories.{user_of}
+use Rattle.histar_layout.proofs.UserOf.{user_is}
 use Rattle.histar_process.specs.Kin.{user_name}
 use Rattle.histar_refinement.specs.Sessions.{IsSession}
 use Rattle.histar_refinement.specs.Guards.{rights_label}

@@ -1,4 +1,3 @@
-pub mod Members
 pub mod Levelled
 pub mod CategoryTests
 pub mod AmongNames

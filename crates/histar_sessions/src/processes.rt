@@ -1,11 +1,10 @@
 //! What is found in a kernel's own objects: `/` after boot, and the processes before and after a birth.
 ghost use Rattle.std.specs.Prelude.{IfOk};
-ghost use Rattle.histar_calls.specs.UserTable.{HaveOwnNames};
+ghost use Rattle.histar_layout.specs.UserTable.{HaveOwnNames};
 
-use histar_calls::UserTable;
+use histar_layout::{UserTable, Target};
 use histar_flat::{Name, Password, Path, ProcName, Session, User, read_password, read_user_name};
 use histar_label::PlainStore;
-use histar_layout::Target;
 use histar_login::boot;
 use histar_process::{find_caller, spawn};
 use histar_tree::{procs_of, resolve};

@@ -27,7 +27,8 @@ use Rattle.histar_script.specs.Reading.{reading, script_of}
 use Rattle.histar_script.proofs.ScriptsBack.{found_from}
 use Rattle.histar_script.proofs.Kept.{is_declared}
 use Rattle.histar_refinement.specs.Sessions.{IsSession}
-use Rattle.histar_refinement.proofs.SessionLemmas.{equal_names, equal_tested, from_members, has_a_number}
+use Rattle.histar_refinement.proofs.SessionLemmas.{from_members}
+use Rattle.histar_layout.proofs.Declared.{has_a_number, equal_tested, equal_names}
 use Rattle.histar_flat.specs.Calls.{IsCall}
 
 -- a test that comes last of three
