@@ -7,7 +7,7 @@ mod task;
 
 use crate::status::status;
 use crate::task::{Task, read_words};
-use histar_comparison::{compare, verdict_text};
+use histar_comparison::compare;
 use histar_devices::read_input;
 use histar_flat::{ProcName, read_process};
 use histar_raw_session::run_raw_script;
@@ -75,11 +75,10 @@ fn check_file<R: Files + Print>(
     let mut reader = Counted::new(file);
     let input = read_input(alloc, &mut reader)?;
     let verdict = compare(alloc, input.as_slice(), job)?;
-    let mut line = verdict_text(alloc, verdict)?;
-    line.push(b'\n')?;
+    let line = format!(in alloc; "{verdict}\n")?;
     let mut output = io::writer(rt);
     output
-        .write_all(line.as_slice())
+        .write_all(line.as_bytes())
         .map_err(|_| Fault::WriteFailed)?;
     output.flush().map_err(|_| Fault::WriteFailed)
 }

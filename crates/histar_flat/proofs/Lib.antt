@@ -39,3 +39,4 @@ pub mod WorkedGroups
 pub mod WorkedProcesses
 pub mod WorkedRuns
 pub mod NamedPaths
+pub mod NameTexts

@@ -8,6 +8,7 @@ ghost use Rattle.histar_flat.specs.Words.{most_names, is_path};
 use crate::names::Name;
 use crate::suffix::is_under;
 use std::cmp::Ordering;
+use std::fmt;
 use std::marker::Model;
 
 /// The most names of a path.
@@ -130,6 +131,26 @@ impl Path {
         ensures most { result ≤ most_names }
     {
         self.len as usize
+    }
+}
+
+/// A path is printed as it is written in a script.
+impl fmt::Display for Path {
+    ghost use Rattle.std.specs.Prelude.{Some};
+    ghost use Rattle.histar_flat.specs.Texts.{path_text};
+
+    ghost output = { λ path. Some (path_text path) };
+
+    fn fmt<W: fmt::Write>(&self, f: &mut fmt::Formatter<W>) -> fmt::Result {
+        let names = self.names();
+        if names.is_empty() {
+            return write!(f, "/");
+        }
+        for i in 0..names.len() {
+            let name = names[names.len() - 1 - i];
+            write!(f, "/{name}")?;
+        }
+        Ok(())
     }
 }
 

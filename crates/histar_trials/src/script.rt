@@ -1,6 +1,6 @@
 //! Scripts, run over every store of labels and through devices that move one byte a call.
 use crate::devices::{ByteReader, ByteWriter};
-use histar_comparison::{compare, verdict_text};
+use histar_comparison::compare;
 use histar_flat::ProcName;
 use histar_label::{InternStore, LabelStore, PlainStore};
 use histar_script::Fault;
@@ -68,9 +68,8 @@ pub fn replies(alloc: Global, script: &[u8], options: Options) -> Result<Vec<u8>
 pub fn verdict(alloc: Global, script: &[u8], job: &ProcName) -> Result<Vec<u8>, Fault> {
     match compare(alloc, script, job) {
         Ok(verdict) => {
-            let mut line = verdict_text(alloc, verdict)?;
-            line.push(b'\n')?;
-            Ok(line)
+            let line = format!(in alloc; "{verdict}\n")?;
+            Ok(line.into_bytes())
         }
         Err(fault) => with_fault(alloc, Err(fault), Vec::new(alloc)),
     }

@@ -1,4 +1,4 @@
-use Rattle.std.proofs.Common.{◌≡◌, ◌≤◌, ◌∷◌, ℕ, List, IsTrue, length, take, ap, subst, sym, ◌∙◌, arith}
+use Rattle.std.proofs.Common.{◌≡◌, ◌≤◌, ℕ, List, IsTrue, length, take, ap, subst, sym, ◌∙◌, arith}
 use Rattle.std.specs.List.{list_all}
 use Rattle.histar_flat.proofs.NamedPaths.{pass_both}
 use Rattle.histar_flat.proofs.PaddingLemmas.{padded_front, take_front}
