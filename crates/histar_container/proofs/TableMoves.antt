@@ -6,6 +6,7 @@ use Rattle.std.proofs.lemmas.Bool.{eq-eqb}
 use Rattle.std.proofs.lemmas.Bool.Decides.{eqb_tells}
 use Rattle.histar_object.specs.declared.objects.Object.{Object}
 use Rattle.histar_object.specs.Objects.{Objects, put, changed_at, with_new, linking, unlinking, links_in, kind_links, is_container}
+use Rattle.histar_object.proofs.Changes.{none_changed}
 use Rattle.histar_container.specs.Tree.{Address, Naming, wanted, with_number, without_below, set_at, cut, IsLaid, IsCut}
 use Rattle.histar_container.proofs.Links.{linked_links}
 use Rattle.histar_container.proofs.Addresses.{TestsEquality}
@@ -40,6 +41,10 @@ module _ {L : Type 0} (objects : Objects L) (n d : ℕ) (o : Object L) where
   -- and nothing else has changed
   pub new_other : (q : ℕ) → q ≢ n → q ≢ d → with_new objects d n o q ≡ objects q
   new_other q not_new not_d = put_other (changed_at objects d (linking n)) n o q not_new ∙ changed_other objects d (linking n) q not_d
+
+  -- where nothing was, nothing is but the new object
+  pub new_none : (q : ℕ) → objects q ≡ None → q ≢ n → with_new objects d n o q ≡ None
+  new_none q nothing not_new = put_other (changed_at objects d (linking n)) n o q not_new ∙ none_changed objects d (linking n) q nothing
 
 module _ {X : Type 0} (same_step : X → X → Bool) (tells : TestsEquality same_step) {L : Type 0} (objects : Objects L) (next : ℕ) (expected : Address X → Option (Object L)) (naming : Naming X) (laid : IsLaid same_step objects next expected naming) where
   -- the object at a number is the one that is expected at its address

@@ -1,13 +1,13 @@
 use Rattle.std.proofs.Common.{ap, ◌∙◌}
 use Rattle.histar_object.specs.Objects.{Objects, objects_of, put, changed_at, linking}
-use Rattle.histar_object.proofs.Changes.{changed_none}
+use Rattle.histar_object.proofs.Changes.{none_changed}
 use Rattle.histar_container.proofs.container.link_new.Goals as goal
 
 pub add_reserved-requires-clause-absent : goal.add_reserved-requires-clause-absent
 add_reserved-requires-clause-absent g c =
     (λ i. c.in_ok-link.ensures.ok i c.args.number)
     ∙ (λ i. changed_at (c.reserve.ensures.objects i) c.args.container (linking c.args.number) c.args.number)
-    ∙ changed_none (objects_of c.args.table.now) c.args.container (linking c.args.number) c.args.number c.requires
+    ∙ none_changed (objects_of c.args.table.now) c.args.container (linking c.args.number) c.args.number c.requires
 
 pub returns-clause-ok : goal.returns-clause-ok
 returns-clause-ok g c =

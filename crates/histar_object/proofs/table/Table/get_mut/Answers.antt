@@ -49,7 +49,7 @@ returns g c =
             let held = slab_len-with_value c.self.inside.objects slot w (c.self.invariant.stands c.args.id slot here) in
             on_some c.get_mut.result (rw (← c.self.view_is) (record {
               objects = objects;
-              slots = refl;
+              slots = λ i q. slot_at slots q;
               room = ap (λ n. min (spare c.self.inside.slots) (c.self.inside.objects.capacity - n)) held;
             }))),
         c.self.view_is,
