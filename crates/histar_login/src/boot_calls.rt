@@ -14,9 +14,9 @@ use crate::gates::gate_labels;
 use crate::table::user_table;
 use histar_base::Bytes;
 use histar_calls::{Home, Place, Places, Stopped};
-use histar_layout::{label_of, owners_among, read_category, write_category};
 use histar_flat::{Session, User};
 use histar_label::{Category, Label, LabelStore, Level};
+use histar_layout::{label_of, owners_among, read_category, write_category};
 use histar_object::{Entry, ObjId};
 use histar_syscall::{Kernel, Refusal};
 use std::alloc::{AllocError, Global};
@@ -326,8 +326,8 @@ fn unlink_boot_thread<S: LabelStore + Drop>(
 
 /// Makes the raw calls of boot on the empty kernel: the boot thread makes two categories for nobody,
 /// for each user and for each group, the users' passwords and gates, the user table, `/`, and process
-/// 0, and takes itself away. It answers where `/` and process 0 are found. Where it stops, no call was
-/// denied: memory ran out.
+/// 0, and takes itself away. It returns where `/` and process 0 are found. Where it stops, each call that
+/// it made was granted.
 fn boot_on<S: LabelStore + Drop>(
     alloc: Global,
     kernel: &mut Kernel<S>,
@@ -350,8 +350,9 @@ fn boot_on<S: LabelStore + Drop>(
     Ok(Places { slash, home })
 }
 
-/// Boots a machine, and answers its kernel, and where `/` and process 0 are found. It stops only where
-/// memory ran out: no raw call of boot is denied. The first user writes `/`, so there is one.
+/// Boots a machine, and returns its kernel, and where `/` and process 0 are found. It stops where memory
+/// runs out; no clause says that it stops nowhere else, since the kernel is gone then. The first user
+/// writes `/`, so there is one.
 pub fn boot<S: LabelStore + Drop>(
     alloc: Global,
     store: S,
