@@ -20,7 +20,7 @@ pub push_below-entries-init : goal.push_below-entries-init
 push_below-entries-init g t c =
     let s = state c.args.kernel.now in (
       c.in-Some.directory,
-      read_as (bytes_in (s.objects c.args.listing)) c.bytes.result.now c.in_ok-read_dir.field-0 c.in-Some.directory c.bytes.ensures c.in-Some.is c.in_ok-read_dir.ensures,
+      read_as (bytes_in (s.objects c.args.listing)) c.bytes.result.now c.in_ok-directory.field-0 c.in-Some.directory c.bytes.ensures c.in-Some.is c.in_ok-directory.ensures,
       adds_none (below_at c.args.users.now s c.args.path.now) c.args.path.now (map.entries c.in-Some.directory) _ c.args.tree.now.items (c.deref-entry-items.ensures.value ∙ c.in_ok-entries.ensures),
     )
 
