@@ -8,9 +8,9 @@ ghost use Rattle.histar_syscall.specs.KernelModel.{state};
 ghost use Rattle.histar_tree.specs.TreeEntries.{file_bytes_at};
 
 use histar_calls::{Places, Stopped, append, create, list, mkdir, read, stat, write};
-use histar_layout::{UserTable, Target};
 use histar_flat::{ProcName, Reply, Session, UnixCall};
 use histar_label::LabelStore;
+use histar_layout::{Target, UserTable};
 use histar_login::{boot, login};
 use histar_moves::{rename, rmdir, rmtree, unlink};
 use histar_process::{Caller, exit, find_caller, kill, spawn, status, whoami};

@@ -7,9 +7,9 @@ ghost use Rattle.histar_tree.specs.TreeLines.{node_stat};
 ghost use Rattle.histar_tree.specs.Tree.{AddsBelow, AddsTree, FindsNode, FindsTree};
 
 use histar_calls::Places;
-use histar_layout::{Class, Target, UserTable, class_of, read_dir};
 use histar_flat::{Path, Stat};
 use histar_label::LabelStore;
+use histar_layout::{Class, Target, UserTable, class_of, read_dir};
 use histar_object::ObjId;
 use histar_syscall::Kernel;
 use std::alloc::{AllocError, AllocFailed, Global};

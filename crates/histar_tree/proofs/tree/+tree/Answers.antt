@@ -5,7 +5,7 @@ use Rattle.histar_flat.specs.Words.{Path}
 use Rattle.histar_object.specs.Objects.{bytes_in}
 use Rattle.histar_syscall.specs.KernelModel.{state}
 use Rattle.histar_tree.specs.Tree.{AddsTree}
-use Rattle.histar_tree.proofs.Adding.{below_at, adds_none, read_as, fails_below, no_entry_more, no_level_more, entry_more, entries_all, adds_directory}
+use Rattle.histar_tree.proofs.Adding.{below_at, adds_none, read_as, fails_below, no_entry_more, no_level_more, entry_more, entries_all, no_node, adds_directory}
 use Rattle.histar_tree.proofs.tree.+tree.Goals as goal
 
 -- the next of the items that are left
@@ -56,3 +56,7 @@ push_below-returns g t c =
 pub push_tree-returns-in-Directory : goal.push_tree-returns-in-Directory
 push_tree-returns-in-Directory g t c =
     adds_directory c.args.users.now (state c.args.kernel.now) c.args.path.now c.args.target c.in-Directory.field-0 c.in-Directory.listing c.in-Directory.is c.in_ok-node.node c.in_ok-node.ensures c.args.tree.now.items _ _ _ c.in_ok-push.ensures.items c.push_below.ensures
+
+pub push_tree-returns-in_err-node : goal.push_tree-returns-in_err-node
+push_tree-returns-in_err-node g t c =
+    no_node c.args.users.now (state c.args.kernel.now) c.args.path.now c.args.target c.args.tree.now.items c.args.tree.now.items c.in_err-node.field-0.0 c.from_residual.result c.from_residual.ensures.1 c.in_err-node.ensures
