@@ -138,7 +138,7 @@ object_replies places (name ∷ parent) rest tells = place_replies places parent
     by place (Some target) = tells (record { container = place.container; object = object_of target; is_directory = is_directory target })
 
 -- what is denial_has_reply of a class is no refusal
-class_replies : (is_directory : Bool) (class : Option Class) → RepliesToRefusals (class_reply is_directory class)
+class_replies : (is_directory : Bool) (class : Option ShownClass) → RepliesToRefusals (class_reply is_directory class)
 class_replies is_directory None = tt
 class_replies is_directory (Some class) = (refl, refl)
 

@@ -94,7 +94,7 @@ fn show_tree<S: LabelStore + Drop>(
     let tree = machine.tree(alloc)?;
     let mut lines = Vec::new(alloc);
     'nodes: for node in &tree {
-        let bytes = machine.bytes_of(node.target);
+        let bytes = machine.bytes_of(node);
         let text = node_text(alloc, &node.path, node.stat(), bytes)?;
         lines.push((node.path, Bytes::from_vec(text)))?;
     }

@@ -55,7 +55,7 @@ module _ {A : Type 0} (test : A → Bool) where
       let place : cond (not (test x)) (1 + position_or_len test xs) 0 ≡ 1 + position_or_len test xs = ap (λ b. cond (not b) (1 + position_or_len test xs) 0) is in
       omega (arith, place, later refl)
 
-  place_found : (xs : List A) (i : ℕ) (x : A) → slice_get xs i ≡ Some x → test x ≡ true → position_or_len test xs < length xs
+  pub place_found : (xs : List A) (i : ℕ) (x : A) → slice_get xs i ≡ Some x → test x ≡ true → position_or_len test xs < length xs
   place_found [] i x at is = absurd (none-some x at)
   place_found (y ∷ xs) zero x at is = place_found_by y xs (test y) refl (λ fails. absurd (true≢false (sym is ∙ ap test (sym (same_Some y x at)) ∙ fails)))
   place_found (y ∷ xs) (suc i) x at is = place_found_by y xs (test y) refl (λ _. place_found xs i x at is)

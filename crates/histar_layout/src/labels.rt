@@ -3,9 +3,9 @@ ghost use Rattle.std.specs.Prelude.{◌≡◌, ℕ, IfOk, length};
 ghost use Rattle.histar_layout.specs.Categories.{IsUserOf, file_label, label_made, read_category, scratch_label, write_category};
 ghost use Rattle.histar_layout.specs.Labelling.{cleared_at, each_at, guarded_by, labelled, owner_label, secret_of, with_levels};
 
+use crate::categories::{read_category, write_category};
 use crate::jobs::{is_in_job, jobs_in};
 use crate::owners::owner_of_group;
-use crate::categories::{read_category, write_category};
 use crate::user_table::UserTable;
 use histar_flat::Mode;
 use histar_label::{Category, Label, Level};

@@ -2,8 +2,8 @@
 ghost use Rattle.std.specs.Prelude.{◌≡◌, ◌+◌, ◌&&◌, length};
 ghost use Rattle.histar_layout.specs.ShownClass.{class_at, class_shown, group_class_at, group_class_from, is_all_plain, is_plain_level, stat_of};
 
-use crate::owners::group_owner;
 use crate::categories::{read_category, write_category};
+use crate::owners::group_owner;
 use crate::user_table::UserTable;
 use histar_flat::{FileMode, Name, Stat};
 use histar_label::{Label, Level};

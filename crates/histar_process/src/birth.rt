@@ -11,8 +11,8 @@ ghost use Rattle.histar_process.specs.Births.{RunsBirth, make_categories, make_c
 use crate::find::write_segment;
 use crate::kin::joined;
 use histar_calls::{Ending, Home};
-use histar_layout::{cleared_at, guarded_by, owner_label, add_child, first_status};
 use histar_label::{Category, LabelStore};
+use histar_layout::{add_child, cleared_at, first_status, guarded_by, owner_label};
 use histar_object::ObjId;
 use histar_syscall::Kernel;
 use std::alloc::Global;

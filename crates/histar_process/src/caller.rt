@@ -7,9 +7,9 @@ ghost use Rattle.histar_layout.specs.Jobs.{is_three};
 
 use crate::find::home_of;
 use histar_calls::Home;
-use histar_layout::{is_three, find_child, read_status};
 use histar_flat::ProcName;
 use histar_label::{Category, Label, LabelStore, Level};
+use histar_layout::{find_child, is_three, read_status};
 use histar_object::ObjId;
 use histar_syscall::Kernel;
 

@@ -4,9 +4,9 @@ ghost use Rattle.histar_flat.specs.Classes.{nobody};
 ghost use Rattle.histar_layout.specs.Categories.{read_category, write_category};
 ghost use Rattle.histar_process.specs.Kin.{categories_of, owned_by, user_name};
 
-use histar_layout::{UserTable, owners_of, read_category, write_category};
 use histar_flat::{Name, read_name};
 use histar_label::Category;
+use histar_layout::{UserTable, owners_of, read_category, write_category};
 use std::alloc::{AllocError, Global};
 
 /// The categories that a process owns as the user of this number, if it is free of jobs or not.

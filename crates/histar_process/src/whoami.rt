@@ -5,9 +5,9 @@ ghost use Rattle.histar_process.specs.Whoami.{whoami_program};
 
 use crate::kin::user_name;
 use histar_calls::{Ending, Stopped, settle};
-use histar_layout::{UserTable, is_in_job, user_of};
 use histar_flat::Reply;
 use histar_label::LabelStore;
+use histar_layout::{UserTable, is_in_job, user_of};
 use histar_object::ObjId;
 use histar_syscall::Kernel;
 

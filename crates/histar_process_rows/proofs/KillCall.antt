@@ -37,7 +37,7 @@ use Rattle.histar_calls.specs.Programs.{Program, Runs}
 use Rattle.histar_calls.specs.Programs.Program.{Answers}
 use Rattle.histar_calls.specs.Parts.{ask, given}
 use Rattle.histar_process.specs.KillCall.{kill_program}
-use Rattle.histar_process.specs.Parts.{find_home, home_address as child_home, must_be_there, read_status}
+use Rattle.histar_process.specs.Parts.{find_home, home_of as child_home, must_be_there, read_status}
 use Rattle.histar_login.specs.Start.{places_of}
 use Rattle.histar_refinement.specs.Sessions.{IsSession}
 use Rattle.histar_refinement.specs.Addresses.{same_step, home_address, home_number}

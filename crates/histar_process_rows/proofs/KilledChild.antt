@@ -15,7 +15,7 @@ use Rattle.histar_label.specs.Levels.{Levels}
 use Rattle.histar_layout.specs.declared.status.Child.{Child as Listed}
 use Rattle.histar_layout.specs.Status.{status_bytes, without_child}
 use Rattle.histar_object.specs.declared.objects.Kind.TheVariants.{Segment, Container, Thread}
-use Rattle.histar_object.specs.Objects.{AddressNumbers as Links, unlinking}
+use Rattle.histar_object.specs.Objects.{Numbers as Links, unlinking}
 use Rattle.histar_object.specs.State.{State}
 use Rattle.histar_container.specs.ObjectsModel.{CutsOff}
 use Rattle.histar_container.specs.Tree.{Address, Naming, without_below, under, is_under, objects_at}

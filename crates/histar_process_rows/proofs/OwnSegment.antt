@@ -15,7 +15,7 @@ use Rattle.histar_label.specs.Levels.{Levels, is_below, is_below_raised}
 use Rattle.histar_layout.specs.declared.status.Child.{Child as Listed}
 use Rattle.histar_layout.specs.Status.{ProcessStatus, life_bytes, child_bytes, status_bytes}
 use Rattle.histar_object.specs.declared.objects.Kind.TheVariants.{Segment, Container, Thread}
-use Rattle.histar_object.specs.Objects.{AddressNumbers as Links, is_container, is_thread}
+use Rattle.histar_object.specs.Objects.{Numbers as Links, is_container, is_thread}
 use Rattle.histar_object.specs.State.{State}
 use Rattle.histar_rules.specs.declared.raw.Denied.TheVariants.{Modify, TooBig}
 use Rattle.histar_rules.specs.declared.raw.RawCall.TheVariants.{Write, Unlink}

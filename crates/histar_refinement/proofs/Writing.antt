@@ -16,7 +16,7 @@ use Rattle.histar_container.proofs.Trees.{kind_held_links}
 use Rattle.histar_login.specs.Boot.{boot_thread_number}
 use Rattle.histar_flat.specs.Sessions.{Session}
 use Rattle.histar_flat.specs.Classes.{Class}
-use Rattle.histar_flat.specs.FlatState.{Node, Flat, is_some_and, is_dir, is_dir_at, class_of, with_node, with_segment_bytes as with_file_bytes}
+use Rattle.histar_flat.specs.FlatState.{Node, Flat, is_some_and, is_dir, is_dir_at, class_of, with_node, with_bytes as with_file_bytes}
 use Rattle.histar_flat.specs.FlatState.Content.{File}
 use Rattle.histar_refinement.specs.Addresses.{Step, same_step, address_of}
 use Rattle.histar_refinement.specs.Directories.{target_for, directory_of}

@@ -3,6 +3,8 @@
 #![tactic(auto)]
 
 #[cfg(test)]
+mod classes;
+#[cfg(test)]
 mod processes;
 #[cfg(test)]
 mod raw_confined;

@@ -2,9 +2,9 @@
 ghost use Rattle.std.specs.Prelude.{IfOk};
 ghost use Rattle.histar_layout.specs.UserTable.{HaveOwnNames};
 
-use histar_layout::{UserTable, Target};
 use histar_flat::{Name, Password, Path, ProcName, Session, User, read_password, read_user_name};
 use histar_label::PlainStore;
+use histar_layout::{Target, UserTable};
 use histar_login::boot;
 use histar_process::{find_caller, spawn};
 use histar_tree::{procs_of, resolve};
@@ -12,7 +12,7 @@ use std::alloc::Global;
 use std::test::Fail;
 
 /// A session with one user, `root`.
-fn session(alloc: Global) -> Result<Session, Fail>
+pub fn session(alloc: Global) -> Result<Session, Fail>
     ensures { IfOk result (λ session. HaveOwnNames session.users) }
 {
     let mut session = Session::new(alloc);

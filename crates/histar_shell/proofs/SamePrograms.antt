@@ -51,7 +51,7 @@ mkdir_by places path label_made = do
   write_entries room.place (map.insert room.entries room.name (Directory container listing))
   Answers replies.Done
 
-abbrev stat_by : Places → Path → (Levels → Option Class) → Program
+abbrev stat_by : Places → Path → (Levels → Option ShownClass) → Program
 stat_by places path class_of = do
   object ← find_object places path
   label ← ask (LabelOf object.container object.object)

@@ -72,7 +72,7 @@ fn write_nodes<S: LabelStore + Drop, W: Sink>(
     ensures count { CountsFailure (W.failures writer.old) (W.failures writer.new) (is_write_failed result) }
 {
     'lines: for node in nodes {
-        let bytes = machine.bytes_of(node.target);
+        let bytes = machine.bytes_of(node);
         let line = tree_line(alloc, &node.path, node.stat(), bytes)?;
         write_bytes(writer, line.as_slice())?;
     }

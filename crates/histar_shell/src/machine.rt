@@ -5,12 +5,12 @@ ghost use Rattle.histar_shell.specs.Machine.{AnswersLine, IsStart, IsTraced, Mak
 ghost use Rattle.histar_shell.specs.Ending.{HasTree, IsTreeIn};
 ghost use Rattle.histar_shell.specs.Meaning.{FollowsMeaning, ShowsStart};
 ghost use Rattle.histar_syscall.specs.KernelModel.{state};
-ghost use Rattle.histar_tree.specs.TreeEntries.{file_bytes_at};
+ghost use Rattle.histar_tree.specs.TreeEntries.{node_bytes};
 
 use histar_calls::{Places, Stopped, append, create, list, mkdir, read, stat, write};
 use histar_flat::{ProcName, Reply, Session, UnixCall, each_call_is_right};
 use histar_label::LabelStore;
-use histar_layout::{Target, UserTable};
+use histar_layout::UserTable;
 use histar_login::{boot, login};
 use histar_moves::{rename, rmdir, rmtree, unlink};
 use histar_process::{Caller, exit, find_caller, kill, spawn, status, whoami};
@@ -141,11 +141,12 @@ impl<S: LabelStore + Drop> Machine<S> {
         }
     }
 
-    /// The bytes of a file of the tree, lent by the kernel's table. Of a directory there are none.
-    pub fn bytes_of(&self, target: Target) -> &[u8]
-        ensures { result.now ≡ file_bytes_at (state self.now.kernel) target }
+    /// Returns the bytes of a file that the tree lists, lent by the kernel's table; of a directory there
+    /// are none. What a tree doesn't list, as a password, is not lent.
+    pub fn bytes_of(&self, node: &TreeNode) -> &[u8]
+        ensures { result.now ≡ node_bytes (state self.now.kernel) node.now }
     {
-        bytes_of(&self.kernel, target)
+        bytes_of(&self.kernel, node)
     }
 
     /// The raw calls so far, moved out: a run of the kernel from its empty state to the machine's.

@@ -16,7 +16,7 @@ use Rattle.histar_tree.specs.declared.tree.TreeNode.{TreeNode}
 use Rattle.histar_tree.specs.declared.tree.TreeError.{TreeError}
 use Rattle.histar_tree.specs.declared.tree.TreeError.TheVariants.{NotATree, OutOfMemory}
 use Rattle.histar_calls.specs.declared.places.Places.{Places}
-use Rattle.histar_tree.specs.Tree.{IsTreeOf, HasNoTree, Listed, AreListed, IsNodeAt, IsTreeAt, levels_at, AddsTree, AddsBelow}
+use Rattle.histar_tree.specs.Tree.{IsTreeOf, HasNoTree, Listed, AreListed, IsNodeAt, IsTreeAt, levels_at, AddsTree, AddsBelow, FindsNode}
 
 -- of these entries of a directory some are left, and the trees of those before them were added
 pub record AddsFirst (is_tree : Listed) (d : Path) (entries left : List (Name × Target)) (old new : List TreeNode) : Type 0 where
@@ -135,6 +135,16 @@ module _ (session : Session) (s : State) where
   -- after the last entry all was added
   pub entries_all : (d : Path) (listing : ℕ) (left : List (Name × Target)) (old new : List TreeNode) → left ≡ [] → AddsEntries d listing left old new → AddsBelow session s d listing old new (Ok tt)
   entries_all d listing left old new none so_far = let all = adds_all (below_at d) d (map.entries so_far.0) left old new none so_far.2 in (all.0, (so_far.0, so_far.1, all.1), all.2)
+
+  -- where nothing stands at a path, no tree is added there
+  no_tree_at : (q : Path) (target : Target) (old new : List TreeNode) (error : TreeError) → FindsNode session s q target (Err error) → AddsTree session s q target old new (Err error)
+  no_tree_at q target old new NotATree none = λ tree is. none is.0 is.2
+  no_tree_at q target old new OutOfMemory none = tt
+
+  pub no_node : (q : Path) (target : Target) (old new : List TreeNode) (error : TreeError) (result : Result (Unit {0}) TreeError) → IsErrAnd result (λ e. e ≡ error) → FindsNode session s q target (Err error) → AddsTree session s q target old new result
+  no_node q target old new error result gave none =
+      let given = err_from_is_err_and result gave in
+      subst (AddsTree session s q target old new) (sym (given.1 ∙ ap Err given.2)) (no_tree_at q target old new error none)
 
   -- a directory and what was added below it
   directory_added : (q : Path) (container listing : ℕ) (node : TreeNode) (old mid new : List TreeNode) (result : Result (Unit {0}) TreeError) → IsNodeAt session s q (Directory container listing) node → mid ≡ old ++ node ∷ [] → AddsBelow session s q listing mid new result

@@ -24,9 +24,13 @@ abbrev pub file_bytes_at : State → Target → List ℕ
 file_bytes_at s (File file) = bytes_in (s.objects file)
 file_bytes_at s (Directory container listing) = []
 
+-- the bytes that a node of a tree leads to
+abbrev pub node_bytes : State → TreeNode → List ℕ
+node_bytes s node = file_bytes_at s node.target
+
 -- what stands there in a state
 abbrev pub tree_entry : State → TreeNode → TreeEntry
-tree_entry s node = record { path = node.path; class = node.class; is_directory = is_directory node.target; bytes = file_bytes_at s node.target }
+tree_entry s node = record { path = node.path; class = node.class; is_directory = is_directory node.target; bytes = node_bytes s node }
 
 -- what stands there in a flat state
 abbrev pub flat_entry : Categories → Path × Node → TreeEntry

@@ -2,14 +2,14 @@
 ghost use Rattle.std.specs.Prelude.{◌≡◌, ◌≤◌, length, IfOk};
 ghost use Rattle.histar_flat.specs.Words.{most_names};
 ghost use Rattle.histar_syscall.specs.KernelModel.{state};
-ghost use Rattle.histar_tree.specs.TreeEntries.{file_bytes_at};
+ghost use Rattle.histar_tree.specs.TreeEntries.{node_bytes};
 ghost use Rattle.histar_tree.specs.TreeLines.{node_stat};
 ghost use Rattle.histar_tree.specs.Tree.{AddsBelow, AddsTree, FindsNode, FindsTree};
 
 use histar_calls::Places;
-use histar_layout::{Class, Target, UserTable, class_of, read_dir};
 use histar_flat::{Path, Stat};
 use histar_label::LabelStore;
+use histar_layout::{Class, Target, UserTable, class_of, read_dir};
 use histar_object::ObjId;
 use histar_syscall::Kernel;
 use std::alloc::{AllocError, AllocFailed, Global};
@@ -23,8 +23,8 @@ pub struct TreeNode {
     pub path: Path,
     /// Whose it is and for whom, as its label has it.
     pub class: Class,
-    /// Where its entry leads.
-    pub target: Target,
+    /// Where its entry leads. A tree alone makes nodes, so that who has one has read it off a tree.
+    pub(crate) target: Target,
 }
 
 impl TreeNode {
@@ -85,11 +85,11 @@ pub fn tree_of<S: LabelStore + Drop>(
     }
 }
 
-/// The bytes of a file of the tree, lent by the kernel's table. Of a directory there are none.
-pub fn bytes_of<'a, S: LabelStore + Drop>(kernel: &'a Kernel<S>, target: Target) -> &'a [u8]
-    ensures { result.now ≡ file_bytes_at (state kernel.now) target }
+/// Returns the bytes of a file of the tree, lent by the kernel's table. Of a directory there are none.
+pub fn bytes_of<'a, S: LabelStore + Drop>(kernel: &'a Kernel<S>, node: &TreeNode) -> &'a [u8]
+    ensures { result.now ≡ node_bytes (state kernel.now) node.now }
 {
-    match &target {
+    match &node.target {
         Target::File(file) => kernel.bytes(*file),
         Target::Directory(_, _) => &[],
     }

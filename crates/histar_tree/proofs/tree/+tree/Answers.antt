@@ -5,7 +5,7 @@ use Rattle.histar_flat.specs.Words.{Path}
 use Rattle.histar_object.specs.Objects.{bytes_in}
 use Rattle.histar_syscall.specs.KernelModel.{state}
 use Rattle.histar_tree.specs.Tree.{AddsTree}
-use Rattle.histar_tree.proofs.Adding.{below_at, adds_none, read_as, fails_below, no_entry_more, no_level_more, entry_more, entries_all, adds_directory}
+use Rattle.histar_tree.proofs.Adding.{below_at, adds_none, read_as, fails_below, no_entry_more, no_level_more, entry_more, entries_all, no_node, adds_directory}
 use Rattle.histar_tree.proofs.tree.+tree.Goals as goal
 
 -- the next of the items that are left
@@ -20,7 +20,7 @@ pub push_below-entries-init : goal.push_below-entries-init
 push_below-entries-init g t c =
     let s = state c.args.kernel.now in (
       c.in-Some.directory,
-      read_as (bytes_in (s.objects c.args.listing)) c.bytes.result.now c.in_ok-read_dir.field-0 c.in-Some.directory c.bytes.ensures c.in-Some.is c.in_ok-read_dir.ensures,
+      read_as (bytes_in (s.objects c.args.listing)) c.bytes.result.now c.in_ok-directory.field-0 c.in-Some.directory c.bytes.ensures c.in-Some.is c.in_ok-directory.ensures,
       adds_none (below_at c.args.users.now s c.args.path.now) c.args.path.now (map.entries c.in-Some.directory) _ c.args.tree.now.items (c.deref-entry-items.ensures.value ∙ c.in_ok-entries.ensures),
     )
 
@@ -56,3 +56,7 @@ push_below-returns g t c =
 pub push_tree-returns-in-Directory : goal.push_tree-returns-in-Directory
 push_tree-returns-in-Directory g t c =
     adds_directory c.args.users.now (state c.args.kernel.now) c.args.path.now c.args.target c.in-Directory.field-0 c.in-Directory.listing c.in-Directory.is c.in_ok-node.node c.in_ok-node.ensures c.args.tree.now.items _ _ _ c.in_ok-push.ensures.items c.push_below.ensures
+
+pub push_tree-returns-in_err-node : goal.push_tree-returns-in_err-node
+push_tree-returns-in_err-node g t c =
+    no_node c.args.users.now (state c.args.kernel.now) c.args.path.now c.args.target c.args.tree.now.items c.args.tree.now.items c.in_err-node.field-0.0 c.from_residual.result c.from_residual.ensures.1 c.in_err-node.ensures
