@@ -40,11 +40,11 @@ fn slash_and_the_processes_are_found(rt: HostRuntime) -> Result<(), Fail> {
     let found = resolve::resolve(&kernel, &places, &Path::root());
     assert!(rt; found == Some(Target::Directory(place.container, place.listing)));
     let zero = ProcName::zero();
-    let first = procs_of(alloc, &kernel, &places)?.ok_or("processes")?;
+    let first = procs_of(alloc, &kernel, &places, &users)?.ok_or("processes")?;
     assert_eq!(rt; first.len(), 1);
     let caller = find_caller(&kernel, places.home, &zero).ok_or("process 0")?;
     spawn::spawn(alloc, &mut kernel, &users, &zero, &caller)?;
-    let both = procs_of(alloc, &kernel, &places)?.ok_or("processes")?;
+    let both = procs_of(alloc, &kernel, &places, &users)?.ok_or("processes")?;
     assert_eq!(rt; both.len(), 2);
     assert!(rt; both[0].name == zero);
     assert!(rt; both[1].name == zero.child(1));
