@@ -15,6 +15,7 @@ use histar_syscall::Kernel;
 use std::alloc::{AllocError, Global};
 
 /// A process by its name, and where it is found.
+#[derive(Clone, Copy)]
 struct NamedHome {
     name: ProcName,
     home: Home,
