@@ -26,7 +26,7 @@ pub default_kept : (L : Levels) (es : List (ℕ × Level)) → default_of (with_
 default_kept L [] = refl
 default_kept L (e ∷ es) = default_kept (with_level L e.0 e.1) es ∙ default_of-with_level L e.0 e.1
 
-default_guarded : (S W : List ℕ) → default_of (guarded_by S W) ≡ L1
+pub default_guarded : (S W : List ℕ) → default_of (guarded_by S W) ≡ L1
 default_guarded S W = default_kept (constant L1) (each_at L3 S ++ each_at L0 W) ∙ default_of-constant L1
 
 -- no level of a category passes both tests, and the default passes none

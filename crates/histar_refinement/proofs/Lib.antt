@@ -50,7 +50,9 @@ pub mod ClassFound
 pub mod LeftObjects
 pub mod LoginChecks
 pub mod CallLabels
+pub mod PickedCategories
 pub mod JobLabels
+pub mod OwnLabels
 pub mod Counting
 pub mod Birth
 pub mod Spawning

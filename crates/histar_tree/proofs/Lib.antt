@@ -6,4 +6,5 @@ pub mod OneTarget
 pub mod Resolving
 pub mod PathsLaid
 pub mod AddingProcesses
+pub mod HeldJobs
 pub mod ProcessesLaid
