@@ -65,23 +65,24 @@ is_secret true false apart = refl
 is_secret false true apart = refl
 is_secret false false apart = refl
 
--- The label of the container of a process tells the jobs that the process is in.
-pub chain_is : (category : Categories) → AreDifferent category → (me : ProcName) (p : Process) → AreInOrder category p.chain → jobs_in (guard_label category (process_guard me p)) ≡ map (λ job. category (OfJob job)) p.chain
-chain_is category different me p in_order =
-    one_rising 0 0 (jobs_in outer) (map (λ job. category (OfJob job)) p.chain) (picked_rising (λ (e : ℕ × Level). is_three e.1) outer) in_order (λ c.
-    picked_is (λ (e : ℕ × Level). is_three e.1) outer (λ d. ap is_three (default_guarded jobs own)) c
-    ∙ ap is_three (at_guarded jobs own c) ∙ is_secret (is_in jobs c) (is_in own c) (not_written c (eqb_tells c (category (WritesProcess me))))
-    ∙ ap (λ (cs : List ℕ). is_in cs c) (twice category different p.chain))
-  where
-    abbrev jobs : List ℕ
-    jobs = map category (map OfJob p.chain)
+module _ (category : Categories) (different : AreDifferent category) (me : ProcName) (p : Process) where
+  abbrev jobs : List ℕ
+  jobs = map category (map OfJob p.chain)
 
-    abbrev own : List ℕ
-    own = category (WritesProcess me) ∷ []
+  abbrev own : List ℕ
+  own = category (WritesProcess me) ∷ []
 
-    abbrev outer : Levels
-    outer = guard_label category (process_guard me p)
+  abbrev outer : Levels
+  outer = guard_label category (process_guard me p)
 
-    not_written : (c : ℕ) → (((c == category (WritesProcess me)) ≡ true) × (c ≡ category (WritesProcess me))) ⊎ (((c == category (WritesProcess me)) ≡ false) × (c ≢ category (WritesProcess me))) → is_in jobs c ≡ true → is_in own c ≡ false
-    not_written c (inl is) e = absurd (true≢false (sym e ∙ ap (is_in jobs) is.1 ∙ not_own category different me p.chain))
-    not_written c (inr is) e = ap (λ b. b || false) is.0
+  -- the category by which a process writes is no job's
+  not_written : (c : ℕ) → (((c == category (WritesProcess me)) ≡ true) × (c ≡ category (WritesProcess me))) ⊎ (((c == category (WritesProcess me)) ≡ false) × (c ≢ category (WritesProcess me))) → is_in jobs c ≡ true → is_in own c ≡ false
+  not_written c (inl is) e = absurd (true≢false (sym e ∙ ap (is_in jobs) is.1 ∙ not_own category different me p.chain))
+  not_written c (inr is) e = ap (λ b. b || false) is.0
+
+  -- The label of the container of a process tells the jobs that the process is in.
+  pub chain_is : AreInOrder category p.chain → jobs_in (guard_label category (process_guard me p)) ≡ map (λ job. category (OfJob job)) p.chain
+  chain_is in_order = one_rising 0 0 (jobs_in outer) (map (λ job. category (OfJob job)) p.chain) (picked_rising (λ (e : ℕ × Level). is_three e.1) outer) in_order (λ c.
+      picked_is (λ (e : ℕ × Level). is_three e.1) outer (λ d. ap is_three (default_guarded jobs own)) c
+      ∙ ap is_three (at_guarded jobs own c) ∙ is_secret (is_in jobs c) (is_in own c) (not_written c (eqb_tells c (category (WritesProcess me))))
+      ∙ ap (λ (cs : List ℕ). is_in cs c) (twice category different p.chain))

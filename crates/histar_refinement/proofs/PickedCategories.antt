@@ -18,7 +18,7 @@ use Rattle.histar_refinement.proofs.Members.{is_in, same_truth, equal_itself}
 module _ (test : ℕ × Level → Bool) where
   -- the categories of those that pass
   abbrev picked : List (ℕ × Level) → List ℕ
-  picked es = map (λ e. e.0) (filter test es)
+  picked es = map (λ (e : ℕ × Level). e.0) (filter test es)
 
   -- the category is listed with a level that passes
   abbrev Passes : List (ℕ × Level) → ℕ → Type 0

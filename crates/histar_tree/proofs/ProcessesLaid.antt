@@ -8,7 +8,7 @@ use Rattle.histar_flat.specs.Sessions.{Session}
 use Rattle.histar_flat.specs.Classes.{Process}
 use Rattle.histar_flat.specs.FlatState.{Flat}
 use Rattle.histar_label.specs.Levels.{Levels}
-use Rattle.histar_object.specs.State.{State, Found}
+use Rattle.histar_object.specs.State.{State}
 use Rattle.histar_layout.specs.Reading.{◌>>=◌}
 use Rattle.histar_layout.specs.Status.{ProcessStatus, child_at}
 use Rattle.histar_layout.specs.declared.status.Child.{Child as Listed}
@@ -56,18 +56,19 @@ module _ (session : Session) (s : State) (f : Flat) (l : Laid session s f) where
     lines : map process_line processes ≡ shown levels me
 
   module _ (me : ProcName) (p : Process) (here : f.processes me ≡ Some p) where
-    -- a process, as it is shown
+    -- a process of these jobs and that life, to which so many children were born
+    abbrev shown_as : List ℕ → Life → ℕ → ProcessNode
+    shown_as chain life born = record { name = me; home = found me; chain = chain; life = life; born = born }
+
+    -- the process, as it is shown
     abbrev node : ProcessNode
-    node = record { name = me; home = found me; chain = by_category l.category p.chain; life = flat_life l.category p p.exited; born = p.born }
+    node = shown_as (by_category l.category p.chain) (flat_life l.category p p.exited) p.born
 
     -- its container is there
     home_label : container_label (s.objects (found me).container) ≡ Some (guard_label l.category (process_guard me p))
     home_label =
         let numbered = numbered_home session s f l me ∙ ap is_some here in
         ap container_label (home_found session s f l me p here (found me).container (is_or_zero _ numbered)).1
-
-    abbrev thread : Levels
-    thread = rights_label l.category (thread_rights session me p)
 
     module _ (runs : p.exited ≡ None) where
       -- where it runs, its thread is there
@@ -98,9 +99,6 @@ module _ (session : Session) (s : State) (f : Flat) (l : Laid session s f) where
         ∙ ap (λ (x : Option Levels). x >>= λ outer. life_in session s (found me) p.exited >>= λ life. Some (shown_as (jobs_in outer) life p.born)) home_label
         ∙ ap (λ (x : Option Life). x >>= λ life. Some (shown_as (jobs_in (guard_label l.category (process_guard me p))) life p.born)) life_is
         ∙ ap (λ (chain : List ℕ). Some (shown_as chain (flat_life l.category p p.exited) p.born)) (chain_is l.category l.different me p (l.processes me p here).chain)
-      where
-        abbrev shown_as : List ℕ → Life → ℕ → ProcessNode
-        shown_as chain life born = record { name = me; home = found me; chain = chain; life = life; born = born }
 
     module _ (levels : ℕ) where
       -- what is shown of a child and below it
