@@ -1,8 +1,3 @@
-pub mod LabellingLemmas
-pub mod Scanning
-pub mod OneUser
-pub mod OwnersOf
-pub mod UserOf
 pub mod Running
 pub mod Directories
 pub mod Finding
@@ -10,5 +5,3 @@ pub mod Making
 pub mod DenialReplies
 pub mod RepliesOfPrograms
 pub mod MakingDirectories
-pub mod ClassSteps
-pub mod Lookups

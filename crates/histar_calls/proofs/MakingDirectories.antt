@@ -14,7 +14,7 @@ use Rattle.histar_calls.specs.declared.ending.Ending.{Ending}
 use Rattle.histar_calls.specs.declared.ending.Stopped.{Stopped}
 use Rattle.histar_calls.specs.declared.find.Room.{Room}
 use Rattle.histar_calls.specs.declared.places.Places.{Places}
-use Rattle.histar_calls.specs.Categories.{label_made}
+use Rattle.histar_layout.specs.Categories.{label_made}
 use Rattle.histar_calls.specs.Programs.{Program, Part, Runs, RunsPart}
 use Rattle.histar_calls.specs.Programs.Program.{Answers}
 use Rattle.histar_calls.specs.Parts.{ask, find_room, write_entries}

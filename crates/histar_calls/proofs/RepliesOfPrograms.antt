@@ -22,7 +22,7 @@ use Rattle.histar_calls.specs.declared.directory.Directory.{Directory}
 use Rattle.histar_calls.specs.declared.find.FoundFile.{FoundFile}
 use Rattle.histar_calls.specs.declared.find.Room.{Room}
 use Rattle.histar_calls.specs.declared.stat.FoundObject.{FoundObject}
-use Rattle.histar_calls.specs.declared.class.Class.{Class}
+use Rattle.histar_layout.specs.declared.shown.ShownClass.{ShownClass}
 use Rattle.histar_calls.specs.Refusals.{errno_of, write_errno_of, errno_for}
 use Rattle.histar_calls.specs.Programs.{AnswerOf, Program}
 use Rattle.histar_calls.specs.Parts.{refused_with, ask, if_there, read_directory, directory_at, file_at, entry_at, room_at, target_named, given, look_in, find_place, walk_to, find_file, find_room}
@@ -32,7 +32,7 @@ use Rattle.histar_calls.specs.Create.{create_program}
 use Rattle.histar_calls.specs.Append.{append_program}
 use Rattle.histar_calls.specs.Mkdir.{mkdir_program}
 use Rattle.histar_calls.specs.ListCall.{list_program}
-use Rattle.histar_calls.specs.ClassOf.{class_shown}
+use Rattle.histar_layout.specs.ShownClass.{class_shown}
 use Rattle.histar_calls.specs.StatCall.{find_object, class_reply, stat_program}
 use Rattle.histar_calls.specs.Laws.{RepliesToDenial, RepliesToRefusals, CallsReplyToRefusals}
 

@@ -8,7 +8,7 @@ use Rattle.histar_flat.specs.declared.replies.Reply.TheVariants.{Done}
 use Rattle.histar_rules.specs.declared.raw.RawCall.TheVariants.{OwnLabel, MakeSegment}
 use Rattle.histar_layout.specs.declared.entry.Target.TheVariants.{File}
 use Rattle.histar_calls.specs.declared.places.Places.{Places}
-use Rattle.histar_calls.specs.Categories.{label_made}
+use Rattle.histar_layout.specs.Categories.{label_made}
 use Rattle.histar_calls.specs.Programs.{Program}
 use Rattle.histar_calls.specs.Programs.Program.{Answers}
 use Rattle.histar_calls.specs.Parts.{◌>>=◌, ◌>>◌, ask, find_room, write_entries}

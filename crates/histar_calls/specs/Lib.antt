@@ -1,7 +1,3 @@
-pub mod Labelling
-pub mod Jobs
-pub mod Categories
-pub mod UserTable
 pub mod Refusals
 pub mod Replies
 pub mod Programs
@@ -9,7 +5,6 @@ pub mod Parts
 pub mod Read
 pub mod Write
 pub mod Create
-pub mod ClassOf
 pub mod StatCall
 pub mod Laws
 pub mod Append

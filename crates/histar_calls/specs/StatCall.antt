@@ -7,9 +7,9 @@ use Rattle.histar_rules.specs.Sound.{root_number}
 use Rattle.histar_rules.specs.declared.raw.RawCall.TheVariants.{LabelOf}
 use Rattle.histar_layout.specs.Listing.{is_directory, object_of}
 use Rattle.histar_calls.specs.declared.places.Places.{Places}
-use Rattle.histar_calls.specs.declared.class.Class.{Class}
+use Rattle.histar_layout.specs.declared.shown.ShownClass.{ShownClass}
 use Rattle.histar_calls.specs.declared.stat.FoundObject.{FoundObject}
-use Rattle.histar_calls.specs.ClassOf.{class_shown, stat_of}
+use Rattle.histar_layout.specs.ShownClass.{class_shown, stat_of}
 use Rattle.histar_calls.specs.Programs.{Program, Part}
 use Rattle.histar_calls.specs.Programs.Program.{Answers, Stops}
 use Rattle.histar_calls.specs.Parts.{◌>>=◌, ask, given, entry_at, find_place, look_in}
@@ -25,11 +25,11 @@ find_object places (name ∷ parent) rest = do
   rest (record { container = place.container; object = object_of target; is_directory = is_directory target })
 
 -- the reply to a `stat` of what is of a class; of a label that is of no class there is none
-abbrev pub class_reply : Bool → Option Class → Program
+abbrev pub class_reply : Bool → Option ShownClass → Program
 class_reply is_directory None = Stops
 class_reply is_directory (Some class) = Answers (Stats (stat_of class is_directory))
 
--- the object is found, and its label is asked for, which tells the class
+-- the object is found, and its label is asked for, which shows the class
 unfoldable pub stat_program : Session → Places → Path → Program
 stat_program session places path = do
   object ← find_object places path

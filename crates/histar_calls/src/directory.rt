@@ -9,7 +9,7 @@ use crate::ending::{Ending, written};
 use crate::places::{Place, Places};
 use histar_flat::{Errno, Name};
 use histar_label::LabelStore;
-use histar_layout::{Dir, Target, look_up, read_dir};
+use histar_layout::{Dir, Target, look_up};
 use histar_object::ObjId;
 use histar_syscall::Kernel;
 use std::alloc::Global;
@@ -53,7 +53,7 @@ impl Directory {
         ensures { RunsPart (read_directory place) kernel.old kernel.new thread result }
     {
         let bytes = kernel.read_copy(alloc, thread, place.container, place.listing)?;
-        let Some(entries) = read_dir(bytes) else {
+        let Some(entries) = Dir::from_bytes(bytes) else {
             return Err(Ending::Stopped);
         };
         Ok(Directory { place, entries })

@@ -1,8 +1,4 @@
 //! What boot left where.
-ghost use Rattle.std.specs.Prelude.{◌≡◌, ◌+◌, ◌*◌};
-ghost use Rattle.histar_calls.specs.Categories.{read_category, write_category};
-
-use histar_label::Category;
 use histar_object::ObjId;
 
 /// Where a directory is found.
@@ -31,18 +27,4 @@ pub struct Places {
     pub slash: Place,
     /// Where process 0 is found.
     pub home: Home,
-}
-
-/// The category by whose level the files of a user, or of a group, are kept from being read.
-pub fn read_category(user: u8) -> Category
-    ensures { result ≡ read_category user }
-{
-    Category::new(2 + 2 * u64::from(user))
-}
-
-/// The category by whose level the files of a user, or of a group, are kept from being written.
-pub fn write_category(user: u8) -> Category
-    ensures { result ≡ write_category user }
-{
-    Category::new(3 + 2 * u64::from(user))
 }

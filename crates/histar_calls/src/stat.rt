@@ -3,13 +3,12 @@ ghost use Rattle.histar_calls.specs.Programs.{Runs, RunsPart};
 ghost use Rattle.histar_calls.specs.Refusals.{settled};
 ghost use Rattle.histar_calls.specs.StatCall.{find_object, stat_program};
 
-use crate::class::class_of;
 use crate::directory::{entry_at, find_place, look_in};
 use crate::ending::{Ending, Stopped, settle};
 use crate::places::Places;
-use crate::user_table::UserTable;
 use histar_flat::{Name, Reply};
 use histar_label::LabelStore;
+use histar_layout::{UserTable, shown_class};
 use histar_object::ObjId;
 use histar_syscall::Kernel;
 
@@ -51,7 +50,7 @@ fn stat_object<S: LabelStore + Drop>(
 {
     let found = find_object(kernel, places, thread, path)?;
     let label = kernel.label_of(thread, found.container, found.object)?;
-    let Some(class) = class_of(&label, users) else {
+    let Some(class) = shown_class(&label, users) else {
         return Err(Ending::Stopped);
     };
     Ok(Reply::Stats(class.stat(found.is_directory)))

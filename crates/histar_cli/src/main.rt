@@ -7,7 +7,7 @@ mod task;
 
 use crate::status::status;
 use crate::task::{Task, read_words};
-use histar_comparison::{compare, verdict_text};
+use histar_comparison::compare;
 use histar_devices::read_input;
 use histar_flat::{ProcName, read_process};
 use histar_raw_session::run_raw_script;
@@ -22,10 +22,10 @@ use std::{env, fs, io};
 /// The status of a refused command line.
 const REFUSED: u8 = 2;
 
-/// Flushes the output, which a run doesn't do, and tells the fault of the run, or else a failed flush.
+/// Flushes the output, which a run doesn't do, and returns the fault of the run, or else that of a failed flush.
 ///
-/// It is flushed after a fault too, but not after a failed write: what that left in the buffer is let
-/// go, as is what a failed flush leaves, so that no write is tried again.
+/// It is flushed after a fault too, but not after a failed write: what that left in the buffer is dropped, as is what a
+/// failed flush leaves. The buffer itself tries a write again that a signal interrupted, as std's does, and no other.
 fn finish<W: Write + Drop>(
     ran: Result<(), Fault>,
     mut output: BufWriter<W, Global>,
@@ -75,16 +75,15 @@ fn check_file<R: Files + Print>(
     let mut reader = Counted::new(file);
     let input = read_input(alloc, &mut reader)?;
     let verdict = compare(alloc, input.as_slice(), job)?;
-    let mut line = verdict_text(alloc, verdict)?;
-    line.push(b'\n')?;
+    let line = format!(in alloc; "{verdict}\n")?;
     let mut output = io::writer(rt);
     output
-        .write_all(line.as_slice())
+        .write_all(line.as_bytes())
         .map_err(|_| Fault::WriteFailed)?;
     output.flush().map_err(|_| Fault::WriteFailed)
 }
 
-/// Tells a fault on standard error, and gives its status.
+/// Writes a fault to standard error, and returns its status.
 fn report<R: Eprint>(rt: &R, fault: &Fault) -> u8 {
     let _ = eprintln!(rt; "histar: {fault}");
     status(fault)
@@ -97,7 +96,7 @@ fn command_line<R: Env + AllocGlobal>(rt: &R) -> io::Result<Vec<String>> {
     Ok(words)
 }
 
-/// Does a task. Nothing is done, and no file is opened, where a job is no name of a process.
+/// Does a task. It does nothing, and opens no file, where a job is no name of a process.
 fn perform<R: Files + Print>(rt: &R, alloc: Global, task: Task<'_>) -> Option<Result<(), Fault>> {
     match task {
         Task::Run(path, options) => Some(run_file(rt, alloc, path, options)),
@@ -109,22 +108,27 @@ fn perform<R: Files + Print>(rt: &R, alloc: Global, task: Task<'_>) -> Option<Re
     }
 }
 
-/// Tells that a job is no name of a process, and gives the status.
+/// Reports that a job is no name of a process, and returns the status.
 fn refuse_job<R: Eprint>(rt: &R) -> u8 {
     let _ = eprintln!(rt; "histar: bad job");
     REFUSED
 }
 
-/// Does what the words ask for, and gives the status.
+/// Writes what `clap` answers in place of a task, and returns the status.
 ///
-/// What `clap` has to say goes to standard output where help was asked for, with status 0, and else
-/// to standard error, with the status of a refused command line.
+/// Help and the version go to standard output, with status 0, or with the fault of a failed write. A refusal goes to
+/// standard error, with the status of a refused command line.
+fn explain<R: Print + Eprint>(rt: &R, error: &clap::Error) -> u8 {
+    if error.print(rt).is_err() && !error.use_stderr() {
+        return report(rt, &Fault::WriteFailed);
+    }
+    error.exit_code() as u8
+}
+
+/// Does what the words ask for, and returns the status.
 fn obey<R: Files + Print + Eprint>(rt: &R, alloc: Global, words: &[&str]) -> u8 {
     match read_words(alloc, words) {
-        Err(error) => {
-            let _ = error.print(rt);
-            error.exit_code() as u8
-        }
+        Err(error) => explain(rt, &error),
         Ok(task) => match perform(rt, alloc, task) {
             None => refuse_job(rt),
             Some(Ok(())) => 0,
@@ -133,7 +137,7 @@ fn obey<R: Files + Print + Eprint>(rt: &R, alloc: Global, words: &[&str]) -> u8 
     }
 }
 
-/// Tells why the command line can't be read, and gives its status.
+/// Reports why the command line can't be read, and returns its status. A word that is not UTF-8 can't be read.
 fn refuse<R: Eprint>(rt: &R, error: &io::Error) -> u8 {
     let why = if error.kind() == io::ErrorKind::InvalidData {
         "an argument is not UTF-8"

@@ -16,7 +16,7 @@ use Rattle.histar_shell.specs.Machine.{MachineModel, IsStart}
 use Rattle.histar_shell.specs.Ending.{HasTree}
 use Rattle.histar_shell.specs.Meaning.{Shows, last_state}
 use Rattle.histar_shell.proofs.CallRows.{LinesAreRows, lines_are_rows}
-use Rattle.histar_shell.proofs.SessionMeanings.{all_replies, shallow, shows_end}
+use Rattle.histar_shell.proofs.SessionMeanings.{all_replies, shows_end}
 use Rattle.histar_shell.proofs.ShownTrees.{shown_tree, same_lines}
 use Rattle.histar_comparison.specs.Replies.{RepliesModel, no_replies, with_replies}
 use Rattle.histar_comparison.specs.Observation.{CanRun, KeepsReplies, ObservationModel, observation, line_text, ShowsTree}
@@ -37,7 +37,7 @@ module _ (job : ProcName) (script : Reading) (can : CanRun script) (start end : 
 
   -- so there is a tree
   pub has_tree : HasTree end
-  has_tree = shown_tree script.session end (last_state script) shows (shallow lines_are_rows script can.declared can.calls start starts)
+  has_tree = shown_tree script.session end (last_state script) shows
 
   -- the replies are those that the script means
   pub replies_are : old ≡ no_replies → new ≡ with_replies job no_replies (meaning script.session script.calls)
@@ -45,4 +45,4 @@ module _ (job : ProcName) (script : Reading) (can : CanRun script) (start end : 
 
   -- and the lines are those of the tree
   pub tree_is : (lines : List PathText) → ShowsTree end lines → lines ≡ tree_lines (last_state script)
-  tree_is lines told = told.2 ∙ map_twice line_text (line_at (state end.kernel)) told.0 ∙ ap (map line_text) (same_lines script.session end (last_state script) shows (shallow lines_are_rows script can.declared can.calls start starts) told.0 told.1) ∙ lines_of_flat (last_state script).files.entries
+  tree_is lines told = told.2 ∙ map_twice line_text (line_at (state end.kernel)) told.0 ∙ ap (map line_text) (same_lines script.session end (last_state script) shows told.0 told.1) ∙ lines_of_flat (last_state script).files.entries

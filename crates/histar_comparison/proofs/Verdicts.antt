@@ -6,7 +6,7 @@ use Rattle.std.proofs.Math.Bool.{or-false, or_assoc}
 use Rattle.histar_flat.specs.declared.calls.CallLine.{CallLine}
 use Rattle.histar_flat.specs.Words.{ProcName}
 use Rattle.histar_flat.specs.PathOrder.{same, under_process}
-use Rattle.histar_rows.specs.Rows.{IsScriptable}
+use Rattle.histar_flat.specs.Calls.{IsCall}
 use Rattle.histar_shell.specs.Meaning.{last_state}
 use Rattle.histar_shell.proofs.Users.{script_says}
 use Rattle.histar_flat.specs.Meaning.{Answered, meaning}
@@ -72,7 +72,7 @@ module _ (job : ProcName) where
 
   -- what is left of a script can be run
   pub rest_runs : (script : Reading) → CanRun script → CanRun (without_job job script)
-  rest_runs script can = record { declared = can.declared; calls = left_pass (λ (c : CallLine). IsScriptable c.call) (λ (c : CallLine). not (under_process job c.process)) script.calls can.calls }
+  rest_runs script can = record { declared = can.declared; calls = left_pass (λ (c : CallLine). IsCall c.call) (λ (c : CallLine). not (under_process job c.process)) script.calls can.calls }
 
   -- a `wrap` started the job where that was kept
   starts_as : (script : Reading) (b : Bool) → (observation job script).replies.is_started ≡ b → starts job (meaning script.session script.calls) ≡ b

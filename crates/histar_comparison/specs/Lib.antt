@@ -1,4 +1,3 @@
 pub mod Replies
 pub mod Observation
 pub mod Compared
-pub mod Texts

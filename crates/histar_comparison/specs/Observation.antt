@@ -7,7 +7,7 @@ use Rattle.histar_flat.specs.Words.{ProcName}
 use Rattle.histar_flat.specs.Meaning.{Answered, meaning}
 use Rattle.histar_script.specs.Script.{Reading, IsDeclared}
 use Rattle.histar_syscall.specs.KernelModel.{state}
-use Rattle.histar_rows.specs.Rows.{IsScriptable}
+use Rattle.histar_flat.specs.Calls.{IsCall}
 use Rattle.histar_tree.specs.declared.tree.TreeNode.{TreeNode}
 use Rattle.histar_tree.specs.TreeLines.{TreeLine, line_at}
 use Rattle.histar_isolation.specs.Trees.{PathText, tree_lines}
@@ -22,7 +22,7 @@ use Rattle.histar_comparison.specs.Replies.{RepliesModel, no_replies, with_reply
 -- users, groups and calls that a script can have
 pub record CanRun (script : Reading) : Type 0 where
   pub declared : IsDeclared script.session
-  pub calls : AllByRecursion (λ (c : CallLine). IsScriptable c.call) script.calls
+  pub calls : AllByRecursion (λ (c : CallLine). IsCall c.call) script.calls
 
 -- the machine answered this call line, and the reply was kept
 pub record KeepsReply (job : ProcName) (before after : MachineModel) (old new : RepliesModel) (call : CallLine) : Type 0 where

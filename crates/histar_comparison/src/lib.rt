@@ -4,8 +4,6 @@
 mod comparison;
 mod observation;
 mod replies;
-mod texts;
 
 pub use comparison::compare;
 pub use histar_isolation::Verdict;
-pub use texts::verdict_text;

@@ -95,7 +95,7 @@ fn show_tree<S: LabelStore + Drop>(
     let mut lines = Vec::new(alloc);
     'nodes: for node in &tree {
         let bytes = machine.bytes_of(node.target);
-        let text = node_text(alloc, &node.path, node.stat, bytes)?;
+        let text = node_text(alloc, &node.path, node.stat(), bytes)?;
         lines.push((node.path, Bytes::from_vec(text)))?;
     }
     Ok(lines)

@@ -284,7 +284,7 @@ owning_no_gate c (Thread clearance) e = refl
 owning_no_gate c (Gate clearance entry) e = e
 
 new_no_gates : (objects : Objects Levels) (d n : ℕ) (o : Object Levels) → kind_is_gate o.kind ≡ false → NoGates objects → NoGates (with_new objects d n o)
-new_no_gates objects d n o plain none = changed_no_gates (put objects n o) d (linking n) (λ p. linking_no_gate n p.kind) (put_no_gates objects n o plain none)
+new_no_gates objects d n o plain none = put_no_gates (changed_at objects d (linking n)) n o plain (changed_no_gates objects d (linking n) (λ p. linking_no_gate n p.kind) none)
 
 confined_no_gates : NoGates confined_state.objects
 unfolding first_state second_state confined_state

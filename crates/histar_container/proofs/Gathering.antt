@@ -12,7 +12,8 @@ use Rattle.std.proofs.lemmas.Bool.Decides.{eqb_tells}
 use Rattle.std.proofs.lemmas.List.Folds.{list_any-append}
 use Rattle.std.proofs.Math.Bool.{or-true, or-false}
 use Rattle.histar_object.specs.declared.objects.Object.{Object}
-use Rattle.histar_object.specs.Objects.{Objects, IsListOf, objects_of, links_in, is_present}
+use Rattle.histar_object.specs.Objects.{Objects, IsListOf, links_in, is_present}
+use Rattle.histar_object.proofs.Placing.{object_at}
 use Rattle.histar_container.specs.Tree.{Reached, here, there, IsTree}
 use Rattle.histar_container.proofs.Trees.{not_back, one_link}
 
@@ -162,7 +163,7 @@ module _ {L : Type 0} where
   unread_less (e ∷ es) read x = fewer (is_member nat_eq read e.0) (is_member nat_eq (read ++ x ∷ []) e.0) _ _ (member_first read (x ∷ []) e.0) (unread_less es read x)
 
   -- and where the one is there and was not read, fewer
-  pub unread_fewer : (es : List (ℕ × Object L)) (read : List ℕ) (x : ℕ) → is_present (objects_of es x) ≡ true → is_member nat_eq read x ≡ false → unread es (read ++ x ∷ []) < unread es read
+  pub unread_fewer : (es : List (ℕ × Object L)) (read : List ℕ) (x : ℕ) → is_present (object_at es x) ≡ true → is_member nat_eq read x ≡ false → unread es (read ++ x ∷ []) < unread es read
   unread_fewer [] read x t k = absurd (false≢true t)
   unread_fewer (e ∷ es) read x t k = by (is_at (nat_cmp x) e.0) refl t (λ u. unread_fewer es read x u k)
     where
@@ -175,6 +176,6 @@ module _ {L : Type 0} where
           let after : unread (e ∷ es) (read ++ x ∷ []) ≡ unread es (read ++ x ∷ []) = ap (λ b. if b then unread es (read ++ x ∷ []) else suc (unread es (read ++ x ∷ []))) is in
           omega arith
 
-      by : (b : Bool) → is_at (nat_cmp x) e.0 ≡ b → is_present (cond b (Some e.1) (objects_of es x)) ≡ true → (is_present (objects_of es x) ≡ true → unread es (read ++ x ∷ []) < unread es read) → unread (e ∷ es) (read ++ x ∷ []) < unread (e ∷ es) read
+      by : (b : Bool) → is_at (nat_cmp x) e.0 ≡ b → is_present (cond b (Some e.1) (object_at es x)) ≡ true → (is_present (object_at es x) ≡ true → unread es (read ++ x ∷ []) < unread es read) → unread (e ∷ es) (read ++ x ∷ []) < unread (e ∷ es) read
       by true i u less = at_x (eqb-true x e.0 (sym (unsigned_tied x e.0) ∙ i))
       by false i u less = strictly (is_member nat_eq read e.0) (is_member nat_eq (read ++ x ∷ []) e.0) _ _ (member_first read (x ∷ []) e.0) (less u)

@@ -12,7 +12,7 @@ use Rattle.histar_label.proofs.Stands.{label_at-stands, label_at-Keeps}
 use Rattle.histar_object.specs.declared.objects.Kind.{Kind}
 use Rattle.histar_object.specs.declared.objects.Kind.TheVariants.{Segment, Container, Thread, Gate}
 use Rattle.histar_object.specs.declared.objects.Object.{Object}
-use Rattle.histar_object.specs.Objects.{Objects, objects_of, put, changed_at, kind_linking, linking, with_new, kind_holding, holding, kind_bytes, or_no_bytes, bytes_in, no_objects, kind_is_segment, kind_is_container, is_container, is_thread}
+use Rattle.histar_object.specs.Objects.{TableModel, Objects, objects_of, put, changed_at, kind_linking, linking, with_new, kind_holding, holding, kind_bytes, or_no_bytes, bytes_in, no_objects, kind_is_segment, kind_is_container, is_container, is_thread}
 use Rattle.histar_object.proofs.Changes.{put_back, put_changed}
 use Rattle.histar_container.specs.Shown.{kind_by, object_by, shown, KindStands, Stands, AllStand, IsUnusedFrom, IsKept}
 use Rattle.histar_container.proofs.Shows.{shows}
@@ -27,7 +27,7 @@ module _ {Id : Type 0} where
   by_value labels objects q = option_map (object_by (label_at labels)) (objects q)
 
   -- what a table shows
-  pub shows_all : (labels : Id → Option Levels) (es : List (ℕ × Object Id)) → objects_of (shown labels es) ≡ by_value labels (objects_of es)
+  pub shows_all : (labels : Id → Option Levels) (es : TableModel Id) → objects_of (shown labels es) ≡ by_value labels (objects_of es)
   shows_all labels es i q = shows labels es q i
 
   module _ (old new : Id → Option Levels) (keeps : Keeps old new) where
@@ -187,7 +187,7 @@ module _ {Id : Type 0} where
   -- where a new object was linked or nothing was changed, the Ids still stand for labels
   pub linked_stand : {A E : Type 0} (labels : Id → Option Levels) (objects after : Objects Id) (d n : ℕ) (o : Object Id) (r : Result A E)
       → OnOk r (after ≡ with_new objects d n o) → OnErr r (after ≡ objects) → AllStand labels objects → Stands labels o → AllStand labels after
-  linked_stand labels objects after d n o (Ok x) ok err all s = subst (AllStand labels) (sym ok) (stand_linked labels (put objects n o) d n (stand_put labels objects n o all s))
+  linked_stand labels objects after d n o (Ok x) ok err all s = subst (AllStand labels) (sym ok) (stand_put labels (changed_at objects d (linking n)) n o (stand_linked labels objects d n all) s)
   linked_stand labels objects after d n o (Err e) ok err all s = subst (AllStand labels) (sym err) all
 
   -- where an object was put or nothing was changed, too
@@ -197,18 +197,18 @@ module _ {Id : Type 0} where
   placed_stand labels objects after n o (Err e) ok err all s = subst (AllStand labels) (sym err) all
 
   -- tables of the same objects show the same
-  pub shown_same : (labels : Id → Option Levels) (es fs : List (ℕ × Object Id)) → objects_of fs ≡ objects_of es → objects_of (shown labels fs) ≡ objects_of (shown labels es)
+  pub shown_same : (labels : Id → Option Levels) (es fs : TableModel Id) → objects_of fs ≡ objects_of es → objects_of (shown labels fs) ≡ objects_of (shown labels es)
   shown_same labels es fs e = shows_all labels fs ∙ ap (by_value labels) e ∙ sym (shows_all labels es)
 
   -- no objects show no objects
-  pub nothing_shown : (labels : Id → Option Levels) (es : List (ℕ × Object Id)) → objects_of es ≡ no_objects → objects_of (shown labels es) ≡ no_objects
+  pub nothing_shown : (labels : Id → Option Levels) (es : TableModel Id) → objects_of es ≡ no_objects → objects_of (shown labels es) ≡ no_objects
   nothing_shown labels es e = shows_all labels es ∙ ap (by_value labels) e
 
   none_some : (a : Option (Object Id)) (o : Object Id) → a ≡ None → a ≡ Some o → ⊥
   none_some a o e f = cc
 
   -- no objects have no Ids, and use no number
-  pub nothing_kept : (labels : Id → Option Levels) (es : List (ℕ × Object Id)) (next : ℕ) → 0 < next → objects_of es ≡ no_objects → IsKept labels es next
+  pub nothing_kept : (labels : Id → Option Levels) (es : TableModel Id) (next : ℕ) → 0 < next → objects_of es ≡ no_objects → IsKept labels es next
   nothing_kept labels es next positive e = record {
     stand = record { each = λ q o here. absurd (none_some (objects_of es q) o (ap (λ f. f q) e) here) };
     unused = record { none = λ q le. ap (λ f. f q) (nothing_shown labels es e) };
@@ -216,11 +216,11 @@ module _ {Id : Type 0} where
   }
 
   -- a table shows the same where its store has only taken more labels
-  pub shown_on : (old new : Id → Option Levels) (keeps : Keeps old new) (es : List (ℕ × Object Id)) → AllStand old (objects_of es) → objects_of (shown new es) ≡ objects_of (shown old es)
+  pub shown_on : (old new : Id → Option Levels) (keeps : Keeps old new) (es : TableModel Id) → AllStand old (objects_of es) → objects_of (shown new es) ≡ objects_of (shown old es)
   shown_on old new keeps es all = shows_all new es ∙ value_on old new keeps (objects_of es) all ∙ sym (shows_all old es)
 
   -- where a table shows nothing, nothing is
-  pub none_there : (labels : Id → Option Levels) (es : List (ℕ × Object Id)) (q : ℕ) → objects_of (shown labels es) q ≡ None → objects_of es q ≡ None
+  pub none_there : (labels : Id → Option Levels) (es : TableModel Id) (q : ℕ) → objects_of (shown labels es) q ≡ None → objects_of es q ≡ None
   none_there labels es q e = map_none (object_by (label_at labels)) (objects_of es q) (sym (shows labels es q) ∙ e)
 
   kind_of : (labels : Id → Option Levels) (k : Kind Id) → kind_is_container (kind_by (label_at labels) k) ≡ kind_is_container k
@@ -234,40 +234,40 @@ module _ {Id : Type 0} where
   container_by labels (Some o) = kind_of labels o.kind
 
   -- where a table shows a container, one is
-  pub container_there : (labels : Id → Option Levels) (es : List (ℕ × Object Id)) (q : ℕ) → is_container (objects_of (shown labels es) q) ≡ true → is_container (objects_of es q) ≡ true
+  pub container_there : (labels : Id → Option Levels) (es : TableModel Id) (q : ℕ) → is_container (objects_of (shown labels es) q) ≡ true → is_container (objects_of es q) ≡ true
   container_there labels es q e = sym (container_by labels (objects_of es q)) ∙ sym (ap is_container (shows labels es q)) ∙ e
 
   -- where a table shows a thread, something is
-  pub thread_there : (labels : Id → Option Levels) (es : List (ℕ × Object Id)) (q : ℕ) → is_thread (objects_of (shown labels es) q) ≡ true → None ≡ objects_of es q → ⊥
+  pub thread_there : (labels : Id → Option Levels) (es : TableModel Id) (q : ℕ) → is_thread (objects_of (shown labels es) q) ≡ true → None ≡ objects_of es q → ⊥
   thread_there labels es q e none = false≢true (ap is_thread (ap (option_map (object_by (label_at labels))) none ∙ sym (shows labels es q)) ∙ e)
 
   -- what the table shows once an object is put
-  pub shown_put : (labels : Id → Option Levels) (es fs : List (ℕ × Object Id)) (n : ℕ) (o : Object Id) → objects_of fs ≡ put (objects_of es) n o
+  pub shown_put : (labels : Id → Option Levels) (es fs : TableModel Id) (n : ℕ) (o : Object Id) → objects_of fs ≡ put (objects_of es) n o
       → objects_of (shown labels fs) ≡ put (objects_of (shown labels es)) n (object_by (label_at labels) o)
   shown_put labels es fs n o e = shows_all labels fs ∙ ap (by_value labels) e ∙ value_put labels (objects_of es) n o ∙ ap (λ f. put f n (object_by (label_at labels) o)) (sym (shows_all labels es))
 
   -- what it shows once a new object is linked
-  pub shown_new : (labels : Id → Option Levels) (es fs : List (ℕ × Object Id)) (d n : ℕ) (o : Object Id) → objects_of fs ≡ with_new (objects_of es) d n o
+  pub shown_new : (labels : Id → Option Levels) (es fs : TableModel Id) (d n : ℕ) (o : Object Id) → objects_of fs ≡ with_new (objects_of es) d n o
       → objects_of (shown labels fs) ≡ with_new (objects_of (shown labels es)) d n (object_by (label_at labels) o)
   shown_new labels es fs d n o e =
-      shows_all labels fs ∙ ap (by_value labels) e ∙ value_linked labels (put (objects_of es) n o) d n
-      ∙ ap (λ f. changed_at f d (linking n)) (value_put labels (objects_of es) n o ∙ ap (λ f. put f n (object_by (label_at labels) o)) (sym (shows_all labels es)))
+      shows_all labels fs ∙ ap (by_value labels) e ∙ value_put labels (changed_at (objects_of es) d (linking n)) n o
+      ∙ ap (λ f. put f n (object_by (label_at labels) o)) (value_linked labels (objects_of es) d n ∙ ap (λ f. changed_at f d (linking n)) (sym (shows_all labels es)))
 
   -- what it shows once an object was changed
-  pub shown_changed : (labels : Id → Option Levels) (es fs : List (ℕ × Object Id)) (n : ℕ) (f : Object Id → Object Id) (h : Object Levels → Object Levels) → ((o : Object Id) → object_by (label_at labels) (f o) ≡ h (object_by (label_at labels) o))
+  pub shown_changed : (labels : Id → Option Levels) (es fs : TableModel Id) (n : ℕ) (f : Object Id → Object Id) (h : Object Levels → Object Levels) → ((o : Object Id) → object_by (label_at labels) (f o) ≡ h (object_by (label_at labels) o))
       → objects_of fs ≡ changed_at (objects_of es) n f → objects_of (shown labels fs) ≡ changed_at (objects_of (shown labels es)) n h
   shown_changed labels es fs n f h same e =
       shows_all labels fs ∙ ap (by_value labels) e ∙ value_changed labels (objects_of es) n f h same ∙ ap (λ g. changed_at g n h) (sym (shows_all labels es))
 
   -- what it shows once a segment has other bytes
-  pub shown_held : (labels : Id → Option Levels) (es fs : List (ℕ × Object Id)) (q : ℕ) (bytes : List ℕ) → objects_of fs ≡ changed_at (objects_of es) q (holding bytes)
+  pub shown_held : (labels : Id → Option Levels) (es fs : TableModel Id) (q : ℕ) (bytes : List ℕ) → objects_of fs ≡ changed_at (objects_of es) q (holding bytes)
       → objects_of (shown labels fs) ≡ changed_at (objects_of (shown labels es)) q (holding bytes)
   shown_held labels es fs q bytes e = shows_all labels fs ∙ ap (by_value labels) e ∙ value_held labels (objects_of es) q bytes ∙ ap (λ f. changed_at f q (holding bytes)) (sym (shows_all labels es))
 
 module _ {L : Type 0} (objects : Objects L) (next : ℕ) (unused : IsUnusedFrom objects next) where
   -- the numbers from the next one on stay unused where a new object takes the next
   pub unused_new : (d : ℕ) (o : Object L) → IsUnusedFrom (with_new objects d next o) (next + 1)
-  unused_new d o = unused_changed (put objects next o) (next + 1) (unused_put objects next unused next (next + 1) o (omega arith) (omega arith)) d (linking next)
+  unused_new d o = unused_put (changed_at objects d (linking next)) next (unused_changed objects next unused d (linking next)) next (next + 1) o (omega arith) (omega arith)
 
   -- and where a thread that is there changes
   pub unused_own : (t : ℕ) (o : Object L) → is_thread (objects t) ≡ true → IsUnusedFrom (put objects t o) next
@@ -277,29 +277,29 @@ module _ {L : Type 0} (objects : Objects L) (next : ℕ) (unused : IsUnusedFrom 
   ]
 
 -- what a call that links a new object keeps, where it did
-pub kept_new : {Id : Type 0} (labels : Id → Option Levels) (objects : Objects Levels) (fs : List (ℕ × Object Id)) (next d : ℕ) (o : Object Levels)
+pub kept_new : {Id : Type 0} (labels : Id → Option Levels) (objects : Objects Levels) (fs : TableModel Id) (next d : ℕ) (o : Object Levels)
     → AllStand labels (objects_of fs) → IsUnusedFrom objects next → objects_of (shown labels fs) ≡ with_new objects d next o → IsKept labels fs (next + 1)
 kept_new labels objects fs next d o stand unused e = record { stand = stand; unused = subst (λ (f : Objects Levels). IsUnusedFrom f (next + 1)) (sym e) (unused_new objects next unused d o); positive = omega arith }
 
 -- what a call keeps that puts an object under the next number
-pub kept_next : {Id : Type 0} (labels : Id → Option Levels) (objects : Objects Levels) (fs : List (ℕ × Object Id)) (next : ℕ) (o : Object Levels)
+pub kept_next : {Id : Type 0} (labels : Id → Option Levels) (objects : Objects Levels) (fs : TableModel Id) (next : ℕ) (o : Object Levels)
     → AllStand labels (objects_of fs) → IsUnusedFrom objects next → objects_of (shown labels fs) ≡ put objects next o → IsKept labels fs (next + 1)
 kept_next labels objects fs next o stand unused e = record { stand = stand; unused = subst (λ (f : Objects Levels). IsUnusedFrom f (next + 1)) (sym e) (unused_put objects next unused next (next + 1) o (omega arith) (omega arith)); positive = omega arith }
 
 -- what a call that sets a thread's labels keeps, whether it did or not
-pub kept_own : {Id A E : Type 0} (labels : Id → Option Levels) (objects : Objects Levels) (fs : List (ℕ × Object Id)) (next t : ℕ) (o : Object Levels) (r : Result A E)
+pub kept_own : {Id A E : Type 0} (labels : Id → Option Levels) (objects : Objects Levels) (fs : TableModel Id) (next t : ℕ) (o : Object Levels) (r : Result A E)
     → AllStand labels (objects_of fs) → IsUnusedFrom objects next → 0 < next → is_thread (objects t) ≡ true → OnOk r (objects_of (shown labels fs) ≡ put objects t o) → OnErr r (objects_of (shown labels fs) ≡ objects) → IsKept labels fs next
 kept_own labels objects fs next t o (Ok x) stand unused positive thread ok err = record { stand = stand; unused = subst (λ (f : Objects Levels). IsUnusedFrom f next) (sym ok) (unused_own objects next unused t o thread); positive = positive }
 kept_own labels objects fs next t o (Err x) stand unused positive thread ok err = record { stand = stand; unused = subst (λ (f : Objects Levels). IsUnusedFrom f next) (sym err) unused; positive = positive }
 
 -- what a call that changes an object keeps, whether it did or not
-pub kept_changed : {Id A E : Type 0} (labels : Id → Option Levels) (objects : Objects Levels) (fs : List (ℕ × Object Id)) (next n : ℕ) (h : Object Levels → Object Levels) (r : Result A E)
+pub kept_changed : {Id A E : Type 0} (labels : Id → Option Levels) (objects : Objects Levels) (fs : TableModel Id) (next n : ℕ) (h : Object Levels → Object Levels) (r : Result A E)
     → AllStand labels (objects_of fs) → IsUnusedFrom objects next → 0 < next → OnOk r (objects_of (shown labels fs) ≡ changed_at objects n h) → OnErr r (objects_of (shown labels fs) ≡ objects) → IsKept labels fs next
 kept_changed labels objects fs next n h (Ok x) stand unused positive ok err = record { stand = stand; unused = subst (λ (f : Objects Levels). IsUnusedFrom f next) (sym ok) (unused_changed objects next unused n h); positive = positive }
 kept_changed labels objects fs next n h (Err x) stand unused positive ok err = record { stand = stand; unused = subst (λ (f : Objects Levels). IsUnusedFrom f next) (sym err) unused; positive = positive }
 
 -- what a call that splices a segment keeps, whether it did or not
-pub kept_spliced : {Id A E : Type 0} (labels : Id → Option Levels) (es fs : List (ℕ × Object Id)) (next q : ℕ) (bytes : List ℕ) (r : Result A E)
+pub kept_spliced : {Id A E : Type 0} (labels : Id → Option Levels) (es fs : TableModel Id) (next q : ℕ) (bytes : List ℕ) (r : Result A E)
     → OnOk r (objects_of fs ≡ changed_at (objects_of es) q (holding bytes)) → OnErr r (objects_of fs ≡ objects_of es) → IsKept labels es next → IsKept labels fs next
 kept_spliced labels es fs next q bytes (Ok x) ok err kept = record {
   stand = subst (AllStand labels) (sym ok) (stand_held labels (objects_of es) q bytes kept.stand);
@@ -339,7 +339,7 @@ spliced_there objects after q o old keep more new here is new_is e =
 pub left_alone : {L : Type 0} (objects after : Objects L) (q : ℕ) (o : Object L) (old : List ℕ) → Some o ≡ objects q → o.kind ≡ Segment old → after ≡ put objects q (record { label = o.label; kind = Segment old }) → after ≡ objects
 left_alone objects after q o old here is e = e ∙ ap (put objects q) (λ i. record { label = o.label; kind = sym is i }) ∙ put_back objects q o here
 
-module _ {Id : Type 0} (labels : Id → Option Levels) (es : List (ℕ × Object Id)) (q : ℕ) where
+module _ {Id : Type 0} (labels : Id → Option Levels) (es : TableModel Id) (q : ℕ) where
   kind_bytes_by : (k : Kind Id) → kind_bytes (kind_by (label_at labels) k) ≡ kind_bytes k
   kind_bytes_by (Segment bytes) = refl
   kind_bytes_by (Container links) = refl
@@ -351,7 +351,7 @@ module _ {Id : Type 0} (labels : Id → Option Levels) (es : List (ℕ × Object
   bytes_by (Some o) = ap or_no_bytes (kind_bytes_by o.kind)
 
   -- what the table shows once a segment was spliced
-  pub spliced_shown : (fs : List (ℕ × Object Id)) (keep : ℕ) (more : List ℕ) → objects_of fs ≡ changed_at (objects_of es) q (holding (take keep (bytes_in (objects_of es q)) ++ more))
+  pub spliced_shown : (fs : TableModel Id) (keep : ℕ) (more : List ℕ) → objects_of fs ≡ changed_at (objects_of es) q (holding (take keep (bytes_in (objects_of es q)) ++ more))
       → objects_of (shown labels fs) ≡ changed_at (objects_of (shown labels es)) q (holding (take keep (bytes_in (objects_of (shown labels es) q)) ++ more))
   spliced_shown fs keep more e =
       shown_held labels es fs q _ e ∙ ap (λ b. changed_at (objects_of (shown labels es)) q (holding (take keep b ++ more))) (sym (ap bytes_in (shows labels es q) ∙ bytes_by (objects_of es q)))

@@ -8,7 +8,7 @@ use Rattle.histar_label.specs.Store.{label_at}
 use Rattle.histar_object.specs.declared.objects.Kind.{Kind}
 use Rattle.histar_object.specs.declared.objects.Kind.TheVariants.{Segment, Container, Thread, Gate}
 use Rattle.histar_object.specs.declared.objects.Object.{Object}
-use Rattle.histar_object.specs.Objects.{Objects, objects_of, changed_at, kind_unlinking, unlinking, links_in, kind_links, is_present}
+use Rattle.histar_object.specs.Objects.{TableModel, Objects, objects_of, changed_at, kind_unlinking, unlinking, links_in, kind_links, is_present}
 use Rattle.histar_container.specs.Shown.{kind_by, object_by, shown, KindStands, Stands, AllStand, IsUnusedFrom, IsKept}
 use Rattle.histar_container.specs.ObjectsModel.{ObjectsModel, state_of, CutsOff}
 use Rattle.histar_container.specs.Tree.{Address, Naming, wanted, objects_at, IsLaid, Reached, here, there, AreTree, IsCut}
@@ -119,7 +119,7 @@ module _ {Id : Type 0} (labels : Id → Option Levels) where
       unlinked = ap (option_map (object_by (label_at labels))) is_cut.unlinked ∙ unlinked_by o (objects d);
     }
 
-  module _ (es : List (ℕ × Object Id)) where
+  module _ (es : TableModel Id) where
     -- what a table shows as a tree is one
     pub trees_there : AreTree (objects_of (shown labels es)) → AreTree (objects_of es)
     trees_there trees = trees_below (objects_of es) (subst (λ (x : Objects Levels). AreTree x) (shows_all labels es) trees)
@@ -128,7 +128,7 @@ module _ {Id : Type 0} (labels : Id → Option Levels) where
     pub linked_in_table : (d o : ℕ) → set.contains (links_in (objects_of (shown labels es) d)) o ≡ true → set.contains (links_in (objects_of es d)) o ≡ true
     linked_in_table d o k = sym (links_by (objects_of es d) o) ∙ sym (ap (λ (x : Objects Levels). set.contains (links_in (x d)) o) (shows_all labels es)) ∙ k
 
-    module _ (fs : List (ℕ × Object Id)) (d o : ℕ) where
+    module _ (fs : TableModel Id) (d o : ℕ) where
       -- a tree that is cut out of a table is shown cut
       pub shown_cut : IsCut (objects_of es) d o (objects_of fs) → IsCut (objects_of (shown labels es)) d o (objects_of (shown labels fs))
       shown_cut is_cut =

@@ -11,7 +11,7 @@ use mathlib.Core.Bool.{true≢false}
 use Rattle.std.proofs.lemmas.Bool.Decides.{eqb_tells}
 use Rattle.std.proofs.lemmas.Bool.{false_from_ne_true}
 use Rattle.histar_object.specs.declared.objects.Object.{Object}
-use Rattle.histar_object.specs.Objects.{Objects, AppendsAll, objects_of, without, changed_at, unlinking, links_in, is_present}
+use Rattle.histar_object.specs.Objects.{TableModel, Objects, AppendsAll, objects_of, without, changed_at, unlinking, links_in, is_present}
 use Rattle.histar_container.specs.Tree.{Reached, AreTree, IsCut}
 use Rattle.histar_container.proofs.TableMoves.{changed_here, changed_other}
 use Rattle.histar_container.proofs.Trees.{not_back, linked_there, reached_there}
@@ -35,7 +35,7 @@ module _ {L : Type 0} where
   gathers_init objects o none list empty is = subst (Gathers objects o []) (sym (is ∙ ap (λ (l : List ℕ). l ++ o ∷ []) empty)) (gathers_first objects o)
 
   -- one step: the number x at i is read, and what it links is appended
-  module _ (es : List (ℕ × Object L)) (trees : AreTree (objects_of es)) (d o : ℕ) (linked : set.contains (links_in (objects_of es d)) o ≡ true)
+  module _ (es : TableModel L) (trees : AreTree (objects_of es)) (d o : ℕ) (linked : set.contains (links_in (objects_of es d)) o ≡ true)
       (old new : List ℕ) (i x : ℕ) (lt : i < length old) (is : x ≡ get_or old i x) (g : Gathers (objects_of es) o (take i old) old) (appends : AppendsAll (links_in (objects_of es x)) old new) where
     read_more : take (i + 1) new ≡ take i old ++ x ∷ []
     read_more = ap (take (i + 1)) appends.is ∙ take-append-le (i + 1) old appends.added (omega arith) ∙ take_more old i x lt is
@@ -56,10 +56,10 @@ module _ {L : Type 0} where
     step_in_list = omega (arith, ap length appends.is, length-append old appends.added)
 
     -- and fewer objects are left to be read
-    pub step_fewer : unread es (take (i + 1) new) < unread es (take i old)
+    pub step_fewer : unread es.objects (take (i + 1) new) < unread es.objects (take i old)
     step_fewer =
         let not_read = distinct_before (take i old) x (drop (i + 1) old) (subst (λ l. IsDistinct nat_eq l) (split_there old i x lt is) g.once) in
-        subst (λ l. unread es l < unread es (take i old)) (sym read_more) (unread_fewer es (take i old) x x_there not_read)
+        subst (λ l. unread es.objects l < unread es.objects (take i old)) (sym read_more) (unread_fewer es.objects (take i old) x x_there not_read)
 
   -- once all is read, the list has what is reached and no more
   pub gathers_end : (objects : Objects L) (o : ℕ) (list : List ℕ) (i : ℕ) → length list ≤ i → Gathers objects o (take i list) list → (q : ℕ) → (is_member nat_eq list q ≡ true) ↔ Reached objects o q

@@ -6,8 +6,9 @@ use Rattle.std.specs.BTreeMap.{is_at}
 use Rattle.histar_label.specs.Levels.{Levels}
 use Rattle.histar_label.specs.Store.{label_at}
 use Rattle.histar_object.specs.declared.objects.Object.{Object}
-use Rattle.histar_object.specs.Objects.{Objects, objects_of}
-use Rattle.histar_container.specs.Shown.{object_by, shown, Stands, AllStand}
+use Rattle.histar_object.specs.Objects.{TableModel, Objects, objects_of}
+use Rattle.histar_object.proofs.Placing.{object_at}
+use Rattle.histar_container.specs.Shown.{object_by, listed_shown, shown, Stands, AllStand}
 
 module _ {Id : Type 0} (labels : Id → Option Levels) where
   step : (b : Bool) (x : Object Id) (o : Option (Object Id)) (p : Option (Object Levels)) → p ≡ option_map (object_by (label_at labels)) o
@@ -15,10 +16,13 @@ module _ {Id : Type 0} (labels : Id → Option Levels) where
   step true x o p e = refl
   step false x o p e = e
 
+  shows_listed : (es : List (ℕ × Object Id)) (q : ℕ) → object_at (listed_shown labels es) q ≡ option_map (object_by (label_at labels)) (object_at es q)
+  shows_listed [] q = refl
+  shows_listed (e ∷ es) q = step (is_at (nat_cmp q) e.0) e.1 _ _ (shows_listed es q)
+
   -- the object that is shown at a number is the one that is there, with its labels by value
-  pub shows : (es : List (ℕ × Object Id)) (q : ℕ) → objects_of (shown labels es) q ≡ option_map (object_by (label_at labels)) (objects_of es q)
-  shows [] q = refl
-  shows (e ∷ es) q = step (is_at (nat_cmp q) e.0) e.1 _ _ (shows es q)
+  pub shows : (t : TableModel Id) (q : ℕ) → objects_of (shown labels t) q ≡ option_map (object_by (label_at labels)) (objects_of t q)
+  shows t q = shows_listed t.objects q
 
   -- the Ids of the object at a number stand for labels
   pub stand_there : (objects : Objects Id) (q : ℕ) (o : Object Id) → AllStand labels objects → objects q ≡ Some o → Stands labels o

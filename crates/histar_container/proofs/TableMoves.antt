@@ -6,6 +6,7 @@ use Rattle.std.proofs.lemmas.Bool.{eq-eqb}
 use Rattle.std.proofs.lemmas.Bool.Decides.{eqb_tells}
 use Rattle.histar_object.specs.declared.objects.Object.{Object}
 use Rattle.histar_object.specs.Objects.{Objects, put, changed_at, with_new, linking, unlinking, links_in, kind_links, is_container}
+use Rattle.histar_object.proofs.Changes.{none_changed}
 use Rattle.histar_container.specs.Tree.{Address, Naming, wanted, with_number, without_below, set_at, cut, IsLaid, IsCut}
 use Rattle.histar_container.proofs.Links.{linked_links}
 use Rattle.histar_container.proofs.Addresses.{TestsEquality}
@@ -27,23 +28,23 @@ module _ {L : Type 0} (objects : Objects L) (n : ℕ) where
   pub changed_other : (f : Object L → Object L) (q : ℕ) → q ≢ n → changed_at objects n f q ≡ objects q
   changed_other f q other = elim (eqb_tells q n) [ inl e ↦ absurd (other e.1) | inr e ↦ ap (λ b. if b then option_map f (objects q) else objects q) e.0 ]
 
+
+module _ {L : Type 0} (objects : Objects L) (n d : ℕ) (o : Object L) where
   -- a new object is there
-  pub new_there : (d : ℕ) (o : Object L) → d ≢ n → with_new objects d n o n ≡ Some o
-  new_there d o other = elim (eqb_tells n d) [
-    | inl e ↦ absurd (other (sym e.1))
-    | inr e ↦ ap (λ b. if b then option_map (linking n) (put objects n o n) else put objects n o n) e.0 ∙ put_here o
-  ]
+  pub new_there : with_new objects d n o n ≡ Some o
+  new_there = put_here (changed_at objects d (linking n)) n o
 
   -- its container links it too
-  pub new_holder : (d : ℕ) (o : Object L) → d ≢ n → with_new objects d n o d ≡ option_map (linking n) (objects d)
-  new_holder d o other = ap (λ b. if b then option_map (linking n) (put objects n o d) else put objects n o d) (eq-eqb d d refl) ∙ ap (option_map (linking n)) (put_other o d other)
+  pub new_holder : d ≢ n → with_new objects d n o d ≡ option_map (linking n) (objects d)
+  new_holder other = put_other (changed_at objects d (linking n)) n o d other ∙ changed_here objects d (linking n)
 
   -- and nothing else has changed
-  pub new_other : (d : ℕ) (o : Object L) (q : ℕ) → q ≢ n → q ≢ d → with_new objects d n o q ≡ objects q
-  new_other d o q not_new not_d = elim (eqb_tells q d) [
-    | inl e ↦ absurd (not_d e.1)
-    | inr e ↦ ap (λ b. if b then option_map (linking n) (put objects n o q) else put objects n o q) e.0 ∙ put_other o q not_new
-  ]
+  pub new_other : (q : ℕ) → q ≢ n → q ≢ d → with_new objects d n o q ≡ objects q
+  new_other q not_new not_d = put_other (changed_at objects d (linking n)) n o q not_new ∙ changed_other objects d (linking n) q not_d
+
+  -- where nothing was, nothing is but the new object
+  pub new_none : (q : ℕ) → objects q ≡ None → q ≢ n → with_new objects d n o q ≡ None
+  new_none q nothing not_new = put_other (changed_at objects d (linking n)) n o q not_new ∙ none_changed objects d (linking n) q nothing
 
 module _ {X : Type 0} (same_step : X → X → Bool) (tells : TestsEquality same_step) {L : Type 0} (objects : Objects L) (next : ℕ) (expected : Address X → Option (Object L)) (naming : Naming X) (laid : IsLaid same_step objects next expected naming) where
   -- the object at a number is the one that is expected at its address
@@ -74,7 +75,7 @@ module _ {X : Type 0} (same_step : X → X → Bool) (tells : TestsEquality same
   laid_new d a x o at_d free container leaf =
       let apart = next_unused same_step objects next expected naming laid d a at_d in
       let holder = new_holder objects next d o apart in
-      let found = new_there objects next d o apart in
+      let found = new_there objects next d o in
       subst (λ (y : Option (Object L)). IsLaid same_step (with_new objects d next o) (next + 1) (set_at same_step (set_at same_step expected (x ∷ a) (Some o)) a y) (with_number same_step naming next (x ∷ a))) (holder ∙ ap (option_map (linking next)) (expected_there d a at_d))
       (subst (λ (y : Option (Object L)). IsLaid same_step (with_new objects d next o) (next + 1) (set_at same_step (set_at same_step expected (x ∷ a) y) a (with_new objects d next o d)) (with_number same_step naming next (x ∷ a))) found
       (laid_added same_step tells objects next expected naming laid (with_new objects d next o) d x a at_d free (new_other objects next d o)

@@ -166,7 +166,7 @@ module _ {L : Type 0} where
             | inr e ↦ tree.own_step q x a (sym (ap (λ b. if b then Some (next ∷ at_d.0) else tree.naming.address q) e.0) ∙ i)
           ];
           filled = λ q a i. elim (eqb_tells q next) [
-            | inl e ↦ ap is_present (ap (with_new objects d next o) e.1 ∙ new_there objects next d o apart)
+            | inl e ↦ ap is_present (ap (with_new objects d next o) e.1 ∙ new_there objects next d o)
             | inr e ↦ elim (eqb_tells q d) [
               | inl k ↦ ap is_present (ap (with_new objects d next o) k.1 ∙ new_holder objects next d o apart) ∙ changed_there (linking next) (objects d) (container_there (objects d) container)
               | inr k ↦ ap is_present (new_other objects next d o q e.1 k.1) ∙ tree.filled q a (sym (ap (λ b. if b then Some (next ∷ at_d.0) else tree.naming.address q) e.0) ∙ i)

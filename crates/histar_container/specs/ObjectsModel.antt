@@ -1,22 +1,21 @@
 -- What a table and its store keep together: objects by number with their labels by value, and the next numbers.
-use Rattle.std.specs.Prelude.{◌≡◌, ℕ, List, refl}
-use Rattle.std.specs.Coded.{Coded, code_by, coded×, coded_ℕ, coded_list}
+use Rattle.std.specs.Prelude.{◌≡◌, ℕ, refl}
+use Rattle.std.specs.Coded.{Coded, code_by, coded×, coded_ℕ}
 use Rattle.histar_label.specs.Levels.{Levels, coded_levels}
-use Rattle.histar_object.specs.declared.objects.Object.{Object}
-use Rattle.histar_object.specs.Codes.{coded_object}
-use Rattle.histar_object.specs.Objects.{objects_of}
+use Rattle.histar_object.specs.Codes.{coded_table}
+use Rattle.histar_object.specs.Objects.{TableModel, objects_of}
 use Rattle.histar_object.specs.State.{State}
 use Rattle.histar_container.specs.Tree.{IsCut}
 
--- the listed objects, and the numbers that the next object and the next category get
+-- the table of objects, and the numbers that the next object and the next category get
 pub record ObjectsModel : Type 0 where
-  pub objects : List (ℕ × Object Levels)
+  pub objects : TableModel Levels
   pub next_object : ℕ
   pub next_category : ℕ
 
--- stored as a pair of its list and its numbers
+-- stored as a pair of its table and its numbers
 abbrev pub coded_objects_model : Coded ObjectsModel
-coded_objects_model = code_by (List (ℕ × Object Levels) × (ℕ × ℕ)) (coded× (coded_list (coded× coded_ℕ (coded_object coded_levels))) (coded× coded_ℕ coded_ℕ)) (λ k. (k.objects, (k.next_object, k.next_category))) (λ p. record { objects = p.0; next_object = p.1.0; next_category = p.1.1 }) (λ _. refl)
+coded_objects_model = code_by (TableModel Levels × (ℕ × ℕ)) (coded× (coded_table coded_levels) (coded× coded_ℕ coded_ℕ)) (λ k. (k.objects, (k.next_object, k.next_category))) (λ p. record { objects = p.0; next_object = p.1.0; next_category = p.1.1 }) (λ _. refl)
 
 -- the state of the kernel that it is
 abbrev pub state_of : ObjectsModel → State

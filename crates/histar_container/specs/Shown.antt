@@ -5,7 +5,7 @@ use Rattle.histar_label.specs.Store.{label_at}
 use Rattle.histar_object.specs.declared.objects.Kind.{Kind}
 use Rattle.histar_object.specs.declared.objects.Kind.TheVariants.{Segment, Container, Thread, Gate}
 use Rattle.histar_object.specs.declared.objects.Object.{Object}
-use Rattle.histar_object.specs.Objects.{Objects, objects_of}
+use Rattle.histar_object.specs.Objects.{TableModel, Objects, objects_of}
 
 -- a kind with something else that stands for its clearance
 abbrev pub kind_by : {A B : Type 0} → (A → B) → Kind A → Kind B
@@ -20,13 +20,17 @@ object_by f o = record { label = f o.label; kind = kind_by f o.kind }
 
 module _ {Id : Type 0} (labels : Id → Option Levels) where
   -- the listed objects with their labels by value
-  abbrev pub shown : List (ℕ × Object Id) → List (ℕ × Object Levels)
-  shown [] = []
-  shown (e ∷ es) = (e.0, object_by (label_at labels) e.1) ∷ shown es
+  abbrev pub listed_shown : List (ℕ × Object Id) → List (ℕ × Object Levels)
+  listed_shown [] = []
+  listed_shown (e ∷ es) = (e.0, object_by (label_at labels) e.1) ∷ listed_shown es
 
-  -- the same, by their numbers
-  abbrev pub objects_shown : List (ℕ × Object Id) → Objects Levels
-  objects_shown es = objects_of (shown es)
+  -- a table with its labels by value
+  abbrev pub shown : TableModel Id → TableModel Levels
+  shown t = record { objects = listed_shown t.objects; slots = t.slots; room = t.room }
+
+  -- its objects, by their numbers
+  abbrev pub objects_shown : TableModel Id → Objects Levels
+  objects_shown t = objects_of (shown t)
 
   -- the clearance of a kind stands for a label
   abbrev pub KindStands : Kind Id → Type 0
@@ -49,7 +53,7 @@ pub record IsUnusedFrom {L : Type 0} (objects : Objects L) (next : ℕ) : Type 0
   pub none : (q : ℕ) → next ≤ q → objects q ≡ None
 
 -- what the table of a kernel keeps over all calls
-pub record IsKept {Id : Type 0} (labels : Id → Option Levels) (es : List (ℕ × Object Id)) (next : ℕ) : Type 0 where
-  pub stand : AllStand labels (objects_of es)
-  pub unused : IsUnusedFrom (objects_shown labels es) next
+pub record IsKept {Id : Type 0} (labels : Id → Option Levels) (t : TableModel Id) (next : ℕ) : Type 0 where
+  pub stand : AllStand labels (objects_of t)
+  pub unused : IsUnusedFrom (objects_shown labels t) next
   pub positive : 0 < next

@@ -19,8 +19,8 @@ pub fn linked<L>(table: &Table<L>, container: ObjId, object: ObjId) -> bool
     }
 }
 
-/// Keeps a new object under a number, and links it in a container. Both may want memory: where one
-/// gets none, the table is as it was.
+/// Keeps a new object under a number, and links it in a container. It reserves all memory before it
+/// changes anything: a link that finds no memory leaves no object and no link behind.
 pub fn link_new<L: Drop>(
     table: &mut Table<L>,
     container: ObjId,
@@ -31,20 +31,17 @@ pub fn link_new<L: Drop>(
     ensures ok { OnOk result (objects_of table.new ≡ with_new (objects_of table.old) container number object) }
     ensures err { OnErr result (objects_of table.new ≡ objects_of table.old) }
 {
-    table.add(number, object)?;
-    match link(table, container, number) {
-        Ok(()) => Ok(()),
-        Err(error) => {
-            table.remove(number);
-            Err(error)
-        }
-    }
+    table.reserve()?;
+    link(table, container, number)?;
+    table.add_reserved(number, object);
+    Ok(())
 }
 
 /// Links an object in a container.
 fn link<L>(table: &mut Table<L>, container: ObjId, object: ObjId) -> Result<(), AllocError>
     ensures ok { OnOk result (objects_of table.new ≡ changed_at (objects_of table.old) container (linking object)) }
     ensures err { OnErr result (objects_of table.new ≡ objects_of table.old) }
+    ensures room { table.new.room ≡ table.old.room }
 {
     if let Some(holder) = table.get_mut(container) {
         if let Kind::Container(links) = &mut holder.kind {

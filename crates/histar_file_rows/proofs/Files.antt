@@ -41,7 +41,9 @@ use Rattle.histar_refinement.specs.Directories.{directory_of}
 use Rattle.histar_refinement.specs.Processes.{or_zero}
 use Rattle.histar_refinement.specs.LaysOut.{LaysOut}
 use Rattle.histar_refinement.proofs.Writing.{lays_out_overwritten}
-use Rattle.histar_rows.specs.Rows.{IsReady, AreAmong, HasWalk, HasReads}
+use Rattle.histar_rows.specs.Rows.{IsReady}
+use Rattle.histar_rows.specs.Reads.{AreAmong}
+use Rattle.histar_rows.proofs.ReadsByCall.{HasWalk, HasReadsByCall}
 use Rattle.histar_rows.proofs.Chains.{Step, all_granted, entries_of, Chain}
 use Rattle.histar_rows.proofs.Endings.{ReadsAmong, IsBacked}
 use Rattle.histar_rows.proofs.Steps.{Goal, refused_at_once, granted_step, refused_step, answered_step}
@@ -51,7 +53,7 @@ use Rattle.histar_file_rows.proofs.FoundObjects.{container, segment, file_number
 -- What the flat rules say of a call on a file: what they refuse once it is reached, and that the call cannot do without the reads of the walk.
 pub record ReachesFile (session : Session) (f : Flat) (me : ProcName) (p : Process) (q : Path) (call : UnixCall) (later : Option Errno) : Type 0 where
   pub refuses : refused session f me p call ≡ (no_file session f p q orelse later)
-  pub reads : (s : State) (reply : Reply) (entries : List TraceEntry) → HasWalk session s f p q entries → HasReads session s f p call reply entries
+  pub reads : (s : State) (reply : Reply) (entries : List TraceEntry) → HasWalk session s f p q entries → HasReadsByCall session s f p call reply entries
 
 -- a call on `/`, which is no file
 pub slash_is_no_file : (session : Session) (old new : KernelModel) (f : Flat) (me : ProcName) (t : ℕ) (ready : IsReady session (state old) f me t) (call : UnixCall) (result : Result Reply Stopped) (later : Option Errno)

@@ -39,7 +39,7 @@ use Rattle.histar_refinement.proofs.RawChecks.{object}
 use Rattle.histar_refinement.proofs.FileChecks.{read_file_said, write_file_said, make_segment_said, segment_out_of_range, make_container_said, container_out_of_range}
 use Rattle.histar_refinement.proofs.FileRows.{AreKnown}
 use Rattle.histar_refinement.proofs.MakingRanges.{is_made_within}
-use Rattle.histar_refinement.proofs.SessionLemmas.{equal_tested}
+use Rattle.histar_layout.proofs.Declared.{equal_tested}
 use Rattle.histar_refinement.proofs.Standing.{thread_found, guard_at, container_found, listing_found, file_found, step_linked}
 use Rattle.histar_rows.specs.Rows.{IsReady}
 use Rattle.histar_rows.proofs.Walks.{runs, place_at, stands, at_container, at_listing, dir, seen, file_number}

@@ -33,7 +33,9 @@ use Rattle.histar_calls.specs.Replies.{is_access, is_permission}
 use Rattle.histar_login.specs.Start.{places_of}
 use Rattle.histar_refinement.specs.Sessions.{IsSession}
 use Rattle.histar_refinement.proofs.Making.{count_entries}
-use Rattle.histar_rows.specs.Rows.{IsReady, AreAmong, HasWalk, HasReads}
+use Rattle.histar_rows.specs.Rows.{IsReady}
+use Rattle.histar_rows.specs.Reads.{AreAmong}
+use Rattle.histar_rows.proofs.ReadsByCall.{HasWalk, HasReadsByCall}
 use Rattle.histar_rows.proofs.Chains.{all_granted, entries_of, Chain, Step}
 use Rattle.histar_rows.proofs.Endings.{ReadsAmong}
 use Rattle.histar_rows.proofs.Steps.{Goal, refused_at_once}
@@ -43,7 +45,7 @@ use Rattle.histar_file_rows.proofs.FoundObjects.{entries, is_dir, directory_clas
 -- What the flat rules say of a call that needs room for an entry: where there is none they refuse it, and it cannot do without the reads of the walk.
 pub record NeedsRoom (session : Session) (f : Flat) (me : ProcName) (p : Process) (q : Path) (call : UnixCall) (behind : Option Errno) : Type 0 where
   pub refuses : refused session f me p call ≡ (no_room session f p q orelse behind)
-  pub reads : (s : State) (reply : Reply) (entries : List TraceEntry) → HasWalk session s f p q entries → HasReads session s f p call reply entries
+  pub reads : (s : State) (reply : Reply) (entries : List TraceEntry) → HasWalk session s f p q entries → HasReadsByCall session s f p call reply entries
 
 -- there is no room for `/`, which stands already
 pub slash_stands : (session : Session) (old new : KernelModel) (f : Flat) (me : ProcName) (t : ℕ) (ready : IsReady session (state old) f me t) (call : UnixCall) (result : Result Reply Stopped) (behind : Option Errno)

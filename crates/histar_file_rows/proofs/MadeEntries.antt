@@ -34,7 +34,7 @@ use Rattle.histar_layout.specs.declared.entry.Target.{Target}
 use Rattle.histar_layout.proofs.MapLemmas.{listable_insert}
 use Rattle.histar_calls.specs.declared.ending.Stopped.{Stopped}
 use Rattle.histar_calls.specs.Refusals.{errno_of}
-use Rattle.histar_calls.specs.Categories.{label_made}
+use Rattle.histar_layout.specs.Categories.{label_made}
 use Rattle.histar_calls.specs.Programs.{AnswerOf, IsAnswer, Program, Runs}
 use Rattle.histar_calls.specs.Programs.Program.{Answers}
 use Rattle.histar_calls.specs.Parts.{ask, write_entries, find_room}
@@ -48,7 +48,8 @@ use Rattle.histar_refinement.proofs.ClassTests.{observes_class, modifies_class}
 use Rattle.histar_refinement.proofs.DirectoryLaws.{spelling_fits}
 use Rattle.histar_refinement.proofs.Making.{count_entries, jobs_made}
 use Rattle.histar_refinement.proofs.RawChecks.{caller_passes}
-use Rattle.histar_rows.specs.Rows.{IsReady, AreAmong}
+use Rattle.histar_rows.specs.Rows.{IsReady}
+use Rattle.histar_rows.specs.Reads.{AreAmong}
 use Rattle.histar_rows.proofs.Chains.{all_granted, entries_of, Chain, Step}
 use Rattle.histar_rows.proofs.Endings.{IsBacked, ReadsAmong}
 use Rattle.histar_rows.proofs.Steps.{Goal, granted_step, refused_step, exhausted_step, answered_step}

@@ -13,15 +13,16 @@ use Rattle.histar_flat.specs.Classes.Class.{Private, Readable, Open, Scratch, Gr
 use Rattle.histar_flat.specs.FlatState.{Flat}
 use Rattle.histar_label.specs.Levels.{Levels}
 use Rattle.histar_object.specs.State.{State}
-use Rattle.histar_calls.specs.Jobs.{jobs_in}
-use Rattle.histar_calls.specs.Categories.{read_category, write_category, group_owner, user_of, file_label, scratch_label, label_made}
-use Rattle.histar_calls.specs.Labelling.{guarded_by, secret_of}
-use Rattle.histar_calls.proofs.UserOf.{user_is}
+use Rattle.histar_layout.specs.Jobs.{jobs_in}
+use Rattle.histar_layout.specs.Categories.{read_category, write_category, group_owner, user_of, file_label, scratch_label, label_made}
+use Rattle.histar_layout.specs.Labelling.{guarded_by, secret_of}
+use Rattle.histar_layout.proofs.UserOf.{user_is}
 use Rattle.histar_refinement.specs.Sessions.{IsSession}
 use Rattle.histar_refinement.specs.Guards.{Guard, guard_label, rights_label}
 use Rattle.histar_refinement.specs.Labels.{class_guard, private_guard, readable_guard, scratch_guard, group_guard, open_guard, thread_rights}
 use Rattle.histar_refinement.specs.Processes.{or_zero}
-use Rattle.histar_refinement.proofs.SessionLemmas.{user_range, no_member, is_number, not_nobody, equal_tested}
+use Rattle.histar_refinement.proofs.SessionLemmas.{no_member, is_number, not_nobody}
+use Rattle.histar_layout.proofs.Declared.{user_range, equal_tested}
 use Rattle.histar_refinement.proofs.ClassTests.{member as is_member_of}
 use Rattle.histar_refinement.proofs.JobLabels.{jobs_are, none_if_free}
 use Rattle.histar_refinement.proofs.Levelled.{same_guarded}

@@ -16,7 +16,7 @@ use Rattle.histar_object.specs.declared.objects.Kind.TheVariants.{Segment, Conta
 use Rattle.histar_object.specs.declared.objects.Object.{Object}
 use Rattle.histar_object.specs.Objects.{Numbers as Links, is_container, put, linking}
 use Rattle.histar_object.specs.State.{State, with_object}
-use Rattle.histar_container.proofs.TableMoves.{put_here, put_other, changed_here, changed_other}
+use Rattle.histar_container.proofs.TableMoves.{new_there, new_holder, new_other}
 use Rattle.histar_rules.specs.declared.raw.Denied.TheVariants.{Modify, TooBig}
 use Rattle.histar_rules.specs.declared.raw.RawCall.TheVariants.{Write}
 use Rattle.histar_rules.specs.Rules.{check, no_making}
@@ -53,14 +53,14 @@ module _ (s : State) (t d n : ℕ) (label clearance above : Levels) (old : List 
     module _ (o : Object Levels) where
       -- what was there before stays
       stays : (q : ℕ) → q < s.next_object → q ≢ d → (with_object s d o).objects q ≡ s.objects q
-      stays q low other = changed_other (put s.objects s.next_object o) d (linking s.next_object) q other ∙ put_other s.objects s.next_object o q (λ e. absurd (omega (arith, low, e)))
+      stays q low = new_other s.objects s.next_object d o q (λ e. absurd (omega (arith, low, e)))
 
       -- all of it stands there once an object is added to the container
       pub still_there : HasSegment (with_object s d o) t d n label clearance above old
       still_there = record {
         links = set.insert there.links s.next_object;
         thread = stays t below_thread other_thread ∙ there.thread;
-        holder = changed_here (put s.objects s.next_object o) d (linking s.next_object) ∙ ap (option_map (linking s.next_object)) (put_other s.objects s.next_object o d (λ e. absurd (omega (arith, below_holder, e))) ∙ there.holder);
+        holder = new_holder s.objects s.next_object d o (λ e. absurd (omega (arith, below_holder, e))) ∙ ap (option_map (linking s.next_object)) there.holder;
         segment = stays n below_segment other_segment ∙ there.segment;
         linked = set.contains-insert nat_cmp_total there.links s.next_object n ∙ ap (λ (b : Bool). eq_by_cmp nat_cmp n s.next_object || b) there.linked ∙ or-true (eq_by_cmp nat_cmp n s.next_object);
       }
@@ -69,7 +69,7 @@ module _ (s : State) (t d n : ℕ) (label clearance above : Levels) (old : List 
         -- what was there before both stays once something is made in what was added
         stays_then : (q : ℕ) → q < s.next_object → (with_object (with_object s d o) s.next_object inner).objects q ≡ (with_object s d o).objects q
         stays_then q low =
-            changed_other (put (with_object s d o).objects (s.next_object + 1) inner) s.next_object (linking (s.next_object + 1)) q (λ e. absurd (omega (arith, low, e))) ∙ put_other (with_object s d o).objects (s.next_object + 1) inner q (λ e. absurd (omega (arith, low, e)))
+            new_other (with_object s d o).objects (s.next_object + 1) s.next_object inner q (λ e. absurd (omega (arith, low, e))) (λ e. absurd (omega (arith, low, e)))
 
         -- and all of it stands there then
         pub there_then : HasSegment (with_object (with_object s d o) s.next_object inner) t d n label clearance above old
@@ -86,7 +86,7 @@ module _ (s : State) (t d n : ℕ) (label clearance above : Levels) (old : List 
       bare = record { label = label_inside; kind = Container set.empty }
 
       inside : (with_object s d bare).objects s.next_object ≡ object label_inside (Container set.empty)
-      inside = changed_other (put s.objects s.next_object bare) d (linking s.next_object) s.next_object (λ e. absurd (omega (arith, below_holder, e))) ∙ put_here s.objects s.next_object bare
+      inside = new_there s.objects s.next_object d bare
 
       -- in a container that was added something may be made, as its label says
       pub making_inside : is_below_raised label_inside label ≡ true → (is_below label label_inside && is_below_raised label_inside label) ≡ true → no_making (with_object s d bare) t s.next_object ≡ None

@@ -30,7 +30,7 @@ use Rattle.histar_syscall.proofs.Runs.{same_kernel}
 use Rattle.histar_layout.specs.Listing.{is_directory, object_of}
 use Rattle.histar_layout.specs.declared.entry.Target.{Target}
 use Rattle.histar_calls.specs.declared.ending.Stopped.{Stopped}
-use Rattle.histar_calls.specs.ClassOf.{class_shown, stat_of}
+use Rattle.histar_layout.specs.ShownClass.{class_shown, stat_of}
 use Rattle.histar_calls.specs.declared.places.Place.{Place}
 use Rattle.histar_calls.specs.Programs.{Program, Runs}
 use Rattle.histar_calls.specs.Programs.Program.{Answers}
@@ -49,7 +49,9 @@ use Rattle.histar_refinement.proofs.ClassFound.{HasOwnerAndMode, class_told}
 use Rattle.histar_refinement.proofs.FileChecks.{label_said}
 use Rattle.histar_refinement.proofs.FileLabels.{label_at, no_thread_at, slash_label_said}
 use Rattle.histar_refinement.proofs.Standing.{guard_at, root_is_dir}
-use Rattle.histar_rows.specs.Rows.{IsReady, AreAmong, AreReadsOf, HasWay, HasLabel, walked}
+use Rattle.histar_rows.specs.Rows.{IsReady}
+use Rattle.histar_rows.specs.Reads.{AreAmong}
+use Rattle.histar_rows.proofs.ReadsByCall.{AreReadsOf, HasWay, HasLabel, walked_paths}
 use Rattle.histar_rows.specs.Laws.{StatsAreRows}
 use Rattle.histar_rows.proofs.Chains.{all_granted, entries_of, Chain}
 use Rattle.histar_rows.proofs.Endings.{IsBacked, ReadsAmong}
@@ -67,7 +69,7 @@ module _ (session : Session) (ok : IsSession session) (old new : KernelModel) (f
   -- the label of what stands at a path is asked for, once these raw calls were made
   module _ (q : Path) (there : Node) (at : get f.files q ≡ Some there) (D O : ℕ) (numbered : ready.lays_out.laid.naming.number (address_of q) ≡ Some O) (object_at : IsObjectAt session (state old) q D O)
       (allowed : refused session f me ready.caller.process (calls.Stat q) ≡ None) (passes : check (state old) t (raw.LabelOf D O) ≡ None)
-      (reads : List RawCall) (are_reads : AreReadsOf session (state old) (walked session (state old) f ready.caller.process q) reads) (mid : KernelModel) (stays : state mid ≡ state old) (chain : Chain old t (all_granted reads) mid) where
+      (reads : List RawCall) (are_reads : AreReadsOf session (state old) (walked_paths session (state old) f ready.caller.process q) reads) (mid : KernelModel) (stays : state mid ≡ state old) (chain : Chain old t (all_granted reads) mid) where
     abbrev call : UnixCall
     call = calls.Stat q
 
@@ -78,10 +80,10 @@ module _ (session : Session) (ok : IsSession session) (old new : KernelModel) (f
     guard = guard_at session (state old) f ready.lays_out.laid q there at
 
     tells : HasOwnerAndMode there.class (class_shown session (guard_label ready.lays_out.laid.category guard.0))
-    tells = class_told session ready.lays_out.laid.category ready.lays_out.laid.different ready.lays_out.laid.as_made there.class guard.0 guard.1
+    tells = class_told session (state old) f ready.lays_out.laid q there at guard.0 guard.1
 
     abbrev due : Reply
-    due = Stats (stat_of tells.told_class (is_dir there))
+    due = Stats (stat_of tells.shown_class (is_dir there))
 
     due_is : due ≡ stat_reply (get f.files q)
     due_is = (λ i. Stats (record { is_directory = is_dir there; owner = tells.owner i; mode = tells.mode i })) ∙ sym (ap stat_reply at)

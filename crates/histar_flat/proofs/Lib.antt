@@ -38,3 +38,5 @@ pub mod WorkedJobs
 pub mod WorkedGroups
 pub mod WorkedProcesses
 pub mod WorkedRuns
+pub mod NamedPaths
+pub mod NameTexts

@@ -52,16 +52,35 @@ take_less (suc places) fill (x ∷ xs) short =
     ap (take (suc places)) (padded_more (suc places) fill x xs) ∙ ap (λ l. x ∷ l) (take_less places fill xs (omega arith)) ∙ sym (padded_more places fill x xs)
 
 -- the last place comes to the front and takes an item
-pub padded_front : {A : Type 0} (places : ℕ) (fill item : A) (items : List A) (len : ℕ) → IsPadded (suc places) fill items len → len ≤ places → IsPadded (suc places) fill (slice_set (drop (length items - 1) items ++ take (length items - 1) items) 0 item) (len + 1)
-padded_front places fill item items len is room =
+front_made : {A : Type 0} (places : ℕ) (fill item : A) (items : List A) (len : ℕ) → IsPadded (suc places) fill items len → len ≤ places
+    → slice_set (drop (length items - 1) items ++ take (length items - 1) items) 0 item ≡ padded (suc places) fill (item ∷ take len items)
+front_made places fill item items len is room =
     let kept : length (take len items) ≡ len = length-kept (suc places) fill items len is in
     let last : length items - 1 ≡ places = omega (arith, is.whole) in
     let one : length (drop places items) ≡ 1 = omega (arith, length-drop places items, is.whole) in
-    let front : take places items ≡ padded places fill (take len items) = ap (take places) (sym is.filled) ∙ take_less places fill (take len items) (omega (arith, kept)) in
-    let made = fronted item (drop places items) (take places items) one ∙ ap (λ l. item ∷ l) front ∙ sym (padded_more places fill item (take len items)) in
-    let more : length (item ∷ take len items) ≡ len + 1 = omega (arith, kept) in
-    let fits = padded_fits (suc places) fill (item ∷ take len items) (omega (arith, kept)) in
-    rw (last, made, ← more) fits
+    let front : take places items ≡ padded places fill (take len items) =
+    ap (take places) (sym is.filled) ∙ take_less places fill (take len items) (omega (arith, kept)) in
+    rw last (fronted item (drop places items) (take places items) one ∙ ap (λ l. item ∷ l) front ∙ sym (padded_more places fill item (take len items)))
+
+-- with it there is one item more
+one_more : {A : Type 0} (places : ℕ) (fill item : A) (items : List A) (len : ℕ) → IsPadded (suc places) fill items len → length (item ∷ take len items) ≡ len + 1
+one_more places fill item items len is = omega (arith, length-kept (suc places) fill items len is)
+
+-- so the array is filled up
+pub padded_front : {A : Type 0} (places : ℕ) (fill item : A) (items : List A) (len : ℕ) → IsPadded (suc places) fill items len → len ≤ places
+    → IsPadded (suc places) fill (slice_set (drop (length items - 1) items ++ take (length items - 1) items) 0 item) (len + 1)
+padded_front places fill item items len is room =
+    let more : length (item ∷ take len items) ≡ len + 1 = one_more places fill item items len is in
+    let made = front_made places fill item items len is room in
+    rw (made, ← more) (padded_fits (suc places) fill (item ∷ take len items) (omega (arith, more)))
+
+-- and holds the item and then those before
+pub take_front : {A : Type 0} (places : ℕ) (fill item : A) (items : List A) (len : ℕ) → IsPadded (suc places) fill items len → len ≤ places
+    → take (len + 1) (slice_set (drop (length items - 1) items ++ take (length items - 1) items) 0 item) ≡ item ∷ take len items
+take_front places fill item items len is room =
+    let more : length (item ∷ take len items) ≡ len + 1 = one_more places fill item items len is in
+    let made = front_made places fill item items len is room in
+    rw (made, ← more) (take-padded (suc places) fill (item ∷ take len items))
 
 -- an item in the place of another
 pub padded_set : {A : Type 0} (places : ℕ) (fill item : A) (items : List A) (len i : ℕ) → IsPadded places fill items len → i < len → IsPadded places fill (slice_set items i item) len

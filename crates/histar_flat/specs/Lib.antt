@@ -16,3 +16,4 @@ pub mod Laws
 pub mod FileLaws
 pub mod ProcessLaws
 pub mod JobLaws
+pub mod Calls

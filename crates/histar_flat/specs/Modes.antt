@@ -26,7 +26,5 @@ mode_of bs =
 
 -- the modes that a line of a script can name
 abbrev pub is_line_mode : Mode → Bool
-is_line_mode Private = true
-is_line_mode Readable = true
-is_line_mode Open = true
 is_line_mode (Group name) = is_user_name name
+is_line_mode mode = true

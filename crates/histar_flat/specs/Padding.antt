@@ -1,5 +1,7 @@
 -- Short lists kept in an array: the places that are not used hold a fixed value.
-use Rattle.std.specs.Prelude.{◌≡◌, ℕ, ◌-◌, ◌≤◌, List, ◌++◌, length, take, replicate, codes}
+use Rattle.std.specs.Prelude.{◌≡◌, ℕ, ◌-◌, ◌≤◌, IsTrue, List, ◌++◌, length, take, replicate, codes}
+use Rattle.std.specs.List.{list_all}
+use Rattle.histar_flat.specs.Words.{most_names, is_name}
 
 -- the items, filled up to this many places
 unfoldable pub padded : {A : Type 0} → ℕ → A → List A → List A
@@ -14,3 +16,8 @@ pub record IsPadded {A : Type 0} (places : ℕ) (fill : A) (items : List A) (len
 -- the name in the places of a path that are not used
 abbrev pub unused_name : List ℕ
 unused_name = codes "-"
+
+-- the array holds a path of this many names: it is filled up, and each of them is a name
+pub record HoldsPath (names : List (List ℕ)) (len : ℕ) : Type 0 where
+  pub padded : IsPadded most_names unused_name names len
+  pub named : IsTrue (list_all is_name (take len names))

@@ -65,10 +65,8 @@ is_group session name = list_any (λ (g : Group). same g.name name) session.grou
 
 -- the mode is for a user, or for a group that is declared
 abbrev pub is_declared_mode : Session → Mode → Bool
-is_declared_mode session modes.Private = true
-is_declared_mode session modes.Readable = true
-is_declared_mode session modes.Open = true
 is_declared_mode session (modes.Group group) = is_group session group
+is_declared_mode session mode = true
 
 -- a user's number, from 1 on in the order of the script
 abbrev pub user_number : Session → Name → Option ℕ

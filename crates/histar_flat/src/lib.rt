@@ -3,6 +3,7 @@
 //! What calls mean is `specs/Meaning.antt`, and [`flat_laws`] says what this meaning amounts to.
 #![tactic(auto)]
 
+mod call_laws;
 mod calls;
 pub mod flat_laws;
 mod groups;
@@ -16,6 +17,7 @@ mod sessions;
 mod suffix;
 mod words;
 
+pub use call_laws::each_call_is_right;
 pub use calls::{CallLine, Mode, UnixCall, User};
 pub use groups::Group;
 pub use names::{Name, Password};

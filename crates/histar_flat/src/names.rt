@@ -4,6 +4,7 @@ ghost use Rattle.histar_flat.specs.Words.{is_name, is_password};
 
 use crate::words::Word;
 use std::cmp::Ordering;
+use std::fmt;
 use std::marker::Model;
 
 /// What users and the entries of directories are called: 1 to 32 bytes of `a-z 0-9 . _ -`,
@@ -43,6 +44,28 @@ impl Name {
         ensures right { IsTrue (is_name self.now) }
     {
         self.word.as_bytes()
+    }
+
+    /// Returns the name as a text.
+    pub fn as_str(&self) -> &str
+        ensures { result.now ≡ self.now }
+    {
+        match str::from_utf8(self.as_bytes()) {
+            Ok(text) => text,
+            Err(_) => unreachable!(),
+        }
+    }
+}
+
+/// A name is printed as its bytes.
+impl fmt::Display for Name {
+    ghost use Rattle.std.specs.Prelude.{Some};
+
+    ghost output = { λ name. Some name };
+
+    fn fmt<W: fmt::Write>(&self, f: &mut fmt::Formatter<W>) -> fmt::Result {
+        let text = self.as_str();
+        write!(f, "{text}")
     }
 }
 

@@ -1,6 +1,6 @@
 //! Paths as calls own them.
-ghost use Rattle.std.specs.Prelude.{◌≡◌, ◌≤◌, length, IfOk};
-ghost use Rattle.histar_flat.specs.Words.{most_names};
+ghost use Rattle.std.specs.Prelude.{◌≡◌, ◌≤◌, length, IfOk, IsTrue};
+ghost use Rattle.histar_flat.specs.Words.{most_names, is_path};
 
 use crate::names::Name;
 use crate::paths::Path;
@@ -15,14 +15,14 @@ pub struct OwnedPath {
 }
 
 impl Model for OwnedPath {
-    ghost use Rattle.std.specs.Prelude.{ℕ, List, ◌≤◌, length};
-    ghost use Rattle.histar_flat.specs.Words.{most_names};
+    ghost use Rattle.std.specs.Prelude.{ℕ, List, IsTrue};
+    ghost use Rattle.histar_flat.specs.Words.{is_path};
 
     ghost Value = { List (List ℕ) };
 
     ghost view = { λ p. p.names.items };
 
-    ghost invariant = { λ p. length p.names.items ≤ most_names };
+    ghost invariant = { λ p. IsTrue (is_path p.names.items) };
 }
 
 impl OwnedPath {
@@ -38,6 +38,7 @@ impl OwnedPath {
     /// The names of the path, the last one first.
     pub fn names(&self) -> &[Name]
         ensures names { result.now ≡ self.now }
+        ensures right { IsTrue (is_path self.now) }
         ensures most { length self.now ≤ most_names }
     {
         self.names.as_slice()

@@ -1,13 +1,14 @@
 //! Paths.
-ghost use Rattle.std.specs.Prelude.{◌≡◌, ◌<◌, ◌≤◌, [], ◌∷◌, length, codes};
+ghost use Rattle.std.specs.Prelude.{◌≡◌, ◌<◌, ◌≤◌, [], ◌∷◌, length, codes, IsTrue};
 ghost use Rattle.histar_flat.specs.FlatState.{moved};
 ghost use Rattle.histar_flat.specs.Padding.{padded, unused_name};
 ghost use Rattle.histar_flat.specs.PathOrder.{below_path, parent, under_path};
-ghost use Rattle.histar_flat.specs.Words.{most_names};
+ghost use Rattle.histar_flat.specs.Words.{most_names, is_path};
 
 use crate::names::Name;
 use crate::suffix::is_under;
 use std::cmp::Ordering;
+use std::fmt;
 use std::marker::Model;
 
 /// The most names of a path.
@@ -23,7 +24,7 @@ pub struct Path {
 
 impl Model for Path {
     ghost use Rattle.std.specs.Prelude.{ℕ, List, length, take};
-    ghost use Rattle.histar_flat.specs.Padding.{padded, IsPadded, unused_name};
+    ghost use Rattle.histar_flat.specs.Padding.{padded, HoldsPath, unused_name};
     ghost use Rattle.histar_flat.specs.Words.{most_names};
     ghost use Rattle.histar_flat.specs.PaddingLaws.{padded-take, length-kept};
     ghost use Rattle.std.proofs.Common.{refl};
@@ -32,11 +33,11 @@ impl Model for Path {
 
     ghost view = { λ p. take p.len p.names };
 
-    ghost invariant = { λ p. IsPadded most_names unused_name p.names p.len };
+    ghost invariant = { λ p. HoldsPath p.names p.len };
 
     ghost inverse = { λ q. record { names = padded most_names unused_name q; len = length q } };
 
-    ghost inverse_ok = { λ a h. Prim.rw (padded-take most_names unused_name a.names a.len h, length-kept most_names unused_name a.names a.len h) refl };
+    ghost inverse_ok = { λ a h. Prim.rw (padded-take most_names unused_name a.names a.len h.padded, length-kept most_names unused_name a.names a.len h.padded) refl };
 }
 
 impl Path {
@@ -52,7 +53,7 @@ impl Path {
 
     /// The path of these names, of which the last stands first.
     pub(crate) fn of(names: &[Name]) -> Path
-        requires { length names.now ≤ most_names }
+        requires { IsTrue (is_path names.now) }
         ensures { result ≡ names.now }
     {
         Path {
@@ -76,6 +77,8 @@ impl Path {
         requires { length self.old < most_names }
         ensures { self.new ≡ name ∷ self.old }
     {
+        // A name is one by its type, so that the path is one too.
+        let _text = name.as_bytes();
         self.names.rotate_right(1);
         self.names[0] = name;
         self.len += 1;
@@ -83,7 +86,8 @@ impl Path {
 
     /// The names of the path, the last one first.
     pub fn names(&self) -> &[Name]
-        ensures { result.now ≡ self.now }
+        ensures names { result.now ≡ self.now }
+        ensures right { IsTrue (is_path self.now) }
     {
         &self.names[..self.len as usize]
     }
@@ -112,6 +116,7 @@ impl Path {
         if old.depth() == 0 || !self.is_at_or_below(old) {
             return *self;
         }
+        let _text = name.as_bytes();
         let mut names = self.names;
         names[self.depth() - old.depth()] = name;
         Path {
@@ -126,6 +131,26 @@ impl Path {
         ensures most { result ≤ most_names }
     {
         self.len as usize
+    }
+}
+
+/// A path is printed as it is written in a script.
+impl fmt::Display for Path {
+    ghost use Rattle.std.specs.Prelude.{Some};
+    ghost use Rattle.histar_flat.specs.Texts.{path_text};
+
+    ghost output = { λ path. Some (path_text path) };
+
+    fn fmt<W: fmt::Write>(&self, f: &mut fmt::Formatter<W>) -> fmt::Result {
+        let names = self.names();
+        if names.is_empty() {
+            return write!(f, "/");
+        }
+        for i in 0..names.len() {
+            let name = names[names.len() - 1 - i];
+            write!(f, "/{name}")?;
+        }
+        Ok(())
     }
 }
 

@@ -3,3 +3,4 @@ pub mod Isolation
 pub mod Following
 pub mod Trees
 pub mod Replies
+pub mod VerdictText

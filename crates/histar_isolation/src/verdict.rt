@@ -1,5 +1,6 @@
 //! What a comparison finds.
 use histar_flat::Path;
+use std::fmt;
 
 /// What is found where the run of a script is compared with the run of the script without the calls
 /// of a job.
@@ -14,4 +15,21 @@ pub enum Verdict {
     /// The first path outside the job at which the trees differ, where all outsiders were answered
     /// the same.
     Tree(Path),
+}
+
+/// A verdict is printed as `same`, `no job`, `line` with the number of the line, or `tree` with the path.
+impl fmt::Display for Verdict {
+    ghost use Rattle.std.specs.Prelude.{Some};
+    ghost use Rattle.histar_isolation.specs.VerdictText.{verdict_text};
+
+    ghost output = { λ verdict. Some (verdict_text verdict) };
+
+    fn fmt<W: fmt::Write>(&self, f: &mut fmt::Formatter<W>) -> fmt::Result {
+        match self {
+            Verdict::Same => write!(f, "same"),
+            Verdict::NoJob => write!(f, "no job"),
+            Verdict::Line(number) => write!(f, "line {number}"),
+            Verdict::Tree(path) => write!(f, "tree {path}"),
+        }
+    }
 }

@@ -64,6 +64,8 @@ tests_pointwise = record {
   below_raised = is_below_raised-law;
   below_join = is_below_join-law;
   below_join_raised = is_below_join_raised-law;
+  join = grades-join_of;
+  floor = grades-floor_of;
   star = has_star-law;
   made = is_made-law;
 }

@@ -2,7 +2,8 @@
 use Rattle.std.specs.Prelude.{◌≡◌, ◌≢◌, ◌↔◌, ◌⊎◌, ℕ, ◌≤◌, Bool, IsTrue}
 use Rattle.histar_label.specs.declared.levels.Level.TheVariants.{Star}
 use Rattle.histar_label.specs.Level.{rank}
-use Rattle.histar_label.specs.Levels.{Levels, level_of, default_of, exceptions_of, grades, raised_grades, joined, IsBelow, IsDefault, ListsExceptions, HasStar, NamesOnlyMade, is_below, is_below_raised, is_below_join, is_below_join_raised, has_star, is_made}
+use Rattle.histar_label.specs.Levels.{Levels, level_of, default_of, exceptions_of, grades, raised_grades, joined, floor_grades, IsBelow, IsSame, IsDefault, ListsExceptions, HasStar, NamesOnlyMade, is_below, is_below_raised, is_below_join, is_below_join_raised, has_star, is_made}
+use Rattle.histar_label.specs.Floors.{join_of, floor_of}
 use Rattle.histar_label.specs.Exceptions.{IsRising}
 
 -- the two labels have the same level at each category
@@ -20,12 +21,14 @@ pub record IsListed (L : Levels) : Type 0 where
   pub rising : IsRising (exceptions_of L)
   pub listed : ListsExceptions L (exceptions_of L)
 
--- each test answers what holds at every category
+-- each test answers what holds at every category, and the join and the floor have at each category the level of their rule
 pub record TestsArePointwise : Type 0 where
   pub below : (L M : Levels) → IsTrue (is_below L M) ↔ IsBelow (grades L) (grades M)
   pub below_raised : (L M : Levels) → IsTrue (is_below_raised L M) ↔ IsBelow (grades L) (raised_grades M)
   pub below_join : (L F S : Levels) → IsTrue (is_below_join L F S) ↔ IsBelow (grades L) (joined (grades F) (grades S))
   pub below_join_raised : (L F S : Levels) → IsTrue (is_below_join_raised L F S) ↔ IsBelow (grades L) (joined (grades F) (raised_grades S))
+  pub join : (L M : Levels) → IsSame (grades (join_of L M)) (joined (grades L) (grades M))
+  pub floor : (L M : Levels) → IsSame (grades (floor_of L M)) (floor_grades L M)
   pub star : (L : Levels) → IsTrue (has_star L) ↔ HasStar L
   pub made : (next : ℕ) (L : Levels) → IsTrue (is_made next L) ↔ NamesOnlyMade next L
 

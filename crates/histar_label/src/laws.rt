@@ -18,7 +18,8 @@ pub fn labels_are_listed()
     ensures { (L : Levels) → IsListed L }
 {}
 
-/// The equations of the comparisons and their clauses over all categories say the same.
+/// The equations of the comparisons, the join and the floor say the same as their rules at every
+/// category.
 pub fn tests_are_pointwise()
     ensures { TestsArePointwise }
 {}

@@ -10,3 +10,17 @@ pub mod EntriesRead
 pub mod Statuses
 pub mod ReadingStatuses
 pub mod WritingStatuses
+pub mod Members
+pub mod LabellingLemmas
+pub mod LabelLevels
+pub mod Scanning
+pub mod OneUser
+pub mod OwnersOf
+pub mod UserOf
+pub mod Declared
+pub mod Rising
+pub mod ShownSteps
+pub mod Lookups
+pub mod Passed
+pub mod ClassesShown
+pub mod ClassLabels

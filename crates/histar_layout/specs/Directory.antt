@@ -1,5 +1,5 @@
 -- The bytes of a directory segment.
-use Rattle.std.specs.Prelude.{◌≡◌, ℕ, ◌<◌, ◌≤◌, ◌^◌, IsTrue, List, ◌∷◌, ◌++◌, length}
+use Rattle.std.specs.Prelude.{◌≡◌, ℕ, ◌<◌, ◌≤◌, ◌^◌, IsTrue, List, ◌∷◌, ◌++◌, length, Option, MatchOption}
 use Rattle.std.specs.Int.{w64, to_be_bytes}
 use Rattle.std.specs.List.{flat_map, AllByRecursion}
 use Rattle.std.specs.Ordering.{nat_cmp}
@@ -54,3 +54,7 @@ spelling dir = flat_map entry_bytes (map.entries dir)
 pub record IsDirectory (bytes : List ℕ) (dir : Entries) : Type 0 where
   pub listable : IsListable dir
   pub spelled : bytes ≡ spelling dir
+
+-- what was read is the directory that the bytes are, and nothing was read exactly where they are none
+abbrev pub ReadsDirectory : List ℕ → Option Entries → Type 0
+ReadsDirectory bytes found = MatchOption found ((dir : Entries) → IsDirectory bytes dir → ⊥) (IsDirectory bytes)

@@ -9,3 +9,9 @@ pub mod Span
 pub mod Checked
 pub mod Status
 pub mod StatusParts
+pub mod Labelling
+pub mod Jobs
+pub mod Categories
+pub mod UserTable
+pub mod ShownClass
+pub mod ClassLabels

@@ -1,9 +1,9 @@
 //! Directories and the bytes that they lie in.
-ghost use Rattle.std.specs.Prelude.{◌≡◌, ℕ, ◌+◌, ◌++◌, ◌<◌, ◌≤◌, ◌↔◌, List, IfOk, OnOk, OnErr, IsTrue, MatchOption};
+ghost use Rattle.std.specs.Prelude.{◌≡◌, ℕ, ◌+◌, ◌++◌, ◌<◌, ◌≤◌, ◌↔◌, List, IfOk, OnOk, OnErr, IsTrue};
 ghost use Rattle.std.specs.FinMap as map;
 ghost use Rattle.std.specs.Vec.{vec_len, vec_capacity};
 ghost use Rattle.histar_layout.specs.Listing.{names_in};
-ghost use Rattle.histar_layout.specs.Directory.{Entries, LeadsSomewhere, IsListable, IsDirectory};
+ghost use Rattle.histar_layout.specs.Directory.{Entries, LeadsSomewhere, IsListable, IsDirectory, ReadsDirectory};
 ghost use Rattle.histar_flat.specs.FlatCalls.{most_entries};
 
 use crate::checked::check_directory;
@@ -125,6 +125,18 @@ impl Dir {
         Ok(entries)
     }
 
+    /// Takes bytes for the directory that they are, if they are one.
+    pub fn from_bytes(bytes: Bytes) -> Option<Dir>
+        ensures { ReadsDirectory bytes result }
+    {
+        match check_directory(bytes.as_slice()) {
+            Ok(()) => Some(Dir {
+                bytes: bytes.into_vec(),
+            }),
+            Err(_) => None,
+        }
+    }
+
     /// The bytes of its segment.
     pub fn into_bytes(self) -> Bytes
         ensures { IsDirectory result self }
@@ -133,16 +145,18 @@ impl Dir {
     }
 }
 
-/// The directory that the bytes are, if they are one.
-pub fn read_dir(bytes: Bytes) -> Option<Dir>
-    ensures { MatchOption result ((dir : Entries) → IsDirectory bytes dir → ⊥) (IsDirectory bytes) }
+/// Reads a directory from the bytes of its segment, which are copied. None where they are no directory.
+pub fn read_dir(alloc: Global, bytes: &[u8]) -> Result<Option<Dir>, AllocError>
+    ensures { IfOk result (ReadsDirectory bytes.now) }
 {
-    match check_directory(bytes.as_slice()) {
-        Ok(()) => Some(Dir {
-            bytes: bytes.into_vec(),
-        }),
-        Err(_) => None,
-    }
+    Ok(Dir::from_bytes(Bytes::copy_of(alloc, bytes)?))
+}
+
+/// Writes the bytes of a directory's segment.
+pub fn write_dir(alloc: Global, dir: &Dir) -> Result<Bytes, AllocError>
+    ensures { IfOk result (λ bytes. IsDirectory bytes dir.now) }
+{
+    Bytes::copy_of(alloc, dir.bytes.as_slice())
 }
 
 /// Bytes are one directory at most.

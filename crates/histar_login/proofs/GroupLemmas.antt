@@ -9,10 +9,10 @@ use Rattle.histar_flat.specs.Sessions.{Group, Session, has, numbers_with}
 use Rattle.histar_flat.specs.Words.{Name}
 use Rattle.histar_label.specs.declared.levels.Level.{Level}
 use Rattle.histar_label.specs.Levels.{Levels, with_level}
-use Rattle.histar_calls.specs.Categories.{read_category, write_category, group_owner, owners_of}
-use Rattle.histar_calls.specs.Labelling.{with_levels, labelled}
-use Rattle.histar_calls.proofs.LabellingLemmas.{take_next}
-use Rattle.histar_calls.proofs.OwnersOf.{behind_choice}
+use Rattle.histar_layout.specs.Categories.{read_category, write_category, group_owner, owners_of}
+use Rattle.histar_layout.specs.Labelling.{with_levels, labelled}
+use Rattle.histar_layout.proofs.LabellingLemmas.{take_next}
+use Rattle.histar_layout.proofs.OwnersOf.{behind_choice}
 use Rattle.histar_login.specs.Start.{numbered, at_both, declared, own_read_category, numbers_among, group_entry, group_part}
 use Rattle.histar_login.proofs.StartLemmas.{numbered_next}
 

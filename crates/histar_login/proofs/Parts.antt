@@ -1,5 +1,6 @@
 -- What one raw call of boot adds to what stands.
 use Rattle.std.proofs.Common.{◌≡◌, ℕ, suc, ◌+◌, false, List, [], ◌∷◌, ◌++◌, length, None, Some, Result, Ok, Err, sym, ap, ◌∙◌, subst, arith, append_assoc}
+use Rattle.std.specs.Prelude.{option_map}
 use Rattle.std.specs.FinSet as set
 use Rattle.std.specs.Ordering.{nat_cmp}
 use Rattle.std.specs.Cmp.{nat_cmp_total}
@@ -18,7 +19,7 @@ use Rattle.histar_rules.specs.Sound.{root_number}
 use Rattle.histar_syscall.specs.KernelModel.{KernelModel, state, Called, Answered}
 use Rattle.histar_syscall.proofs.Runs.{granted_none, granted_more}
 use Rattle.histar_container.specs.ObjectsModel.{CutsOff}
-use Rattle.histar_calls.specs.Labelling.{written_by}
+use Rattle.histar_layout.specs.Labelling.{written_by}
 use Rattle.histar_login.specs.Start.{state_with, container, root_category}
 use Rattle.histar_login.specs.Boot.{boot_thread_number}
 use Rattle.histar_login.specs.Booting.{Part, nothing_yet, next_number, next_made, table_of, Boots, OwnsMade, Allows, IsUndenied, Passes, Grants}
@@ -85,7 +86,7 @@ module _ (first old new : KernelModel) (p : Part) (boots : Boots first old p) wh
   -- one object more in the root container
   pub boots_shared : (call : RawCall) (o : Object Levels) → Called old new boot_thread_number call None → state new ≡ with_object (state old) root_number o → Boots first new (one_object p call o)
   boots_shared call o called makes =
-      let linked : changed (linking (1 + length (table_of boots.boot p))) 0 (table_of boots.boot p ++ Some o ∷ [])
+      let linked : changed (linking (1 + length (table_of boots.boot p))) 0 (table_of boots.boot p) ++ Some o ∷ []
       ≡ table_of boots.boot (record { calls = p.calls; linked = p.linked ++ next_number p ∷ []; objects = p.objects ++ Some o ∷ []; categories = p.categories }) =
       ap (λ (x : Found). x ∷ Some boots.boot ∷ (p.objects ++ Some o ∷ []))
       (links_more (written_by root_category) (boot_thread_number ∷ p.linked) (1 + length (table_of boots.boot p))
@@ -105,10 +106,10 @@ module _ (first old new : KernelModel) (p : Part) (boots : Boots first old p) wh
       let n = 1 + length (table_of boots.boot p) in
       let root = container (written_by root_category) (boot_thread_number ∷ p.linked) in
       let place : d ≡ suc (suc (suc (length front))) = at ∙ omega arith in
-      let same : p.objects ++ Some o ∷ [] ≡ front ++ container label numbers ∷ (back ++ Some o ∷ []) =
-      ap (λ (l : List Found). l ++ Some o ∷ []) parts ∙ append_assoc front (container label numbers ∷ back) (Some o ∷ []) in
-      let linked : changed (linking n) (length front) (p.objects ++ Some o ∷ []) ≡ front ++ container label (numbers ++ next_number p ∷ []) ∷ (back ++ Some o ∷ []) =
-      ap (changed (linking n) (length front)) same ∙ changed_behind (linking n) front (container label numbers) (back ++ Some o ∷ [])
+      let linked : changed (linking n) (length front) p.objects ++ Some o ∷ [] ≡ front ++ container label (numbers ++ next_number p ∷ []) ∷ (back ++ Some o ∷ []) =
+      ap (λ (l : List Found). changed (linking n) (length front) l ++ Some o ∷ []) parts
+      ∙ ap (λ (l : List Found). l ++ Some o ∷ []) (changed_behind (linking n) front (container label numbers) back)
+      ∙ append_assoc front (option_map (linking n) (container label numbers) ∷ back) (Some o ∷ [])
       ∙ ap (λ (x : Found). front ++ x ∷ (back ++ Some o ∷ [])) (links_more label numbers n ∙ ap (λ (k : ℕ). container label (numbers ++ k ∷ [])) (omega arith)) in
       record {
         granted = granted_more boot_thread_number first old new p.calls call boots.granted called;

@@ -5,7 +5,7 @@ use Rattle.histar_rules.specs.declared.raw.RawCall.TheVariants.{OwnLabel, SetLab
 use Rattle.histar_rules.specs.Sound.{root_number}
 use Rattle.histar_flat.specs.Sessions.{Session}
 use Rattle.histar_flat.specs.Words.{Name}
-use Rattle.histar_calls.specs.Categories.{owners_of}
+use Rattle.histar_layout.specs.Categories.{owners_of}
 use Rattle.histar_calls.specs.Laws.{RepliesToRefusals}
 use Rattle.histar_calls.specs.Programs.Program.{Answers}
 use Rattle.histar_calls.proofs.RepliesOfPrograms.{denial_of_call_has_reply}

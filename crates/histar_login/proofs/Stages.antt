@@ -14,8 +14,8 @@ use Rattle.histar_rules.specs.declared.raw.RawCall.{RawCall}
 use Rattle.histar_rules.specs.declared.raw.RawCall.TheVariants as calls
 use Rattle.histar_rules.specs.Sound.{root_number}
 use Rattle.histar_syscall.specs.KernelModel.{KernelModel, Called, IsUnchanged}
-use Rattle.histar_calls.specs.Categories.{read_category, write_category, owners_of}
-use Rattle.histar_calls.specs.Labelling.{secret_of}
+use Rattle.histar_layout.specs.Categories.{read_category, write_category, owners_of}
+use Rattle.histar_layout.specs.Labelling.{secret_of}
 use Rattle.histar_login.specs.Start.{numbered, gate_label, gate_clearance, owners_label, owners_clearance, of_user, of_users}
 use Rattle.histar_login.specs.Boot.{boot_thread_number, category_calls, user_calls, password_call, gate_call}
 use Rattle.histar_login.specs.Booting.{Part, and_then, next_number, next_made, Boots, BootsOn, BeginsOn, BeginsUser, BeginsUsers, HasBegun, HasRoom, Allows, IsUnderWay, IsAnywhere, IsBefore, IsBeforeUser, two_categories, categories_part, user_part, users_part}

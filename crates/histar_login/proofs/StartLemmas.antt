@@ -5,8 +5,8 @@ use Rattle.std.proofs.lemmas.List.{length-take-le}
 use Rattle.histar_flat.specs.declared.calls.User.{User}
 use Rattle.histar_flat.specs.Words.{Name}
 use Rattle.std.specs.Int.{w64, to_be_bytes}
-use Rattle.histar_calls.specs.Categories.{read_category, write_category}
-use Rattle.histar_calls.proofs.LabellingLemmas.{take_next}
+use Rattle.histar_layout.specs.Categories.{read_category, write_category}
+use Rattle.histar_layout.proofs.LabellingLemmas.{take_next}
 use Rattle.histar_login.specs.Start.{numbered, user_entry, user_entries, entry_of}
 
 -- numbers in a row with the next one

@@ -5,7 +5,7 @@ use Rattle.std.proofs.lemmas.List.{length-append}
 use Rattle.histar_flat.specs.declared.calls.User.{User}
 use Rattle.histar_flat.specs.Sessions.{Group, has}
 use Rattle.histar_flat.specs.Words.{Name}
-use Rattle.histar_calls.specs.Categories.{read_category, write_category, group_owner}
+use Rattle.histar_layout.specs.Categories.{read_category, write_category, group_owner}
 use Rattle.histar_login.specs.Start.{numbers_among, user_entry, group_entry}
 
 -- a list that may begin with one number more has at most one more

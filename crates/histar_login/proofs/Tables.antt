@@ -83,11 +83,12 @@ pub with_category_is : (table : List Found) (c k : ℕ) → with_category (state
 with_category_is table c k = λ i. record { objects = λ q. changed_is (with_star_at c) table k q i; next_object = 1 + sym (length-changed (with_star_at c) table k) i; next_category = c + 1 }
 
 -- a container gets an object more
-pub added_is : (table : List Found) (c k : ℕ) (o : Object Levels) → with_object (state_with table c) (suc k) o ≡ state_with (changed (linking (1 + length table)) k (table ++ Some o ∷ [])) c
+pub added_is : (table : List Found) (c k : ℕ) (o : Object Levels) → with_object (state_with table c) (suc k) o ≡ state_with (changed (linking (1 + length table)) k table ++ Some o ∷ []) c
 added_is table c k o =
     let n = 1 + length table in
-    let f = linking {L = Levels} n in
-    let at : (q : ℕ) → changed_at (put (object_at table) n o) (suc k) f q ≡ object_at (changed f k (table ++ Some o ∷ [])) q =
-    λ q. ap (λ (x : Found). if q == suc k then option_map f x else x) (put_is table o q) ∙ changed_is f (table ++ Some o ∷ []) k q in
-    let longer : 1 + length table + 1 ≡ 1 + length (changed f k (table ++ Some o ∷ [])) = omega (arith, length-changed f (table ++ Some o ∷ []) k, length-append table (Some o ∷ [])) in
+    let linked = changed (linking {L = Levels} n) k table in
+    let same : n ≡ 1 + length linked = omega (arith, length-changed (linking {L = Levels} n) table k) in
+    let at : (q : ℕ) → put (changed_at (object_at table) (suc k) (linking n)) n o q ≡ object_at (linked ++ Some o ∷ []) q =
+    λ q. (λ i. if q == same i then Some o else changed_is (linking n) table k q i) ∙ put_is linked o q in
+    let longer : 1 + length table + 1 ≡ 1 + length (linked ++ Some o ∷ []) = omega (arith, same, length-append linked (Some o ∷ [])) in
     λ i. record { objects = λ q. at q i; next_object = longer i; next_category = c }

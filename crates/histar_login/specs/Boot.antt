@@ -10,8 +10,8 @@ use Rattle.histar_rules.specs.declared.raw.RawCall.TheVariants.{MakeCategory, Ma
 use Rattle.histar_rules.specs.Sound.{root_number}
 use Rattle.histar_syscall.specs.KernelModel.{KernelModel, state}
 use Rattle.histar_syscall.specs.Runs.{Granted}
-use Rattle.histar_calls.specs.Categories.{read_category, write_category, owners_of}
-use Rattle.histar_calls.specs.Labelling.{written_by, secret_of, owner_of, cleared_of}
+use Rattle.histar_layout.specs.Categories.{read_category, write_category, owners_of}
+use Rattle.histar_layout.specs.Labelling.{written_by, secret_of, owner_of, cleared_of}
 use Rattle.histar_login.specs.Start.{numbered, root_category, declared, own_read_category, own_write_category, owners_label, owners_clearance, user_table, first_process_bytes}
 
 -- the boot thread, which makes all raw calls of boot

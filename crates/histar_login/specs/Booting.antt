@@ -15,7 +15,7 @@ use Rattle.histar_rules.specs.declared.raw.Refusal.TheVariants as refusals
 use Rattle.histar_rules.specs.Rules.{check, greatest, IsNextNumber}
 use Rattle.histar_syscall.specs.KernelModel.{KernelModel, state, Called, IsUnchanged}
 use Rattle.histar_syscall.specs.Runs.{Granted}
-use Rattle.histar_calls.specs.Labelling.{written_by}
+use Rattle.histar_layout.specs.Labelling.{written_by}
 use Rattle.histar_calls.specs.declared.places.Home.{Home}
 use Rattle.histar_calls.specs.declared.places.Place.{Place}
 use Rattle.histar_login.specs.Start.{numbered, root_category, declared, own_read_category, container, state_with, places_of, of_user, of_users, of_directory, of_process}

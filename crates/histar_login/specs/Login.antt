@@ -12,8 +12,8 @@ use Rattle.histar_label.specs.Floors.{join_of, floor_of}
 use Rattle.histar_rules.specs.declared.raw.RawCall.{RawCall}
 use Rattle.histar_rules.specs.declared.raw.RawCall.TheVariants.{OwnLabel, SetLabel, SetClearance, Enter, Read}
 use Rattle.histar_rules.specs.Sound.{root_number}
-use Rattle.histar_calls.specs.Categories.{owners_of}
-use Rattle.histar_calls.specs.Labelling.{owner_label, cleared_at}
+use Rattle.histar_layout.specs.Categories.{owners_of}
+use Rattle.histar_layout.specs.Labelling.{owner_label, cleared_at}
 use Rattle.histar_calls.specs.Laws.{RepliesToRefusals}
 use Rattle.histar_calls.specs.Programs.{Program}
 use Rattle.histar_calls.specs.Programs.Program.{Answers}

@@ -15,8 +15,8 @@ use Rattle.histar_object.specs.declared.objects.Kind.TheVariants.{Segment, Conta
 use Rattle.histar_object.specs.Objects.{Objects}
 use Rattle.histar_object.specs.State.{State, Found}
 use Rattle.histar_calls.specs.declared.places.Places.{Places}
-use Rattle.histar_calls.specs.Categories.{read_category, write_category, group_owner, owners_of}
-use Rattle.histar_calls.specs.Labelling.{labelled, written_by, secret_of, owner_of, cleared_of}
+use Rattle.histar_layout.specs.Categories.{read_category, write_category, group_owner, owners_of}
+use Rattle.histar_layout.specs.Labelling.{labelled, written_by, secret_of, owner_of, cleared_of}
 
 -- what f gives for each user, or each group, with its number, one after another, where the first has the number i
 abbrev pub numbered : {A B : Type 0} → (ℕ → B → List A) → ℕ → List B → List A

@@ -4,8 +4,8 @@ ghost use Rattle.histar_object.specs.State.{empty_state};
 ghost use Rattle.histar_rules.specs.Sound.{root_number};
 ghost use Rattle.histar_rules.specs.declared.raw.RawCall.TheVariants as calls;
 ghost use Rattle.histar_syscall.specs.KernelModel.{state};
-ghost use Rattle.histar_calls.specs.Categories.{write_category};
-ghost use Rattle.histar_calls.specs.Labelling.{written_by};
+ghost use Rattle.histar_layout.specs.Categories.{write_category};
+ghost use Rattle.histar_layout.specs.Labelling.{written_by};
 ghost use Rattle.histar_login.specs.Boot.{HasBegunBoot, IsBooted, boot_thread_number, gate_call, inner_call, last_call, listing_call, outer_call, password_call, slash_call, status_call, table_call, thread_call};
 ghost use Rattle.histar_login.specs.Booting.{Allows, BeginsDirectory, BeginsOn, BeginsProcess, BeginsUser, BeginsUsers, BootsOn, Grants, HasRoom, IsAnywhere, IsBeforeDirectory, IsBeforeUser, IsFirstDirectory, IsFirstHome, IsNextCategory, IsUnderWay, IsUndenied, MakesDirectory, MakesObject, MakesProcess, MakesUser, MakesUsers, Passes, categories_part, two_categories};
 ghost use Rattle.histar_login.specs.Start.{first_process_bytes, start_state, places_of};
@@ -13,11 +13,10 @@ ghost use Rattle.histar_login.specs.Start.{first_process_bytes, start_state, pla
 use crate::gates::gate_labels;
 use crate::table::user_table;
 use histar_base::Bytes;
-use histar_calls::{
-    Home, Place, Places, Stopped, label_of, owners_among, read_category, write_category,
-};
+use histar_calls::{Home, Place, Places, Stopped};
 use histar_flat::{Session, User};
 use histar_label::{Category, Label, LabelStore, Level};
+use histar_layout::{label_of, owners_among, read_category, write_category};
 use histar_object::{Entry, ObjId};
 use histar_syscall::{Kernel, Refusal};
 use std::alloc::{AllocError, Global};
@@ -327,8 +326,8 @@ fn unlink_boot_thread<S: LabelStore + Drop>(
 
 /// Makes the raw calls of boot on the empty kernel: the boot thread makes two categories for nobody,
 /// for each user and for each group, the users' passwords and gates, the user table, `/`, and process
-/// 0, and takes itself away. It answers where `/` and process 0 are found. Where it stops, no call was
-/// denied: memory ran out.
+/// 0, and takes itself away. It returns where `/` and process 0 are found. Where it stops, each call that
+/// it made was granted.
 fn boot_on<S: LabelStore + Drop>(
     alloc: Global,
     kernel: &mut Kernel<S>,
@@ -351,8 +350,9 @@ fn boot_on<S: LabelStore + Drop>(
     Ok(Places { slash, home })
 }
 
-/// Boots a machine, and answers its kernel, and where `/` and process 0 are found. It stops only where
-/// memory ran out: no raw call of boot is denied. The first user writes `/`, so there is one.
+/// Boots a machine, and returns its kernel, and where `/` and process 0 are found. It stops where memory
+/// runs out; no clause says that it stops nowhere else, since the kernel is gone then. The first user
+/// writes `/`, so there is one.
 pub fn boot<S: LabelStore + Drop>(
     alloc: Global,
     store: S,

@@ -1,10 +1,10 @@
 //! What the gates of users give.
 ghost use Rattle.std.specs.Prelude.{◌≡◌, IfOk};
-ghost use Rattle.histar_calls.specs.Labelling.{labelled};
+ghost use Rattle.histar_layout.specs.Labelling.{labelled};
 ghost use Rattle.histar_login.specs.Start.{at_both, owners_label, owners_clearance};
 
-use histar_calls::{read_category, write_category};
 use histar_label::{Label, Level};
+use histar_layout::{read_category, write_category};
 use std::alloc::{AllocError, Global};
 
 /// The label that a gate gives, and its clearance: it owns the categories of these users and groups.

@@ -9,9 +9,10 @@ ghost use Rattle.histar_login.specs.Login.{user_label, user_clearance, gate_of, 
 
 use crate::gates::gate_labels;
 use histar_base::Bytes;
-use histar_calls::{Ending, Stopped, UserTable, cleared_at, owner_label, owners_of, settle};
+use histar_calls::{Ending, Stopped, settle};
 use histar_flat::{Errno, Name, Password, Reply};
 use histar_label::{Label, LabelStore};
+use histar_layout::{UserTable, cleared_at, owner_label, owners_of};
 use histar_object::{Entry, ObjId};
 use histar_process::{Caller, categories_of, joined};
 use histar_syscall::Kernel;

@@ -5,8 +5,8 @@ ghost use Rattle.histar_flat.specs.Sessions.{most_groups, most_users};
 ghost use Rattle.histar_login.specs.Start.{numbers_among, user_entry, group_entry, group_part, user_table};
 
 use histar_base::Bytes;
-use histar_calls::{group_owner, read_category, write_category};
 use histar_flat::{Group, Session, User};
+use histar_layout::{group_owner, read_category, write_category};
 use std::alloc::{AllocError, Global};
 
 /// Adds a user to the user table: the length of the name, the name, the user's two categories, its

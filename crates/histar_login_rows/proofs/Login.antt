@@ -30,7 +30,7 @@ use Rattle.histar_rules.specs.Sound.{root_number}
 use Rattle.histar_syscall.specs.KernelModel.{KernelModel, state}
 use Rattle.histar_syscall.proofs.Runs.{same_kernel}
 use Rattle.histar_calls.specs.declared.ending.Stopped.{Stopped}
-use Rattle.histar_calls.specs.Categories.{owners_of}
+use Rattle.histar_layout.specs.Categories.{owners_of}
 use Rattle.histar_calls.specs.Programs.{Program, Runs}
 use Rattle.histar_calls.specs.Programs.Program.{Answers}
 use Rattle.histar_calls.specs.Parts.{◌>>=◌, ◌>>◌, ask}
@@ -44,7 +44,7 @@ use Rattle.histar_refinement.specs.Guards.{Rights, rights_label, rights_clearanc
 use Rattle.histar_refinement.specs.Labels.{thread_rights, gate_rights}
 use Rattle.histar_refinement.specs.LaysOut.{Laid, LaysOut}
 use Rattle.histar_refinement.specs.Laws.{RunsAs}
-use Rattle.histar_refinement.proofs.SessionLemmas.{user_range}
+use Rattle.histar_layout.proofs.Declared.{user_range}
 use Rattle.histar_refinement.proofs.Standing.{thread_found}
 use Rattle.histar_refinement.proofs.StatusFound.{thread_back}
 use Rattle.histar_refinement.proofs.LeftObjects.{password_found, unnumbered_user}
@@ -55,7 +55,9 @@ use Rattle.histar_refinement.proofs.GateLabels.{gate_label_is, gate_clearance_is
 use Rattle.histar_refinement.proofs.CallLabels.{equal_bytes, number_by_place, user_label_is, user_clearance_is}
 use Rattle.histar_login_rows.proofs.TakenLabels.{labels_taken, labels_back, kept_bytes}
 use Rattle.histar_rows.specs.Laws.{LoginsAreRows}
-use Rattle.histar_rows.specs.Rows.{AreAmong, reads_of_login, IsReady, DoesItsRow}
+use Rattle.histar_rows.specs.Rows.{IsReady, DoesItsRow}
+use Rattle.histar_rows.specs.Reads.{AreAmong}
+use Rattle.histar_rows.proofs.ReadsByCall.{reads_of_login}
 use Rattle.histar_rows.proofs.Chains.{all_granted, entries_of, Chain}
 use Rattle.histar_rows.proofs.Steps.{granted_step, refused_step, refused_at_once, answered_step}
 

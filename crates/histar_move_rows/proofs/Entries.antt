@@ -33,7 +33,8 @@ use Rattle.histar_refinement.specs.Directories.{directory_of}
 use Rattle.histar_refinement.specs.Processes.{or_zero}
 use Rattle.histar_refinement.proofs.FileRows.{numbered_path}
 use Rattle.histar_refinement.proofs.Standing.{some_of}
-use Rattle.histar_rows.specs.Rows.{IsReady, AreAmong}
+use Rattle.histar_rows.specs.Rows.{IsReady}
+use Rattle.histar_rows.specs.Reads.{AreAmong}
 use Rattle.histar_rows.proofs.Chains.{Step, all_granted, entries_of, Chain}
 use Rattle.histar_rows.proofs.Endings.{ReadsAmong}
 use Rattle.histar_rows.proofs.Steps.{Goal, refused_at_once}

@@ -56,7 +56,8 @@ use Rattle.histar_refinement.proofs.RawChecks.{object, write_check}
 use Rattle.histar_refinement.proofs.FileChecks.{fits, unlink_said}
 use Rattle.histar_refinement.proofs.Removing.{under_home, lays_out_removed}
 use Rattle.histar_refinement.proofs.Standing.{thread_found, guard_at, container_found, listing_found, step_linked}
-use Rattle.histar_rows.specs.Rows.{IsReady, AreAmong}
+use Rattle.histar_rows.specs.Rows.{IsReady}
+use Rattle.histar_rows.specs.Reads.{AreAmong}
 use Rattle.histar_rows.proofs.Chains.{Step as Made, all_granted, entries_of, Chain}
 use Rattle.histar_rows.proofs.Endings.{IsBacked, ReadsAmong}
 use Rattle.histar_rows.proofs.Steps.{Goal, granted_step, refused_step, answered_step}

@@ -24,6 +24,6 @@ module _ {L : Type 0} (objects : Objects L) (n : ℕ) where
     | inr h ↦ ap (λ b. if b then Some (f o) else objects q) h.0 ∙ sym (ap (λ b. if b then option_map f (objects q) else objects q) h.0)
   ]) i
 
-  -- a new object that is taken out again leaves what was there
-  pub without_put : (o : Object L) → objects n ≡ None → without (put objects n o) n ≡ objects
-  without_put o none i q = at_each q None (if q == n then Some o else objects q) (objects q) (λ e. sym none ∙ ap objects (sym e)) (λ e. at_each q (Some o) (objects q) (objects q) (λ s. absurd (e s)) (λ s. refl)) i
+  -- where nothing is, nothing is after a change
+  pub none_changed : (f : Object L → Object L) (q : ℕ) → objects q ≡ None → changed_at objects n f q ≡ None
+  none_changed f q none = at_each q (option_map f (objects q)) (objects q) None (λ e. ap (option_map f) none) (λ e. none)

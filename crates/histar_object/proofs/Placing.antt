@@ -1,6 +1,7 @@
 -- What is found in a table whose objects stand in slots, and how it changes with one number.
-use Rattle.std.proofs.Common.{◌≡◌, ◌≢◌, ℕ, true, false, cond, List, [], ◌∷◌, Option, None, Some, IsSome, IsNone, ◌↔◌, inl, inr, if◌then◌else◌, refl, sym, ap, subst, ◌∙◌}
+use Rattle.std.proofs.Common.{◌≡◌, ◌≢◌, ℕ, true, false, cond, List, [], ◌∷◌, Option, None, Some, IsSome, ◌↔◌, inl, inr, if◌then◌else◌, refl, sym, ap, subst, ◌∙◌, arith}
 use Rattle.std.specs.Prelude.{◌==◌, nat_eq, is_some}
+use Rattle.std.proofs.lemmas.List.Sums.{sum_by-set}
 use mathlib.Core.Bool.{false≢true}
 use Rattle.std.proofs.lemmas.Bool.Decides.{eqb_tells}
 use Rattle.std.specs.Ordering.{nat_cmp}
@@ -8,6 +9,8 @@ use Rattle.std.specs.Cmp.{unsigned_tied, nat_eq_equiv}
 use Rattle.std.specs.List.{IsDistinct, AllByRecursion}
 use Rattle.std.specs.Map.{keys_of, lookup}
 use Rattle.std.specs.BTreeMap.{is_at}
+use Rattle.slab.specs.Slab.{Slab, get, slab_len, ContainsKey, with_value}
+use Rattle.slab.proofs.SlabLemmas.{ContainsKey-within}
 use Rattle.histar_object.specs.Slots.{place, placed, IsPlaced}
 
 -- the slot that a number has
@@ -18,6 +21,17 @@ slot_at slots q = lookup (nat_eq q) slots
 abbrev pub object_at : {X : Type 0} → List (ℕ × X) → ℕ → Option X
 object_at es q = lookup (is_at (nat_cmp q)) es
 
+-- the number n has the slot w, and every other number the slot that it had
+abbrev pub HasSlot : List (ℕ × ℕ) → List (ℕ × ℕ) → ℕ → Option ℕ → Type 0
+HasSlot es fs n w = (q : ℕ) → slot_at fs q ≡ cond (nat_eq n q) w (slot_at es q)
+
+-- so all others keep theirs
+pub other_slots : (es fs : List (ℕ × ℕ)) (n : ℕ) (w : Option ℕ) → HasSlot es fs n w → (q : ℕ) → q ≢ n → slot_at fs q ≡ slot_at es q
+other_slots es fs n w updated q differs = elim (eqb_tells n q) [
+  | inl same ↦ absurd (differs (sym same.1))
+  | inr other ↦ updated q ∙ ap (λ b. cond b w (slot_at es q)) other.0
+]
+
 -- each slot that is told has an object
 abbrev Stand : {X : Type 0} → (ℕ → Option X) → List (ℕ × ℕ) → Type 0
 Stand at slots = (q k : ℕ) → slot_at slots q ≡ Some k → IsSome (at k)
@@ -25,10 +39,6 @@ Stand at slots = (q k : ℕ) → slot_at slots q ≡ Some k → IsSome (at k)
 -- none of these numbers is n
 abbrev IsApart : ℕ → List (ℕ × ℕ) → Type 0
 IsApart n slots = AllByRecursion (λ m. nat_eq n m ≡ false) (keys_of slots)
-
--- the number n has the slot w, and every other number the slot that it had
-abbrev HasSlot : List (ℕ × ℕ) → List (ℕ × ℕ) → ℕ → Option ℕ → Type 0
-HasSlot es fs n w = (q : ℕ) → slot_at fs q ≡ cond (nat_eq n q) w (slot_at es q)
 
 -- all slots but s have the objects that they had
 abbrev KeepsOthers : {X : Type 0} → (ℕ → Option X) → (ℕ → Option X) → ℕ → Type 0
@@ -99,6 +109,20 @@ module _ {X : Type 0} (at : ℕ → Option X) where
   pub no_slot : (slots : List (ℕ × ℕ)) → IsPlaced at slots → (q : ℕ) → object_at (placed at slots) q ≡ None → slot_at slots q ≡ None
   no_slot slots is q none = slot_told (slot_at slots q) (is.stands q) (sym (lookup-placed slots is q) ∙ none)
 
+module _ {X : Type 0} (at new_at : ℕ → Option X) (es fs : List (ℕ × ℕ)) (was : IsPlaced at es) (kept : new_at ≡ at) (same : (q : ℕ) → slot_at fs q ≡ slot_at es q) where
+  -- slots are kept in another order, and their objects stay
+  pub IsPlaced-reordered : IsDistinct nat_eq (keys_of fs) → IsPlaced new_at fs
+  IsPlaced-reordered once = record {
+    once = once;
+    stands = λ q k is. subst (λ (f : ℕ → Option X). IsSome (f k)) (sym kept) (was.stands q k (sym (same q) ∙ is));
+    apart = λ p q k at_p at_q. was.apart p q k (sym (same p) ∙ at_p) (sym (same q) ∙ at_q);
+    named = λ k some. (let before = was.named k (subst (λ (f : ℕ → Option X). IsSome (f k)) kept some) in (before.0, same before.0 ∙ before.1));
+  }
+
+  -- then each number has the object that it had
+  pub objects-reordered : IsDistinct nat_eq (keys_of fs) → ◌≡◌ {A = ℕ → Option X} (λ q. object_at (placed new_at fs) q) (λ q. object_at (placed at es) q)
+  objects-reordered once i q = (lookup-placed new_at fs (IsPlaced-reordered once) q ∙ (λ j. found (kept j) (same q j)) ∙ sym (lookup-placed at es was q)) i
+
 -- One number changes: n, whose slot is s where it has or had one. It has the slot w then, and s has the object x.
 module _ {X : Type 0} (at new_at : ℕ → Option X) (es fs : List (ℕ × ℕ)) (n s : ℕ) (w : Option ℕ) (x : Option X) where
   -- what a change of one number does to the slots of numbers and to the objects of slots
@@ -119,10 +143,7 @@ module _ {X : Type 0} (at new_at : ℕ → Option X) (es fs : List (ℕ × ℕ))
 
     -- every other number keeps its slot
     at_other : (q : ℕ) → q ≢ n → slot_at fs q ≡ slot_at es q
-    at_other q differs = elim (eqb_tells n q) [
-      | inl same ↦ absurd (differs (sym same.1))
-      | inr other ↦ one.updated q ∙ ap (λ b. cond b w (slot_at es q)) other.0
-    ]
+    at_other q differs = other_slots es fs n w one.updated q differs
 
     -- the slots of other numbers keep their objects
     found_same : (o : Option ℕ) → ((k : ℕ) → o ≡ Some k → k ≢ s) → found new_at o ≡ found at o
@@ -229,13 +250,8 @@ module _ {X : Type 0} (at new_at : ℕ → Option X) (es : List (ℕ × ℕ)) (w
 
 module _ {X : Type 0} (at : ℕ → Option X) (slots : List (ℕ × ℕ)) (is : IsPlaced at slots) where
   -- a number has no slot exactly where it has no object
-  pub slot_none : (q : ℕ) (r : Option ℕ) → r ≡ slot_at slots q → IsNone r ↔ (object_at (placed at slots) q ≡ None)
-  slot_none q None tells = (λ none. none_at at slots is q (sym tells), λ none. refl)
-  slot_none q (Some k) tells = (λ none. absurd (false≢true (sym none)), λ none. absurd (none_or_some k (sym (no_slot at slots is q none) ∙ sym tells)))
-
-  -- two numbers have different slots
-  pub slots_apart : (p q : ℕ) (r o : Option ℕ) → r ≡ slot_at slots p → o ≡ slot_at slots q → p ≢ q → (k : ℕ) → r ≡ Some k → o ≢ Some k
-  slots_apart p q r o tells_p tells_q differs k first second = differs (is.apart p q k (sym tells_p ∙ first) (sym tells_q ∙ second))
+  pub slot_none : (q : ℕ) → (slot_at slots q ≡ None) ↔ (object_at (placed at slots) q ≡ None)
+  slot_none q = (none_at at slots is q, no_slot at slots is q)
 
   -- where there is no object, nothing is taken out
   pub none_without : (n : ℕ) → slot_at slots n ≡ None → (q : ℕ) → object_at (placed at slots) q ≡ (if q == n then None else object_at (placed at slots) q)
@@ -243,3 +259,10 @@ module _ {X : Type 0} (at : ℕ → Option X) (slots : List (ℕ × ℕ)) (is : 
     | inl same ↦ ap (λ m. object_at (placed at slots) m) same.1 ∙ none_at at slots is n none ∙ sym (ap (λ b. if b then None else object_at (placed at slots) q) same.0)
     | inr other ↦ sym (ap (λ b. if b then None else object_at (placed at slots) q) other.0)
   ]
+
+-- a slab that has another value in place of one has as many
+pub slab_len-with_value : {X : Type 0} (slab : Slab X) (k : ℕ) (x : X) → ContainsKey slab k → slab_len (with_value slab k x) ≡ slab_len slab
+slab_len-with_value slab k x present =
+    let counted = sum_by-set (λ o. cond (is_some o) 1 0) slab.slots k (Some x) None (ContainsKey-within slab k present) in
+    let one : ◌≡◌ {A = ℕ} (cond (is_some (get slab k)) 1 0) 1 = ap (λ b. cond b 1 0) present in
+    omega (arith, counted, one)

@@ -9,6 +9,7 @@ use Rattle.histar_object.specs.declared.objects.Entry.TheVariants.{Login, Mark}
 use Rattle.histar_object.specs.declared.objects.Kind.{Kind}
 use Rattle.histar_object.specs.declared.objects.Kind.TheVariants.{Segment, Container, Thread, Gate}
 use Rattle.histar_object.specs.declared.objects.Object.{Object}
+use Rattle.histar_object.specs.Objects.{TableModel}
 
 -- an entry as one of two numbers
 abbrev pub split_entry : Entry → ℕ ⊎ ℕ
@@ -53,3 +54,6 @@ module _ {L : Type 0} where
 
   abbrev pub coded_object : Coded L → Coded (Object L)
   coded_object l = code_by (L × Kind L) (coded× l (coded_kind l)) (λ o. (o.label, o.kind)) (λ p. record { label = p.0; kind = p.1 }) (λ _. refl)
+
+  abbrev pub coded_table : Coded L → Coded (TableModel L)
+  coded_table l = code_by (List (ℕ × Object L) × (List (ℕ × ℕ) × ℕ)) (coded× (coded_list (coded× coded_ℕ (coded_object l))) (coded× (coded_list (coded× coded_ℕ coded_ℕ)) coded_ℕ)) (λ t. (t.objects, (t.slots, t.room))) (λ p. record { objects = p.0; slots = p.1.0; room = p.1.1 }) (λ _. refl)

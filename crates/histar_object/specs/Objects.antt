@@ -1,5 +1,5 @@
 -- Objects by number, what each says of itself, and how they change. L is what stands for a label.
-use Rattle.std.specs.Prelude.{◌≡◌, ℕ, Bool, true, false, ◌==◌, nat_eq, List, [], ◌++◌, Option, None, Some, option_map, if◌then◌else◌}
+use Rattle.std.specs.Prelude.{◌≡◌, ℕ, ◌<◌, Bool, true, false, ◌==◌, nat_eq, List, [], ◌++◌, Option, None, Some, option_map, if◌then◌else◌}
 use Rattle.std.specs.Ordering.{nat_cmp}
 use Rattle.std.specs.List.{IsDistinct}
 use Rattle.std.specs.Set.{is_member}
@@ -26,6 +26,12 @@ pub record AppendsAll (links : Numbers) (old new : List ℕ) : Type 0 where
   pub is : new ≡ old ++ added
   pub listed : IsListOf added links
 
+-- a table: its objects by number, the slot of each number, and how many objects more have room
+pub record TableModel (L : Type 0) : Type 0 where
+  pub objects : List (ℕ × Object L)
+  pub slots : List (ℕ × ℕ)
+  pub room : ℕ
+
 -- an object for some numbers
 abbrev pub Objects : Type 0 → Type 0
 Objects L = ℕ → Option (Object L)
@@ -37,8 +43,16 @@ or_no_bytes (Some bytes) = bytes
 
 module _ {L : Type 0} where
   -- the object at each number of a table
-  abbrev pub objects_of : List (ℕ × Object L) → Objects L
-  objects_of es q = lookup (is_at (nat_cmp q)) es
+  abbrev pub objects_of : TableModel L → Objects L
+  objects_of t q = lookup (is_at (nat_cmp q)) t.objects
+
+  -- the slot of each number that has an object
+  abbrev pub slot_of : TableModel L → ℕ → Option ℕ
+  slot_of t q = lookup (nat_eq q) t.slots
+
+  -- there is room for one object more
+  abbrev pub HasRoom : TableModel L → Type 0
+  HasRoom t = 0 < t.room
 
   -- no object at any number
   abbrev pub no_objects : Objects L
@@ -58,10 +72,8 @@ module _ {L : Type 0} where
 
   -- a container that links one number more; no other object links any
   abbrev pub kind_linking : ℕ → Kind L → Kind L
-  kind_linking n (Segment bytes) = Segment bytes
   kind_linking n (Container links) = Container (set.insert links n)
-  kind_linking n (Thread clearance) = Thread clearance
-  kind_linking n (Gate clearance entry) = Gate clearance entry
+  kind_linking n kind = kind
 
   -- an object with its label, and one link more if it is a container
   abbrev pub linking : ℕ → Object L → Object L
@@ -69,10 +81,8 @@ module _ {L : Type 0} where
 
   -- a container that links one number no more; no other object links any
   abbrev pub kind_unlinking : ℕ → Kind L → Kind L
-  kind_unlinking n (Segment bytes) = Segment bytes
   kind_unlinking n (Container links) = Container (set.remove links n)
-  kind_unlinking n (Thread clearance) = Thread clearance
-  kind_unlinking n (Gate clearance entry) = Gate clearance entry
+  kind_unlinking n kind = kind
 
   -- an object with its label, and one link less if it is a container
   abbrev pub unlinking : ℕ → Object L → Object L
@@ -80,14 +90,12 @@ module _ {L : Type 0} where
 
   -- the objects with a new one at the number n, which the container d links
   abbrev pub with_new : Objects L → ℕ → ℕ → Object L → Objects L
-  with_new objects d n o = changed_at (put objects n o) d (linking n)
+  with_new objects d n o = put (changed_at objects d (linking n)) n o
 
   -- a segment with these bytes
   abbrev pub kind_holding : List ℕ → Kind L → Kind L
   kind_holding new (Segment bytes) = Segment new
-  kind_holding new (Container links) = Container links
-  kind_holding new (Thread clearance) = Thread clearance
-  kind_holding new (Gate clearance entry) = Gate clearance entry
+  kind_holding new kind = kind
 
   -- an object with its label, and these bytes if it is a segment
   abbrev pub holding : List ℕ → Object L → Object L
@@ -99,27 +107,19 @@ module _ {L : Type 0} where
 
   abbrev pub kind_is_segment : Kind L → Bool
   kind_is_segment (Segment bytes) = true
-  kind_is_segment (Container links) = false
-  kind_is_segment (Thread clearance) = false
-  kind_is_segment (Gate clearance entry) = false
+  kind_is_segment kind = false
 
   abbrev pub kind_is_container : Kind L → Bool
-  kind_is_container (Segment bytes) = false
   kind_is_container (Container links) = true
-  kind_is_container (Thread clearance) = false
-  kind_is_container (Gate clearance entry) = false
+  kind_is_container kind = false
 
   abbrev pub kind_is_thread : Kind L → Bool
-  kind_is_thread (Segment bytes) = false
-  kind_is_thread (Container links) = false
   kind_is_thread (Thread clearance) = true
-  kind_is_thread (Gate clearance entry) = false
+  kind_is_thread kind = false
 
   abbrev pub kind_is_gate : Kind L → Bool
-  kind_is_gate (Segment bytes) = false
-  kind_is_gate (Container links) = false
-  kind_is_gate (Thread clearance) = false
   kind_is_gate (Gate clearance entry) = true
+  kind_is_gate kind = false
 
   -- an object is there
   abbrev pub is_present : Option (Object L) → Bool
@@ -147,10 +147,8 @@ module _ {L : Type 0} where
   is_gate (Some o) = kind_is_gate o.kind
 
   abbrev pub kind_links : Kind L → Numbers
-  kind_links (Segment bytes) = set.empty
   kind_links (Container links) = links
-  kind_links (Thread clearance) = set.empty
-  kind_links (Gate clearance entry) = set.empty
+  kind_links kind = set.empty
 
   -- what an object links: nothing, unless it is a container
   abbrev pub links_in : Option (Object L) → Numbers
@@ -159,9 +157,7 @@ module _ {L : Type 0} where
 
   abbrev pub kind_bytes : Kind L → Option (List ℕ)
   kind_bytes (Segment bytes) = Some bytes
-  kind_bytes (Container links) = None
-  kind_bytes (Thread clearance) = None
-  kind_bytes (Gate clearance entry) = None
+  kind_bytes kind = None
 
   -- the bytes of a segment that is there
   abbrev pub bytes_there : Option (Object L) → Option (List ℕ)
@@ -178,10 +174,9 @@ module _ {L : Type 0} where
   label_there (Some o) = Some o.label
 
   abbrev pub kind_clearance : Kind L → Option L
-  kind_clearance (Segment bytes) = None
-  kind_clearance (Container links) = None
   kind_clearance (Thread clearance) = Some clearance
   kind_clearance (Gate clearance entry) = Some clearance
+  kind_clearance kind = None
 
   -- the clearance of a thread or a gate that is there
   abbrev pub clearance_there : Option (Object L) → Option L
@@ -189,10 +184,8 @@ module _ {L : Type 0} where
   clearance_there (Some o) = kind_clearance o.kind
 
   abbrev pub kind_entry : Kind L → Option Entry
-  kind_entry (Segment bytes) = None
-  kind_entry (Container links) = None
-  kind_entry (Thread clearance) = None
   kind_entry (Gate clearance entry) = Some entry
+  kind_entry kind = None
 
   -- what a gate that is there gives to those who enter it
   abbrev pub entry_there : Option (Object L) → Option Entry

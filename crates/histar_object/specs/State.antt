@@ -1,5 +1,5 @@
 -- The state of a kernel, and what its labels allow.
-use Rattle.std.specs.Prelude.{ℕ, ◌+◌, Bool, false, ◌&&◌, List, Option, None, Some}
+use Rattle.std.specs.Prelude.{ℕ, ◌+◌, Bool, false, ◌&&◌, List, Option, Some}
 use Rattle.std.specs.FinSet as set
 use Rattle.histar_label.specs.declared.levels.Level.TheVariants.{Star, L0, L1, L2, L3}
 use Rattle.histar_label.specs.Levels.{Levels, constant, with_level, is_below, is_below_raised}
@@ -19,21 +19,18 @@ Found = Option (Object Levels)
 
 -- t may observe a: a's label is below t's, where owning counts as above every level
 abbrev pub observes : Found → Found → Bool
-observes None a = false
-observes (Some t) None = false
 observes (Some t) (Some a) = is_below_raised a.label t.label
+observes t a = false
 
 -- t may modify a: t's label is below a's, and t may observe a
 abbrev pub modifies : Found → Found → Bool
-modifies None a = false
-modifies (Some t) None = false
 modifies (Some t) (Some a) = is_below t.label a.label && is_below_raised a.label t.label
+modifies t a = false
 
 -- a label lies between a lower one and an upper one, where both are there
 abbrev pub between : Option Levels → Option Levels → Levels → Bool
-between None upper label = false
-between (Some lower) None label = false
 between (Some lower) (Some upper) label = is_below lower label && is_below label upper
+between lower upper label = false
 
 -- a label lies between t's own label and t's clearance
 abbrev pub in_range : Found → Levels → Bool

@@ -1,7 +1,7 @@
 //! Objects by number.
-ghost use Rattle.std.specs.Prelude.{◌≡◌, ◌≢◌, ◌↔◌, ℕ, OnOk, OnErr, None, Some, IsNone};
+ghost use Rattle.std.specs.Prelude.{◌≡◌, ◌≢◌, ◌↔◌, ℕ, IsOk, OnOk, OnErr, None, Some};
 ghost use Rattle.std.specs.Option.{option_copied, option_copied_mut};
-ghost use Rattle.histar_object.specs.Objects.{objects_of, put, without, bytes_there, no_objects};
+ghost use Rattle.histar_object.specs.Objects.{objects_of, slot_of, HasRoom, put, without, bytes_there, no_objects};
 
 use crate::ids::ObjId;
 use crate::objects::{Kind, Object};
@@ -12,7 +12,7 @@ use std::marker::Model;
 
 /// Objects by number. `L` is what stands for a label.
 ///
-/// Each object has a slot, and a map tells the slot of a number. A slot is used again once its
+/// Each object has a slot, and a map has the slot of each number. A slot is used again once its
 /// object is taken out; numbers are the caller's, who gives none again.
 #[derive(Drop)]
 pub struct Table<L> {
@@ -21,18 +21,22 @@ pub struct Table<L> {
 }
 
 impl<L> Model for Table<L> {
-    ghost use Rattle.std.specs.Prelude.{List, ℕ};
-    ghost use Rattle.histar_object.specs.declared.objects.Object.{Object};
-    ghost use Rattle.std.specs.Coded.{coded×, coded_ℕ, coded_list};
-    ghost use Rattle.slab.specs.Slab.{get};
-    ghost use Rattle.histar_object.specs.Codes.{coded_object};
+    ghost use Rattle.std.specs.Prelude.{◌-◌, min};
+    ghost use Rattle.std.specs.HashMap.{spare};
+    ghost use Rattle.slab.specs.Slab.{get, slab_len};
+    ghost use Rattle.histar_object.specs.Objects.{TableModel};
+    ghost use Rattle.histar_object.specs.Codes.{coded_table};
     ghost use Rattle.histar_object.specs.Slots.{placed, IsPlaced};
 
-    ghost Value = { List (ℕ × Object L) };
+    ghost Value = { TableModel L };
 
-    ghost coded = { coded_list (coded× coded_ℕ (coded_object L.code)) };
+    ghost coded = { coded_table L.code };
 
-    ghost view = { λ t. placed (get t.objects) t.slots.entries };
+    ghost view = { λ t. record {
+      objects = placed (get t.objects) t.slots.entries;
+      slots = t.slots.entries;
+      room = min (spare t.slots) (t.objects.capacity - slab_len t.objects);
+    } };
 
     ghost invariant = { λ t. IsPlaced (get t.objects) t.slots.entries };
 }
@@ -51,24 +55,12 @@ impl<L> Table<L> {
         }
     }
 
-    /// The slot of this object: a small number, which another object may get once this one is taken
-    /// out.
+    /// Returns the slot of an object: a small number, which another object may get once this one is
+    /// taken out.
     pub fn slot(&self, id: ObjId) -> Option<usize>
-        ensures { IsNone result ↔ (objects_of self.now id ≡ None) }
+        ensures { result ≡ slot_of self.now id }
     {
         self.slots.get(&id).copied()
-    }
-
-    /// The slots of two objects, as `slot` tells them. Two objects never have one slot.
-    pub fn slots(&self, first: ObjId, second: ObjId) -> (Option<usize>, Option<usize>)
-        ensures first { IsNone result.0 ↔ (objects_of self.now first ≡ None) }
-        ensures second { IsNone result.1 ↔ (objects_of self.now second ≡ None) }
-        ensures apart { first ≢ second → (k : ℕ) → result.0 ≡ Some k → result.1 ≢ Some k }
-    {
-        (
-            self.slots.get(&first).copied(),
-            self.slots.get(&second).copied(),
-        )
     }
 
     /// The object of this number.
@@ -79,13 +71,37 @@ impl<L> Table<L> {
         self.objects.get(slot)
     }
 
-    /// The object of this number, to be changed. All other objects stay.
+    /// Lends the object of this number, to be changed. All other objects, all slots and the room stay.
     pub fn get_mut(&mut self, id: ObjId) -> Option<&mut Object<L>>
         ensures* writes_back { sem 𝓛 (LendsObject L.row self.entry id result) }
         ensures value { option_copied_mut result ≡ objects_of self.old id }
     {
         let slot = *self.slots.get(&id)?;
         self.objects.get_mut(slot)
+    }
+
+    /// Makes room for one object more. Objects and slots stay, whether or not there is memory.
+    pub fn reserve(&mut self) -> Result<(), AllocError>
+        ensures room { OnOk result (HasRoom self.new) }
+        ensures succeeds { HasRoom self.old → IsOk result }
+        ensures objects { objects_of self.new ≡ objects_of self.old }
+        ensures slots { slot_of self.new ≡ slot_of self.old }
+    {
+        self.objects.reserve(1)?;
+        self.slots.reserve(1)
+    }
+
+    /// Keeps an object under a number that has none. There is room for it, so it needs no memory.
+    pub fn add_reserved(&mut self, id: ObjId, object: Object<L>)
+        requires absent { objects_of self.old id ≡ None }
+        requires room { HasRoom self.old }
+        ensures objects { objects_of self.new ≡ put (objects_of self.old) id object }
+        ensures slots { (q : ℕ) → q ≢ id → slot_of self.new q ≡ slot_of self.old q }
+    {
+        let slot = self.objects.insert_reserved(object);
+        let Ok(_) = self.slots.insert(id, slot) else {
+            unreachable!()
+        };
     }
 
     /// Keeps an object under a number that has none. Where memory runs out the object is dropped.
@@ -95,11 +111,10 @@ impl<L> Table<L> {
         requires { objects_of self.old id ≡ None }
         ensures ok { OnOk result (objects_of self.new ≡ put (objects_of self.old) id object) }
         ensures err { OnErr result (objects_of self.new ≡ objects_of self.old) }
+        ensures slots { (q : ℕ) → q ≢ id → slot_of self.new q ≡ slot_of self.old q }
     {
-        self.objects.reserve(1)?;
-        let slot = self.objects.vacant_key();
-        self.slots.insert(id, slot)?;
-        self.objects.insert_reserved(object);
+        self.reserve()?;
+        self.add_reserved(id, object);
         Ok(())
     }
 
@@ -107,6 +122,7 @@ impl<L> Table<L> {
     pub fn remove(&mut self, id: ObjId) -> Option<Object<L>>
         ensures value { result ≡ objects_of self.old id }
         ensures without { objects_of self.new ≡ without (objects_of self.old) id }
+        ensures slots { (q : ℕ) → q ≢ id → slot_of self.new q ≡ slot_of self.old q }
     {
         let slot = self.slots.remove(&id)?;
         self.objects.try_remove(slot)
@@ -121,4 +137,13 @@ impl<L> Table<L> {
             _ => None,
         }
     }
+}
+
+/// States the law of slots, and does nothing: a number has a slot exactly where it has an object, and
+/// no two objects have one slot.
+pub fn slots_are_apart<L>(table: &Table<L>)
+    ensures present { (n : ℕ) → (slot_of table.now n ≡ None) ↔ (objects_of table.now n ≡ None) }
+    ensures apart { (a b k : ℕ) → slot_of table.now a ≡ Some k → slot_of table.now b ≡ Some k → a ≡ b }
+{
+    let _ = &table.slots;
 }

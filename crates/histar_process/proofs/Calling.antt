@@ -8,17 +8,17 @@ use Rattle.histar_syscall.specs.KernelModel.{KernelModel}
 use Rattle.histar_layout.specs.Status.{ProcessStatus, child_at, look_for, status_in}
 use Rattle.histar_layout.specs.declared.status.Child.{Child}
 use Rattle.histar_layout.specs.declared.status.NotAStatus.{NotAStatus}
-use Rattle.histar_calls.specs.Categories.{IsUserOf}
+use Rattle.histar_layout.specs.Categories.{IsUserOf}
 use Rattle.histar_calls.specs.Parts.{ask}
 use Rattle.histar_calls.specs.Programs.{RunsPart}
 use Rattle.histar_calls.specs.declared.ending.Ending.{Ending}
 use Rattle.histar_calls.specs.declared.ending.Ending.TheVariants.{Stopped}
 use Rattle.histar_calls.specs.declared.places.Home.{Home}
 use Rattle.histar_calls.proofs.Running.{before_ask}
-use Rattle.histar_calls.proofs.UserOf.{user_is}
+use Rattle.histar_layout.proofs.UserOf.{user_is}
 use Rattle.histar_process.specs.Birth.{birth}
 use Rattle.histar_process.specs.Kin.{Kin, kin_of, owned_by}
-use Rattle.histar_calls.specs.Jobs.{is_empty, jobs_in}
+use Rattle.histar_layout.specs.Jobs.{is_empty, jobs_in}
 use Rattle.histar_process.proofs.Births.{no_read, without_categories}
 use Rattle.histar_process.proofs.Segments.{child_looked}
 

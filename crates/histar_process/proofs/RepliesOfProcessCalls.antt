@@ -9,7 +9,7 @@ use Rattle.histar_rules.specs.Sound.{root_number}
 use Rattle.histar_rules.specs.declared.raw.RawCall.TheVariants.{MakeCategory, MakeSegment, MakeContainer, MakeThread, OwnLabel, SetLabel, SetClearance, Read, Write, Unlink}
 use Rattle.histar_layout.specs.Status.{ProcessStatus, child_at, once_exited, started, status_bytes, status_in, with_child_listed, without_child}
 use Rattle.histar_layout.specs.declared.status.Child.{Child}
-use Rattle.histar_calls.specs.Categories.{user_of}
+use Rattle.histar_layout.specs.Categories.{user_of}
 use Rattle.histar_calls.specs.Laws.{RepliesToRefusals}
 use Rattle.histar_calls.specs.Parts.{ask, given, if_there}
 use Rattle.histar_calls.specs.Programs.{Program}
@@ -21,7 +21,7 @@ use Rattle.histar_process.specs.Birth.{birth, inner_label, outer_label, thread_c
 use Rattle.histar_process.specs.ExitCall.{exit_program}
 use Rattle.histar_process.specs.KillCall.{kill_program}
 use Rattle.histar_process.specs.Kin.{Kin, kin_of, user_name}
-use Rattle.histar_calls.specs.Jobs.{is_empty, jobs_in}
+use Rattle.histar_layout.specs.Jobs.{is_empty, jobs_in}
 use Rattle.histar_process.specs.Laws.{ProcessCallsReplyToRefusals}
 use Rattle.histar_process.specs.Parts.{find_home, home_of, must_be_there, read_status, write_status}
 use Rattle.histar_process.specs.SpawnCall.{must_have_room, room_for_child, spawn_program}

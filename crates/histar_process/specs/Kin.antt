@@ -5,8 +5,8 @@ use Rattle.histar_flat.specs.declared.calls.User.{User}
 use Rattle.histar_flat.specs.Sessions.{Session}
 use Rattle.histar_flat.specs.Classes.{nobody}
 use Rattle.histar_label.specs.Levels.{Levels}
-use Rattle.histar_calls.specs.Jobs.{jobs_in, is_empty}
-use Rattle.histar_calls.specs.Categories.{read_category, write_category, owners_of, user_of}
+use Rattle.histar_layout.specs.Jobs.{jobs_in, is_empty}
+use Rattle.histar_layout.specs.Categories.{read_category, write_category, owners_of, user_of}
 
 -- the name of the user of this number, from 1 on; number 0 is nobody
 abbrev pub user_name : List User → ℕ → Name

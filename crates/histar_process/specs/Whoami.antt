@@ -3,12 +3,12 @@ use Rattle.std.specs.Prelude.{not, length}
 use Rattle.histar_flat.specs.Sessions.{Session}
 use Rattle.histar_flat.specs.declared.replies.Reply.TheVariants as replies
 use Rattle.histar_rules.specs.declared.raw.RawCall.TheVariants.{OwnLabel}
-use Rattle.histar_calls.specs.Categories.{user_of}
+use Rattle.histar_layout.specs.Categories.{user_of}
 use Rattle.histar_calls.specs.Programs.{Program}
 use Rattle.histar_calls.specs.Programs.Program.{Answers}
 use Rattle.histar_calls.specs.Parts.{◌>>=◌, ask}
 use Rattle.histar_process.specs.Kin.{user_name}
-use Rattle.histar_calls.specs.Jobs.{jobs_in, is_empty}
+use Rattle.histar_layout.specs.Jobs.{jobs_in, is_empty}
 
 -- the thread asks for its own label, which tells the user and whether the process is in a job
 unfoldable pub whoami_program : Session → Program

@@ -3,16 +3,16 @@ ghost use Rattle.std.specs.Prelude.{◌≡◌, [], ◌∷◌, ◌++◌, ◌<◌,
 ghost use Rattle.histar_rules.specs.declared.raw.RawCall.TheVariants as calls;
 ghost use Rattle.histar_layout.specs.Status.{started, status_bytes};
 ghost use Rattle.histar_layout.specs.StatusParts.{HasRoomForChild};
-ghost use Rattle.histar_calls.specs.Labelling.{guarded_by, owner_label, cleared_at};
+ghost use Rattle.histar_layout.specs.Labelling.{guarded_by, owner_label, cleared_at};
 ghost use Rattle.histar_calls.specs.Parts.{ask};
 ghost use Rattle.histar_calls.specs.Programs.{RunsPart};
 ghost use Rattle.histar_process.specs.Births.{RunsBirth, make_categories, make_containers, make_thread, make_segment};
 
 use crate::find::write_segment;
 use crate::kin::joined;
-use histar_calls::{Ending, Home, cleared_at, guarded_by, owner_label};
+use histar_calls::{Ending, Home};
+use histar_layout::{cleared_at, guarded_by, owner_label, add_child, first_status};
 use histar_label::{Category, LabelStore};
-use histar_layout::{add_child, first_status};
 use histar_object::ObjId;
 use histar_syscall::Kernel;
 use std::alloc::Global;

@@ -3,13 +3,13 @@ ghost use Rattle.std.specs.Prelude.{◌≡◌, ◌&&◌, not};
 ghost use Rattle.histar_label.specs.Levels.{level_of};
 ghost use Rattle.histar_syscall.specs.KernelModel.{state};
 ghost use Rattle.histar_process.specs.Caller.{caller_at, caller_in, home_at, is_zero, read_category_in, write_category_in};
-ghost use Rattle.histar_calls.specs.Jobs.{is_three};
+ghost use Rattle.histar_layout.specs.Jobs.{is_three};
 
 use crate::find::home_of;
-use histar_calls::{Home, is_three};
+use histar_calls::Home;
+use histar_layout::{is_three, find_child, read_status};
 use histar_flat::ProcName;
 use histar_label::{Category, Label, LabelStore, Level};
-use histar_layout::{find_child, read_status};
 use histar_object::ObjId;
 use histar_syscall::Kernel;
 

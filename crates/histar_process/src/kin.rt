@@ -1,10 +1,10 @@
 //! What a process owns as its user.
 ghost use Rattle.std.specs.Prelude.{◌≡◌, ◌++◌, map, IfOk};
 ghost use Rattle.histar_flat.specs.Classes.{nobody};
-ghost use Rattle.histar_calls.specs.Categories.{read_category, write_category};
+ghost use Rattle.histar_layout.specs.Categories.{read_category, write_category};
 ghost use Rattle.histar_process.specs.Kin.{categories_of, owned_by, user_name};
 
-use histar_calls::{UserTable, owners_of, read_category, write_category};
+use histar_layout::{UserTable, owners_of, read_category, write_category};
 use histar_flat::{Name, read_name};
 use histar_label::Category;
 use std::alloc::{AllocError, Global};

@@ -4,7 +4,8 @@ ghost use Rattle.histar_calls.specs.Refusals.{settled};
 ghost use Rattle.histar_process.specs.Whoami.{whoami_program};
 
 use crate::kin::user_name;
-use histar_calls::{Ending, Stopped, UserTable, is_in_job, settle, user_of};
+use histar_calls::{Ending, Stopped, settle};
+use histar_layout::{UserTable, is_in_job, user_of};
 use histar_flat::Reply;
 use histar_label::LabelStore;
 use histar_object::ObjId;

@@ -15,11 +15,11 @@ use Rattle.histar_rules.specs.Rights.{with_category}
 use Rattle.histar_object.specs.State.{State}
 use Rattle.histar_rules.specs.Rules.{greatest}
 use Rattle.histar_layout.specs.Status.{ProcessStatus}
-use Rattle.histar_calls.specs.Categories.{user_of}
+use Rattle.histar_layout.specs.Categories.{user_of}
 use Rattle.histar_calls.specs.declared.places.Home.{Home}
 use Rattle.histar_process.specs.Birth.{outer_label, inner_label, thread_label, thread_clearance}
 use Rattle.histar_process.specs.Kin.{Kin, user_name, owned_by, kin_of}
-use Rattle.histar_calls.specs.Jobs.{jobs_in}
+use Rattle.histar_layout.specs.Jobs.{jobs_in}
 use Rattle.histar_refinement.specs.Sessions.{IsSession}
 use Rattle.histar_refinement.proofs.Counting.{boot_used}
 use Rattle.histar_refinement.specs.Categories.CategoryName.{ReadsProcess, WritesProcess, OfJob}
@@ -32,7 +32,7 @@ use Rattle.histar_refinement.specs.LaysOut.{LaysOut}
 use Rattle.histar_refinement.specs.Processes.{or_zero, process_bytes, status_by}
 use Rattle.histar_refinement.proofs.Beside.{own_set}
 use Rattle.histar_refinement.proofs.Growing.{same_rights_label}
-use Rattle.histar_refinement.proofs.Members.{is_in}
+use Rattle.histar_layout.proofs.Members.{is_in}
 use Rattle.histar_refinement.proofs.Spawned.{births, state_spawned, lays_out_spawned}
 use Rattle.histar_refinement.proofs.Spawning.{keeps, reads_number, writes_number}
 use Rattle.histar_refinement.proofs.Uses.{rights_used}

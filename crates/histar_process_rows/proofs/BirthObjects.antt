@@ -10,10 +10,10 @@ use Rattle.histar_label.specs.declared.levels.Level.TheVariants.{Star, L3}
 use Rattle.histar_label.specs.Levels.{Levels, with_level}
 use Rattle.histar_object.specs.declared.objects.Kind.TheVariants.{Segment, Container, Thread}
 use Rattle.histar_object.specs.declared.objects.Object.{Object}
-use Rattle.histar_object.specs.Objects.{Numbers as Links, put, linking, holding, is_thread}
+use Rattle.histar_object.specs.Objects.{Numbers as Links, changed_at, linking, holding, is_thread}
 use Rattle.histar_rules.specs.Rights.{with_star_at, with_label, with_changed, with_category}
 use Rattle.histar_object.specs.State.{State, Found, with_object, with_segment_bytes}
-use Rattle.histar_container.proofs.TableMoves.{put_here, put_other, changed_here, changed_other}
+use Rattle.histar_container.proofs.TableMoves.{put_here, put_other, changed_here, changed_other, new_there}
 use Rattle.histar_refinement.proofs.RawChecks.{object}
 
 -- a container with this label
@@ -47,26 +47,25 @@ held_thread true bytes x label clearance is = ap (option_map (holding bytes)) is
 held_thread false bytes x label clearance is = is
 
 module _ (s : State) (d : ℕ) (o : Object Levels) where
-  old_object : (q : ℕ) → q < s.next_object → s.objects q ≡ put s.objects s.next_object o q
-  old_object q below = sym (put_other s.objects s.next_object o q (λ e. absurd (omega (arith, below, e))))
+  old_object : (q : ℕ) → q < s.next_object → (with_object s d o).objects q ≡ changed_at s.objects d (linking s.next_object) q
+  old_object q below = put_other (changed_at s.objects d (linking s.next_object)) s.next_object o q (λ e. absurd (omega (arith, below, e)))
 
   pub thread_stays : (q : ℕ) (label clearance : Levels) → q < s.next_object → s.objects q ≡ object label (Thread clearance) → (with_object s d o).objects q ≡ object label (Thread clearance)
-  thread_stays q label clearance below is = linked_thread (q == d) s.next_object (put s.objects s.next_object o q) label clearance (sym (old_object q below) ∙ is)
+  thread_stays q label clearance below is = old_object q below ∙ linked_thread (q == d) s.next_object (s.objects q) label clearance is
 
   pub segment_stays : (q : ℕ) (label : Levels) (bytes : List ℕ) → q < s.next_object → s.objects q ≡ object label (Segment bytes) → (with_object s d o).objects q ≡ object label (Segment bytes)
-  segment_stays q label bytes below is = linked_segment (q == d) s.next_object (put s.objects s.next_object o q) label bytes (sym (old_object q below) ∙ is)
+  segment_stays q label bytes below is = old_object q below ∙ linked_segment (q == d) s.next_object (s.objects q) label bytes is
 
   pub holder_stays : (q : ℕ) (label : Levels) → q < s.next_object → IsHolder label (s.objects q) → IsHolder label ((with_object s d o).objects q)
-  holder_stays q label below is = linked_holder (q == d) s.next_object (put s.objects s.next_object o q) label (subst (IsHolder label) (old_object q below) is)
+  holder_stays q label below is = subst (IsHolder label) (sym (old_object q below)) (linked_holder (q == d) s.next_object (s.objects q) label is)
 
   pub links_stay : (q : ℕ) (label : Levels) (k : ℕ) → q < s.next_object → LinksTo label k (s.objects q) → LinksTo label k ((with_object s d o).objects q)
-  links_stay q label k below is = linked_links (q == d) s.next_object (put s.objects s.next_object o q) label k (subst (LinksTo label k) (old_object q below) is)
+  links_stay q label k below is = subst (LinksTo label k) (sym (old_object q below)) (linked_links (q == d) s.next_object (s.objects q) label k is)
 
 -- a new container stands under the next number
 pub holder_made : (s : State) (d : ℕ) (label : Levels) → IsHolder label ((with_object s d (record { label = label; kind = Container set.empty })).objects s.next_object)
 holder_made s d label =
-    let o : Object Levels = record { label = label; kind = Container set.empty } in
-    linked_holder (s.next_object == d) s.next_object (put s.objects s.next_object o s.next_object) label (set.empty, put_here s.objects s.next_object o)
+    (set.empty, new_there s.objects s.next_object d (record { label = label; kind = Container set.empty }))
 
 -- the thread T with its label and its clearance, the container C with its label, and the process segment S in it with the same label
 pub record Around (T C S : ℕ) (own most label : Levels) (held : List ℕ) (s : State) : Type 0 where

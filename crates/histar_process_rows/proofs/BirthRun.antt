@@ -34,7 +34,8 @@ use Rattle.histar_refinement.specs.Lines.{IsThreadOf}
 use Rattle.histar_refinement.proofs.RawChecks.{object}
 use Rattle.histar_refinement.proofs.Spawned.{births}
 use Rattle.histar_refinement.proofs.Beside.{own_set}
-use Rattle.histar_rows.specs.Rows.{IsRunning, AreAmong, has_category}
+use Rattle.histar_rows.specs.Rows.{IsRunning, has_category}
+use Rattle.histar_rows.specs.Reads.{AreAmong}
 use Rattle.histar_rows.proofs.Chains.{all_granted, entries_of, Chain}
 use Rattle.histar_rows.proofs.Steps.{Goal, granted_step}
 use Rattle.histar_rows.proofs.Walks.{among_then}

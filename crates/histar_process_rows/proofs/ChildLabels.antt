@@ -5,7 +5,7 @@ use Rattle.std.proofs.lemmas.List.{append-nil, map-append}
 use Rattle.histar_flat.specs.Words.{ProcName}
 use Rattle.histar_flat.specs.Sessions.{Session, user_number}
 use Rattle.histar_flat.specs.Classes.{Process, is_free}
-use Rattle.histar_calls.specs.Labelling.{guarded_by, owner_label, cleared_at}
+use Rattle.histar_layout.specs.Labelling.{guarded_by, owner_label, cleared_at}
 use Rattle.histar_process.specs.Kin.{Kin, user_name, owned_by}
 use Rattle.histar_process.specs.Birth.{outer_label, inner_label, thread_label, thread_clearance}
 use Rattle.histar_refinement.specs.Categories.{CategoryName, Categories, boot_category}
@@ -14,8 +14,8 @@ use Rattle.histar_refinement.specs.Guards.{guard_label, rights_label, rights_cle
 use Rattle.histar_refinement.specs.Labels.{process_guard, inside_guard, owned_as, thread_rights}
 use Rattle.histar_refinement.specs.Processes.{or_zero}
 use Rattle.histar_refinement.proofs.Levelled.{same_guarded, same_owning, same_cleared}
-use Rattle.histar_refinement.proofs.Members.{is_in, is_in-append}
 use Rattle.histar_refinement.proofs.OwnLabels.{owned_numbers}
+use Rattle.histar_layout.proofs.Members.{is_in, is_in-append}
 
 module _ (session : Session) (category : Categories) (p : Process) (as_made : (c : CategoryName) (q : ℕ) → boot_category session c ≡ Some q → category c ≡ q) (named : user_name session.users (or_zero (user_number session p.user)) ≡ p.user) where
   abbrev newborn : Process

@@ -44,7 +44,8 @@ use Rattle.histar_refinement.proofs.ClassTests.{sees_process}
 use Rattle.histar_refinement.proofs.MakingRanges.{all_known}
 use Rattle.histar_refinement.proofs.RawChecks.{read_check}
 use Rattle.histar_refinement.proofs.StatusFound.{thread_back}
-use Rattle.histar_rows.specs.Rows.{IsReady, HasReads}
+use Rattle.histar_rows.specs.Rows.{IsReady}
+use Rattle.histar_rows.proofs.ReadsByCall.{HasReadsByCall}
 use Rattle.histar_rows.proofs.Chains.{Step, all_granted, entries_of, Chain}
 use Rattle.histar_rows.proofs.Steps.{Goal, granted_step, refused_at_once}
 use Rattle.histar_process_rows.proofs.BirthObjects.{Around}
@@ -53,7 +54,7 @@ use Rattle.histar_process_rows.proofs.BirthRights.{around_before}
 -- what the flat rules say of a call that needs room for a child: they refuse it first where there is none, and then it needs no reads
 pub record NeedsChild (session : Session) (f : Flat) (me : ProcName) (p : Process) (call : UnixCall) (behind : Option Errno) : Type 0 where
   pub refuses : refused session f me p call ≡ (no_child me p orelse behind)
-  pub reads : (steps : List Step) (line t : ℕ) (s : State) → HasReads session s f p call (Refused EAGAIN) (entries_of line t steps)
+  pub reads : (steps : List Step) (line t : ℕ) (s : State) → HasReadsByCall session s f p call (Refused EAGAIN) (entries_of line t steps)
 
 module _ (session : Session) (me : ProcName) (caller : Caller) (old new : KernelModel) (f : Flat) (result : Result Reply Stopped)
     (ready : IsReady session (state old) f me caller.thread) (found : caller_at (state old) (places_of (length session.users)).home me ≡ Some caller) where

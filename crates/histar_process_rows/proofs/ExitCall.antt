@@ -40,7 +40,7 @@ use Rattle.histar_refinement.proofs.CallerFound.{where_is, caller_found}
 use Rattle.histar_refinement.proofs.Exiting.{written, written_is, lays_out_exited}
 use Rattle.histar_refinement.proofs.MakingRanges.{all_known}
 use Rattle.histar_refinement.proofs.RawChecks.{object}
-use Rattle.histar_refinement.proofs.SessionLemmas.{equal_tested}
+use Rattle.histar_layout.proofs.Declared.{equal_tested}
 use Rattle.histar_refinement.proofs.StatusFound.{numbered_runner, zero_there}
 use Rattle.histar_rows.specs.Rows.{IsReady}
 use Rattle.histar_rows.proofs.Chains.{all_granted, Chain}

@@ -35,7 +35,7 @@ use Rattle.histar_refinement.proofs.MakingRanges.{all_had}
 use Rattle.histar_refinement.proofs.Moving.{bare_is, at_number}
 use Rattle.histar_refinement.proofs.Places.{asked_home, asked_status}
 use Rattle.histar_refinement.proofs.RawChecks.{object, read_blocked, read_check, unlink_check}
-use Rattle.histar_refinement.proofs.SessionLemmas.{equal_names}
+use Rattle.histar_layout.proofs.Declared.{equal_names}
 use Rattle.histar_refinement.proofs.Standing.{bare_container_is, thread_found, step_linked}
 use Rattle.histar_refinement.proofs.StatusFound.{numbered_home, numbered_status, zero_there, status_found}
 

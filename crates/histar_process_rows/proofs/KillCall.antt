@@ -55,7 +55,7 @@ use Rattle.histar_refinement.proofs.ClassTests.{sees_unguarded, jobs_apart}
 use Rattle.histar_refinement.proofs.Killing.{lays_out_left}
 use Rattle.histar_refinement.proofs.LeftObjects.{root_found, root_label}
 use Rattle.histar_refinement.proofs.RawChecks.{object, unlink_check}
-use Rattle.histar_refinement.proofs.SessionLemmas.{equal_names}
+use Rattle.histar_layout.proofs.Declared.{equal_names}
 use Rattle.histar_refinement.proofs.Standing.{thread_found, step_linked}
 use Rattle.histar_refinement.proofs.Steps.{step_tests_equality}
 use Rattle.histar_refinement.proofs.Tested.{below_by_names}

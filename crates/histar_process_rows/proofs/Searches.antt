@@ -40,7 +40,9 @@ use Rattle.histar_refinement.specs.Processes.{status_by}
 use Rattle.histar_refinement.proofs.CallerFound.{where_is, status_is, child_is}
 use Rattle.histar_refinement.proofs.Standing.{some_of}
 use Rattle.histar_refinement.proofs.StatusFound.{thread_back}
-use Rattle.histar_rows.specs.Rows.{IsReady, AreAmong, AreStatusReads, HasSearch, looked_at}
+use Rattle.histar_rows.specs.Rows.{IsReady}
+use Rattle.histar_rows.specs.Reads.{AreAmong, looked_at}
+use Rattle.histar_rows.proofs.ReadsByCall.{AreStatusReads, HasSearch}
 use Rattle.histar_rows.proofs.Chains.{Step, all_granted, entries_of, Chain}
 use Rattle.histar_rows.proofs.Endings.{ReadsAmong}
 use Rattle.histar_rows.proofs.Steps.{Goal, granted_step, refused_step, refused_at_once}

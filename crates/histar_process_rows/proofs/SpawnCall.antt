@@ -33,7 +33,8 @@ use Rattle.histar_process.specs.SpawnCall.{spawn_program}
 use Rattle.histar_login.specs.Start.{places_of}
 use Rattle.histar_refinement.specs.Sessions.{IsSession}
 use Rattle.histar_refinement.specs.LaysOut.{LaysOut}
-use Rattle.histar_rows.specs.Rows.{IsReady, AreAmong}
+use Rattle.histar_rows.specs.Rows.{IsReady}
+use Rattle.histar_rows.specs.Reads.{AreAmong}
 use Rattle.histar_rows.proofs.Chains.{all_granted, entries_of, Chain}
 use Rattle.histar_rows.proofs.Steps.{Goal, answered_step}
 use Rattle.histar_process_rows.specs.Laws.{SpawnsAreRows}

@@ -17,11 +17,11 @@ use Rattle.histar_rules.specs.declared.raw.RawCall.TheVariants.{OwnLabel}
 use Rattle.histar_syscall.specs.KernelModel.{KernelModel, state}
 use Rattle.histar_syscall.proofs.Runs.{same_kernel}
 use Rattle.histar_calls.specs.declared.ending.Stopped.{Stopped}
-use Rattle.histar_calls.specs.Categories.{user_of}
+use Rattle.histar_layout.specs.Categories.{user_of}
 use Rattle.histar_calls.specs.Programs.{Runs}
 use Rattle.histar_calls.specs.Programs.Program.{Answers}
 use Rattle.histar_process.specs.Kin.{user_name}
-use Rattle.histar_calls.specs.Jobs.{jobs_in, is_empty}
+use Rattle.histar_layout.specs.Jobs.{jobs_in, is_empty}
 use Rattle.histar_process.specs.Whoami.{whoami_program}
 use Rattle.histar_refinement.specs.Sessions.{IsSession}
 use Rattle.histar_refinement.specs.Guards.{rights_label, rights_clearance}

@@ -11,7 +11,8 @@ use Rattle.histar_object.specs.Objects.{Objects, put, changed_at, linking, threa
 use Rattle.histar_object.specs.State.{State, Found, with_object, with_segment_bytes}
 use Rattle.histar_container.specs.Tree.{Address, Naming, with_number, set_at}
 use Rattle.histar_container.proofs.Addresses.{same_tests_equality, same_itself, same_other, longer}
-use Rattle.histar_container.proofs.TableMoves.{put_other}
+use Rattle.histar_object.proofs.Changes.{none_changed}
+use Rattle.histar_container.proofs.TableMoves.{new_none}
 use Rattle.histar_container.proofs.Trees.{kind_held_links}
 use Rattle.histar_refinement.specs.Addresses.{Step, same_step, home_address}
 use Rattle.histar_refinement.specs.Addresses.Step.{Status, Inside, Runner, Child}
@@ -143,22 +144,13 @@ module _ (s : State) (naming : Naming Step) (asked : Address Step → Found) (st
       ∙ given_other naming s.next_object home b not_home
 
   -- where nothing stood, nothing stands, but at the new numbers
-  none_changed : (objects : Objects Levels) (k : ℕ) (change : Object Levels → Object Levels) (q : ℕ) → objects q ≡ None → changed_at objects k change q ≡ None
-  none_changed objects k change q e = elim (nat_eq q k) as (λ t. (if t then option_map change (objects q) else objects q) ≡ None) [
-    | true ↦ ap (option_map change) e
-    | false ↦ e
-  ]
-
-  none_added : (t : State) (d : ℕ) (o : Object Levels) (q : ℕ) → t.objects q ≡ None → q ≢ t.next_object → (with_object t d o).objects q ≡ None
-  none_added t d o q e other = none_changed (put t.objects t.next_object o) d (linking t.next_object) q (put_other t.objects t.next_object o q other ∙ e)
-
   pub gone_born : (q : ℕ) → s.objects q ≡ None → q < s.next_object → born_state.objects q ≡ None
   gone_born q e below =
       none_changed fourth.objects S (holding own_bytes) q
-      (none_added third s.next_object segment q
-      (none_added second (s.next_object + 1) (thread_of label clearance) q
-      (none_added first s.next_object internal q
-      (none_added s C container q e (λ k. absurd (omega (arith, below, k)))) (λ k. absurd (omega (arith, below, k)))) (λ k. absurd (omega (arith, below, k)))) (λ k. absurd (omega (arith, below, k))))
+      (new_none third.objects third.next_object s.next_object segment q
+      (new_none second.objects second.next_object (s.next_object + 1) (thread_of label clearance) q
+      (new_none first.objects first.next_object s.next_object internal q
+      (new_none s.objects s.next_object C container q e (λ k. absurd (omega (arith, below, k)))) (λ k. absurd (omega (arith, below, k)))) (λ k. absurd (omega (arith, below, k)))) (λ k. absurd (omega (arith, below, k))))
 
   -- what is asked for after birth is told by five addresses, and by all others
   module _ (wish : Address Step → Found) (wish_home : Some container ≡ wish home) (wish_inside : Some internal ≡ wish (Inside ∷ home)) (wish_runner : Some (thread_of label clearance) ≡ wish (Runner ∷ Inside ∷ home))

@@ -14,8 +14,8 @@ use Rattle.histar_flat.specs.FlatState.{Flat}
 use Rattle.histar_label.specs.Level.{is_star}
 use Rattle.histar_label.specs.Levels.{level_of}
 use Rattle.histar_object.specs.State.{State}
-use Rattle.histar_calls.specs.Categories.{read_category, write_category, group_owner, owner_of_group, owners_of, owns, IsUserOf}
-use Rattle.histar_calls.specs.Labelling.{written_by, secret_of, guarded_by, owner_label, cleared_at}
+use Rattle.histar_layout.specs.Categories.{read_category, write_category, group_owner, owner_of_group, owners_of, owns, IsUserOf}
+use Rattle.histar_layout.specs.Labelling.{written_by, secret_of, guarded_by, owner_label, cleared_at}
 use Rattle.histar_process.specs.declared.caller.Caller.{Caller}
 use Rattle.histar_login.specs.Login.{place_of, owned_as_user, user_label, user_clearance}
 use Rattle.histar_refinement.specs.Categories.CategoryName.{ReadsUser, WritesUser, ReadsProcess, WritesProcess, OfJob}
@@ -24,12 +24,13 @@ use Rattle.histar_refinement.specs.Processes.{or_zero}
 use Rattle.histar_refinement.specs.Guards.{guard_label, rights_label, rights_clearance}
 use Rattle.histar_refinement.specs.Labels.{private_guard, readable_guard, group_guard, reading, writing, owned_as, thread_rights}
 use Rattle.histar_refinement.specs.LaysOut.{Laid}
-use Rattle.histar_refinement.proofs.Members.{same_truth}
-use Rattle.histar_refinement.proofs.Levelled.{owning_level, at_owning}
+use Rattle.histar_layout.proofs.Members.{same_truth}
+use Rattle.histar_layout.proofs.LabelLevels.{at_owning, owning_level}
 use Rattle.histar_refinement.proofs.CategoryTests.{among_none, is_in_names}
 use Rattle.histar_refinement.proofs.ClassTests.{owns_read_of}
 use Rattle.histar_refinement.proofs.GateLabels.{user_reads, user_writes, group_reads, group_writes, owned_is}
-use Rattle.histar_refinement.proofs.SessionLemmas.{is_number, equal_names, equal_tested, user_range, group_range}
+use Rattle.histar_refinement.proofs.SessionLemmas.{is_number}
+use Rattle.histar_layout.proofs.Declared.{group_range, user_range, equal_tested, equal_names}
 
 -- a user's place is looked for by equal bytes, and a password is tested so
 pub equal_bytes : (a b : Name) → bytes_eq a b ≡ same a b

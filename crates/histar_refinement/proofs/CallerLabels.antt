@@ -9,22 +9,17 @@ use Rattle.histar_flat.specs.Classes.{Process}
 use Rattle.histar_label.specs.declared.levels.Level.{Level}
 use Rattle.histar_label.specs.declared.levels.Level.TheVariants.{L0, L1, L3}
 use Rattle.histar_label.specs.Levels.{Levels, level_of, default_of, default_of-constant, default_of-with_level, with_level, constant}
-use Rattle.histar_calls.specs.Labelling.{with_levels, each_at, guarded_by}
+use Rattle.histar_layout.specs.Labelling.{with_levels, each_at, guarded_by}
 use Rattle.histar_process.specs.Caller.{is_zero, write_category_in, read_category_in}
-use Rattle.histar_calls.specs.Jobs.{is_three}
+use Rattle.histar_layout.specs.Jobs.{is_three}
 use Rattle.histar_refinement.specs.Categories.{Categories, AreDifferent}
 use Rattle.histar_refinement.specs.Categories.CategoryName.{ReadsProcess, WritesProcess, OfJob}
 use Rattle.histar_refinement.specs.Guards.{guard_label}
 use Rattle.histar_refinement.specs.Labels.{process_guard, inside_guard}
-use Rattle.histar_refinement.proofs.Members.{is_in, first_of, second_of}
-use Rattle.histar_refinement.proofs.Levelled.{guarded_level, at_guarded}
+use Rattle.histar_layout.proofs.Members.{is_in, first_of, second_of}
+use Rattle.histar_layout.proofs.LabelLevels.{at_guarded, guarded_level, default_kept}
 use Rattle.histar_refinement.proofs.CategoryTests.{among_none, is_in_names}
 use Rattle.histar_refinement.proofs.FoundCategories.{found_in_label}
-
--- the default of a label with some exceptions
-pub default_kept : (L : Levels) (es : List (ℕ × Level)) → default_of (with_levels L es) ≡ default_of L
-default_kept L [] = refl
-default_kept L (e ∷ es) = default_kept (with_level L e.0 e.1) es ∙ default_of-with_level L e.0 e.1
 
 pub default_guarded : (S W : List ℕ) → default_of (guarded_by S W) ≡ L1
 default_guarded S W = default_kept (constant L1) (each_at L3 S ++ each_at L0 W) ∙ default_of-constant L1

@@ -13,7 +13,7 @@ use Rattle.histar_container.proofs.Addresses.{TestsEquality}
 use Rattle.histar_flat.specs.Sessions.{has}
 use Rattle.histar_refinement.specs.Categories.{CategoryName, Categories, AreDifferent, split_category, same_category, among}
 use Rattle.histar_refinement.specs.Categories.CategoryName.{OfBoot, ReadsUser, WritesUser, ReadsGroup, WritesGroup, ReadsProcess, WritesProcess, OfJob}
-use Rattle.histar_refinement.proofs.Members.{is_in, all_mapped, all_same, equal_itself}
+use Rattle.histar_layout.proofs.Members.{is_in, all_mapped, all_same, equal_itself}
 
 -- the name of a kind, with its number or its name
 join_category : ℕ → List ℕ → CategoryName

@@ -15,7 +15,7 @@ use Rattle.histar_refinement.specs.Categories.{CategoryName, Categories, AreDiff
 use Rattle.histar_refinement.specs.Categories.CategoryName.{OfBoot, ReadsUser, WritesUser, ReadsGroup, WritesGroup, ReadsProcess, WritesProcess, OfJob}
 use Rattle.histar_refinement.specs.Guards.{Guard, Rights, guard_label, rights_label}
 use Rattle.histar_refinement.specs.Labels.{class_guard, private_guard, readable_guard, scratch_guard, group_guard, open_guard, process_guard, reading, writing, owned_as, thread_rights}
-use Rattle.histar_refinement.proofs.Members.{mapped_from}
+use Rattle.histar_layout.proofs.Members.{mapped_from}
 use Rattle.histar_refinement.proofs.CategoryTests.{among-append, among_none, among_jobs}
 use Rattle.histar_refinement.proofs.Tested.{NamesApart, observes_by_names, below_by_names}
 use Rattle.histar_refinement.specs.Sessions.{IsSession}

@@ -23,7 +23,7 @@ use Rattle.histar_refinement.specs.Processes.{process_bytes}
 use Rattle.histar_refinement.specs.Expected.{status_object, bytes_for, expected}
 use Rattle.histar_login.specs.Start.{segment}
 use Rattle.histar_refinement.specs.LaysOut.{IsInOrder, IsProcess, Laid}
-use Rattle.histar_refinement.proofs.Members.{first_of, second_of}
+use Rattle.histar_layout.proofs.Members.{first_of, second_of}
 use Rattle.histar_refinement.proofs.Growing.{new_number, old_number, still_different}
 use Rattle.histar_refinement.proofs.Places.{asked_alike}
 use Rattle.histar_refinement.proofs.Moving.{stands_same}

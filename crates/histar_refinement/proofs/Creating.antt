@@ -15,7 +15,7 @@ use Rattle.histar_object.specs.State.{State, Found, with_object, with_segment_by
 use Rattle.histar_container.specs.Tree.{Address, Naming, with_number, set_at}
 use Rattle.histar_container.proofs.Addresses.{same_itself, same_other, longer}
 use Rattle.histar_container.proofs.Links.{none_linked}
-use Rattle.histar_container.proofs.TableMoves.{put_other}
+use Rattle.histar_container.proofs.TableMoves.{new_none}
 use Rattle.histar_rules.specs.Rules.{greatest}
 use Rattle.histar_login.specs.Boot.{boot_thread_number}
 use Rattle.histar_flat.specs.Sessions.{Session}
@@ -41,13 +41,7 @@ use Rattle.histar_refinement.proofs.Making.{boot_thread_below, Standing, same_nu
 
 -- what was nothing and is not the next number stays nothing
 gone_added : (s : State) (d b : ℕ) (o : Object Levels) → s.objects b ≡ None → b ≢ s.next_object → (with_object s d o).objects b ≡ None
-gone_added s d b o nothing other = by (put_other s.objects s.next_object o b other ∙ nothing)
-  where
-    by : put s.objects s.next_object o b ≡ None → (with_object s d o).objects b ≡ None
-    by e = elim (nat_eq b d) as (λ t. (if t then option_map (linking s.next_object) (put s.objects s.next_object o b) else put s.objects s.next_object o b) ≡ None) [
-      | true ↦ ap (option_map (linking s.next_object)) e
-      | false ↦ e
-    ]
+gone_added s d b o nothing other = new_none s.objects s.next_object d o b nothing other
 
 -- what has a guard is a container, where its kind is one
 container_there : (session : Session) (category : Categories) (g : Option Guard) → g ≢ None → is_container (guarded_object session category (Container set.empty) g) ≡ true

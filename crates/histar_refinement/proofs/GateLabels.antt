@@ -7,15 +7,15 @@ use Rattle.histar_flat.specs.Sessions.{Group, Session, has, numbers_with}
 use Rattle.histar_flat.specs.Words.{Name}
 use Rattle.histar_label.specs.declared.levels.Level.{Level}
 use Rattle.histar_label.specs.declared.levels.Level.TheVariants.{Star, L1, L2, L3}
-use Rattle.histar_calls.specs.Categories.{read_category, write_category, group_owner, owners_of}
-use Rattle.histar_calls.specs.Labelling.{labelled, each_at, owner_label, cleared_at}
+use Rattle.histar_layout.specs.Categories.{read_category, write_category, group_owner, owners_of}
+use Rattle.histar_layout.specs.Labelling.{labelled, each_at, owner_label, cleared_at}
 use Rattle.histar_process.specs.Kin.{categories_of}
 use Rattle.histar_login.specs.Start.{at_both, gate_label, gate_clearance}
 use Rattle.histar_refinement.specs.Categories.{CategoryName, Categories, boot_category}
 use Rattle.histar_refinement.specs.Categories.CategoryName.{ReadsUser, WritesUser, ReadsGroup, WritesGroup}
 use Rattle.histar_refinement.specs.Guards.{rights_label, rights_clearance}
 use Rattle.histar_refinement.specs.Labels.{reading, writing, gate_rights}
-use Rattle.histar_refinement.proofs.Members.{is_in, is_in-append}
+use Rattle.histar_layout.proofs.Members.{is_in, is_in-append}
 use Rattle.histar_refinement.proofs.Levelled.{same_owning, same_cleared}
 
 -- both categories of each of these users and groups

@@ -6,12 +6,12 @@ use Rattle.std.proofs.lemmas.Bool.{or_left, or_right}
 use mathlib.Core.Bool.{true≢false}
 use Rattle.histar_label.specs.declared.levels.Level.TheVariants.{Star, L3}
 use Rattle.histar_label.specs.Levels.{with_level, level_of-with_level, same_levels}
-use Rattle.histar_calls.specs.Labelling.{written_by, secret_of, owner_of, guarded_by, owner_label, cleared_at}
+use Rattle.histar_layout.specs.Labelling.{written_by, secret_of, owner_of, guarded_by, owner_label, cleared_at}
 use Rattle.histar_refinement.specs.Categories.{CategoryName, Categories, AreDifferent, IsMade, same_category, among, swapped, naming_next}
 use Rattle.histar_refinement.specs.Guards.{Guard, Rights, guard_label, rights_label, rights_clearance}
 use Rattle.histar_refinement.proofs.AmongNames.{each_append}
-use Rattle.histar_refinement.proofs.Members.{is_in}
-use Rattle.histar_refinement.proofs.Levelled.{owning_level, cleared_level, at_owning, at_cleared}
+use Rattle.histar_layout.proofs.Members.{is_in}
+use Rattle.histar_layout.proofs.LabelLevels.{at_cleared, at_owning, cleared_level, owning_level}
 use Rattle.histar_refinement.proofs.CategoryTests.{named_in, same_itself}
 
 -- the labels of the code are of these kinds

@@ -3,31 +3,33 @@ use Rattle.std.proofs.Common.{◌≡◌, ◌≢◌, ℕ, ◌==◌, ◌||◌, ◌
 use Rattle.std.specs.Prelude.{map}
 use Rattle.std.proofs.lemmas.Bool.Decides.{eqb_tells}
 use Rattle.std.proofs.lemmas.Bool.{or_left}
+use Rattle.std.proofs.lemmas.Simd.{map-map}
 use mathlib.Core.Bool.{true≢false}
 use Rattle.histar_flat.specs.Words.{ProcName}
 use Rattle.histar_flat.specs.Sessions.{Session}
 use Rattle.histar_flat.specs.Classes.{Process, is_free}
-use Rattle.histar_label.specs.declared.levels.Level.{Level}
 use Rattle.histar_label.specs.declared.levels.Level.TheVariants.{Star, L1, L3}
 use Rattle.histar_label.specs.Levels.{Levels, constant, default_of, default_of-constant}
-use Rattle.histar_calls.specs.Jobs.{is_three, jobs_in, is_empty}
-use Rattle.histar_calls.specs.Labelling.{each_at, owner_label}
+use Rattle.histar_layout.specs.Jobs.{is_three, jobs_in, is_empty}
+use Rattle.histar_layout.specs.Labelling.{each_at, owner_label}
+use Rattle.histar_layout.proofs.LabelLevels.{default_kept, at_guarded, at_owning, guarded_level, owning_level}
+use Rattle.histar_layout.proofs.Members.{is_in, equal_itself}
+use Rattle.histar_layout.proofs.Passed.{in_passed, passed_rise}
+use Rattle.histar_layout.proofs.Rising.{one_rising}
 use Rattle.histar_refinement.specs.Categories.{Categories, AreDifferent}
 use Rattle.histar_refinement.specs.Categories.CategoryName.{WritesProcess, OfJob}
 use Rattle.histar_refinement.specs.Guards.{guard_label, rights_label}
 use Rattle.histar_refinement.specs.Labels.{process_guard, thread_rights}
 use Rattle.histar_refinement.specs.LaysOut.{AreInOrder}
-use Rattle.histar_refinement.proofs.CallerLabels.{default_kept, default_guarded}
-use Rattle.histar_refinement.proofs.Levelled.{owning_level, at_owning, guarded_level, at_guarded}
-use Rattle.histar_refinement.proofs.Members.{is_in, equal_itself}
-use Rattle.histar_refinement.proofs.OneChain.{one_rising, twice, not_own}
-use Rattle.histar_refinement.proofs.PickedCategories.{picked_is, picked_rising}
+use Rattle.histar_refinement.specs.NumberedClasses.{job_numbers}
+use Rattle.histar_refinement.proofs.CallerLabels.{default_guarded}
+use Rattle.histar_refinement.proofs.OneChain.{not_own}
 
 -- level 3 is the level of what is at 3
-is_tainted : (o t : Bool) → is_three (owning_level o t) ≡ t
-is_tainted o true = refl
-is_tainted true false = refl
-is_tainted false false = refl
+tainted_at : (o t : Bool) → is_three (owning_level o t) ≡ t
+tainted_at o true = refl
+tainted_at true false = refl
+tainted_at false false = refl
 
 -- the default of what owns categories is level 1
 pub default_owning : (owned tainted : List ℕ) → default_of (owner_label owned tainted) ≡ L1
@@ -36,8 +38,8 @@ default_owning owned tainted = default_kept (constant L1) (each_at Star owned ++
 -- The jobs that a label of rights tells are the categories that it has at 3.
 pub in_jobs : (owned tainted : List ℕ) (c : ℕ) → is_in (jobs_in (owner_label owned tainted)) c ≡ is_in tainted c
 in_jobs owned tainted c =
-    picked_is (λ (e : ℕ × Level). is_three e.1) (owner_label owned tainted) (λ d. ap is_three (default_owning owned tainted)) c
-    ∙ ap is_three (at_owning owned tainted c) ∙ is_tainted (is_in owned c) (is_in tainted c)
+    in_passed (λ e. is_three e.1) (owner_label owned tainted) (λ c. ap is_three (default_owning owned tainted)) c
+    ∙ ap is_three (at_owning owned tainted c) ∙ tainted_at (is_in owned c) (is_in tainted c)
 
 -- a list with the same numbers as an empty one is empty, and so the other way round
 empty_alike : (cs ds : List ℕ) → ((c : ℕ) → is_in cs c ≡ is_in ds c) → is_empty cs ≡ is_empty ds
@@ -81,8 +83,8 @@ module _ (category : Categories) (different : AreDifferent category) (me : ProcN
   not_written c (inr is) e = ap (λ b. b || false) is.0
 
   -- The label of the container of a process tells the jobs that the process is in.
-  pub chain_is : AreInOrder category p.chain → jobs_in (guard_label category (process_guard me p)) ≡ map (λ job. category (OfJob job)) p.chain
-  chain_is in_order = one_rising 0 0 (jobs_in outer) (map (λ job. category (OfJob job)) p.chain) (picked_rising (λ (e : ℕ × Level). is_three e.1) outer) in_order (λ c.
-      picked_is (λ (e : ℕ × Level). is_three e.1) outer (λ d. ap is_three (default_guarded jobs own)) c
+  pub chain_is : AreInOrder category p.chain → jobs_in (guard_label category (process_guard me p)) ≡ job_numbers category p.chain
+  chain_is in_order = one_rising 0 0 (jobs_in outer) (job_numbers category p.chain) (passed_rise (λ e. is_three e.1) outer) in_order (λ c.
+      in_passed (λ e. is_three e.1) outer (λ d. ap is_three (default_guarded jobs own)) c
       ∙ ap is_three (at_guarded jobs own c) ∙ is_secret (is_in jobs c) (is_in own c) (not_written c (eqb_tells c (category (WritesProcess me))))
-      ∙ ap (λ (cs : List ℕ). is_in cs c) (twice category different p.chain))
+      ∙ ap (λ (cs : List ℕ). is_in cs c) (map-map category OfJob p.chain))

@@ -12,9 +12,10 @@ use Rattle.histar_flat.specs.FlatState.{Flat, was_given, is_given}
 use Rattle.histar_flat.proofs.GivenNames.{longer_has}
 use Rattle.histar_refinement.specs.Categories.{Categories}
 use Rattle.histar_refinement.specs.Categories.CategoryName.{OfJob}
-use Rattle.histar_refinement.specs.LaysOut.{IsRisingFrom, AreInOrder}
-use Rattle.histar_refinement.proofs.Members.{first_of, second_of}
-use Rattle.histar_refinement.proofs.SessionLemmas.{equal_tested}
+use Rattle.histar_refinement.specs.LaysOut.{AreInOrder}
+use Rattle.histar_layout.specs.ClassLabels.{IsRisingFrom}
+use Rattle.histar_layout.proofs.Members.{first_of, second_of}
+use Rattle.histar_layout.proofs.Declared.{equal_tested}
 
 -- the new one is in neither list
 pub not_added : (jobs : List ProcName) (child job : ProcName) → has jobs job ≡ false → job ≢ child → has (jobs ++ child ∷ []) job ≡ false

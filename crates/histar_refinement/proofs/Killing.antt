@@ -34,7 +34,7 @@ use Rattle.histar_refinement.specs.Expected.{listing_object, home_object, status
 use Rattle.histar_login.specs.Start.{segment}
 use Rattle.histar_refinement.specs.LaysOut.{AreJobsGiven, Laid, LaysOut}
 use Rattle.histar_refinement.proofs.ProcessBytes.{alike_bytes}
-use Rattle.histar_refinement.proofs.Members.{first_of, second_of}
+use Rattle.histar_layout.proofs.Members.{first_of, second_of}
 use Rattle.histar_refinement.proofs.Places.{address_path, address_process, address_inside, same_home, same_directory, AsksAlike, asked_alike, asked_status}
 use Rattle.histar_refinement.proofs.Steps.{step_tests_equality}
 use Rattle.histar_refinement.proofs.Moving.{bare_held, stands_changed, stands_cut, stands_same, no_address}

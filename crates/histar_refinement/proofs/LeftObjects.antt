@@ -32,8 +32,8 @@ use Rattle.histar_refinement.specs.Stands.{bare}
 use Rattle.histar_refinement.specs.Expected.{expected}
 use Rattle.histar_refinement.specs.LaysOut.{Laid}
 use Rattle.histar_refinement.proofs.AmongNames.{each_head, each_append}
-use Rattle.histar_refinement.proofs.Members.{mapped_from}
-use Rattle.histar_refinement.proofs.SessionLemmas.{placed, equal_names, user_range}
+use Rattle.histar_layout.proofs.Members.{mapped_from}
+use Rattle.histar_layout.proofs.Declared.{user_range, placed, equal_names}
 use Rattle.histar_refinement.proofs.Growing.{GuardHas, RightsHave, KeepsNumber, same_guard_label, same_rights_label, same_rights_clearance}
 use Rattle.histar_refinement.proofs.Uses.{group_among, groups_within}
 use Rattle.histar_refinement.proofs.Steps.{step_tests_equality}

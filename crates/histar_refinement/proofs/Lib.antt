@@ -1,4 +1,3 @@
-pub mod Members
 pub mod Levelled
 pub mod CategoryTests
 pub mod AmongNames
@@ -50,7 +49,6 @@ pub mod ClassFound
 pub mod LeftObjects
 pub mod LoginChecks
 pub mod CallLabels
-pub mod PickedCategories
 pub mod JobLabels
 pub mod OwnLabels
 pub mod Counting

@@ -26,7 +26,7 @@ use Rattle.histar_rules.specs.declared.raw.RawCall.TheVariants.{Enter, Read, Set
 use Rattle.histar_rules.specs.Rules.{no_link, known, check}
 use Rattle.histar_rules.specs.Sound.{root_number}
 use Rattle.histar_login.specs.Login.{password_of, gate_of}
-use Rattle.histar_calls.specs.Labelling.{cleared_at}
+use Rattle.histar_layout.specs.Labelling.{cleared_at}
 use Rattle.histar_refinement.specs.Categories.{CategoryName, IsUsed, booted, among}
 use Rattle.histar_refinement.specs.Categories.CategoryName.{ReadsUser, WritesUser, ReadsGroup, WritesGroup, ReadsProcess, WritesProcess, OfJob}
 use Rattle.histar_refinement.specs.Guards.{Rights, guard_label, rights_label, rights_clearance}
@@ -34,7 +34,7 @@ use Rattle.histar_refinement.specs.Labels.{boot_guard, private_guard, gate_right
 use Rattle.histar_refinement.specs.LaysOut.{Laid}
 use Rattle.histar_refinement.specs.Laws.{RunsAs}
 use Rattle.histar_refinement.proofs.AmongNames.{covers, in_first, in_second, at_head, later, each_head, each_append}
-use Rattle.histar_refinement.proofs.SessionLemmas.{user_range}
+use Rattle.histar_layout.proofs.Declared.{user_range}
 use Rattle.histar_refinement.proofs.Tested.{AreMade, observes_by_names, rights_by_names, capped_by_names, clearances_by_names, rights_made, clearance_made}
 use Rattle.histar_refinement.proofs.ClassTests.{user_apart, sees_unguarded}
 use Rattle.histar_refinement.proofs.Ranges.{let_in, floor_behind, join_behind}

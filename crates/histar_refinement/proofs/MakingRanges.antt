@@ -20,10 +20,11 @@ use Rattle.histar_refinement.specs.Categories.{CategoryName, Categories, AreDiff
 use Rattle.histar_refinement.specs.Categories.CategoryName.{ReadsUser, ReadsGroup, OfJob}
 use Rattle.histar_refinement.specs.Guards.{Guard, Rights, guard_label, rights_label, rights_clearance}
 use Rattle.histar_refinement.specs.Labels.{class_guard, private_guard, readable_guard, scratch_guard, group_guard, open_guard, thread_rights}
-use Rattle.histar_refinement.proofs.Members.{mapped_from}
+use Rattle.histar_layout.proofs.Members.{mapped_from}
 use Rattle.histar_refinement.proofs.CategoryTests.{among-append}
 use Rattle.histar_refinement.proofs.Tested.{cleared_exactly_by_names}
-use Rattle.histar_refinement.proofs.SessionLemmas.{is_number, has_number, equal_tested}
+use Rattle.histar_refinement.proofs.SessionLemmas.{is_number, has_number}
+use Rattle.histar_layout.proofs.Declared.{equal_tested}
 use Rattle.histar_refinement.proofs.ClassTests.{user_apart, group_apart, owns_read_of, owns_read_of_group, passes_other, passes_jobs, below_private, below_readable, below_open, below_scratch, below_group, member}
 
 -- a job is among some where it is one of them, so each of some is

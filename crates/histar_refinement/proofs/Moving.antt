@@ -129,7 +129,7 @@ module _ {X : Type 0} (same_step : X → X → Bool) (tells : TestsEquality same
     added_objects b = elim (same_tests_equality same_step tells (x ∷ a) b) [
       | inl e ↦
           ap (λ (t : Bool). bare (option_and_then (with_object s d o).objects (if t then Some s.next_object else naming.number b))) e.0
-          ∙ ap bare (new_there s.objects s.next_object d o apart)
+          ∙ ap bare (new_there s.objects s.next_object d o)
           ∙ sym (ap (λ (t : Bool). if t then bare (Some o) else asked b) e.0)
       | inr e ↦
           ap (λ (t : Bool). bare (option_and_then (with_object s d o).objects (if t then Some s.next_object else naming.number b))) e.0

@@ -17,10 +17,10 @@ use Rattle.histar_refinement.specs.Guards.{Guard, guard_label}
 use Rattle.histar_refinement.specs.Labels.{class_guard, private_guard, readable_guard, scratch_guard, group_guard, open_guard}
 use Rattle.histar_refinement.specs.LaysOut.{IsInOrder}
 use Rattle.histar_refinement.proofs.AmongNames.{at_head, told_one}
-use Rattle.histar_refinement.proofs.Members.{mapped_from}
-use Rattle.histar_refinement.proofs.Levelled.{guarded_level, at_guarded}
+use Rattle.histar_layout.proofs.Members.{mapped_from}
+use Rattle.histar_layout.proofs.LabelLevels.{at_guarded, guarded_level}
 use Rattle.histar_refinement.proofs.CategoryTests.{among_none, among_jobs, is_in_names, same_told}
-use Rattle.histar_refinement.proofs.SessionLemmas.{one_user, one_group}
+use Rattle.histar_layout.proofs.Declared.{one_group, one_user}
 use Rattle.histar_refinement.proofs.OneChain.{one_jobs}
 
 -- ---- the sets of two guards whose labels are the same

@@ -14,9 +14,10 @@ use Rattle.histar_refinement.specs.Categories.CategoryName.{ReadsUser, OfJob}
 use Rattle.histar_refinement.specs.Guards.{guard_label, rights_label}
 use Rattle.histar_refinement.specs.Labels.{process_guard, thread_rights}
 use Rattle.histar_refinement.specs.LaysOut.{IsProcess}
-use Rattle.histar_refinement.proofs.Levelled.{owning_level, at_owning}
+use Rattle.histar_layout.proofs.LabelLevels.{at_owning, owning_level}
 use Rattle.histar_refinement.proofs.CategoryTests.{among_none, among_jobs, is_in_names}
-use Rattle.histar_refinement.proofs.SessionLemmas.{is_number, is_owner, equal_names}
+use Rattle.histar_refinement.proofs.SessionLemmas.{is_number, is_owner}
+use Rattle.histar_layout.proofs.Declared.{equal_names}
 use Rattle.histar_refinement.proofs.ClassTests.{owns_job, owns_read_of}
 use Rattle.histar_refinement.proofs.OneChain.{one_jobs, one_chain}
 

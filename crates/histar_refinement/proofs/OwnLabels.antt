@@ -9,8 +9,9 @@ use Rattle.histar_flat.specs.Sessions.{Session, user_number}
 use Rattle.histar_flat.specs.Classes.{Process, is_free, nobody}
 use Rattle.histar_flat.specs.FlatState.{Flat}
 use Rattle.histar_object.specs.State.{State}
-use Rattle.histar_calls.specs.Categories.{owners_of, user_of}
-use Rattle.histar_calls.proofs.UserOf.{user_is}
+use Rattle.histar_layout.specs.Categories.{owners_of, user_of}
+use Rattle.histar_layout.proofs.Declared.{user_range}
+use Rattle.histar_layout.proofs.UserOf.{user_is}
 use Rattle.histar_process.specs.Kin.{user_name, categories_of, owned_by, kin_of}
 use Rattle.histar_process.proofs.Scanning.{name_none}
 use Rattle.histar_refinement.specs.Categories.{CategoryName, Categories, boot_category}
@@ -22,7 +23,6 @@ use Rattle.histar_refinement.proofs.CallLabels.{user_of_thread}
 use Rattle.histar_refinement.proofs.GateLabels.{owned_is}
 use Rattle.histar_refinement.proofs.JobLabels.{none_if_free}
 use Rattle.histar_refinement.proofs.LeftObjects.{numbered_user}
-use Rattle.histar_refinement.proofs.SessionLemmas.{user_range}
 
 -- the user at a place has the name of the next number
 name_at : (users : List User) (k : ℕ) (u : User) → slice_get users k ≡ Some u → user_name users (suc k) ≡ u.name

@@ -13,14 +13,14 @@ use Rattle.histar_label.proofs.Floors.{level_of-combined_of}
 use Rattle.histar_label.proofs.Orders.{is_below-law, is_below_join_raised-law}
 use Rattle.histar_flat.specs.Sessions.{Session, user_number, groups_of}
 use Rattle.histar_flat.specs.Classes.{Process, is_free}
-use Rattle.histar_calls.specs.Labelling.{owner_label, cleared_at}
+use Rattle.histar_layout.specs.Labelling.{owner_label, cleared_at}
 use Rattle.histar_refinement.specs.Categories.{CategoryName, Categories, AreDifferent, among}
 use Rattle.histar_refinement.specs.Categories.CategoryName.{ReadsGroup, WritesGroup, ReadsProcess, WritesProcess, OfJob}
 use Rattle.histar_refinement.specs.Guards.{Rights, guard_label, rights_label, rights_clearance}
 use Rattle.histar_refinement.specs.Labels.{process_guard, inside_guard, reading, writing, owned_as, thread_rights, gate_rights}
 use Rattle.histar_refinement.proofs.AmongNames.{covers, in_first, in_second, at_head, later, each_head, each_append}
-use Rattle.histar_refinement.proofs.Members.{is_in, is_in-append}
-use Rattle.histar_refinement.proofs.Levelled.{owning_level, cleared_level, at_owning, at_cleared}
+use Rattle.histar_layout.proofs.Members.{is_in, is_in-append}
+use Rattle.histar_layout.proofs.LabelLevels.{at_cleared, at_owning, cleared_level, owning_level}
 use Rattle.histar_refinement.proofs.CategoryTests.{among-append, among_none, is_in_names, named_in}
 use Rattle.histar_refinement.proofs.Tested.{observes_by_names, below_by_names, cleared_by_names, rights_by_names, capped_by_names, clearances_by_names}
 use Rattle.histar_refinement.proofs.ClassTests.{jobs_apart, tainted_in_none}

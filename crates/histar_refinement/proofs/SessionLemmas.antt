@@ -12,14 +12,9 @@ use Rattle.histar_flat.specs.PathOrder.{same}
 use Rattle.histar_flat.proofs.FileLemmas.{same_name_found}
 use Rattle.histar_flat.specs.Sessions.{Group, Session, has, user_number, group_number, numbers_with, groups_of, is_member}
 use Rattle.histar_flat.specs.Classes.{nobody}
-use Rattle.histar_refinement.proofs.Members.{same_truth, first_of, second_of, mapped_from}
+use Rattle.histar_layout.proofs.Declared.{equal_names, equal_tested, placed, place_found, one_user}
+use Rattle.histar_layout.proofs.Members.{same_truth, first_of, second_of, mapped_from}
 use Rattle.histar_refinement.specs.Sessions.{IsSession}
-
-pub equal_names : (a b : Name) → same a b ≡ true → a ≡ b
-equal_names a b h = elim (same_name_found a b) [ inl e ↦ e.1 | inr e ↦ absurd (true≢false (sym h ∙ e.0)) ]
-
-pub equal_tested : (a b : Name) → a ≡ b → same a b ≡ true
-equal_tested a b h = elim (same_name_found a b) [ inl e ↦ e.0 | inr e ↦ absurd (e.1 h) ]
 
 -- who is declared is not nobody
 pub not_nobody : (session : Session) → IsSession session → (name : Name) (i : ℕ) → user_number session name ≡ Some i → same name nobody ≡ false
@@ -28,95 +23,6 @@ not_nobody session ok name i is = by (same name nobody) refl
     by : (b : Bool) → same name nobody ≡ b → b ≡ false
     by true e = let k : None ≡ Some i = sym ok.no_one ∙ ap (user_number session) (sym (equal_names name nobody e)) ∙ is in absurd cc
     by false e = refl
-
-module _ {A : Type 0} (test : A → Bool) where
-  -- what stands at the first place passes the test
-  place_by : (x : A) (xs : List A) (b : Bool) → test x ≡ b → position_or_len test (x ∷ xs) < length (x ∷ xs)
-      → (position_or_len test xs < length xs → (y : A) × (slice_get xs (position_or_len test xs) ≡ Some y) × (test y ≡ true))
-      → (y : A) × (slice_get (x ∷ xs) (position_or_len test (x ∷ xs)) ≡ Some y) × (test y ≡ true)
-  place_by x xs true is lt later = (x, ap (λ b. slice_get (x ∷ xs) (cond (not b) (1 + position_or_len test xs) 0)) is, is)
-  place_by x xs false is lt later =
-      let place : cond (not (test x)) (1 + position_or_len test xs) 0 ≡ 1 + position_or_len test xs = ap (λ b. cond (not b) (1 + position_or_len test xs) 0) is in
-      let below : cond (not (test x)) (1 + position_or_len test xs) 0 < suc (length xs) = lt in
-      let at = later (omega (arith, place, below)) in
-      let next : 1 + position_or_len test xs ≡ suc (position_or_len test xs) = omega arith in
-      (at.0, ap (slice_get (x ∷ xs)) (place ∙ next) ∙ at.1, at.2)
-
-  first_place : (xs : List A) → position_or_len test xs < length xs → (x : A) × (slice_get xs (position_or_len test xs) ≡ Some x) × (test x ≡ true)
-  first_place [] lt = absurd (omega (arith, lt))
-  first_place (x ∷ xs) lt = place_by x xs (test x) refl lt (first_place xs)
-
-  told : (b : Bool) (k m : ℕ) → cond b (Some k) None ≡ Some m → (b ≡ true) × (k ≡ m)
-  told true k m e = (refl, same_Some k m e)
-  told false k m e = absurd (none-some m e)
-
-  pub placed : (xs : List A) (k : ℕ) → position test xs ≡ Some k → (x : A) × (slice_get xs k ≡ Some x) × (test x ≡ true) × (k < length xs)
-  placed xs k e =
-      let is = told (nat_lt (position_or_len test xs) (length xs)) (position_or_len test xs) k e in
-      let passed : nat_lt (position_or_len test xs) (length xs) ≡ true = is.0 in
-      let below : position_or_len test xs < length xs = grind (arith, nat_tests, passed) in
-      let at = first_place xs below in
-      (at.0, ap (slice_get xs) (sym is.1) ∙ at.1, at.2, omega (arith, below, is.1))
-
-module _ {A : Type 0} (test : A → Bool) where
-  -- what passes the test has a place
-  place_found_by : (x : A) (xs : List A) (b : Bool) → test x ≡ b → (b ≡ false → position_or_len test xs < length xs) → position_or_len test (x ∷ xs) < length (x ∷ xs)
-  place_found_by x xs true is later = let place : cond (not (test x)) (1 + position_or_len test xs) 0 ≡ 0 = ap (λ b. cond (not b) (1 + position_or_len test xs) 0) is in omega (arith, place)
-  place_found_by x xs false is later =
-      let place : cond (not (test x)) (1 + position_or_len test xs) 0 ≡ 1 + position_or_len test xs = ap (λ b. cond (not b) (1 + position_or_len test xs) 0) is in
-      omega (arith, place, later refl)
-
-  place_found : (xs : List A) (i : ℕ) (x : A) → slice_get xs i ≡ Some x → test x ≡ true → position_or_len test xs < length xs
-  place_found [] i x at is = absurd (none-some x at)
-  place_found (y ∷ xs) zero x at is = place_found_by y xs (test y) refl (λ fails. absurd (true≢false (sym is ∙ ap test (sym (same_Some y x at)) ∙ fails)))
-  place_found (y ∷ xs) (suc i) x at is = place_found_by y xs (test y) refl (λ _. place_found xs i x at is)
-
--- so a user of a name has a number
-pub has_a_number : (session : Session) (name : Name) (i : ℕ) (user : User) → slice_get session.users i ≡ Some user → same user.name name ≡ true → is_some (user_number session name) ≡ true
-has_a_number session name i user at is =
-    let place = position_or_len (λ (u : User). same u.name name) session.users in
-    let lt : place < length session.users = place_found (λ (u : User). same u.name name) session.users i user at is in
-    let within : nat_lt place (length session.users) ≡ true = grind (arith, nat_tests, lt) in
-    ap (λ b. is_some (option_map (λ k. k + 1) (cond b (Some place) None))) within
-
--- users and groups have the numbers from 1 on
-pub user_range : (session : Session) (name : Name) (i : ℕ) → user_number session name ≡ Some i → (1 ≤ i) × (i ≤ length session.users)
-user_range session name i e =
-    let k = mapped_from (λ k. k + 1) (position (λ (u : User). same u.name name) session.users) i e in
-    let at = placed (λ (u : User). same u.name name) session.users k.0 k.1 in
-    let below : k.0 < length session.users = at.3 in
-    (omega (arith, k.2), omega (arith, k.2, below))
-
-pub group_range : (session : Session) (name : Name) (i : ℕ) → group_number session name ≡ Some i → (1 ≤ i) × (i ≤ length session.groups)
-group_range session name i e =
-    let k = mapped_from (λ k. k + 1) (position (λ (g : Group). same g.name name) session.groups) i e in
-    let at = placed (λ (g : Group). same g.name name) session.groups k.0 k.1 in
-    let below : k.0 < length session.groups = at.3 in
-    (omega (arith, k.2), omega (arith, k.2, below))
-
--- two users' names with one number are one
-pub one_user : (session : Session) (a b : Name) (i : ℕ) → user_number session a ≡ Some i → user_number session b ≡ Some i → a ≡ b
-one_user session a b i is_a is_b =
-    let k = mapped_from (λ k. k + 1) (position (λ (u : User). same u.name a) session.users) i is_a in
-    let m = mapped_from (λ k. k + 1) (position (λ (u : User). same u.name b) session.users) i is_b in
-    let place : k.0 ≡ m.0 = omega (arith, k.2, m.2) in
-    let u = placed (λ (u : User). same u.name a) session.users k.0 k.1 in
-    let v = placed (λ (u : User). same u.name b) session.users m.0 m.1 in
-    let both : Some u.0 ≡ Some v.0 = sym u.1 ∙ ap (slice_get session.users) place ∙ v.1 in
-    let one : u.0 ≡ v.0 = same_Some u.0 v.0 both in
-    sym (equal_names u.0.name a u.2) ∙ ap (λ (w : User). w.name) one ∙ equal_names v.0.name b v.2
-
--- and so are two groups' names
-pub one_group : (session : Session) (a b : Name) (i : ℕ) → group_number session a ≡ Some i → group_number session b ≡ Some i → a ≡ b
-one_group session a b i is_a is_b =
-    let k = mapped_from (λ k. k + 1) (position (λ (g : Group). same g.name a) session.groups) i is_a in
-    let m = mapped_from (λ k. k + 1) (position (λ (g : Group). same g.name b) session.groups) i is_b in
-    let place : k.0 ≡ m.0 = omega (arith, k.2, m.2) in
-    let g = placed (λ (g : Group). same g.name a) session.groups k.0 k.1 in
-    let h = placed (λ (g : Group). same g.name b) session.groups m.0 m.1 in
-    let both : Some g.0 ≡ Some h.0 = sym g.1 ∙ ap (slice_get session.groups) place ∙ h.1 in
-    let one : g.0 ≡ h.0 = same_Some g.0 h.0 both in
-    sym (equal_names g.0.name a g.2) ∙ ap (λ (x : Group). x.name) one ∙ equal_names h.0.name b h.2
 
 -- the number of a process's user is that of an owner
 abbrev pub is_number : Option ℕ → ℕ → Bool

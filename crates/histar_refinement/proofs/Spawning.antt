@@ -33,8 +33,8 @@ use Rattle.histar_refinement.specs.Expected.{listing_object, home_object, status
 use Rattle.histar_login.specs.Start.{segment}
 use Rattle.histar_refinement.specs.LaysOut.{IsInOrder, AreInOrder, IsProcess, Laid}
 use Rattle.histar_refinement.proofs.ProcessBytes.{alike_bytes}
-use Rattle.histar_refinement.proofs.Members.{first_of, second_of}
-use Rattle.histar_refinement.proofs.SessionLemmas.{equal_tested}
+use Rattle.histar_layout.proofs.Members.{first_of, second_of}
+use Rattle.histar_layout.proofs.Declared.{equal_tested}
 use Rattle.histar_refinement.proofs.Growing.{new_number, old_number, still_different}
 use Rattle.histar_refinement.proofs.Places.{path_address, same_home, same_directory, AsksAlike, asked_alike, asked_home, asked_status, asked_inside, asked_runner}
 use Rattle.histar_refinement.proofs.Moving.{number_below, stands_same}

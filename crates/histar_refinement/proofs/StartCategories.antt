@@ -7,7 +7,7 @@ use Rattle.std.proofs.lemmas.Option.{none-some, same_Some}
 use Rattle.histar_flat.specs.Sessions.{Session}
 use Rattle.histar_refinement.specs.Categories.{CategoryName, Categories, AreDifferent, IsMade, split_category, boot_category}
 use Rattle.histar_refinement.specs.Categories.CategoryName.{OfBoot, ReadsUser, WritesUser, ReadsGroup, WritesGroup, ReadsProcess, WritesProcess, OfJob}
-use Rattle.histar_refinement.proofs.Members.{first_of, second_of}
+use Rattle.histar_layout.proofs.Members.{first_of, second_of}
 use Rattle.histar_refinement.proofs.CategoryTests.{same_split}
 
 -- the sum of the numbers up to this one

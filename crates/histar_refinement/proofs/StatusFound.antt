@@ -20,7 +20,7 @@ use Rattle.histar_refinement.specs.Expected.{home_object, status_object, thread_
 use Rattle.histar_refinement.specs.LaysOut.{Laid}
 use Rattle.histar_refinement.specs.Lines.{IsStatusSegment, IsThreadOf}
 use Rattle.histar_refinement.specs.Processes.{or_zero, listed_by, status_by}
-use Rattle.histar_refinement.proofs.Members.{first_of, second_of}
+use Rattle.histar_layout.proofs.Members.{first_of, second_of}
 use Rattle.histar_refinement.proofs.Places.{asked_home, asked_status, asked_runner}
 use Rattle.histar_refinement.proofs.Standing.{some_of}
 use Rattle.histar_refinement.proofs.SameLines.{same_status}

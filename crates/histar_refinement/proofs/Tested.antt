@@ -3,10 +3,10 @@ use Rattle.std.proofs.Common.{◌≡◌, ℕ, true, false, ◌&&◌, ◌||◌, L
 use Rattle.std.specs.Prelude.{map}
 use Rattle.std.specs.List.{list_all}
 use Rattle.histar_label.specs.Levels.{is_below, is_below_raised, is_made, has_star}
-use Rattle.histar_calls.specs.Labelling.{cleared_at}
+use Rattle.histar_layout.specs.Labelling.{cleared_at}
 use Rattle.histar_refinement.specs.Categories.{CategoryName, Categories, AreDifferent, IsMade, among}
 use Rattle.histar_refinement.specs.Guards.{Guard, Rights, guard_label, rights_label, rights_clearance}
-use Rattle.histar_refinement.proofs.Members.{is_in, AreApart}
+use Rattle.histar_layout.proofs.Members.{is_in, AreApart}
 use Rattle.histar_refinement.proofs.CategoryTests.{is_in_names, all_names, named_in}
 use Rattle.histar_refinement.proofs.Levelled.{observes_guarded, below_guarded, guarded_cleared, cleared_exactly, below_owning, owning_cleared, cleared_below, guarded_owns_nothing, guarded_made, owning_made, cleared_made}
 

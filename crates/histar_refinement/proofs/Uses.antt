@@ -23,12 +23,14 @@ use Rattle.histar_refinement.specs.Categories.CategoryName.{ReadsUser, WritesUse
 use Rattle.histar_refinement.specs.Guards.{Guard, guard_label, rights_label, rights_clearance}
 use Rattle.histar_refinement.specs.Labels.{class_guard, private_guard, readable_guard, scratch_guard, group_guard, open_guard, process_guard, inside_guard, reading, writing, owned_as, thread_rights}
 use Rattle.histar_refinement.specs.Expected.{bare_container, guarded_object, content_kind, node_object, listing_object, home_object, inside_object, thread_object}
-use Rattle.histar_refinement.specs.LaysOut.{AreInOrder, IsRisingFrom}
+use Rattle.histar_refinement.specs.LaysOut.{AreInOrder}
+use Rattle.histar_layout.specs.ClassLabels.{IsRisingFrom}
 use Rattle.histar_refinement.proofs.CategoryTests.{same_told}
 use Rattle.histar_refinement.proofs.AmongNames.{each_none, each_one, each_head, each_append}
-use Rattle.histar_refinement.proofs.Members.{mapped_from}
+use Rattle.histar_layout.proofs.Members.{mapped_from}
 use Rattle.histar_refinement.proofs.Growing.{GuardHas, RightsHave, same_guard_label, same_rights_label, same_rights_clearance}
-use Rattle.histar_refinement.proofs.SessionLemmas.{user_range, group_range, equal_tested, has_number, from_numbers}
+use Rattle.histar_refinement.proofs.SessionLemmas.{has_number, from_numbers}
+use Rattle.histar_layout.proofs.Declared.{group_range, user_range, equal_tested}
 
 -- a name among those of jobs is a job's
 pub job_among : (jobs : List ProcName) (c : CategoryName) → among (map OfJob jobs) c ≡ true → (job : ProcName) × (c ≡ OfJob job) × (has jobs job ≡ true)

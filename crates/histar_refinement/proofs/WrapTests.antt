@@ -16,13 +16,14 @@ use Rattle.histar_flat.specs.Sessions.{Session, has, user_number}
 use Rattle.histar_flat.specs.Classes.{Class, Process, is_free, may_read, may_write}
 use Rattle.histar_flat.proofs.WrappedJobs.{has_last}
 use Rattle.histar_flat.proofs.GivenNames.{longer_has}
-use Rattle.histar_calls.specs.Labelling.{guarded_by, owner_label}
+use Rattle.histar_layout.specs.Labelling.{guarded_by, owner_label}
 use Rattle.histar_refinement.specs.Categories.{CategoryName, Categories, AreDifferent, among}
 use Rattle.histar_refinement.specs.Categories.CategoryName.{ReadsUser, ReadsProcess, WritesProcess, OfJob}
 use Rattle.histar_refinement.specs.Guards.{Guard, Rights, guard_label, rights_label, rights_clearance}
 use Rattle.histar_refinement.specs.Labels.{class_guard, scratch_guard, process_guard, inside_guard, reading, writing, owned_as, thread_rights}
-use Rattle.histar_refinement.proofs.Members.{is_in, same_truth}
-use Rattle.histar_refinement.proofs.Levelled.{guarded_level, owning_level, at_guarded, at_owning, cleared_exactly, same_owning, same_cleared}
+use Rattle.histar_layout.proofs.Members.{is_in, same_truth}
+use Rattle.histar_refinement.proofs.Levelled.{cleared_exactly, same_owning, same_cleared}
+use Rattle.histar_layout.proofs.LabelLevels.{at_owning, at_guarded, owning_level, guarded_level}
 use Rattle.histar_refinement.proofs.CategoryTests.{among-append, among_none, among_jobs, is_in_names, all_names, named_in}
 use Rattle.histar_refinement.proofs.Tested.{observes_by_names, below_by_names, cleared_by_names, rights_by_names, capped_by_names, clearances_by_names}
 use Rattle.histar_refinement.specs.Sessions.{IsSession}

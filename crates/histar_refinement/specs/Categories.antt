@@ -64,10 +64,8 @@ boot_category session (WritesUser i) = cond (nat_le i (length session.users)) (S
 boot_category session (ReadsGroup k) = cond (nat_le 1 k && nat_le k (length session.groups)) (Some (2 + 2 * length session.users + 2 * k)) None
 boot_category session (WritesGroup k) = cond (nat_le 1 k && nat_le k (length session.groups)) (Some (3 + 2 * length session.users + 2 * k)) None
 boot_category session (ReadsProcess []) = Some (4 + 2 * length session.users + 2 * length session.groups)
-boot_category session (ReadsProcess (n ∷ p)) = None
 boot_category session (WritesProcess []) = Some (5 + 2 * length session.users + 2 * length session.groups)
-boot_category session (WritesProcess (n ∷ p)) = None
-boot_category session (OfJob job) = None
+boot_category session c = None
 
 -- the number that boot gave, and 0 where it gave none
 abbrev pub booted : Session → Categories
@@ -75,11 +73,8 @@ booted session c = unwrap_or (boot_category session c) 0
 
 -- a file or directory is for processes of this job
 abbrev pub is_for : Class → ProcName → Bool
-is_for (Private owner) job = false
-is_for (Readable owner) job = false
-is_for Open job = false
 is_for (Scratch owner jobs) job = has jobs job
-is_for (Grouped group) job = false
+is_for class job = false
 
 -- some process is in the job or holds it
 abbrev pub IsKnown : Flat → ProcName → Type 0

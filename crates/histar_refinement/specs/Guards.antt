@@ -1,7 +1,7 @@
 -- The two kinds of labels that Unix calls make: of what is guarded, and of who has rights.
 use Rattle.std.specs.Prelude.{List, ◌++◌, map}
 use Rattle.histar_label.specs.Levels.{Levels}
-use Rattle.histar_calls.specs.Labelling.{guarded_by, owner_label, cleared_at}
+use Rattle.histar_layout.specs.Labelling.{guarded_by, owner_label, cleared_at}
 use Rattle.histar_refinement.specs.Categories.{CategoryName, Categories}
 
 -- how a segment or a container is guarded: only who owns each secret category or has it at 3 reads it, and only who owns each

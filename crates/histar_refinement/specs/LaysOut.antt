@@ -9,32 +9,25 @@ use Rattle.histar_flat.specs.FlatState.{Node, Flat, is_dir_at, is_given}
 use Rattle.histar_object.specs.State.{State}
 use Rattle.histar_container.specs.Tree.{Address, Naming}
 use Rattle.histar_rules.specs.Rules.{greatest}
+use Rattle.histar_layout.specs.ClassLabels.{IsRisingFrom}
 use Rattle.histar_layout.specs.Directory.{IsListable}
 use Rattle.histar_login.specs.Boot.{boot_thread_number}
 use Rattle.histar_refinement.specs.Categories.{CategoryName, Categories, AreDifferent, IsMade, boot_category, IsKnown, IsServed, IsUsed}
-use Rattle.histar_refinement.specs.Categories.CategoryName.{OfJob}
 use Rattle.histar_refinement.specs.Labels.{class_guard}
+use Rattle.histar_refinement.specs.NumberedClasses.{job_numbers}
 use Rattle.histar_refinement.specs.Addresses.{Step, same_step, boot_number}
 use Rattle.histar_refinement.specs.Stands.{Stands}
 use Rattle.histar_refinement.specs.Directories.{directory_of}
 use Rattle.histar_refinement.specs.Expected.{expected}
 
--- the numbers rise, and the first is no smaller than n
-abbrev pub IsRisingFrom : ℕ → List ℕ → Type 0
-IsRisingFrom n [] = Unit {0}
-IsRisingFrom n (m ∷ more) = (n ≤ m) × IsRisingFrom (m + 1) more
-
 -- jobs stand in the order in which their categories were made, so that a set of categories tells the list of jobs
 abbrev pub AreInOrder : Categories → List ProcName → Type 0
-AreInOrder category jobs = IsRisingFrom 0 (map (λ job. category (OfJob job)) jobs)
+AreInOrder category jobs = IsRisingFrom 0 (job_numbers category jobs)
 
 -- the jobs of a class stand in order
 abbrev pub IsInOrder : Categories → Class → Type 0
-IsInOrder category (Private owner) = Unit {0}
-IsInOrder category (Readable owner) = Unit {0}
-IsInOrder category Open = Unit {0}
 IsInOrder category (Scratch owner jobs) = AreInOrder category jobs
-IsInOrder category (Grouped group) = Unit {0}
+IsInOrder category class = Unit {0}
 
 -- A process that can be laid out: its user is declared, or is nobody, who is in no job and holds none; it holds no job that it is
 -- in, its jobs stand in order, and its counts are those that its segment has room for. Of one that has exited neither the user nor

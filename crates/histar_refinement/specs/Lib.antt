@@ -2,6 +2,7 @@ pub mod Sessions
 pub mod Categories
 pub mod Guards
 pub mod Labels
+pub mod NumberedClasses
 pub mod LeftByBoot
 pub mod Addresses
 pub mod Processes

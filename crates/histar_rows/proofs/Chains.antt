@@ -86,15 +86,15 @@ module _ (t : ℕ) where
     -- a run of granted calls may be broken off
     pub granted_broken_off : (old new : KernelModel) (line : ℕ) (calls : List RawCall) → Chain old t (all_granted calls) new → IsBrokenOff reply (state old) (entries_of line t (all_granted calls)) (state new)
     granted_broken_off old new line [] same = same.state
-    granted_broken_off old new line (call ∷ calls) chain = (state chain.0, chain.1.outcome, chain.1.state, inl tt, granted_broken_off chain.0 new line calls chain.2)
+    granted_broken_off old new line (call ∷ calls) chain = (state chain.0, chain.1.outcome, chain.1.state, tt, granted_broken_off chain.0 new line calls chain.2)
 
     -- and so may one whose last raw call was refused since the next object or the next category has no number
     pub exhausted_broken_off : (old mid new : KernelModel) (line : ℕ) (calls : List RawCall) (last : RawCall) → Chain old t (all_granted calls) mid → Chain mid t ((last, Some TooBig) ∷ []) new → (has_number (state mid) ≡ false) ⊎ (has_category (state mid) ≡ false)
         → IsBrokenOff reply (state old) (entries_of line t (all_granted calls ++ (last, Some TooBig) ∷ [])) (state new)
     exhausted_broken_off old mid new line [] last same later greatest =
         let end = chain_from old mid new ((last, Some TooBig) ∷ []) same later in
-        (state end.0, end.1.outcome, end.1.state, inl (refl, subst (λ (s : State). (has_number s ≡ false) ⊎ (has_category s ≡ false)) same.state greatest), end.2.state)
-    exhausted_broken_off old mid new line (call ∷ calls) last chain later greatest = (state chain.0, chain.1.outcome, chain.1.state, inl tt, exhausted_broken_off chain.0 mid new line calls last chain.2 later greatest)
+        (state end.0, end.1.outcome, end.1.state, inl (subst (λ (s : State). (has_number s ≡ false) ⊎ (has_category s ≡ false)) same.state greatest), end.2.state)
+    exhausted_broken_off old mid new line (call ∷ calls) last chain later greatest = (state chain.0, chain.1.outcome, chain.1.state, tt, exhausted_broken_off chain.0 mid new line calls last chain.2 later greatest)
 
     -- and one whose last raw calls give the thread labels, behind one whose denial the reply tells
     pub refused_broken_off : (old new : KernelModel) (line : ℕ) (calls : List RawCall) (last : RawCall) (denied : Denied) (restoring : List RawCall)
@@ -104,4 +104,4 @@ module _ (t : ℕ) where
     refused_broken_off old new line [] last denied restoring told sets chain =
         (state chain.0, chain.1.outcome, chain.1.state, inr (told, all_restoring line restoring sets), granted_broken_off chain.0 new line restoring chain.2)
     refused_broken_off old new line (call ∷ calls) last denied restoring told sets chain =
-        (state chain.0, chain.1.outcome, chain.1.state, inl tt, refused_broken_off chain.0 new line calls last denied restoring told sets chain.2)
+        (state chain.0, chain.1.outcome, chain.1.state, tt, refused_broken_off chain.0 new line calls last denied restoring told sets chain.2)

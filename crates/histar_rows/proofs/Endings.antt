@@ -28,7 +28,9 @@ use Rattle.histar_calls.specs.Refusals.{errno_for, errno_of, write_errno_of}
 use Rattle.histar_calls.specs.Replies.{is_access, is_permission, is_no_access, is_no_permission, IsRefusedOnce, sets_labels}
 use Rattle.histar_refinement.specs.LaysOut.{LaysOut}
 use Rattle.histar_refinement.specs.Lines.{IsThreadOf}
-use Rattle.histar_rows.specs.Rows.{IsRunning, IsReplyOfDenial, EndsWithRead, HasReads, HasReadsOf, IsLine, IsUnanswered, IsBrokenOff, DoesItsRow}
+use Rattle.histar_rows.specs.Rows.{IsRunning, IsReplyOfDenial, EndsWithRead, IsLine, IsUnanswered, IsBrokenOff, DoesItsRow}
+use Rattle.histar_rows.specs.Reads.{HasReads}
+use Rattle.histar_rows.proofs.ReadsByCall.{HasReadsByCall, reads_due}
 use Rattle.histar_rows.proofs.Chains.{Step, all_granted, entries_of, Chain, chain_run, chain_own, all_restoring}
 
 -- what a reply needs where no raw call was refused: bytes were read last, an errno is neither EACCES nor EPERM, and it is not `gone`
@@ -144,7 +146,7 @@ module _ (session : Session) (f : Flat) (me : ProcName) (caller : IsRunning f me
 
   -- the reads that the call cannot do without, where it is answered so, are among these raw calls
   abbrev pub ReadsAmong : List Step → Reply → Type 0
-  ReadsAmong steps r = HasReads session (state old) f caller.process call r (entries_of old.line t steps)
+  ReadsAmong steps r = HasReadsByCall session (state old) f caller.process call r (entries_of old.line t steps)
 
   -- what the flat rules answer where they allow the call
   abbrev pub allowed : Reply
@@ -180,8 +182,9 @@ module _ (session : Session) (f : Flat) (me : ProcName) (caller : IsRunning f me
           line = part.line;
           row = record {
             line = subst (λ (x : Reply). IsLine session (state old) old.line me x entries (state new)) (sym reply) is_line;
-            reads = subst (λ (o : Option Process). HasReadsOf session (state old) f o call (reply_to session f me call) entries) (sym runs)
-                (subst (λ (x : Reply). HasReads session (state old) f caller.process call x entries) (sym reply) reads);
+            reads = subst (λ (o : Option Process). HasReads session (state old) f o call (reply_to session f me call) entries) (sym runs)
+                (reads_due session (state old) f caller.process call (reply_to session f me call) entries
+                (subst (λ (x : Reply). HasReadsByCall session (state old) f caller.process call x entries) (sym reply) reads));
             lays_out = subst (LaysOut session (state new)) (sym (after_is refusal is)) lays_out;
           };
         },

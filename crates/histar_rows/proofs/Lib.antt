@@ -1,3 +1,4 @@
+pub mod ReadsByCall
 pub mod Chains
 pub mod Endings
 pub mod Steps

@@ -54,7 +54,9 @@ use Rattle.histar_refinement.proofs.LinesLaid.{holds_directory, directory_found}
 use Rattle.histar_refinement.proofs.Standing.{root_is_dir}
 use Rattle.histar_refinement.proofs.StatusFound.{thread_back}
 use Rattle.histar_refinement.proofs.CallerFound.{is_or_zero}
-use Rattle.histar_rows.specs.Rows.{IsReady, AreAmong, AreReadsOf, HasWay, HasWalk, tested}
+use Rattle.histar_rows.specs.Rows.{IsReady}
+use Rattle.histar_rows.specs.Reads.{AreAmong, tested}
+use Rattle.histar_rows.proofs.ReadsByCall.{AreReadsOf, HasWay, HasWalk}
 use Rattle.histar_rows.proofs.Chains.{Step, all_granted, entries_of, Chain}
 use Rattle.histar_rows.proofs.Endings.{ReadsAmong}
 use Rattle.histar_rows.proofs.Steps.{Goal, granted_step, refused_step, listed_step, refused_at_once}

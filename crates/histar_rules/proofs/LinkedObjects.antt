@@ -9,7 +9,7 @@ use Rattle.histar_object.specs.declared.objects.Entry.{Entry}
 use Rattle.histar_object.specs.declared.objects.Object.{Object}
 use Rattle.histar_object.specs.declared.objects.Kind.{Kind}
 use Rattle.histar_object.specs.declared.objects.Kind.TheVariants.{Segment, Container, Thread, Gate}
-use Rattle.histar_object.specs.Objects.{Numbers, objects_of, thread_of, bytes_in, label_there, is_thread, is_segment, is_gate, kind_is_segment, kind_is_gate}
+use Rattle.histar_object.specs.Objects.{TableModel, Numbers, objects_of, thread_of, bytes_in, label_there, is_thread, is_segment, is_gate, kind_is_segment, kind_is_gate}
 use Rattle.histar_object.specs.State.{observes, modifies, in_range}
 use Rattle.histar_rules.specs.Rights.{in_span, is_let_in, is_own_below, in_gate, lies_between}
 use Rattle.histar_container.specs.Shown.{kind_by, object_by, shown, AllStand}
@@ -27,7 +27,7 @@ use Rattle.histar_rules.proofs.Passing.{first}
 some_is_there : {A : Type 0} (a : A) → Some a ≡ None → ⊥
 some_is_there a e = false≢true (sym (ap is_some e))
 
-module _ {Id : Type 0} (labels : Id → Option Levels) (es : List (ℕ × Object Id)) where
+module _ {Id : Type 0} (labels : Id → Option Levels) (es : TableModel Id) where
   kind_segment : (k : Kind Id) → kind_is_segment (kind_by (label_at labels) k) ≡ kind_is_segment k
   kind_segment (Segment bytes) = refl
   kind_segment (Container links) = refl

@@ -11,7 +11,7 @@ use Rattle.histar_object.specs.declared.objects.Entry.{Entry}
 use Rattle.histar_object.specs.declared.objects.Object.{Object}
 use Rattle.histar_object.specs.declared.objects.Kind.{Kind}
 use Rattle.histar_object.specs.declared.objects.Kind.TheVariants.{Segment, Container, Thread, Gate}
-use Rattle.histar_object.specs.Objects.{Numbers, objects_of, thread_of, links_in, is_present, is_container, is_thread, kind_is_thread, kind_is_container}
+use Rattle.histar_object.specs.Objects.{TableModel, Numbers, objects_of, thread_of, links_in, is_present, is_container, is_thread, kind_is_thread, kind_is_container}
 use Rattle.histar_object.specs.State.{Found, observes, modifies}
 use Rattle.histar_container.specs.Shown.{kind_by, object_by, shown, AllStand}
 use Rattle.histar_container.proofs.Shows.{shows}
@@ -32,7 +32,7 @@ pub behind_refusal : {A : Type 0} (failing later : Option Denied) (denied : Deni
 behind_refusal failing later denied (Ok x) e is = absurd is
 behind_refusal failing later denied (Err other) e is = ap (λ (f : Option Denied). f orelse later) e ∙ ap (λ (d : Denied). Some d) (sym is)
 
-module _ {Id : Type 0} (labels : Id → Option Levels) (es : List (ℕ × Object Id)) where
+module _ {Id : Type 0} (labels : Id → Option Levels) (es : TableModel Id) where
   kind_thread : (k : Kind Id) → kind_is_thread (kind_by (label_at labels) k) ≡ kind_is_thread k
   kind_thread (Segment bytes) = refl
   kind_thread (Container links) = refl

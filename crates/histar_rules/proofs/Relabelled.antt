@@ -7,7 +7,7 @@ use Rattle.histar_label.proofs.Stands.{label_at-stands}
 use Rattle.histar_object.specs.declared.objects.Kind.{Kind}
 use Rattle.histar_object.specs.declared.objects.Kind.TheVariants.{Segment, Container, Thread, Gate}
 use Rattle.histar_object.specs.declared.objects.Object.{Object}
-use Rattle.histar_object.specs.Objects.{Objects, objects_of, changed_at}
+use Rattle.histar_object.specs.Objects.{TableModel, Objects, objects_of, changed_at}
 use Rattle.histar_object.proofs.Changes.{at_each}
 use Rattle.histar_container.specs.Shown.{kind_by, shown, KindStands, AllStand}
 use Rattle.histar_container.proofs.Keeping.{all_on, shown_on, shown_changed, stand_changed}
@@ -17,7 +17,7 @@ use Rattle.histar_rules.specs.Rights.{with_label, with_clearance, kind_with_clea
 pub changed_none : {L : Type 0} (objects : Objects L) (n : ℕ) (f : Object L → Object L) → None ≡ objects n → objects ≡ changed_at objects n f
 changed_none objects n f none i q = sym (at_each objects n q (option_map f (objects q)) (objects q) (objects q) (λ e. ap (option_map f) (ap objects e ∙ sym none) ∙ none ∙ sym (ap objects e)) (λ e. refl)) i
 
-module _ {Id : Type 0} (old new : Id → Option Levels) (keeps : Keeps old new) (es fs : List (ℕ × Object Id)) (n : ℕ) (all : AllStand old (objects_of es)) (id : Id) (L : Levels) (is : new id ≡ Some L) where
+module _ {Id : Type 0} (old new : Id → Option Levels) (keeps : Keeps old new) (es fs : TableModel Id) (n : ℕ) (all : AllStand old (objects_of es)) (id : Id) (L : Levels) (is : new id ≡ Some L) where
   -- the Ids still stand for labels once an object has this label
   pub label_stand : objects_of fs ≡ changed_at (objects_of es) n (with_label id) → AllStand new (objects_of fs)
   label_stand e =

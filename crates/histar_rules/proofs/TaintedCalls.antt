@@ -19,7 +19,7 @@ use Rattle.histar_rules.specs.Rights.{both, with_star_at, with_label, with_clear
 use Rattle.histar_object.specs.State.{State, Found, between, in_range, modifies, with_object, with_own, with_segment_bytes}
 use Rattle.histar_container.specs.ObjectsModel.{CutsOff}
 use Rattle.histar_container.specs.Tree.{Reached, here, there, IsCut}
-use Rattle.histar_container.proofs.TableMoves.{put_here, put_other, changed_here, changed_other}
+use Rattle.histar_container.proofs.TableMoves.{put_here, put_other, changed_here, changed_other, new_there, new_other}
 use Rattle.histar_container.proofs.Trees.{none_next, reached_decided}
 use Rattle.histar_rules.specs.declared.raw.Denied.{Denied}
 use Rattle.histar_rules.specs.declared.raw.Denied.TheVariants.{Modify, Range, Gate, NoEntry, BadKind}
@@ -122,11 +122,7 @@ module _ (v : ℕ) where
   modified_tainted (Some t) None h e = tt
   modified_tainted (Some t) (Some a) h e = above_three t.label a.label h (and_first (is_below t.label a.label) _ e)
 
-  -- what is put, changed or linked there is tainted
-  if_tainted : (b : Bool) (o : Object Levels) (f : Found) → level_of o.label v ≡ L3 → IsTainted v f → IsTainted v (if b then Some o else f)
-  if_tainted true o f three h = three
-  if_tainted false o f three h = h
-
+  -- what is changed so that its new label is tainted, is tainted
   map_tainted : (change : Object Levels → Object Levels) (f : Found) → ((o : Object Levels) → f ≡ Some o → level_of (change o).label v ≡ L3) → IsTainted v (option_map change f)
   map_tainted change None all = tt
   map_tainted change (Some o) all = all o refl
@@ -153,14 +149,14 @@ module _ (v : ℕ) where
 
     -- a tainted object is linked in a tainted container
     new_moves : (d n : ℕ) (o : Object Levels) → objects n ≡ None → IsTainted v (objects d) → level_of o.label v ≡ L3 → (q : ℕ) → Moved v objects (with_new objects d n o) q
-    new_moves d n o none h three q = elim (eqb_tells q d) [
-      | inl e ↦ tainted (subst (λ (k : ℕ). IsTainted v (objects k)) (sym e.1) h)
-          (subst (λ (k : ℕ). IsTainted v (with_new objects d n o k)) (sym e.1)
-          (subst (IsTainted v) (sym (changed_here (put objects n o) d (linking n))) (same_tainted (linking n) (put objects n o d) (λ p. refl) (if_tainted (d == n) o (objects d) three h))))
-      | inr e ↦ elim (eqb_tells q n) [
-        | inl i ↦ tainted (subst (IsTainted v) (sym (ap objects i.1 ∙ none)) tt)
-            (subst (IsTainted v) (sym (changed_other (put objects n o) d (linking n) q e.1 ∙ ap (put objects n o) i.1 ∙ put_here objects n o)) three)
-        | inr i ↦ stays (changed_other (put objects n o) d (linking n) q e.1 ∙ put_other objects n o q i.1)
+    new_moves d n o none h three q = elim (eqb_tells q n) [
+      | inl e ↦ tainted (subst (IsTainted v) (sym (ap objects e.1 ∙ none)) tt)
+          (subst (λ (k : ℕ). IsTainted v (with_new objects d n o k)) (sym e.1) (subst (IsTainted v) (sym (new_there objects n d o)) three))
+      | inr e ↦ elim (eqb_tells q d) [
+        | inl i ↦ tainted (subst (λ (k : ℕ). IsTainted v (objects k)) (sym i.1) h)
+            (subst (IsTainted v) (sym (put_other (changed_at objects d (linking n)) n o q e.1 ∙ ap (changed_at objects d (linking n)) i.1 ∙ changed_here objects d (linking n)))
+            (same_tainted (linking n) (objects d) (λ p. refl) h))
+        | inr i ↦ stays (new_other objects n d o q e.1 i.1)
       ]
     ]
 

@@ -197,5 +197,5 @@ module _ (next : ℕ) (objects : Objects Levels) (labelled : AreLabelled next ob
 -- a new object is linked
 pub labelled_new : (next : ℕ) (objects : Objects Levels) → AreLabelled next objects → (d n : ℕ) (o : Object Levels) → IsWellLabelled next o → AreLabelled next (with_new objects d n o)
 labelled_new next objects labelled d n o well =
-    let placed = labelled_put next objects labelled n o well in
-    labelled_changed next (put objects n o) placed d (linking n) (λ x i. well_linking next n x (placed d x i))
+    let linked = labelled_changed next objects labelled d (linking n) (λ x i. well_linking next n x (labelled d x i)) in
+    labelled_put next (changed_at objects d (linking n)) linked n o well

@@ -5,7 +5,7 @@ use Rattle.histar_label.specs.Levels.{Levels}
 use Rattle.histar_object.specs.declared.objects.Entry.{Entry}
 use Rattle.histar_object.specs.declared.objects.Object.{Object}
 use Rattle.histar_object.specs.declared.objects.Kind.TheVariants.{Segment, Container, Gate}
-use Rattle.histar_object.specs.Objects.{Numbers, thread_of, is_thread}
+use Rattle.histar_object.specs.Objects.{TableModel, Numbers, thread_of, is_thread}
 use Rattle.histar_object.specs.State.{State, Found}
 use Rattle.histar_container.specs.Shown.{objects_shown}
 use Rattle.histar_rules.specs.declared.limits.Next.{Next}
@@ -33,9 +33,9 @@ abbrev pub gate_of : {L : Type 0} → L → L → Entry → Object L
 gate_of label clearance entry = record { label = label; kind = Gate clearance entry }
 
 -- the objects that a table and its store show, as a state whose next numbers are 0
-abbrev pub state_shown : {Id : Type 0} → (Id → Option Levels) → List (ℕ × Object Id) → State
+abbrev pub state_shown : {Id : Type 0} → (Id → Option Levels) → TableModel Id → State
 state_shown labels es = record { objects = objects_shown labels es; next_object = 0; next_category = 0 }
 
 -- the same, with the numbers that come next
-abbrev pub state_with : {Id : Type 0} → (Id → Option Levels) → List (ℕ × Object Id) → Next → State
+abbrev pub state_with : {Id : Type 0} → (Id → Option Levels) → TableModel Id → Next → State
 state_with labels es next = record { objects = objects_shown labels es; next_object = next.object; next_category = next.category }

@@ -1,43 +1,31 @@
 -- What a run of a text takes of its input, answers and writes, whatever the text is a script of.
-use Rattle.std.specs.Prelude.{◌≡◌, ℕ, ◌⊎◌, Bool, true, false, List, Option, Result, Ok, Err}
+use Rattle.std.specs.Prelude.{◌≡◌, ℕ, ◌⊎◌, Bool, true, false, List, Option, Result, Err}
 use Rattle.std.specs.Io.KnownBytes.{Keeps}
 use Rattle.histar_devices.specs.Input.{TakesAll, TakesSome}
 use Rattle.histar_script.specs.declared.fault.Fault.{Fault}
-use Rattle.histar_script.specs.declared.fault.Fault.TheVariants.{BadScript, TooLong, OutOfMemory, ReadFailed, WriteFailed}
+use Rattle.histar_script.specs.declared.fault.Fault.TheVariants.{OutOfMemory, ReadFailed, WriteFailed}
 
 -- the answer is that a read failed
 abbrev pub is_read_failed : {A : Type 0} → Result A Fault → Bool
-is_read_failed (Ok x) = false
-is_read_failed (Err (BadScript n)) = false
-is_read_failed (Err TooLong) = false
-is_read_failed (Err OutOfMemory) = false
 is_read_failed (Err ReadFailed) = true
-is_read_failed (Err WriteFailed) = false
+is_read_failed result = false
 
 -- the answer is that a write failed
 abbrev pub is_write_failed : {A : Type 0} → Result A Fault → Bool
-is_write_failed (Ok x) = false
-is_write_failed (Err (BadScript n)) = false
-is_write_failed (Err TooLong) = false
-is_write_failed (Err OutOfMemory) = false
-is_write_failed (Err ReadFailed) = false
 is_write_failed (Err WriteFailed) = true
+is_write_failed result = false
 
 -- the faults that answering calls can have
 abbrev pub IsOutputFault : Fault → Type 0
-IsOutputFault (BadScript n) = ⊥
-IsOutputFault TooLong = ⊥
 IsOutputFault OutOfMemory = Unit {0}
-IsOutputFault ReadFailed = ⊥
 IsOutputFault WriteFailed = Unit {0}
+IsOutputFault fault = ⊥
 
 -- A bad script, one that is too long and a failed read leave the sink as it was, whatever it tells.
 abbrev pub LeavesSink : {W : Type 0} → W → W → Fault → Type 0
-LeavesSink old new (BadScript n) = new ≡ old
-LeavesSink old new TooLong = new ≡ old
 LeavesSink old new OutOfMemory = Unit {0}
-LeavesSink old new ReadFailed = new ≡ old
 LeavesSink old new WriteFailed = Unit {0}
+LeavesSink old new fault = new ≡ old
 
 -- The run took some bytes and no text of them was run: nothing was written.
 pub record StopsReading (left rest old new : Option (List ℕ)) : Type 0 where

@@ -1,16 +1,15 @@
 //! What is found in a kernel's own objects: `/` after boot, and the processes before and after births,
 //! a login and an exit.
 ghost use Rattle.std.specs.Prelude.{IfOk};
-ghost use Rattle.histar_calls.specs.UserTable.{HaveOwnNames};
+ghost use Rattle.histar_layout.specs.UserTable.{HaveOwnNames};
 
-use histar_calls::UserTable;
 use histar_flat::{Name, Password, Path, ProcName, Session, User};
 use histar_flat::{read_name, read_password, read_user_name};
 use histar_label::PlainStore;
-use histar_layout::Target;
+use histar_layout::{Chain, Target, UserTable};
 use histar_login::{boot, login};
 use histar_process::{exit, find_caller, spawn};
-use histar_tree::{JobList, Life, ProcessNode, procs_of, resolve};
+use histar_tree::{Life, ProcessNode, procs_of, resolve};
 use histar_wrap::wrap;
 use std::alloc::Global;
 use std::process::Abort;
@@ -94,8 +93,8 @@ fn check_processes(rt: &impl Abort, processes: &[ProcessNode], rows: &[Row]) {
 }
 
 /// Checks whether the jobs have these categories.
-fn are_jobs(jobs: &JobList, numbers: &[u64]) -> bool {
-    let categories = jobs.categories();
+fn are_jobs(jobs: &Chain, numbers: &[u64]) -> bool {
+    let categories = jobs.as_slice();
     let mut pairs = categories.iter().zip(numbers.iter());
     categories.len() == numbers.len() && pairs.all(|(c, number)| c.number() == *number)
 }

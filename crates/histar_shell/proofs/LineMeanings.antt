@@ -30,13 +30,17 @@ use Rattle.histar_refinement.specs.Sessions.{IsSession}
 use Rattle.histar_refinement.proofs.CallerFound.{caller_found, caller_there}
 use Rattle.histar_refinement.proofs.Renaming.{nothing_under}
 use Rattle.histar_refinement.proofs.StatusFound.{thread_led}
-use Rattle.histar_rows.specs.Rows.{IsScriptable, IsLine, IsReady, HasReadsOf, DoesItsRow, IsFirstFree, AreFilesSmall}
+use Rattle.histar_flat.specs.Calls.{IsCall}
+use Rattle.histar_rows.specs.Rows.{IsLine, IsReady, DoesItsRow, IsFirstFree, AreFilesSmall}
+use Rattle.histar_rows.specs.Reads.{HasReads}
 use Rattle.histar_rows.proofs.FirstFree.{first_free_after}
 use Rattle.histar_shell.specs.Machine.{MachineModel, on_line, program_of, Makes, HasMade, AnswersFound, AnswersRunning, AnswersIf, AnswersLine}
 use Rattle.histar_shell.specs.Meaning.{Shows, EndsAsMeant, FollowsMeaning}
 use Rattle.histar_shell.proofs.CallRows.{LinesAreRows}
 use Rattle.histar_shell.proofs.SamePrograms.{same_program}
+use Rattle.histar_tree.specs.Laws.{AreShallow}
 use Rattle.histar_shell.proofs.SmallFiles.{small_after}
+use Rattle.histar_shell.proofs.ShallowPaths.{shallow_after}
 use Rattle.histar_shell.proofs.Users.{is_session}
 
 -- what is not there is nothing
@@ -66,7 +70,7 @@ module _ (rows : LinesAreRows) (session : Session) (old new : MachineModel) (f :
         }
 
     -- a call of the process is its row
-    made_row : (k : KernelModel) → state k ≡ state old.kernel → (call : UnixCall) (result : Result Reply Stopped) → IsScriptable call
+    made_row : (k : KernelModel) → state k ≡ state old.kernel → (call : UnixCall) (result : Result Reply Stopped) → IsCall call
         → Makes session (places_of (length session.users)) me caller k new.kernel call result → DoesItsRow session f me call k new.kernel caller.thread result
     made_row k same call result can made = by call can made
       where
@@ -76,7 +80,7 @@ module _ (rows : LinesAreRows) (session : Session) (old new : MachineModel) (f :
         at : caller_at (state k) (places_of (length session.users)).home me ≡ Some caller
         at = ap (λ (s : State). caller_at s (places_of (length session.users)).home me) same ∙ found
 
-        by : (c : UnixCall) → IsScriptable c → Makes session (places_of (length session.users)) me caller k new.kernel c result → DoesItsRow session f me c k new.kernel caller.thread result
+        by : (c : UnixCall) → IsCall c → Makes session (places_of (length session.users)) me caller k new.kernel c result → DoesItsRow session f me c k new.kernel caller.thread result
         by (Create path mode) can made = rows.calls.create session ok path mode can me k new.kernel f caller.thread result there made
         by (Write path bytes) can made = rows.calls.write session ok path bytes me k new.kernel f caller.thread result there made
         by (Mkdir path mode) can made = rows.calls.mkdir session ok path mode can me k new.kernel f caller.thread result there made
@@ -103,21 +107,23 @@ module _ (rows : LinesAreRows) (session : Session) (old new : MachineModel) (f :
         subst (λ (p : Program). Runs p k new.kernel caller.thread result) (ap (λ (users : Session). program_of users places me caller call) shows.users ∙ same_program session places me caller call) made
 
     -- at the places that boot told the machine
-    row_of_made : (line : ℕ) (call : UnixCall) (result : Result Reply Stopped) → IsScriptable call → HasMade old new line me caller call result
+    row_of_made : (line : ℕ) (call : UnixCall) (result : Result Reply Stopped) → IsCall call → HasMade old new line me caller call result
         → DoesItsRow session f me call (on_line line old.kernel) new.kernel caller.thread result
     row_of_made line call result can h =
         made_row (on_line line old.kernel) refl call result can
         (made_of (on_line line old.kernel) call result (subst (λ (places : Places). Makes old.users places me caller (on_line line old.kernel) new.kernel call result) shows.places h.made))
 
     -- the machine after it shows what its kernel lays out
-    still_shows : (line : ℕ) (call : UnixCall) (result : Result Reply Stopped) (g : Flat) → HasMade old new line me caller call result → LaysOut session (state new.kernel) g → IsFirstFree g → AreFilesSmall g → Shows session new g
-    still_shows line call result g h lays first small = record {
+    still_shows : (line : ℕ) (call : UnixCall) (result : Result Reply Stopped) (g : Flat) → HasMade old new line me caller call result → LaysOut session (state new.kernel) g → IsFirstFree g → AreFilesSmall g → AreShallow g
+        → Shows session new g
+    still_shows line call result g h lays first small shallow = record {
       declared = shows.declared;
       users = h.users ∙ shows.users;
       places = h.places ∙ shows.places;
       lays_out = lays;
       first = first;
       small = small;
+      shallow = shallow;
     }
 
     -- each raw call is by the process's thread
@@ -126,7 +132,7 @@ module _ (rows : LinesAreRows) (session : Session) (old new : MachineModel) (f :
     own_thread line (e ∷ entries) own = ((own.0.0, subst (IsThreadOf session (state old.kernel) me) (sym own.0.1) ready.thread), own_thread line entries own.1)
 
     -- the call ends as is meant
-    made_ends : (line : ℕ) (call : UnixCall) (result : Result Reply Stopped) → IsScriptable call → HasMade old new line me caller call result → EndsAsMeant session old new f (record { line = line; process = me; call = call }) result
+    made_ends : (line : ℕ) (call : UnixCall) (result : Result Reply Stopped) → IsCall call → HasMade old new line me caller call result → EndsAsMeant session old new f (record { line = line; process = me; call = call }) result
     made_ends line call (Ok reply) can h =
         let row = row_of_made line call (Ok reply) can h in
         record {
@@ -136,7 +142,8 @@ module _ (rows : LinesAreRows) (session : Session) (old new : MachineModel) (f :
           row = row.1.row;
           shows = still_shows line call (Ok reply) (flat_after session f me call) h row.1.row.lays_out
               (first_free_after session f shows.first me call)
-              (small_after f shows.small session me (nothing_under session (state old.kernel) f shows.lays_out.laid) call can);
+              (small_after f shows.small session me (nothing_under session (state old.kernel) f shows.lays_out.laid) call can)
+              (shallow_after f shows.shallow session me (nothing_under session (state old.kernel) f shows.lays_out.laid) call can);
         }
     made_ends line call (Err stopped) can h =
         let out = row_of_made line call (Err stopped) can h in
@@ -162,7 +169,7 @@ module _ (rows : LinesAreRows) (session : Session) (old new : MachineModel) (f :
         trace = sym (append-nil old.kernel.trace);
         row = record {
           line = subst (λ (r : Reply). IsLine session (state old.kernel) line me r [] (state old.kernel)) (sym still.0) is_line;
-          reads = subst (λ (o : Option Process). HasReadsOf session (state old.kernel) f o call (reply_to session f me call) []) (sym none) tt;
+          reads = subst (λ (o : Option Process). HasReads session (state old.kernel) f o call (reply_to session f me call) []) (sym none) tt;
           lays_out = subst (LaysOut session (state old.kernel)) (sym still.1) shows.lays_out;
         };
         shows = subst (Shows session old) (sym still.1) shows;
@@ -172,7 +179,7 @@ module _ (rows : LinesAreRows) (session : Session) (old new : MachineModel) (f :
   lost_is_gone : (me : ProcName) → caller_at (state old.kernel) (places_of (length session.users)).home me ≡ None → running f me ≡ None
   lost_is_gone me lost = none_of (running f me) (sym (caller_there session (state old.kernel) f shows.lays_out.laid me) ∙ ap is_some lost)
 
-  runs_end : (line : ℕ) (me : ProcName) (call : UnixCall) (result : Result Reply Stopped) → IsScriptable call → AnswersRunning old new line me call result → EndsAsMeant session old new f (record { line = line; process = me; call = call }) result
+  runs_end : (line : ℕ) (me : ProcName) (call : UnixCall) (result : Result Reply Stopped) → IsCall call → AnswersRunning old new line me call result → EndsAsMeant session old new f (record { line = line; process = me; call = call }) result
   runs_end line me call result can h = by (caller_at (state old.kernel) (places_of (length session.users)).home me) refl
       (subst (λ (places : Places). AnswersFound (caller_at (state old.kernel) places.home me) old new line me call result) shows.places h)
     where
@@ -192,7 +199,7 @@ module _ (rows : LinesAreRows) (session : Session) (old new : MachineModel) (f :
     own = tt;
   }
 
-  line_ends : (line : ℕ) (process : ProcName) (call : UnixCall) (result : Result Reply Stopped) → IsScriptable call → AnswersLine old new line process call result → EndsAsMeant session old new f (record { line = line; process = process; call = call }) result
+  line_ends : (line : ℕ) (process : ProcName) (call : UnixCall) (result : Result Reply Stopped) → IsCall call → AnswersLine old new line process call result → EndsAsMeant session old new f (record { line = line; process = process; call = call }) result
   line_ends line process call result can h = by old.is_stopped h
     where
       by : (b : Bool) → AnswersIf b old new line process call result → EndsAsMeant session old new f (record { line = line; process = process; call = call }) result
@@ -200,5 +207,6 @@ module _ (rows : LinesAreRows) (session : Session) (old new : MachineModel) (f :
       by false k = runs_end line process call result can k
 
 -- a line follows the meaning
-pub line_follows : (rows : LinesAreRows) (old new : MachineModel) (line : ℕ) (process : ProcName) (call : UnixCall) (result : Result Reply Stopped) → AnswersLine old new line process call result → FollowsMeaning old new line process call result
-line_follows rows old new line process call result h session f shows can = line_ends rows session old new f shows line process call result can h
+pub line_follows : (rows : LinesAreRows) (old new : MachineModel) (line : ℕ) (process : ProcName) (call : UnixCall) (result : Result Reply Stopped) → IsCall call
+    → AnswersLine old new line process call result → FollowsMeaning old new line process call result
+line_follows rows old new line process call result can h session f shows = line_ends rows session old new f shows line process call result can h

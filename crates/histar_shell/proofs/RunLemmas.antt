@@ -13,14 +13,14 @@ use Rattle.histar_devices.specs.declared.input.InputError.TheVariants as input
 use Rattle.histar_script.specs.Outcome.{Gives, input_fault}
 use Rattle.histar_script.specs.Lines.{most_script_bytes}
 use Rattle.histar_script.specs.Reading.{script_of}
-use Rattle.histar_script.specs.Runs.{IsOutputFault, StopsReading, LeavesSink, is_read_failed}
+use Rattle.histar_script.specs.Runs.{IsOutputFault, StopsReading, LeavesSink, is_read_failed, RunsTaken, RunsInput}
 use Rattle.histar_devices.specs.Input.{most_taken, TakesAll, TakesSome}
 use Rattle.histar_flat.specs.Sessions.{Session}
 use Rattle.histar_shell.specs.declared.session.Options.{Options}
 use Rattle.histar_shell.specs.Ending.{AppendsEnding, BeginsTheEnding}
 use Rattle.histar_shell.specs.Outcome.{IsFaultAt, AgreesWith, AnswersScript, BeginsScript, WritesAtFault, WritesAnswers}
 use Rattle.histar_shell.specs.Meaning.{RunsAsMeant}
-use Rattle.histar_shell.specs.Run.{RunsText, RunsTaken, RunsInput}
+use Rattle.histar_shell.specs.Run.{RunsText}
 use Rattle.histar_shell.specs.Machine.{MachineModel, IsStart}
 use Rattle.histar_shell.specs.AnsweredCalls.{AnswersCalls, BeginsAnswers}
 use Rattle.histar_syscall.specs.declared.trace.TraceEntry.{TraceEntry}
@@ -126,20 +126,20 @@ module _ (options : Options) where
   -- ---- an input that is taken
 
   -- an error of the input stops the reading
-  pub stops_reading : (e : InputError) (left rest w : Option (List ℕ)) → TakesSome left rest → RunsInput options left rest w w (Err (input_fault e))
+  pub stops_reading : (e : InputError) (left rest w : Option (List ℕ)) → TakesSome left rest → RunsInput (RunsText options) left rest w w (Err (input_fault e))
   stops_reading input.OutOfMemory left rest w takes = inl (record { takes = takes; keeps = Keeps-refl w })
   stops_reading input.ReadFailed left rest w takes = record { takes = takes; keeps = Keeps-refl w }
 
   -- a run that finds no memory for its store takes nothing
-  pub gives_up_first : (left w : Option (List ℕ)) → RunsInput options left left w w (Err OutOfMemory)
+  pub gives_up_first : (left w : Option (List ℕ)) → RunsInput (RunsText options) left left w w (Err OutOfMemory)
   gives_up_first left w = stops_reading input.OutOfMemory left left w (record { taken = []; consumed = Consumes-nil left; within = omega arith })
 
   -- what was taken is run
-  pub runs_taken : (left rest old new : Option (List ℕ)) (taken text : List ℕ) (result : Answer) → TakesAll left rest taken → text ≡ taken → RunsText options text old new result → is_read_failed result ≡ false → RunsInput options left rest old new result
+  pub runs_taken : (left rest old new : Option (List ℕ)) (taken text : List ℕ) (result : Answer) → TakesAll left rest taken → text ≡ taken → RunsText options text old new result → is_read_failed result ≡ false → RunsInput (RunsText options) left rest old new result
   runs_taken left rest old new taken text result takes same runs no_read_failed =
       at_result result (record { taken = taken; takes = takes; runs = subst (λ (t : List ℕ). RunsText options t old new result) same runs }) no_read_failed
     where
-      at_result : (r : Answer) → RunsTaken options left rest old new r → is_read_failed r ≡ false → RunsInput options left rest old new r
+      at_result : (r : Answer) → RunsTaken (RunsText options) left rest old new r → is_read_failed r ≡ false → RunsInput (RunsText options) left rest old new r
       at_result (Ok trace) h none = h
       at_result (Err (BadScript n)) h none = h
       at_result (Err TooLong) h none = h
@@ -169,7 +169,7 @@ module _ (options : Options) where
   }
 
   -- a known input that was taken was run
-  taken_known : (left rest old new : Option (List ℕ)) (result : Answer) → RunsTaken options left rest old new result → IfSome left (λ input. RunsText options input old new result)
+  taken_known : (left rest old new : Option (List ℕ)) (result : Answer) → RunsTaken (RunsText options) left rest old new result → IfSome left (λ input. RunsText options input old new result)
   taken_known None rest old new result h = tt
   taken_known (Some input) rest old new result h = same_run input h.taken old new result (same_script input rest h.taken h.takes) h.runs
 
@@ -179,7 +179,7 @@ module _ (options : Options) where
   stopped_known (Some input) rest old new result runs h = runs input h.keeps
 
   -- a known input was run
-  pub input_known : (left rest old new : Option (List ℕ)) (result : Answer) → RunsInput options left rest old new result → IfSome left (λ input. RunsText options input old new result)
+  pub input_known : (left rest old new : Option (List ℕ)) (result : Answer) → RunsInput (RunsText options) left rest old new result → IfSome left (λ input. RunsText options input old new result)
   input_known left rest old new (Ok trace) h = taken_known left rest old new (Ok trace) h
   input_known left rest old new (Err (BadScript n)) h = taken_known left rest old new (Err (BadScript n)) h
   input_known left rest old new (Err TooLong) h = taken_known left rest old new (Err TooLong) h

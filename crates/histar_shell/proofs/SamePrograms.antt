@@ -10,17 +10,17 @@ use Rattle.histar_flat.specs.Words.{Name, Path, ProcName}
 use Rattle.histar_label.specs.Levels.{Levels}
 use Rattle.histar_layout.specs.declared.entry.Target.TheVariants.{File, Directory}
 use Rattle.histar_rules.specs.declared.raw.RawCall.TheVariants.{LabelOf, MakeCategory, MakeContainer, MakeSegment, OwnLabel, SetClearance, SetLabel}
-use Rattle.histar_calls.specs.declared.class.Class.{Class}
+use Rattle.histar_layout.specs.declared.shown.ShownClass.{ShownClass}
 use Rattle.histar_calls.specs.declared.places.Home.{Home}
 use Rattle.histar_calls.specs.declared.places.Places.{Places}
 use Rattle.histar_calls.specs.Create.{create_program}
-use Rattle.histar_calls.specs.Jobs.{jobs_in, is_empty}
+use Rattle.histar_layout.specs.Jobs.{jobs_in, is_empty}
 use Rattle.histar_calls.specs.Mkdir.{mkdir_program}
 use Rattle.histar_calls.specs.Parts.{◌>>=◌, ◌>>◌, ask, find_room, write_entries}
 use Rattle.histar_calls.specs.Programs.{Program}
 use Rattle.histar_calls.specs.Programs.Program.{Answers}
 use Rattle.histar_calls.specs.StatCall.{find_object, stat_program, class_reply}
-use Rattle.histar_calls.specs.UserTable.{without_passwords}
+use Rattle.histar_layout.specs.UserTable.{without_passwords}
 use Rattle.histar_process.specs.declared.caller.Caller.{Caller}
 use Rattle.histar_process.specs.Birth.{birth}
 use Rattle.histar_process.specs.Kin.{Kin}

@@ -1,33 +1,34 @@
 -- What is read of the users and groups of a session reads no password.
-use Rattle.std.proofs.Common.{◌≡◌, ℕ, zero, suc, ◌+◌, Bool, false, List, [], ◌∷◌, length, cond, Option, None, Some, refl, sym, ap, if◌then◌else◌}
+use Rattle.std.proofs.Common.{◌≡◌, ℕ, zero, suc, ◌+◌, ◌*◌, subst, Bool, false, List, [], ◌∷◌, length, cond, Option, None, Some, refl, sym, ap, if◌then◌else◌}
 use Rattle.std.specs.Prelude.{map, not, nat_lt, option_and_then, option_map}
 use Rattle.std.specs.List.{position_or_len}
+use Rattle.std.specs.FinMap as maps
 use Rattle.std.specs.Str.{bytes_eq}
-use Rattle.std.proofs.Math.Path.{transport}
 use Rattle.std.proofs.lemmas.List.{length-map}
 use Rattle.histar_flat.specs.declared.calls.User.{User}
 use Rattle.histar_flat.specs.declared.calls.Mode.{Mode}
 use Rattle.histar_flat.specs.declared.calls.Mode.TheVariants as modes
-use Rattle.histar_flat.specs.Sessions.{Group, Session, group_number}
+use Rattle.histar_flat.specs.Sessions.{Group, Session, user_number, group_number}
 use Rattle.histar_flat.specs.Words.{Name, Path}
 use Rattle.histar_label.specs.Levels.{Levels, level_of}
-use Rattle.histar_object.specs.Objects.{label_there}
 use Rattle.histar_object.specs.State.{State}
 use Rattle.histar_layout.specs.declared.entry.Target.{Target}
-use Rattle.histar_layout.specs.declared.entry.Target.TheVariants.{Directory}
-use Rattle.histar_layout.specs.Listing.{object_of}
-use Rattle.histar_calls.specs.declared.class.Class.{Class}
+use Rattle.histar_layout.specs.declared.entry.Target.TheVariants.{File, Directory}
+use Rattle.histar_layout.specs.declared.shown.ShownClass.{ShownClass}
+use Rattle.histar_layout.specs.declared.class.Class.{Class}
+use Rattle.histar_layout.specs.declared.class.Class.TheVariants.{Private, Readable, Open, Scratch, Group as Grouped}
+use Rattle.histar_layout.specs.ClassLabels.{IsRisingFrom, owned_label, class_label, HasJobs}
 use Rattle.histar_calls.specs.declared.places.Places.{Places}
-use Rattle.histar_calls.specs.Jobs.{jobs_in, is_empty}
-use Rattle.histar_calls.specs.Labelling.{secret_of}
-use Rattle.histar_calls.specs.Categories.{read_category, write_category, group_owner, owner_of_group, owners_among, owners_of, user_of, file_label, scratch_label, label_made}
-use Rattle.histar_calls.specs.ClassOf.{class_at, class_from, class_shown, is_unnamed}
-use Rattle.histar_calls.specs.UserTable.{without_password, without_passwords}
+use Rattle.histar_layout.specs.Jobs.{jobs_in, is_empty}
+use Rattle.histar_layout.specs.Labelling.{secret_of, written_by}
+use Rattle.histar_layout.specs.Categories.{read_category, write_category, group_owner, owner_of_group, owners_among, owners_of, user_of, file_label, scratch_label, label_made}
+use Rattle.histar_layout.specs.ShownClass.{class_at, class_from, class_shown, is_unnamed}
+use Rattle.histar_layout.specs.UserTable.{without_password, without_passwords}
 use Rattle.histar_process.specs.Kin.{categories_of, kin_of, owned_by, user_name}
 use Rattle.histar_wrap.specs.Scratch.{directory_label, jobs_with, kin_in}
 use Rattle.histar_login.specs.Login.{place_of}
 use Rattle.histar_tree.specs.declared.tree.TreeNode.{TreeNode}
-use Rattle.histar_tree.specs.Tree.{IsBelow, IsTreeAt, IsTreeOf, levels_at, node_at, node_of}
+use Rattle.histar_tree.specs.Tree.{Listed, AreListed, IsBelow, IsNodeAt, IsTreeAt, IsTreeOf, levels_at}
 
 -- ---- the users
 
@@ -51,11 +52,11 @@ found_at (user ∷ users) name = λ i. cond (not (bytes_eq user.name name)) (1 +
 pub same_place : (users : List User) (name : Name) → place_of (map without_password users) name ≡ place_of users name
 same_place users name = λ i. cond (nat_lt (found_at users name i) (as_many users i)) (Some (found_at users name i)) None
 
--- the class that a label tells is the same
+-- the class that a label shows is the same
 class_from_same : (label : Levels) (groups : List Group) (users : List User) (k : ℕ) → class_from label k groups (map without_password users) ≡ class_from label k groups users
 class_from_same label groups [] k = refl
 class_from_same label groups (user ∷ users) k =
-    ap (λ (rest : Option Class). if is_unnamed label k then rest else class_at user.name (level_of label (read_category k)) (level_of label (write_category k))) (class_from_same label groups users (k + 1))
+    ap (λ (rest : Option ShownClass). if is_unnamed label k then rest else class_at user.name (level_of label (read_category k)) (level_of label (write_category k))) (class_from_same label groups users (k + 1))
 
 module _ (session : Session) where
   -- how many there are
@@ -103,16 +104,55 @@ module _ (session : Session) where
 
   -- ---- the tree
 
-  module _ (s : State) where
-    same_node : (q : Path) (target : Target) → node_at (without_passwords session) s q target ≡ node_at session s q target
-    same_node q target = λ i. option_map (node_of q target) (option_and_then (λ label. same_class label i) (label_there (s.objects (object_of target))))
+  -- users and groups have the numbers that they had
+  same_user_number : (name : Name) → user_number (without_passwords session) name ≡ user_number session name
+  same_user_number name = ap (option_map (λ place. place + 1)) (same_place session.users name)
 
-    same_tree_at : (levels : ℕ) (q : Path) (target : Target) (tree : List TreeNode) → IsTreeAt levels (without_passwords session) s q target tree ≡ IsTreeAt levels session s q target tree
-    same_tree_at zero q target tree = refl
-    same_tree_at (suc levels) q target tree =
-        λ i. (node : TreeNode) × (below : List TreeNode) × (same_node q target i ≡ Some node) × IsBelow (λ d t trees. same_tree_at levels d t trees i) s q target below × (tree ≡ node ∷ below)
+  -- a class has the label that it had
+  same_class_label : (class : Class) → class_label (without_passwords session) class ≡ class_label session class
+  same_class_label (Private owner) = ap (option_map owned_label) (same_user_number owner)
+  same_class_label (Readable owner) = ap (option_map (λ user. written_by (write_category user))) (same_user_number owner)
+  same_class_label Open = refl
+  same_class_label (Scratch owner jobs) = ap (option_map (λ user. scratch_label user jobs)) (same_user_number owner)
+  same_class_label (Grouped group) = λ i. option_map (λ number. owned_label (group_owner (count i) number)) (group_number session group)
+
+  -- and jobs stand behind as many users and groups
+  jobs_still : (class : Class) → HasJobs session class → HasJobs (without_passwords session) class
+  jobs_still (Private owner) has = tt
+  jobs_still (Readable owner) has = tt
+  jobs_still Open has = tt
+  jobs_still (Scratch owner jobs) has = subst (λ (users : ℕ). IsRisingFrom (4 + 2 * (users + length session.groups)) jobs) (sym count) has
+  jobs_still (Grouped group) has = tt
+
+  module _ (s : State) where
+    -- what stands at a path is of the same class
+    node_still : (q : Path) (target : Target) (node : TreeNode) → IsNodeAt session s q target node → IsNodeAt (without_passwords session) s q target node
+    node_still q target node is = record {
+      stands = is.stands;
+      leads = is.leads;
+      label = is.label;
+      labelled = is.labelled;
+      of_class = record { jobs = jobs_still node.class is.of_class.jobs; is = same_class_label node.class ∙ is.of_class.is };
+    }
+
+    -- and a tree is a tree still
+    abbrev IsStill : Listed → Listed → Type 0
+    IsStill is_tree still = (q : Path) (target : Target) (tree : List TreeNode) → is_tree q target tree → still q target tree
+
+    listed_still : (is_tree still : Listed) → IsStill is_tree still → (d : Path) (entries : List (Name × Target)) (trees : List TreeNode) → AreListed is_tree d entries trees → AreListed still d entries trees
+    listed_still is_tree still each d [] trees is = is
+    listed_still is_tree still each d (e ∷ entries) trees is = (is.0, is.1, each (e.0 ∷ d) e.1 is.0 is.2, listed_still is_tree still each d entries is.1 is.3, is.4)
+
+    below_still : (is_tree still : Listed) → IsStill is_tree still → (q : Path) (target : Target) (trees : List TreeNode) → IsBelow is_tree s q target trees → IsBelow still s q target trees
+    below_still is_tree still each q (File file) trees is = is
+    below_still is_tree still each q (Directory container listing) trees is = (is.0, is.1, listed_still is_tree still each q (maps.entries is.0) trees is.2)
+
+    tree_still : (levels : ℕ) → IsStill (IsTreeAt levels session s) (IsTreeAt levels (without_passwords session) s)
+    tree_still zero q target tree is = is
+    tree_still (suc levels) q target tree is =
+        (is.0, is.1, node_still q target is.0 is.2, below_still (IsTreeAt levels session s) (IsTreeAt levels (without_passwords session) s) (tree_still levels) q target is.1 is.3, is.4)
 
     -- the tree of a session is that of its users with no passwords
     pub tree_unproved : (places : Places) (tree : List TreeNode) → IsTreeOf session s places tree → IsTreeOf (without_passwords session) s places tree
     unfolding IsTreeOf
-    tree_unproved places tree is = transport (sym (same_tree_at (levels_at []) [] (Directory places.slash.container places.slash.listing) tree)) is
+    tree_unproved places tree is = tree_still (levels_at []) [] (Directory places.slash.container places.slash.listing) tree is

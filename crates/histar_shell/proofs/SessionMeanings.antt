@@ -31,10 +31,8 @@ use Rattle.histar_shell.specs.declared.session.Options.{Options}
 use Rattle.histar_shell.specs.Ending.{IsEnding, HasTree, asked_trace}
 use Rattle.histar_shell.specs.Outcome.{BeginsEnding, BeginsScript, WritesAtFault, WritesAnswers}
 use Rattle.histar_shell.specs.Meaning.{last_state, asked_tree, meaning_text, Shows, AnswersAsMeant, IsMeantTrace, WritesMeaning, BeginsTrace, BeginsMeaning, WritesMeaningAtFault, RunsAsMeant}
-use Rattle.histar_tree.specs.Laws.{AreShallow}
 use Rattle.histar_shell.proofs.Users.{AreScriptable, script_says}
 use Rattle.histar_shell.proofs.AnswerLemmas.{front_after}
-use Rattle.histar_shell.proofs.ShallowPaths.{shallow_at_end}
 use Rattle.histar_shell.proofs.ShownTrees.{shown_tree, tree_asked}
 use Rattle.histar_shell.proofs.LineMeanings.{line_follows}
 use Rattle.histar_shell.proofs.RowRuns.{run_after, rows_run}
@@ -74,7 +72,7 @@ module _ (declared : Session) where
   pub session_means : (rows : LinesAreRows) (m : MachineModel) (f : Flat) (answers : List Answered) (end : MachineModel) → AnswersInTurn m answers end → Shows declared m f → AreScriptable (calls_of answers) → IsMeantSession declared m f answers end
   session_means rows m f [] end session shows can = session_none m f end session shows
   session_means rows m f (a ∷ answers) end session shows can =
-      let line = line_follows rows m session.0 a.call.line a.call.process a.call.call (Ok a.reply) session.1 declared f shows can.0 in
+      let line = line_follows rows m session.0 a.call.line a.call.process a.call.call (Ok a.reply) can.0 session.1 declared f shows in
       session_first m session.0 f a answers end line
       (session_means rows session.0 (flat_after declared f a.call.process a.call.call) answers end session.2 line.shows can.1)
 
@@ -117,10 +115,6 @@ module _ (rows : LinesAreRows) (script : Reading) (declared : IsDeclared script.
   -- the flat state after all lines
   abbrev last : Flat
   last = last_state script
-
-  -- no path of it has more names than can be named
-  pub shallow : AreShallow last
-  shallow = shallow_at_end script.session script.calls can
 
   -- which the machine shows
   pub shows_end : (end : MachineModel) (answers : List Answered) → calls_of answers ≡ script.calls → AnswersInTurn start answers end → Shows script.session end last
@@ -172,7 +166,7 @@ module _ (rows : LinesAreRows) (script : Reading) (declared : IsDeclared script.
     whole_is old replied end answered ending ends trace recorded =
         let of_trace = asked_trace options trace in
         (λ i. replies_are old replied end answered i ++ ends.parts i)
-        ∙ (λ i. answers_text (meaning script.session script.calls) ++ (tree_asked script.session end last (shows_last old replied end answered) shallow options.tree ends.tree ends.prints i ++ asked_trace options (sym recorded i)))
+        ∙ (λ i. answers_text (meaning script.session script.calls) ++ (tree_asked script.session end last (shows_last old replied end answered) options.tree ends.tree ends.prints i ++ asked_trace options (sym recorded i)))
         ∙ sym (append_assoc (answers_text (meaning script.session script.calls)) (asked_tree options last) of_trace)
 
     -- all lines were answered
@@ -246,4 +240,4 @@ meant_run rows options old new text (Err fault) h = meant_at_fault rows options 
 pub tree_at_last : (rows : LinesAreRows) (text : List ℕ) (script : Reading) → script_of text ≡ Ok script → (start end : MachineModel) → IsStart script.session start → (calls : List CallLine) → calls ≡ script.calls → (old replied : Option (List ℕ)) → AnswersCalls start end old replied calls → HasTree end
 tree_at_last rows text script is_read start end starts calls listed old replied answered =
     let says = script_says text script is_read in
-    shown_tree script.session end (last_state script) (shows_last rows script says.0 says.1 start starts old replied end (subst (λ (l : List CallLine). AnswersCalls start end old replied l) listed answered)) (shallow_at_end script.session script.calls says.1)
+    shown_tree script.session end (last_state script) (shows_last rows script says.0 says.1 start starts old replied end (subst (λ (l : List CallLine). AnswersCalls start end old replied l) listed answered))

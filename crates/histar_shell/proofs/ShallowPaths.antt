@@ -6,7 +6,6 @@ use Rattle.std.proofs.lemmas.Bool.Decides.{nat_tests}
 use mathlib.Core.Bool.{true≢false}
 use Rattle.histar_flat.specs.declared.calls.UnixCall.{UnixCall}
 use Rattle.histar_flat.specs.declared.calls.UnixCall.TheVariants.{Create, Mkdir, Write, Append, Read, List as ListCall, Stat, Unlink, Rmdir, Rmtree, Rename, Spawn, Exit, Status, Kill, Whoami, Login, Wrap}
-use Rattle.histar_flat.specs.declared.calls.CallLine.{CallLine}
 use Rattle.histar_flat.specs.declared.replies.Errno.{Errno}
 use Rattle.histar_flat.specs.declared.replies.Errno.TheVariants.{ENOENT, EEXIST, EACCES}
 use Rattle.histar_flat.specs.Words.{Name, Path, ProcName, most_names, is_name, is_path}
@@ -15,18 +14,16 @@ use Rattle.histar_flat.specs.Sessions.{Session}
 use Rattle.histar_flat.specs.Files.{get, empty}
 use Rattle.histar_flat.specs.Classes.{Class, Process}
 use Rattle.histar_flat.specs.Classes.Class.{Readable}
-use Rattle.histar_flat.specs.FlatState.{Flat, Node, Content, IsTree, is_some_and, is_there, into, writes, moved, with_node, with_renamed, without_below}
+use Rattle.histar_flat.specs.FlatState.{Flat, Node, Content, is_some_and, is_there, into, writes, moved, with_node, with_renamed, without_below}
 use Rattle.histar_flat.specs.FlatState.Content.{Dir, File}
 use Rattle.histar_flat.specs.FlatCalls.{no_entry, running, refused, changed, flat_or, flat_by, flat_after}
-use Rattle.histar_flat.specs.Meaning.{boot, first_user, flat_end}
+use Rattle.histar_flat.specs.Meaning.{boot, first_user}
 use Rattle.histar_flat.proofs.FileLemmas.{same_path_found, get_other, get-keep}
 use Rattle.histar_flat.proofs.Renaming.{get_renamed}
 use Rattle.histar_flat.proofs.Changes.{nothing_there}
 use Rattle.histar_flat.proofs.Refusals.{one_passes, two_pass}
-use Rattle.histar_flat.proofs.Trees.{nothing_below, tree_after, tree_at_start}
-use Rattle.histar_rows.specs.Rows.{IsScriptable}
+use Rattle.histar_flat.specs.Calls.{IsCall}
 use Rattle.histar_tree.specs.Laws.{AreShallow}
-use Rattle.histar_shell.proofs.Users.{AreScriptable}
 
 -- a path that can be named has no more names
 short_path : (q : Path) → IsTrue (is_path q) → length q ≤ most_names
@@ -69,9 +66,9 @@ module _ (f : Flat) (shallow : AreShallow f) where
       by true e = absurd (true≢false (sym e))
       by false e = subst (λ (l : ℕ). l ≤ most_names) (same_length (k ∷ d) (n ∷ d) refl r) (shallow (moved (k ∷ d) (n ∷ d) r) e)
 
-  module _ (session : Session) (me : ProcName) (tree : IsTree f) where
+  module _ (session : Session) (me : ProcName) (below : (top : Path) → get f.files top ≡ None → (r : Path) → under_path top r ≡ true → get f.files r ≡ None) where
     -- the change of a call that is not refused
-    after_change : (p : Process) (call : UnixCall) → IsScriptable call → refused session f me p call ≡ None → AreShallow (changed session f me p call)
+    after_change : (p : Process) (call : UnixCall) → IsCall call → refused session f me p call ≡ None → AreShallow (changed session f me p call)
     after_change p (Create q mode) can passes = shallow_put q _ (File []) (short_path q can)
     after_change p (Mkdir q mode) can passes = shallow_put q _ Dir (short_path q can)
     after_change p (Write q bytes) can passes = shallow_put q _ (File bytes) (short_path q can)
@@ -86,7 +83,7 @@ module _ (f : Flat) (shallow : AreShallow f) where
     after_change p (Rename (n ∷ d) k) can passes =
         let tests = two_pass (no_entry session f p (n ∷ d)) (not (is_there f (k ∷ d))) (writes session f p d) EEXIST EACCES passes in
         let there = (one_passes (into session f p d) (is_there f (n ∷ d)) ENOENT tests.0).1 in
-        shallow_renamed n k d (λ e. true≢false (sym tests.1 ∙ ap (λ (x : Name). not (is_there f (x ∷ d))) (sym e) ∙ ap not there)) (nothing_below f tree (k ∷ d) (nothing_there (get f.files (k ∷ d)) tests.1))
+        shallow_renamed n k d (λ e. true≢false (sym tests.1 ∙ ap (λ (x : Name). not (is_there f (x ∷ d))) (sym e) ∙ ap not there)) (below (k ∷ d) (nothing_there (get f.files (k ∷ d)) tests.1))
     after_change p Spawn can passes = shallow
     after_change p (Exit n) can passes = shallow
     after_change p (Status name) can passes = shallow
@@ -95,29 +92,19 @@ module _ (f : Flat) (shallow : AreShallow f) where
     after_change p (Login name password) can passes = shallow
     after_change p (Wrap q) can passes = shallow_put q _ Dir (short_path q can)
 
-    by_refusal : (p : Process) (call : UnixCall) → IsScriptable call → (refusal : Option Errno) → refused session f me p call ≡ refusal → AreShallow (flat_or refusal f (changed session f me p call))
+    by_refusal : (p : Process) (call : UnixCall) → IsCall call → (refusal : Option Errno) → refused session f me p call ≡ refusal → AreShallow (flat_or refusal f (changed session f me p call))
     by_refusal p call can None is = after_change p call can is
     by_refusal p call can (Some e) is = shallow
 
     -- and so after each line
-    shallow_after : (call : UnixCall) → IsScriptable call → AreShallow (flat_after session f me call)
+    pub shallow_after : (call : UnixCall) → IsCall call → AreShallow (flat_after session f me call)
     shallow_after call can = by (running f me)
       where
         by : (o : Option Process) → AreShallow (flat_by session f me o call)
         by None = shallow
         by (Some p) = by_refusal p call can (refused session f me p call) refl
 
--- and after all lines
-shallow_from : (session : Session) (f : Flat) → AreShallow f → IsTree f → (calls : List CallLine) → AreScriptable calls → AreShallow (flat_end session f calls)
-shallow_from session f shallow tree [] can = shallow
-shallow_from session f shallow tree (c ∷ calls) can =
-    shallow_from session (flat_after session f c.process c.call) (shallow_after f shallow session c.process tree c.call can.0) (tree_after f tree session c.process c.call) calls can.1
-
 -- at the start there is `/` alone
-shallow_at_start : (session : Session) → AreShallow (boot session)
+pub shallow_at_start : (session : Session) → AreShallow (boot session)
 shallow_at_start session =
     shallow_put (record { files = empty; processes = (boot session).processes }) (λ q at. absurd (true≢false (sym at))) [] (Readable (first_user session.users)) Dir (omega arith)
-
--- so after all lines of a script no path has more names than can be named
-pub shallow_at_end : (session : Session) (calls : List CallLine) → AreScriptable calls → AreShallow (flat_end session (boot session) calls)
-shallow_at_end session calls can = shallow_from session (boot session) (shallow_at_start session) (tree_at_start session) calls can

@@ -8,7 +8,7 @@ use Rattle.histar_calls.specs.declared.places.Places.{Places}
 use Rattle.histar_tree.specs.declared.tree.TreeNode.{TreeNode}
 use Rattle.histar_tree.specs.Tree.{IsTreeOf}
 use Rattle.histar_tree.specs.TreeLines.{flat_lines, lines_at}
-use Rattle.histar_tree.specs.Laws.{AreShallow, HasTreeOf}
+use Rattle.histar_tree.specs.Laws.{HasTreeOf}
 use Rattle.histar_tree.proofs.OneTree.{states_have_one_tree}
 use Rattle.histar_tree.proofs.TreeLaid.{flat_states_have_their_trees}
 use Rattle.histar_shell.specs.Machine.{MachineModel}
@@ -17,10 +17,10 @@ use Rattle.histar_shell.specs.Ending.{IsTreeIn, HasTree, PrintsTree, IsAsked}
 use Rattle.histar_shell.specs.Meaning.{Shows}
 use Rattle.histar_shell.proofs.SameUsers.{tree_unproved}
 
-module _ (session : Session) (m : MachineModel) (f : Flat) (shows : Shows session m f) (shallow : AreShallow f) where
+module _ (session : Session) (m : MachineModel) (f : Flat) (shows : Shows session m f) where
   -- its kernel has the tree of the flat state
-  has_tree : HasTreeOf session (state m.kernel) f
-  has_tree = flat_states_have_their_trees session (state m.kernel) f shows.lays_out shallow
+  has_tree : HasTreeOf session (state m.kernel) f shows.lays_out.laid.category
+  has_tree = flat_states_have_their_trees session (state m.kernel) f shows.lays_out shows.shallow
 
   -- also at the places that the machine knows
   tree_there : IsTreeOf session (state m.kernel) m.places has_tree.tree

@@ -22,7 +22,8 @@ use Rattle.histar_flat.proofs.FileLemmas.{same_path_found, get_new, get_other, g
 use Rattle.histar_flat.proofs.Renaming.{get_renamed}
 use Rattle.histar_flat.proofs.Changes.{nothing_there}
 use Rattle.histar_flat.proofs.Refusals.{one_passes, two_pass}
-use Rattle.histar_rows.specs.Rows.{IsScriptable, AreFilesSmall}
+use Rattle.histar_flat.specs.Calls.{IsCall}
+use Rattle.histar_rows.specs.Rows.{AreFilesSmall}
 
 -- what is put at a path is a directory, or a file that is small enough
 abbrev IsSmall : Content → Type 0
@@ -64,7 +65,7 @@ module _ (f : Flat) (small : AreFilesSmall f) where
     fits_test n e = grind (arith, nat_tests, e)
 
     -- the change of a call that is not refused
-    after_change : (p : Process) (call : UnixCall) → IsScriptable call → refused session f me p call ≡ None → AreFilesSmall (changed session f me p call)
+    after_change : (p : Process) (call : UnixCall) → IsCall call → refused session f me p call ≡ None → AreFilesSmall (changed session f me p call)
     after_change p (Create q mode) can passes = small_put q _ (File []) (grind arith)
     after_change p (Mkdir q mode) can passes = small_put q _ Dir tt
     after_change p (Write q bytes) can passes =
@@ -90,12 +91,12 @@ module _ (f : Flat) (small : AreFilesSmall f) where
     after_change p (Login name password) can passes = small
     after_change p (Wrap q) can passes = small_put q _ Dir tt
 
-    by_refusal : (p : Process) (call : UnixCall) → IsScriptable call → (refusal : Option Errno) → refused session f me p call ≡ refusal → AreFilesSmall (flat_or refusal f (changed session f me p call))
+    by_refusal : (p : Process) (call : UnixCall) → IsCall call → (refusal : Option Errno) → refused session f me p call ≡ refusal → AreFilesSmall (flat_or refusal f (changed session f me p call))
     by_refusal p call can None is = after_change p call can is
     by_refusal p call can (Some e) is = small
 
     -- and so after each line
-    pub small_after : (call : UnixCall) → IsScriptable call → AreFilesSmall (flat_after session f me call)
+    pub small_after : (call : UnixCall) → IsCall call → AreFilesSmall (flat_after session f me call)
     small_after call can = by (running f me)
       where
         by : (o : Option Process) → AreFilesSmall (flat_by session f me o call)

@@ -13,6 +13,7 @@ use Rattle.histar_rows.proofs.FirstFree.{first_free_at_start}
 use Rattle.histar_shell.specs.Machine.{MachineModel, IsStart}
 use Rattle.histar_shell.specs.Meaning.{Shows}
 use Rattle.histar_shell.proofs.SmallFiles.{small_at_start}
+use Rattle.histar_shell.proofs.ShallowPaths.{shallow_at_start}
 use Rattle.histar_shell.proofs.Users.{is_session}
 
 module _ (session : Session) (declared : IsDeclared session) where
@@ -33,4 +34,5 @@ module _ (session : Session) (declared : IsDeclared session) where
     lays_out = subst (λ (s : State). LaysOut session s (boot session)) (sym start.state) start_is_laid;
     first = first_free_at_start session;
     small = small_at_start session;
+    shallow = shallow_at_start session;
   }

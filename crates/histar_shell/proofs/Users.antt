@@ -27,8 +27,9 @@ use Rattle.histar_script.specs.Reading.{reading, script_of}
 use Rattle.histar_script.proofs.ScriptsBack.{found_from}
 use Rattle.histar_script.proofs.Kept.{is_declared}
 use Rattle.histar_refinement.specs.Sessions.{IsSession}
-use Rattle.histar_refinement.proofs.SessionLemmas.{equal_names, equal_tested, from_members, has_a_number}
-use Rattle.histar_rows.specs.Rows.{IsScriptable}
+use Rattle.histar_refinement.proofs.SessionLemmas.{from_members}
+use Rattle.histar_layout.proofs.Declared.{has_a_number, equal_tested, equal_names}
+use Rattle.histar_flat.specs.Calls.{IsCall}
 
 -- a test that comes last of three
 last_passes : (a b c : Bool) → (a && b && c) ≡ true → c ≡ true
@@ -95,15 +96,15 @@ is_session session declared = record {
 
 -- the calls of lines are calls that a line can make
 abbrev pub AreScriptable : List CallLine → Type 0
-AreScriptable calls = AllByRecursion (λ (c : CallLine). IsScriptable c.call) calls
+AreScriptable calls = AllByRecursion (λ (c : CallLine). IsCall c.call) calls
 
 -- with one call more
-more_scriptable : (calls : List CallLine) (c : CallLine) → AreScriptable calls → IsScriptable c.call → AreScriptable (calls ++ c ∷ [])
+more_scriptable : (calls : List CallLine) (c : CallLine) → AreScriptable calls → IsCall c.call → AreScriptable (calls ++ c ∷ [])
 more_scriptable [] c h k = (k, tt)
 more_scriptable (d ∷ calls) c h k = (h.0, more_scriptable calls c h.1 k)
 
 -- a call that is spelled so
-spelled_scriptable : (text : List ℕ) (c : UnixCall) → IsCallText text c → IsScriptable c
+spelled_scriptable : (text : List ℕ) (c : UnixCall) → IsCallText text c → IsCall c
 spelled_scriptable text (Create path mode) h = h.1
 spelled_scriptable text (Write path bytes) h = h.1
 spelled_scriptable text (Mkdir path mode) h = h.1
@@ -124,7 +125,7 @@ spelled_scriptable text (Login name password) h = tt
 spelled_scriptable text (Wrap path) h = h.1
 
 -- a call line says a call that a line can make
-said_scriptable : (line process : List ℕ) (c : UnixCall) → Says line (items.Call process c) → IsScriptable c
+said_scriptable : (line process : List ℕ) (c : UnixCall) → Says line (items.Call process c) → IsCall c
 said_scriptable line process c (inl h) = absurd cc
 said_scriptable line process c (inr h) = spelled_scriptable h.1.0 c h.1.3
 

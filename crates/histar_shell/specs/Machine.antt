@@ -14,7 +14,7 @@ use Rattle.histar_syscall.specs.Runs.{IsRun}
 use Rattle.histar_calls.specs.declared.places.Places.{Places}
 use Rattle.histar_calls.specs.contracts.places.Places as where_is
 use Rattle.histar_calls.specs.Programs.{Program, Runs}
-use Rattle.histar_calls.specs.UserTable.{without_passwords}
+use Rattle.histar_layout.specs.UserTable.{without_passwords}
 use Rattle.histar_calls.specs.Create.{create_program}
 use Rattle.histar_calls.specs.Mkdir.{mkdir_program}
 use Rattle.histar_calls.specs.Append.{append_program}

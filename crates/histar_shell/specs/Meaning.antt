@@ -12,20 +12,21 @@ use Rattle.histar_flat.specs.Meaning.{boot, flat_end, meaning}
 use Rattle.histar_object.specs.State.{State, empty_state}
 use Rattle.histar_script.specs.Script.{Reading, IsDeclared}
 use Rattle.histar_script.specs.declared.fault.Fault.{Fault}
-use Rattle.histar_script.specs.declared.fault.Fault.TheVariants.{BadScript, TooLong, OutOfMemory, ReadFailed, WriteFailed}
+use Rattle.histar_script.specs.declared.fault.Fault.TheVariants.{OutOfMemory, WriteFailed}
 use Rattle.histar_flat.specs.declared.calls.CallLine.{CallLine}
 use Rattle.histar_syscall.specs.declared.trace.TraceEntry.{TraceEntry}
 use Rattle.histar_syscall.specs.KernelModel.{state}
 use Rattle.histar_syscall.specs.Runs.{IsBy, IsRun}
 use Rattle.histar_calls.specs.declared.ending.Stopped.{Stopped}
-use Rattle.histar_calls.specs.UserTable.{without_passwords}
+use Rattle.histar_layout.specs.UserTable.{without_passwords}
 use Rattle.histar_login.specs.Boot.{boot_thread_number}
 use Rattle.histar_login.specs.Start.{places_of}
 use Rattle.histar_refinement.specs.LaysOut.{LaysOut}
 use Rattle.histar_refinement.specs.Lines.{IsThreadOf}
-use Rattle.histar_rows.specs.Rows.{IsScriptable, IsRow, AreRows, IsFirstFree, AreFilesSmall, IsBrokenOff}
+use Rattle.histar_rows.specs.Rows.{IsRow, AreRows, IsFirstFree, AreFilesSmall, IsBrokenOff}
 use Rattle.histar_devices.specs.Writing.{AppendsFront}
 use Rattle.histar_tree.specs.TreeLines.{flat_lines}
+use Rattle.histar_tree.specs.Laws.{AreShallow}
 use Rattle.histar_shell.specs.declared.session.Options.{Options}
 use Rattle.histar_shell.specs.Answers.{answers_text}
 use Rattle.histar_shell.specs.TreeText.{tree_text}
@@ -54,6 +55,7 @@ pub record Shows (session : Session) (m : MachineModel) (f : Flat) : Type 0 wher
   pub lays_out : LaysOut session (state m.kernel) f
   pub first : IsFirstFree f
   pub small : AreFilesSmall f
+  pub shallow : AreShallow f
 
 -- The line was answered what the flat state says. The new end of the trace are its raw calls, which are its row, and the machine lays
 -- out the flat state after the call.
@@ -80,7 +82,7 @@ EndsAsMeant session old new f asked (Err stopped) = StopsAsMeant session old new
 -- Whatever flat state the machine lays out before the line, of whatever users and groups whose names it has, the line ends as that says.
 abbrev pub FollowsMeaning : MachineModel → MachineModel → ℕ → ProcName → UnixCall → Result Reply Stopped → Type 0
 FollowsMeaning old new line process call result =
-    (session : Session) (f : Flat) → Shows session old f → IsScriptable call → EndsAsMeant session old new f (record { line = line; process = process; call = call }) result
+    (session : Session) (f : Flat) → Shows session old f → EndsAsMeant session old new f (record { line = line; process = process; call = call }) result
 
 -- a machine lays out the flat start
 abbrev pub ShowsStart : Session → MachineModel → Type 0
@@ -122,11 +124,9 @@ pub record BeginsMeaning (options : Options) (old new : Option (List ℕ)) (read
 
 -- where memory runs out and at a failed write a beginning of the text was written, and at the other faults nothing
 abbrev pub WritesMeaningAtFault : Options → Option (List ℕ) → Option (List ℕ) → Result Reading Fault → Fault → Type 0
-WritesMeaningAtFault options old new read (BadScript n) = Keeps old new
-WritesMeaningAtFault options old new read TooLong = Keeps old new
 WritesMeaningAtFault options old new read OutOfMemory = Keeps old new ⊎ BeginsMeaning options old new read
-WritesMeaningAtFault options old new read ReadFailed = Keeps old new
 WritesMeaningAtFault options old new read WriteFailed = BeginsMeaning options old new read
+WritesMeaningAtFault options old new read fault = Keeps old new
 
 -- what a run writes, and the trace that it answers, are those of its script's meaning
 abbrev pub RunsAsMeant : Options → Option (List ℕ) → Option (List ℕ) → Result Reading Fault → Result (List TraceEntry) Fault → Type 0

@@ -2,7 +2,7 @@
 use Rattle.std.specs.Prelude.{◌≡◌, ℕ, ◌⊎◌, List, Option, Result, Ok, Err, IsOk, MatchResult}
 use Rattle.std.specs.Io.KnownBytes.{Appends, Keeps}
 use Rattle.histar_script.specs.declared.fault.Fault.{Fault}
-use Rattle.histar_script.specs.declared.fault.Fault.TheVariants.{BadScript, TooLong, OutOfMemory, ReadFailed, WriteFailed}
+use Rattle.histar_script.specs.declared.fault.Fault.TheVariants.{OutOfMemory, ReadFailed, WriteFailed}
 use Rattle.histar_script.specs.Script.{Reading}
 use Rattle.histar_shell.specs.Machine.{MachineModel, IsStart}
 use Rattle.histar_flat.specs.declared.calls.CallLine.{CallLine}
@@ -15,11 +15,10 @@ use Rattle.histar_syscall.specs.declared.trace.TraceEntry.{TraceEntry}
 -- A fault in a script is answered as what it is. The others are no faults of a script, and a write fails only after a
 -- right one.
 abbrev pub IsFaultAt : Result Reading Fault → Fault → Type 0
-IsFaultAt read (BadScript n) = read ≡ Err (BadScript n)
-IsFaultAt read TooLong = read ≡ Err TooLong
 IsFaultAt read OutOfMemory = Unit {0}
 IsFaultAt read ReadFailed = Unit {0}
 IsFaultAt read WriteFailed = IsOk read
+IsFaultAt read fault = read ≡ Err fault
 
 -- a run ends well after a right script alone, and its faults agree with the script
 abbrev pub AgreesWith : {A : Type 0} → Result Reading Fault → Result A Fault → Type 0
@@ -61,11 +60,9 @@ pub record BeginsScript (options : Options) (old new : Option (List ℕ)) (read 
 
 -- At a failed write a beginning of the text was written, where memory runs out that or nothing, at the other faults nothing.
 abbrev pub WritesAtFault : Options → Option (List ℕ) → Option (List ℕ) → Result Reading Fault → Fault → Type 0
-WritesAtFault options old new read (BadScript n) = Keeps old new
-WritesAtFault options old new read TooLong = Keeps old new
 WritesAtFault options old new read OutOfMemory = Keeps old new ⊎ BeginsScript options old new read
-WritesAtFault options old new read ReadFailed = Keeps old new
 WritesAtFault options old new read WriteFailed = BeginsScript options old new read
+WritesAtFault options old new read fault = Keeps old new
 
 -- each call line was answered by the machine whose trace it is, or as many as the fault let through
 abbrev pub WritesAnswers : Options → Option (List ℕ) → Option (List ℕ) → Result Reading Fault → Result (List TraceEntry) Fault → Type 0

@@ -73,7 +73,7 @@ fn write_nodes<S: LabelStore + Drop, W: Sink>(
 {
     'lines: for node in nodes {
         let bytes = machine.bytes_of(node.target);
-        let line = tree_line(alloc, &node.path, node.stat, bytes)?;
+        let line = tree_line(alloc, &node.path, node.stat(), bytes)?;
         write_bytes(writer, line.as_slice())?;
     }
     Ok(())

@@ -5,12 +5,12 @@ ghost use Rattle.histar_shell.specs.Machine.{AnswersLine, IsStart, IsTraced, Mak
 ghost use Rattle.histar_shell.specs.Ending.{HasTree, IsTreeIn};
 ghost use Rattle.histar_shell.specs.Meaning.{FollowsMeaning, ShowsStart};
 ghost use Rattle.histar_syscall.specs.KernelModel.{state};
-ghost use Rattle.histar_tree.specs.TreeLines.{file_bytes_at};
+ghost use Rattle.histar_tree.specs.TreeEntries.{file_bytes_at};
 
-use histar_calls::{Places, Stopped, UserTable, append, create, list, mkdir, read, stat, write};
-use histar_flat::{ProcName, Reply, Session, UnixCall};
+use histar_calls::{Places, Stopped, append, create, list, mkdir, read, stat, write};
+use histar_flat::{ProcName, Reply, Session, UnixCall, each_call_is_right};
 use histar_label::LabelStore;
-use histar_layout::Target;
+use histar_layout::{Target, UserTable};
 use histar_login::{boot, login};
 use histar_moves::{rename, rmdir, rmtree, unlink};
 use histar_process::{Caller, exit, find_caller, kill, spawn, status, whoami};
@@ -104,6 +104,7 @@ impl<S: LabelStore + Drop> Machine<S> {
         if self.is_stopped {
             return Err(Stopped);
         }
+        each_call_is_right(&call);
         let Some(caller) = find_caller(&self.kernel, self.places.home, process) else {
             return Ok(Reply::Gone);
         };

@@ -1,9 +1,9 @@
 //! A run, from bytes to bytes.
 ghost use Rattle.std.specs.Prelude.{◌≡◌, false, IfErr, IfSome, OnOk, OnErr};
 ghost use Rattle.histar_devices.specs.Device.{CountsFailure};
-ghost use Rattle.histar_script.specs.Runs.{IsOutputFault, LeavesSink, is_read_failed, is_write_failed};
+ghost use Rattle.histar_script.specs.Runs.{IsOutputFault, LeavesSink, is_read_failed, is_write_failed, RunsInput};
 ghost use Rattle.histar_shell.specs.AnsweredCalls.{AnswersCall, AnswersCalls, BeginsAnswer, BeginsAnswers};
-ghost use Rattle.histar_shell.specs.Run.{RunsInput, RunsText};
+ghost use Rattle.histar_shell.specs.Run.{RunsText};
 
 use crate::ending::write_ending;
 use crate::machine::{Machine, Trace};
@@ -47,7 +47,7 @@ pub fn run<R: Source, W: Sink>(
     // Whatever the source tells, the run took bytes of it, to its end but never more than 1,048,577, and ran the script that
     // these are: their fault is answered, or exactly the text of the script's meaning is written, and behind it where it is asked
     // for the trace that is answered, which is that of the meaning, line by line.
-    ensures runs { RunsInput options (R.left reader.old) (R.left reader.new) (W.written writer.old) (W.written writer.new) result }
+    ensures runs { RunsInput (RunsText options) (R.left reader.old) (R.left reader.new) (W.written writer.old) (W.written writer.new) result }
 
     // So where the input is known, the script of the whole input was run.
     ensures known { IfSome (R.left reader.old) (λ input. RunsText options input (W.written writer.old) (W.written writer.new) result) }
@@ -68,7 +68,7 @@ pub fn run_with<S: LabelStore + Drop, R: Source, W: Sink>(
     ensures nothing { IfErr result (LeavesSink writer.old writer.new) }
     ensures reads { CountsFailure (R.failures reader.old) (R.failures reader.new) (is_read_failed result) }
     ensures writes { CountsFailure (W.failures writer.old) (W.failures writer.new) (is_write_failed result) }
-    ensures runs { RunsInput options (R.left reader.old) (R.left reader.new) (W.written writer.old) (W.written writer.new) result }
+    ensures runs { RunsInput (RunsText options) (R.left reader.old) (R.left reader.new) (W.written writer.old) (W.written writer.new) result }
     ensures known { IfSome (R.left reader.old) (λ input. RunsText options input (W.written writer.old) (W.written writer.new) result) }
 {
     let input = read_input(alloc, reader)?;

@@ -22,7 +22,8 @@ pub root_there : (before after : State) (label : Levels) → before ≡ nothing_
 root_there before after label first next = ap (λ (s : State). is_container (s.objects 1)) (next ∙ ap (λ (s : State). with_next s (root_alone label)) first)
 
 -- at each number, by whether it is 1 and whether it is 2
-linked_at : (one two : Bool) → (if one then option_map (linking 2) (if two then Some boot_thread else (if one then Some (root_alone (with_level (constant L1) 1 L0)) else None)) else (if two then Some boot_thread else (if one then Some (root_alone (with_level (constant L1) 1 L0)) else None)))
+linked_at : (one two : Bool)
+    → (if two then Some boot_thread else (if one then option_map (linking 2) (if one then Some (root_alone (with_level (constant L1) 1 L0)) else None) else (if one then Some (root_alone (with_level (constant L1) 1 L0)) else None)))
     ≡ (if two then Some boot_thread else (if one then Some root_object else None))
 linked_at true true = refl
 linked_at true false = refl

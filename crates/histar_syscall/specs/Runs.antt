@@ -29,27 +29,15 @@ pub record Ran (old new : KernelModel) (thread : ℕ) (entries : List TraceEntry
 
 -- refused by comparing labels
 abbrev pub is_label_refusal : Option Denied → Bool
-is_label_refusal None = false
 is_label_refusal (Some Observe) = true
 is_label_refusal (Some Modify) = true
-is_label_refusal (Some Range) = false
 is_label_refusal (Some Gate) = true
-is_label_refusal (Some NoEntry) = false
-is_label_refusal (Some NoThread) = false
-is_label_refusal (Some BadKind) = false
-is_label_refusal (Some TooBig) = false
+is_label_refusal outcome = false
 
 -- refused since a label that was handed in lies outside its range
 abbrev pub is_range_refusal : Option Denied → Bool
-is_range_refusal None = false
-is_range_refusal (Some Observe) = false
-is_range_refusal (Some Modify) = false
 is_range_refusal (Some Range) = true
-is_range_refusal (Some Gate) = false
-is_range_refusal (Some NoEntry) = false
-is_range_refusal (Some NoThread) = false
-is_range_refusal (Some BadKind) = false
-is_range_refusal (Some TooBig) = false
+is_range_refusal outcome = false
 
 -- one of the calls was refused by label
 abbrev pub some_label_refusal : List TraceEntry → Bool

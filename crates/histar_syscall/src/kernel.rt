@@ -21,8 +21,8 @@ use std::alloc::Global;
 use std::marker::Model;
 
 /// A labelled kernel over any store of labels: its objects, the line that was begun last, and the
-/// trace of all its calls. Each raw call makes all its growths first and changes something after, so
-/// that a call that finds no memory leaves everything as it was.
+/// trace of all its calls. A raw call that finds no memory leaves objects, links, counters and trace as
+/// they were: it makes its growths before its first change. Its store may keep a label that no object has.
 ///
 /// Its objects are always a tree that hangs on the root container, so that nothing outlives the
 /// container that held it.

@@ -1,6 +1,6 @@
 -- Adding the trees of a directory, entry by entry.
 use Rattle.std.proofs.Common.{◌≡◌, ℕ, ◌-◌, ◌≤◌, ◌≢◌, List, [], ◌∷◌, ◌++◌, length, Option, Some, None, Result, Ok, Err, refl, sym, ap, subst, ◌∙◌, arith, append-nil, append_assoc}
-use Rattle.std.specs.Prelude.{MatchOption, ok_or}
+use Rattle.std.specs.Prelude.{MatchOption}
 use Rattle.std.specs.Result.{IsErrAnd}
 use Rattle.std.proofs.lemmas.Result.{err_from_is_err_and}
 use Rattle.std.specs.FinMap as map
@@ -8,7 +8,7 @@ use Rattle.histar_flat.specs.Words.{Name, Path, most_names}
 use Rattle.histar_flat.specs.Sessions.{Session}
 use Rattle.histar_object.specs.Objects.{bytes_in}
 use Rattle.histar_object.specs.State.{State}
-use Rattle.histar_layout.specs.Directory.{Entries, IsDirectory}
+use Rattle.histar_layout.specs.Directory.{Entries, IsDirectory, ReadsDirectory}
 use Rattle.histar_layout.specs.declared.entry.Target.{Target}
 use Rattle.histar_layout.specs.declared.entry.Target.TheVariants.{Directory}
 use Rattle.histar_layout.proofs.DirectoryLemmas.{same_directory}
@@ -16,7 +16,7 @@ use Rattle.histar_tree.specs.declared.tree.TreeNode.{TreeNode}
 use Rattle.histar_tree.specs.declared.tree.TreeError.{TreeError}
 use Rattle.histar_tree.specs.declared.tree.TreeError.TheVariants.{NotATree, OutOfMemory}
 use Rattle.histar_calls.specs.declared.places.Places.{Places}
-use Rattle.histar_tree.specs.Tree.{IsTreeOf, HasNoTree, Listed, AreListed, IsTreeAt, node_at, levels_at, AddsTree, AddsBelow}
+use Rattle.histar_tree.specs.Tree.{IsTreeOf, HasNoTree, Listed, AreListed, IsNodeAt, IsTreeAt, levels_at, AddsTree, AddsBelow}
 
 -- of these entries of a directory some are left, and the trees of those before them were added
 pub record AddsFirst (is_tree : Listed) (d : Path) (entries left : List (Name × Target)) (old new : List TreeNode) : Type 0 where
@@ -72,13 +72,8 @@ module _ (is_tree : Listed) (d : Path) where
       (subst (λ (es : List (Name × Target)). AreListed is_tree d es trees) (sym so_far.parts ∙ ap (λ (l : List (Name × Target)). so_far.first ++ l) turn) some)
 
 -- bytes that were read as a directory are this directory
-pub read_as : (bytes read : List ℕ) (o : Option Entries) (dir : Entries) → read ≡ bytes → o ≡ Some dir → MatchOption o ((x : Entries) → IsDirectory read x → ⊥) (IsDirectory read) → IsDirectory bytes dir
-read_as bytes read o dir same is h = subst (λ (b : List ℕ). IsDirectory b dir) same (subst (λ (x : Option Entries). MatchOption x ((y : Entries) → IsDirectory read y → ⊥) (IsDirectory read)) is h)
-
--- what is found is there
-found_some : (o : Option TreeNode) (node : TreeNode) → ok_or o NotATree ≡ Ok node → o ≡ Some node
-found_some None node e = cc
-found_some (Some x) node e = cc
+pub read_as : (bytes read : List ℕ) (o : Option Entries) (dir : Entries) → read ≡ bytes → o ≡ Some dir → ReadsDirectory read o → IsDirectory bytes dir
+read_as bytes read o dir same is h = subst (λ (b : List ℕ). IsDirectory b dir) same (subst (ReadsDirectory read) is h)
 
 module _ (session : Session) (s : State) where
   -- the trees of the entries of a directory
@@ -142,17 +137,17 @@ module _ (session : Session) (s : State) where
   entries_all d listing left old new none so_far = let all = adds_all (below_at d) d (map.entries so_far.0) left old new none so_far.2 in (all.0, (so_far.0, so_far.1, all.1), all.2)
 
   -- a directory and what was added below it
-  directory_added : (q : Path) (container listing : ℕ) (node : TreeNode) (old mid new : List TreeNode) (result : Result (Unit {0}) TreeError) → node_at session s q (Directory container listing) ≡ Some node → mid ≡ old ++ node ∷ [] → AddsBelow session s q listing mid new result
+  directory_added : (q : Path) (container listing : ℕ) (node : TreeNode) (old mid new : List TreeNode) (result : Result (Unit {0}) TreeError) → IsNodeAt session s q (Directory container listing) node → mid ≡ old ++ node ∷ [] → AddsBelow session s q listing mid new result
       → AddsTree session s q (Directory container listing) old new result
   directory_added q container listing node old mid new (Ok done) at first below = (node ∷ below.0, (node, below.0, at, below.1, refl), below.2 ∙ ap (λ (l : List TreeNode). l ++ below.0) first ∙ append_assoc old (node ∷ []) below.0)
   directory_added q container listing node old mid new (Err NotATree) at first none = λ tree is. none is.1 is.3
   directory_added q container listing node old mid new (Err OutOfMemory) at first below = tt
 
-  pub adds_directory : (q : Path) (target : Target) (container listing : ℕ) → target ≡ Directory container listing → (node : TreeNode) (found : Result TreeNode TreeError) → found ≡ ok_or (node_at session s q target) NotATree → found ≡ Ok node
+  pub adds_directory : (q : Path) (target : Target) (container listing : ℕ) → target ≡ Directory container listing → (node : TreeNode) → IsNodeAt session s q target node
       → (old mid new : List TreeNode) (result : Result (Unit {0}) TreeError) → mid ≡ old ++ node ∷ [] → AddsBelow session s q listing mid new result → AddsTree session s q target old new result
-  adds_directory q target container listing same node found is at old mid new result first below =
+  adds_directory q target container listing same node at old mid new result first below =
       subst (λ (t : Target). AddsTree session s q t old new result) (sym same)
-      (directory_added q container listing node old mid new result (ap (node_at session s q) (sym same) ∙ found_some (node_at session s q target) node (sym is ∙ at)) first below)
+      (directory_added q container listing node old mid new result (subst (λ (t : Target). IsNodeAt session s q t node) same at) first below)
 
   module _ (places : Places) (q : Path) (root : q ≡ []) (old new : List TreeNode) (result : Result (Unit {0}) TreeError) (added : AddsTree session s q (Directory places.slash.container places.slash.listing) old new result) where
     at_root : (r : Result (Unit {0}) TreeError) → result ≡ r → AddsTree session s [] (Directory places.slash.container places.slash.listing) old new r

@@ -4,6 +4,7 @@ use Rattle.std.specs.Prelude.{map, nat_eq, not}
 use Rattle.std.specs.List.{list_any}
 use Rattle.std.proofs.lemmas.Bool.Decides.{nat_tests}
 use Rattle.std.proofs.lemmas.List.{map-append}
+use Rattle.std.proofs.lemmas.Simd.{map-map}
 use mathlib.Core.Bool.{true≢false}
 use Rattle.histar_flat.specs.Words.{ProcName}
 use Rattle.histar_flat.specs.Sessions.{Session, has, user_number}
@@ -13,29 +14,29 @@ use Rattle.histar_label.specs.Level.{is_star}
 use Rattle.histar_label.specs.declared.levels.Level.{Level}
 use Rattle.histar_label.specs.Levels.{Levels, default_of, level_of}
 use Rattle.histar_object.specs.State.{State}
-use Rattle.histar_calls.specs.Categories.{user_of}
-use Rattle.histar_calls.specs.Labelling.{owner_label}
+use Rattle.histar_layout.specs.Categories.{user_of}
+use Rattle.histar_layout.specs.Labelling.{owner_label}
+use Rattle.histar_layout.proofs.LabelLevels.{at_owning, owning_level}
+use Rattle.histar_layout.proofs.Members.{is_in, is_in-append}
+use Rattle.histar_layout.proofs.Passed.{in_passed, passed_rise}
+use Rattle.histar_layout.proofs.Rising.{one_rising}
 use Rattle.histar_process.specs.Kin.{user_name}
 use Rattle.histar_refinement.specs.Categories.{CategoryName, Categories, AreDifferent, among}
 use Rattle.histar_refinement.specs.Categories.CategoryName.{ReadsProcess, WritesProcess, OfJob}
 use Rattle.histar_refinement.specs.Guards.{rights_label}
 use Rattle.histar_refinement.specs.Labels.{owned_as, thread_rights}
 use Rattle.histar_refinement.specs.LaysOut.{Laid, AreInOrder}
+use Rattle.histar_refinement.specs.NumberedClasses.{job_numbers}
 use Rattle.histar_refinement.specs.Processes.{or_zero}
 use Rattle.histar_refinement.proofs.CallerFound.{caller_is}
 use Rattle.histar_refinement.proofs.CategoryTests.{among_jobs, is_in_names, named_in}
 use Rattle.histar_refinement.proofs.ClassTests.{none_as_user}
 use Rattle.histar_refinement.proofs.JobLabels.{default_owning}
-use Rattle.histar_refinement.proofs.Levelled.{owning_level, at_owning}
-use Rattle.histar_refinement.proofs.Members.{is_in, is_in-append}
-use Rattle.histar_refinement.proofs.OneChain.{one_rising, twice}
 use Rattle.histar_refinement.proofs.OwnLabels.{name_of_number, own_user_is, own_kin_is}
-use Rattle.histar_refinement.proofs.PickedCategories.{picked_is, picked_rising}
 use Rattle.histar_refinement.proofs.Uses.{job_among}
 use Rattle.histar_tree.specs.declared.process.Life.{Life}
 use Rattle.histar_tree.specs.declared.process.Life.TheVariants.{Running}
 use Rattle.histar_tree.specs.Process.{owned_beside, held_by, running_by}
-use Rattle.histar_tree.specs.ProcessLines.{by_category}
 
 -- a number is among some exactly where one of them is equal to it
 equal_to_one : (known : List ℕ) (c : ℕ) → list_any (λ k. nat_eq k c) known ≡ is_in known c
@@ -98,14 +99,14 @@ module _ (category : Categories) (different : AreDifferent category) (known : Li
 
     alike : (c : ℕ) → is_in (owned_beside (map category known) own) c ≡ is_in (numbers held) c
     alike c =
-        picked_is test own (λ d. fails d (default_of own) (ap is_star (default_owning (map category (known ++ map OfJob held)) (numbers chain)) ∙ no_star)) c
+        in_passed test own (λ d. fails d (default_of own) (ap is_star (default_owning (map category (known ++ map OfJob held)) (numbers chain)) ∙ no_star)) c
         ∙ (λ i. is_star (level c i) && not (equal_to_one (map category known) c i))
         ∙ held_alone (is_in (map category known) c) (is_in (numbers held) c) (is_in (numbers chain) c) (not_known c) (not_tainted c)
 
     -- what such a label owns beside what is known are the held jobs, where these stand in order
-    pub beside_is : AreInOrder category held → owned_beside (map category known) (owner_label (map category (known ++ map OfJob held)) (map category (map OfJob chain))) ≡ by_category category held
-    beside_is in_order = one_rising 0 0 (owned_beside (map category known) own) (by_category category held) (picked_rising test own) in_order (λ c.
-        alike c ∙ ap (λ (cs : List ℕ). is_in cs c) (twice category different held))
+    pub beside_is : AreInOrder category held → owned_beside (map category known) (owner_label (map category (known ++ map OfJob held)) (map category (map OfJob chain))) ≡ job_numbers category held
+    beside_is in_order = one_rising 0 0 (owned_beside (map category known) own) (job_numbers category held) (passed_rise test own) in_order (λ c.
+        alike c ∙ ap (λ (cs : List ℕ). is_in cs c) (map-map category OfJob held))
 
 module _ (session : Session) (s : State) (f : Flat) (l : Laid session s f) (me : ProcName) (p : Process) (here : f.processes me ≡ Some p) (runs : p.exited ≡ None) where
   abbrev thread : Levels
@@ -117,12 +118,12 @@ module _ (session : Session) (s : State) (f : Flat) (l : Laid session s f) (me :
   named : user_name session.users (or_zero (user_number session p.user)) ≡ p.user
   named = name_of_number session p.user ((l.processes me p here).someone runs)
 
-  held_is : held_by session (caller_is session s f l me) thread ≡ by_category l.category p.held
+  held_is : held_by session (caller_is session s f l me) thread ≡ job_numbers l.category p.held
   held_is =
       ap (λ (kin : List ℕ). owned_beside (l.category (ReadsProcess me) ∷ l.category (WritesProcess me) ∷ kin) thread) (own_kin_is session s f l me p named)
       ∙ beside_is l.category l.different (ReadsProcess me ∷ WritesProcess me ∷ as_user) p.held p.chain
       (λ job. none_as_user session me p job (user_number session p.user)) ((l.processes me p here).apart runs) ((l.processes me p here).held runs)
 
   -- It is shown as it is in the flat state.
-  pub running_is : running_by session (caller_is session s f l me) (rights_label l.category (thread_rights session me p)) ≡ Running p.user (by_category l.category p.held)
+  pub running_is : running_by session (caller_is session s f l me) (rights_label l.category (thread_rights session me p)) ≡ Running p.user (job_numbers l.category p.held)
   running_is = λ i. Running ((ap (user_name session.users) (own_user_is session s f l me p) ∙ named) i) (held_is i)

@@ -1,6 +1,6 @@
 -- A state has one tree at most.
 use Rattle.std.specs.Prelude.{◌≡◌, ℕ, zero, suc, List, [], ◌∷◌, ◌++◌}
-use Rattle.std.proofs.Common.{sym, ◌∙◌, subst}
+use Rattle.std.proofs.Common.{Some, sym, ◌∙◌, subst}
 use Rattle.std.proofs.lemmas.Option.{same_Some}
 use Rattle.std.specs.FinMap as map
 use Rattle.histar_flat.specs.Words.{Name, Path}
@@ -10,9 +10,11 @@ use Rattle.histar_object.specs.State.{State}
 use Rattle.histar_layout.specs.Directory.{Entries}
 use Rattle.histar_layout.specs.declared.entry.Target.{Target}
 use Rattle.histar_layout.specs.declared.entry.Target.TheVariants.{File, Directory}
+use Rattle.histar_layout.specs.ClassLabels.{IsClassLabel}
+use Rattle.histar_layout.proofs.ClassLabels.{one_class}
 use Rattle.histar_layout.proofs.DirectoryLemmas.{same_directory}
 use Rattle.histar_tree.specs.declared.tree.TreeNode.{TreeNode}
-use Rattle.histar_tree.specs.Tree.{IsTreeOf, Listed, AreListed, IsBelow, IsTreeAt, levels_at}
+use Rattle.histar_tree.specs.Tree.{IsTreeOf, Listed, AreListed, IsBelow, IsNodeAt, IsTreeAt, levels_at}
 use Rattle.histar_tree.specs.Laws.{StatesHaveOneTree}
 
 -- at a path there is one tree at most
@@ -34,11 +36,22 @@ one_below is_tree one s q (Directory container listing) a b g h =
     let same = same_directory (bytes_in (s.objects listing)) h.0 g.0 h.1 g.1 in
     one_list is_tree one q (map.entries g.0) a b g.2 (subst (λ (dir : Entries). AreListed is_tree q (map.entries dir) b) same h.2)
 
+-- nodes that have the same of everything are one
+same_node : (a b : TreeNode) → a.path ≡ b.path → a.class ≡ b.class → a.target ≡ b.target → a ≡ b
+same_node a b path class target = λ i. record { path = path i; class = class i; target = target i }
+
+-- one node at most stands at a path
+one_node : (session : Session) (s : State) (q : Path) (target : Target) (a b : TreeNode) → IsNodeAt session s q target a → IsNodeAt session s q target b → a ≡ b
+one_node session s q target a b g h =
+    let label = same_Some g.label h.label (sym g.labelled ∙ h.labelled) in
+    same_node a b (g.stands ∙ sym h.stands)
+    (one_class session h.label a.class b.class (subst (IsClassLabel session a.class) label g.of_class) h.of_class) (g.leads ∙ sym h.leads)
+
 -- at each path there is one tree at most, down to so many levels
 one_tree : (session : Session) (s : State) (levels : ℕ) → IsOne (IsTreeAt levels session s)
 one_tree session s zero q target a b g h = absurd g
 one_tree session s (suc levels) q target a b g h =
-    let node = same_Some g.0 h.0 (sym g.2 ∙ h.2) in
+    let node = one_node session s q target g.0 h.0 g.2 h.2 in
     let below = one_below (IsTreeAt levels session s) (one_tree session s levels) s q target g.1 h.1 g.3 h.3 in
     g.4 ∙ (λ i. node i ∷ below i) ∙ sym h.4
 

@@ -29,7 +29,7 @@ use Rattle.histar_refinement.proofs.Making.{entry_leads}
 use Rattle.histar_refinement.proofs.SameLines.{container_in, listing_in}
 use Rattle.histar_refinement.proofs.Standing.{some_unless_none, root_is_dir, parent_is_dir}
 use Rattle.histar_tree.specs.Resolve.{LeadsTo, LeadsNowhere}
-use Rattle.histar_tree.specs.TreeLines.{file_bytes_at}
+use Rattle.histar_tree.specs.TreeEntries.{file_bytes_at}
 use Rattle.histar_tree.specs.Laws.{LeadsToNode, FlatStatesAreResolved}
 use Rattle.histar_tree.proofs.TreeLaid.{led_to_directory, led_to_file, slash_leads, bytes_held}
 

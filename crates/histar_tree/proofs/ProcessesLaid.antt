@@ -12,7 +12,7 @@ use Rattle.histar_object.specs.State.{State}
 use Rattle.histar_layout.specs.Reading.{◌>>=◌}
 use Rattle.histar_layout.specs.Status.{ProcessStatus, child_at}
 use Rattle.histar_layout.specs.declared.status.Child.{Child as Listed}
-use Rattle.histar_calls.specs.Jobs.{jobs_in}
+use Rattle.histar_layout.specs.Jobs.{jobs_in}
 use Rattle.histar_calls.specs.declared.places.Home.{Home as Where}
 use Rattle.histar_process.specs.Caller.{caller_by, caller_in}
 use Rattle.histar_process.specs.declared.caller.Caller.{Caller}
@@ -21,6 +21,7 @@ use Rattle.histar_refinement.specs.Addresses.{home_address}
 use Rattle.histar_refinement.specs.Addresses.Step.{Home, Status, Inside, Runner}
 use Rattle.histar_refinement.specs.Guards.{guard_label, rights_label}
 use Rattle.histar_refinement.specs.Labels.{process_guard, thread_rights}
+use Rattle.histar_refinement.specs.NumberedClasses.{job_numbers}
 use Rattle.histar_refinement.specs.Processes.{or_zero, listed_by, status_by}
 use Rattle.histar_refinement.specs.LaysOut.{Laid}
 use Rattle.histar_refinement.proofs.CallerFound.{is_or_zero, where_is, status_is, child_is, caller_is, runs_here}
@@ -31,7 +32,7 @@ use Rattle.histar_tree.specs.declared.process.Life.{Life}
 use Rattle.histar_tree.specs.declared.process.ProcessNode.{ProcessNode}
 use Rattle.histar_tree.specs.Process.{container_label, thread_label, running_by, running_at, life_in, node_in}
 use Rattle.histar_tree.specs.Processes.{AreProcessesOf, child_of, children_of, all_of, processes_at, levels_at}
-use Rattle.histar_tree.specs.ProcessLines.{ProcessLine, process_line, by_category, flat_life, with_children, flat_processes}
+use Rattle.histar_tree.specs.ProcessLines.{ProcessLine, process_line, flat_life, with_children, flat_processes}
 use Rattle.histar_tree.specs.Laws.{AreNamed, FlatStatesHaveTheirProcesses}
 use Rattle.histar_tree.proofs.HeldJobs.{running_is}
 
@@ -62,7 +63,7 @@ module _ (session : Session) (s : State) (f : Flat) (l : Laid session s f) where
 
     -- the process, as it is shown
     abbrev node : ProcessNode
-    node = shown_as (by_category l.category p.chain) (flat_life l.category p p.exited) p.born
+    node = shown_as (job_numbers l.category p.chain) (flat_life l.category p p.exited) p.born
 
     -- its container is there
     home_label : container_label (s.objects (found me).container) ≡ Some (guard_label l.category (process_guard me p))

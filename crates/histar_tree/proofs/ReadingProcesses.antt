@@ -11,7 +11,7 @@ use Rattle.histar_object.specs.State.{State}
 use Rattle.histar_layout.specs.Reading.{◌>>=◌}
 use Rattle.histar_layout.specs.Status.{ProcessStatus, head_of}
 use Rattle.histar_layout.specs.declared.status.StatusHead.{StatusHead}
-use Rattle.histar_calls.specs.Jobs.{jobs_in}
+use Rattle.histar_layout.specs.Jobs.{jobs_in}
 use Rattle.histar_calls.specs.declared.places.Home.{Home}
 use Rattle.histar_process.specs.Caller.{status_at}
 use Rattle.histar_tree.specs.declared.process.Life.{Life}

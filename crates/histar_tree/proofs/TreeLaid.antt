@@ -1,4 +1,4 @@
--- A state that lays out a flat state has the tree of that, and what is shown of it is what the flat state has.
+-- A state that lays out a flat state has the tree of that.
 use Rattle.std.specs.Prelude.{◌≡◌, ℕ, zero, suc, ◌+◌, ◌<◌, Bool, true, false, cond, T, List, [], ◌∷◌, ◌++◌, length, map, Option, Some, None, option_map, option_and_then, refl}
 use Rattle.std.specs.List.{filter_map, cons_option, flat_map}
 use Rattle.std.proofs.Common.{arith, ap, inl, inr, sym, ◌∙◌, subst}
@@ -13,7 +13,7 @@ use Rattle.histar_flat.specs.PathOrderLaws.{path_cmp_total, path_cmp_exact}
 use Rattle.histar_flat.specs.Sessions.{Session}
 use Rattle.histar_flat.specs.Files.{get}
 use Rattle.histar_flat.specs.Classes.{Class, class_owner, class_mode}
-use Rattle.histar_flat.specs.FlatState.{Flat, Node, Content, IsTree, is_some_and, is_dir}
+use Rattle.histar_flat.specs.FlatState.{Flat, Node, Content, IsTree, is_some_and, is_dir, bytes_of}
 use Rattle.histar_flat.specs.FlatState.Content.{Dir, File}
 use Rattle.histar_flat.proofs.FileLemmas.{same_path_found}
 use Rattle.histar_flat.proofs.Finding.{first, second, find_first, find_later}
@@ -24,21 +24,25 @@ use Rattle.histar_layout.specs.Listing.{object_of}
 use Rattle.histar_layout.specs.declared.entry.Target.{Target}
 use Rattle.histar_layout.specs.declared.entry.Target.TheVariants as targets
 use Rattle.histar_layout.proofs.MapLemmas.{sorted_made}
-use Rattle.histar_calls.specs.declared.class.Class.{Class as ToldClass}
-use Rattle.histar_calls.specs.ClassOf.{class_shown, owner_shown, mode_of}
+use Rattle.histar_layout.specs.ShownClass.{stat_of}
+use Rattle.histar_layout.specs.ClassLabels.{without_jobs}
 use Rattle.histar_refinement.specs.Addresses.{address_of, slash_number, slash_listing_number}
 use Rattle.histar_refinement.specs.Addresses.Step.{Slash, Listing}
 use Rattle.histar_refinement.specs.Directories.{both_numbers, target_for, target_in, directory_of}
 use Rattle.histar_refinement.specs.LaysOut.{Laid}
-use Rattle.histar_refinement.proofs.ClassFound.{class_told}
+use Rattle.histar_refinement.specs.Categories.{Categories}
+use Rattle.histar_refinement.specs.Guards.{guard_label}
+use Rattle.histar_refinement.specs.NumberedClasses.{numbered_class}
+use Rattle.histar_refinement.proofs.ClassFound.{label_of_class, same_owner, same_mode}
 use Rattle.histar_refinement.proofs.DirectoryLaws.{sorted_listed}
 use Rattle.histar_refinement.proofs.FileLabels.{label_at}
 use Rattle.histar_refinement.proofs.LinesLaid.{holds_directory}
 use Rattle.histar_refinement.proofs.Making.{entry_leads}
 use Rattle.histar_refinement.proofs.Standing.{some_unless_none, guard_at, file_found, root_is_dir, parent_is_dir}
 use Rattle.histar_tree.specs.declared.tree.TreeNode.{TreeNode}
-use Rattle.histar_tree.specs.Tree.{IsTreeOf, node_of, node_at, AreListed, IsTreeAt}
-use Rattle.histar_tree.specs.TreeLines.{flat_line, line_at, lines_at}
+use Rattle.histar_tree.specs.Tree.{IsTreeOf, IsNodeAt, AreListed, IsTreeAt}
+use Rattle.histar_tree.specs.TreeEntries.{TreeEntry, tree_entry, flat_entry}
+use Rattle.histar_tree.specs.TreeLines.{TreeLine, flat_line, line_at, lines_at}
 use Rattle.histar_tree.specs.FlatTree.{nodes_in, walked}
 use Rattle.histar_tree.specs.Laws.{AreShallow, FlatStatesHaveTheirTrees}
 use Rattle.histar_tree.proofs.FlatTree.{walks_meet_all}
@@ -70,11 +74,11 @@ module _ (session : Session) (s : State) (f : Flat) (l : Laid session s f) where
       let g = guard_at session s f l q (record { class = class; content = File bytes }) at in
       ap bytes_in (file_found session s f l q class bytes at g.0 g.1 o numbered)
 
-  -- a tree at a path, which shows what the flat state has there and below it, down to so many levels
+  -- a tree at a path, which is what the flat state has there and below it, down to so many levels
   record HasTreeAt (levels : ℕ) (q : Path) (node : Node) (target : Target) : Type 0 where
     tree : List TreeNode
     is_tree : IsTreeAt levels session s q target tree
-    lines : lines_at s tree ≡ map flat_line (walked levels f.files.entries q node)
+    same : map (tree_entry s) tree ≡ map (flat_entry l.category) (walked levels f.files.entries q node)
 
   -- where an entry leads, and the tree there
   record LeadsToTree (levels : ℕ) (q : Path) (node : Node) : Type 0 where
@@ -82,24 +86,20 @@ module _ (session : Session) (s : State) (f : Flat) (l : Laid session s f) where
     leads : target_for l.naming.number (q, node) ≡ Some target
     there : HasTreeAt levels q node target
 
-  -- what stands at a path is of a class that has this owner and this mode
-  record IsTold (q : Path) (class : Class) (target : Target) : Type 0 where
-    told : ToldClass
-    is : node_at session s q target ≡ Some (node_of q target told)
-    owner : owner_shown told ≡ class_owner class
-    mode : mode_of told ≡ class_mode class
+  -- what a state has at a path where the flat state has something of this class
+  abbrev node_of : Path → Class → Target → TreeNode
+  node_of q class target = record { path = q; class = numbered_class l.category class; target = target }
 
-  -- so tells the label of what stands at a path
-  told_at : (q : Path) (there : Node) → get f.files q ≡ Some there → (target : Target) → l.naming.number (address_of q) ≡ Some (object_of target) → IsTold q there.class target
-  told_at q there at target numbered =
+  -- it stands there, by the label of its object
+  stands_at : (q : Path) (there : Node) → get f.files q ≡ Some there → (target : Target) → l.naming.number (address_of q) ≡ Some (object_of target) → IsNodeAt session s q target (node_of q there.class target)
+  stands_at q there at target numbered =
       let g = guard_at session s f l q there at in
-      let t = class_told session l.category l.different l.as_made there.class g.0 g.1 in
       record {
-        told = t.told_class;
-        is = ap (λ (o : Option Levels). option_map (node_of q target) (option_and_then (class_shown session) o)) (label_at session s f l q there at (object_of target) numbered g.0 g.1)
-            ∙ ap (option_map (node_of q target)) t.is;
-        owner = t.owner;
-        mode = t.mode;
+        stands = refl;
+        leads = refl;
+        label = guard_label l.category g.0;
+        labelled = label_at session s f l q there at (object_of target) numbered g.0 g.1;
+        of_class = label_of_class session s f l q there at g.0 g.1;
       }
 
   module _ (levels : ℕ) (q : Path) where
@@ -111,11 +111,11 @@ module _ (session : Session) (s : State) (f : Flat) (l : Laid session s f) where
     abbrev walk : Name × Node → List (Path × Node)
     walk c = walked levels f.files.entries (c.0 ∷ q) c.1
 
-    -- trees which shows what the flat state has at these entries and below them
+    -- trees which are what the flat state has at these entries and below them
     record HasTrees (entries : List (Name × Target)) (nodes : List (Name × Node)) : Type 0 where
       trees : List TreeNode
       are_listed : AreListed (IsTreeAt levels session s) q entries trees
-      lines : lines_at s trees ≡ map flat_line (flat_map walk nodes)
+      same : map (tree_entry s) trees ≡ map (flat_entry l.category) (flat_map walk nodes)
 
     -- each entry among some leads to a tree
     abbrev AllLead : List (Path × Node) → Type 0
@@ -132,12 +132,12 @@ module _ (session : Session) (s : State) (f : Flat) (l : Laid session s f) where
         subst (λ (o : Option Target). HasTrees (cons_option (option_map (λ target. (n, target)) o) (listed es)) ((n, there) ∷ nodes_in q es)) (sym to.leads) (record {
           trees = to.there.tree ++ rest.trees;
           are_listed = (to.there.tree, rest.trees, to.there.is_tree, rest.are_listed, refl);
-          lines = map-append (line_at s) to.there.tree rest.trees ∙ (λ i. to.there.lines i ++ rest.lines i) ∙ sym (map-append flat_line (walk (n, there)) (flat_map walk (nodes_in q es)));
+          same = map-append (tree_entry s) to.there.tree rest.trees ∙ (λ i. to.there.same i ++ rest.same i) ∙ sym (map-append (flat_entry l.category) (walk (n, there)) (flat_map walk (nodes_in q es)));
         })
 
     -- the trees of the entries, one after another
     trees_listed : (es : List (Path × Node)) → T (is_sorted path_cmp es) → AllLead es → HasTrees (listed es) (nodes_in q es)
-    trees_listed [] h lead = record { trees = []; are_listed = refl; lines = refl }
+    trees_listed [] h lead = record { trees = []; are_listed = refl; same = refl }
     trees_listed (e ∷ es) h lead = step e.0 e.1 lead (trees_listed es (second (below_all path_cmp e.0 es) _ h)
         (λ n there is. lead n there (find_later path_cmp_total path_cmp_exact e.0 e.1 es (n ∷ q) there (first (below_all path_cmp e.0 es) _ h) is)))
       where
@@ -158,28 +158,26 @@ module _ (session : Session) (s : State) (f : Flat) (l : Laid session s f) where
           → HasTreeAt (suc levels) q (record { class = class; content = File bytes }) (targets.File o)
       tree_of_file bytes at o numbered =
           let there : Node = record { class = class; content = File bytes } in
-          let t = told_at q there at (targets.File o) numbered in
           let held = bytes_held q class bytes at o numbered in
           record {
-            tree = node_of q (targets.File o) t.told ∷ [];
-            is_tree = (node_of q (targets.File o) t.told, [], t.is, refl, refl);
-            lines = λ i. record { path = q; stat = record { is_directory = false; owner = t.owner i; mode = t.mode i }; bytes = held i } ∷ [];
+            tree = node_of q class (targets.File o) ∷ [];
+            is_tree = (node_of q class (targets.File o), [], stands_at q there at (targets.File o) numbered, refl, refl);
+            same = λ i. record { path = q; class = numbered_class l.category class; is_directory = false; bytes = held i } ∷ [];
           }
 
       -- the tree of a directory, where each entry leads to one
       tree_of_directory : get f.files q ≡ Some (record { class = class; content = Dir }) → (c g : ℕ) → l.naming.number (address_of q) ≡ Some c → l.naming.number (Listing ∷ address_of q) ≡ Some g
           → AllLead f.files.entries → HasTreeAt (suc levels) q (record { class = class; content = Dir }) (targets.Directory c g)
       tree_of_directory at c g numbered listing lead =
-          let t = told_at q (record { class = class; content = Dir }) at (targets.Directory c g) numbered in
           let dir = directory_of f.files l.naming.number q in
           let entries = sorted_made (listed f.files.entries) (sorted_listed l.naming.number q f.files.entries f.files.sorted) in
           let below = trees_listed f.files.entries f.files.sorted lead in
           record {
-            tree = node_of q (targets.Directory c g) t.told ∷ below.trees;
+            tree = node_of q class (targets.Directory c g) ∷ below.trees;
             is_tree = (
-              node_of q (targets.Directory c g) t.told,
+              node_of q class (targets.Directory c g),
               below.trees,
-              t.is,
+              stands_at q (record { class = class; content = Dir }) at (targets.Directory c g) numbered,
               (
                 dir,
                 holds_directory session s f l q g (ap (λ (o : Option Node). is_some_and o is_dir) at) listing,
@@ -187,7 +185,7 @@ module _ (session : Session) (s : State) (f : Flat) (l : Laid session s f) where
               ),
               refl,
             );
-            lines = λ i. record { path = q; stat = record { is_directory = true; owner = t.owner i; mode = t.mode i }; bytes = [] } ∷ below.lines i;
+            same = λ i. record { path = q; class = numbered_class l.category class; is_directory = true; bytes = [] } ∷ below.same i;
           }
 
       -- the tree of what stands at a path
@@ -220,6 +218,27 @@ module _ (session : Session) (s : State) (f : Flat) (l : Laid session s f) where
     below = λ n d is. let there = there_is (get f.files (n ∷ d)) is in parent_is_dir session s f l n d there.0 there.1;
   }
 
+-- what is shown of what stands at a path
+abbrev shown_line : TreeEntry → TreeLine
+shown_line e = record { path = e.path; stat = stat_of (without_jobs e.class) e.is_directory; bytes = e.bytes }
+
+flat_shown : (category : Categories) (es : List (Path × Node)) → map shown_line (map (flat_entry category) es) ≡ map flat_line es
+flat_shown category [] = refl
+flat_shown category (e ∷ es) = λ i.
+    record {
+      path = e.0;
+      stat = record { is_directory = is_dir e.1; owner = same_owner category e.1.class i; mode = same_mode category e.1.class i };
+      bytes = bytes_of (Some e.1);
+    } ∷ flat_shown category es i
+
+tree_shown : (s : State) (tree : List TreeNode) → lines_at s tree ≡ map shown_line (map (tree_entry s) tree)
+tree_shown s [] = refl
+tree_shown s (node ∷ tree) = ap (λ (lines : List TreeLine). line_at s node ∷ lines) (tree_shown s tree)
+
+-- so where the same stands the same is shown
+same_lines : (s : State) (category : Categories) (tree : List TreeNode) (es : List (Path × Node)) → map (tree_entry s) tree ≡ map (flat_entry category) es → lines_at s tree ≡ map flat_line es
+same_lines s category tree es same = tree_shown s tree ∙ ap (map shown_line) same ∙ flat_shown category es
+
 -- a state that lays out a flat state has the tree of that
 pub flat_states_have_their_trees : FlatStatesHaveTheirTrees
 unfolding IsTreeOf
@@ -228,9 +247,11 @@ flat_states_have_their_trees session s f lays shallow =
     let root = root_is_dir session s f l in
     let slash : Node = record { class = root.0; content = Dir } in
     let to = leads_to_tree session s f l shallow (suc most_names) [] slash root.1 (omega arith) in
+    let all_same = to.there.same ∙ ap (map (flat_entry l.category)) (walks_meet_all f (are_tree session s f l) most_names shallow slash root.1) in
     let same = same_Some to.target (targets.Directory (slash_number (length session.users)) (slash_listing_number (length session.users))) (sym to.leads ∙ slash_leads session s f l root.0) in
     record {
       tree = to.there.tree;
       is_tree = subst (λ (target : Target). IsTreeAt (suc most_names) session s [] target to.there.tree) same to.there.is_tree;
-      lines = to.there.lines ∙ ap (map flat_line) (walks_meet_all f (are_tree session s f l) most_names shallow slash root.1);
+      same = all_same;
+      lines = same_lines s l.category to.there.tree f.files.entries all_same;
     }

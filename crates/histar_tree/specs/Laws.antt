@@ -13,7 +13,8 @@ use Rattle.histar_refinement.specs.Categories.{Categories}
 use Rattle.histar_refinement.specs.LaysOut.{LaysOut}
 use Rattle.histar_tree.specs.declared.tree.TreeNode.{TreeNode}
 use Rattle.histar_tree.specs.Tree.{IsTreeOf}
-use Rattle.histar_tree.specs.TreeLines.{flat_lines, file_bytes_at, lines_at}
+use Rattle.histar_tree.specs.TreeEntries.{file_bytes_at, tree_entry, flat_entry}
+use Rattle.histar_tree.specs.TreeLines.{flat_lines, lines_at}
 use Rattle.histar_tree.specs.Resolve.{LeadsTo, LeadsNowhere}
 use Rattle.histar_tree.specs.declared.process.ProcessNode.{ProcessNode}
 use Rattle.histar_tree.specs.Processes.{AreProcessesOf, levels_at}
@@ -23,15 +24,17 @@ use Rattle.histar_tree.specs.ProcessLines.{process_line, flat_processes}
 abbrev pub AreShallow : Flat → Type 0
 AreShallow f = (q : Path) → is_there f q ≡ true → length q ≤ most_names
 
--- a state has a tree, which shows what is shown of this flat state
-pub record HasTreeOf (session : Session) (s : State) (f : Flat) : Type 0 where
+-- A state has a tree, and this is the map of a flat state: path by path, in order, the same stands there, where each job is named by
+-- the number of its category. So the same is shown of both.
+pub record HasTreeOf (session : Session) (s : State) (f : Flat) (category : Categories) : Type 0 where
   pub tree : List TreeNode
   pub is_tree : IsTreeOf session s (places_of (length session.users)) tree
+  pub same : map (tree_entry s) tree ≡ map (flat_entry category) f.files.entries
   pub lines : lines_at s tree ≡ flat_lines f
 
--- a state that lays out a flat state has the tree of that, and what is shown of it is what the flat state has
+-- a state that lays out a flat state has the tree of that, under the numbers that its categories have
 abbrev pub FlatStatesHaveTheirTrees : Type 0
-FlatStatesHaveTheirTrees = (session : Session) (s : State) (f : Flat) → LaysOut session s f → AreShallow f → HasTreeOf session s f
+FlatStatesHaveTheirTrees = (session : Session) (s : State) (f : Flat) (l : LaysOut session s f) → AreShallow f → HasTreeOf session s f l.laid.category
 
 -- a state has one tree at most
 abbrev pub StatesHaveOneTree : Type 0

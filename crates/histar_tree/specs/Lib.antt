@@ -1,4 +1,5 @@
 pub mod Tree
+pub mod TreeEntries
 pub mod TreeLines
 pub mod FlatTree
 pub mod Resolve

@@ -8,8 +8,8 @@ use Rattle.histar_label.specs.Levels.{Levels, exceptions_of}
 use Rattle.histar_object.specs.Objects.{is_container, is_thread, label_there}
 use Rattle.histar_object.specs.State.{State, Found}
 use Rattle.histar_layout.specs.Reading.{◌>>=◌}
-use Rattle.histar_calls.specs.Categories.{user_of}
-use Rattle.histar_calls.specs.Jobs.{jobs_in}
+use Rattle.histar_layout.specs.Categories.{user_of}
+use Rattle.histar_layout.specs.Jobs.{jobs_in}
 use Rattle.histar_calls.specs.declared.places.Home.{Home}
 use Rattle.histar_process.specs.Caller.{caller_in, status_at}
 use Rattle.histar_process.specs.Kin.{kin_of, user_name}

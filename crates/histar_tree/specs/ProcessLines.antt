@@ -1,11 +1,11 @@
 -- What is shown of processes, line by line.
-use Rattle.std.specs.Prelude.{ℕ, zero, suc, List, [], ◌∷◌, map, Option, None, Some}
+use Rattle.std.specs.Prelude.{ℕ, zero, suc, List, [], ◌∷◌, Option, None, Some}
 use Rattle.std.specs.List.{flat_map, range_with_len}
 use Rattle.histar_flat.specs.Words.{ProcName}
 use Rattle.histar_flat.specs.Classes.{Process}
 use Rattle.histar_flat.specs.FlatState.{Flat}
 use Rattle.histar_refinement.specs.Categories.{Categories}
-use Rattle.histar_refinement.specs.Categories.CategoryName.{OfJob}
+use Rattle.histar_refinement.specs.NumberedClasses.{job_numbers}
 use Rattle.histar_tree.specs.declared.process.Life.{Life}
 use Rattle.histar_tree.specs.declared.process.Life.TheVariants.{Running, Exited}
 use Rattle.histar_tree.specs.declared.process.ProcessNode.{ProcessNode}
@@ -23,18 +23,14 @@ abbrev pub process_line : ProcessNode → ProcessLine
 process_line node = record { name = node.name; chain = node.chain; life = node.life; born = node.born }
 
 module _ (category : Categories) where
-  -- jobs by their categories
-  abbrev pub by_category : List ProcName → List ℕ
-  by_category jobs = map (λ job. category (OfJob job)) jobs
-
   -- whether a process of a flat state runs, and as what, or what it has exited with
   abbrev pub flat_life : Process → Option ℕ → Life
-  flat_life p None = Running p.user (by_category p.held)
+  flat_life p None = Running p.user (job_numbers category p.held)
   flat_life p (Some number) = Exited number
 
   -- what is shown of a process of a flat state
   abbrev pub flat_process_line : ProcName → Process → ProcessLine
-  flat_process_line me p = record { name = me; chain = by_category p.chain; life = flat_life p p.exited; born = p.born }
+  flat_process_line me p = record { name = me; chain = job_numbers category p.chain; life = flat_life p p.exited; born = p.born }
 
   -- what is shown of a process of a flat state, if it is there, and then of each child that was born to it
   abbrev pub with_children : (ℕ → List ProcessLine) → ProcName → Option Process → List ProcessLine

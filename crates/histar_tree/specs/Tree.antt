@@ -1,5 +1,5 @@
 -- The tree that the directory segments of a state list, from that of `/` on.
-use Rattle.std.specs.Prelude.{◌≡◌, ℕ, zero, suc, ◌-◌, List, [], ◌∷◌, ◌++◌, length, Option, Some, option_map, option_and_then, MatchOption, Result, Ok, Err}
+use Rattle.std.specs.Prelude.{◌≡◌, ℕ, zero, suc, ◌-◌, List, [], ◌∷◌, ◌++◌, length, Option, Some, MatchOption, Result, Ok, Err}
 use Rattle.std.specs.Global.{Vec}
 use Rattle.std.specs.FinMap as map
 use Rattle.histar_flat.specs.Words.{Name, Path, most_names}
@@ -7,23 +7,23 @@ use Rattle.histar_flat.specs.Sessions.{Session}
 use Rattle.histar_object.specs.Objects.{bytes_in, label_there}
 use Rattle.histar_object.specs.State.{State}
 use Rattle.histar_layout.specs.Directory.{Entries, IsDirectory}
-use Rattle.histar_layout.specs.Listing.{is_directory, object_of}
+use Rattle.histar_layout.specs.Listing.{object_of}
 use Rattle.histar_layout.specs.declared.entry.Target.{Target}
 use Rattle.histar_layout.specs.declared.entry.Target.TheVariants.{File, Directory}
 use Rattle.histar_calls.specs.declared.places.Places.{Places}
-use Rattle.histar_calls.specs.declared.class.Class.{Class}
-use Rattle.histar_calls.specs.ClassOf.{class_shown, stat_of}
+use Rattle.histar_label.specs.Levels.{Levels}
+use Rattle.histar_layout.specs.ClassLabels.{IsClassLabel}
 use Rattle.histar_tree.specs.declared.tree.TreeNode.{TreeNode}
 use Rattle.histar_tree.specs.declared.tree.TreeError.{TreeError}
 use Rattle.histar_tree.specs.declared.tree.TreeError.TheVariants.{NotATree, OutOfMemory}
 
--- what stands at a path where its entry leads to an object of this class
-abbrev pub node_of : Path → Target → Class → TreeNode
-node_of q target class = record { path = q; stat = stat_of class (is_directory target); target = target }
-
 -- what stands at a path where its entry leads: the object there has a label, which is of a class
-abbrev pub node_at : Session → State → Path → Target → Option TreeNode
-node_at session s q target = option_map (node_of q target) (option_and_then (class_shown session) (label_there (s.objects (object_of target))))
+pub record IsNodeAt (session : Session) (s : State) (q : Path) (target : Target) (node : TreeNode) : Type 0 where
+  pub stands : node.path ≡ q
+  pub leads : node.target ≡ target
+  pub label : Levels
+  pub labelled : label_there (s.objects (object_of target)) ≡ Some label
+  pub of_class : IsClassLabel session node.class label
 
 -- a tree at a path: what it is by its path, and where its entry leads
 abbrev pub Listed : Type 1
@@ -44,7 +44,7 @@ IsBelow is_tree s q (Directory container listing) trees = (dir : Entries) × IsD
 abbrev pub IsTreeAt : ℕ → Session → State → Listed
 IsTreeAt zero session s q target tree = ⊥
 IsTreeAt (suc levels) session s q target tree =
-    (node : TreeNode) × (below : List TreeNode) × (node_at session s q target ≡ Some node)
+    (node : TreeNode) × (below : List TreeNode) × IsNodeAt session s q target node
     × IsBelow (IsTreeAt levels session s) s q target below × (tree ≡ node ∷ below)
 
 -- how many levels of a tree stand at a path and below it, where no path has more names than can be named
@@ -62,6 +62,12 @@ HasNoTree session s places = (tree : List TreeNode) → IsTreeOf session s place
 -- what was found is the tree of a state, and nothing was found exactly where it has none
 abbrev pub FindsTree : Session → State → Places → Option (Vec TreeNode) → Type 0
 FindsTree session s places found = MatchOption found (HasNoTree session s places) (λ tree. IsTreeOf session s places tree.items)
+
+-- what was found stands at a path, or nothing does
+abbrev pub FindsNode : Session → State → Path → Target → Result TreeNode TreeError → Type 0
+FindsNode session s q target (Ok node) = IsNodeAt session s q target node
+FindsNode session s q target (Err NotATree) = (node : TreeNode) → IsNodeAt session s q target node → ⊥
+FindsNode session s q target (Err OutOfMemory) = Unit {0}
 
 -- these trees were added, or there are none such
 abbrev pub Adds : (List TreeNode → Type 0) → List TreeNode → List TreeNode → Result (Unit {0}) TreeError → Type 0

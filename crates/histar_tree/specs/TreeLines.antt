@@ -1,14 +1,15 @@
 -- What is shown of a tree, line by line.
-use Rattle.std.specs.Prelude.{ℕ, List, [], map, Some}
+use Rattle.std.specs.Prelude.{ℕ, List, map, Some}
 use Rattle.histar_flat.specs.Words.{Path}
 use Rattle.histar_flat.specs.declared.replies.Stat.{Stat}
 use Rattle.histar_flat.specs.Classes.{class_owner, class_mode}
 use Rattle.histar_flat.specs.FlatState.{Flat, Node, is_dir, bytes_of}
-use Rattle.histar_object.specs.Objects.{bytes_in}
 use Rattle.histar_object.specs.State.{State}
-use Rattle.histar_layout.specs.declared.entry.Target.{Target}
-use Rattle.histar_layout.specs.declared.entry.Target.TheVariants.{File, Directory}
+use Rattle.histar_layout.specs.Listing.{is_directory}
+use Rattle.histar_layout.specs.ShownClass.{stat_of}
+use Rattle.histar_layout.specs.ClassLabels.{without_jobs}
 use Rattle.histar_tree.specs.declared.tree.TreeNode.{TreeNode}
+use Rattle.histar_tree.specs.TreeEntries.{file_bytes_at}
 
 -- what is shown of what stands at a path: its kind, its owner and its mode, and the bytes of a file
 pub record TreeLine : Type 0 where
@@ -28,14 +29,13 @@ flat_line e = record {
 abbrev pub flat_lines : Flat → List TreeLine
 flat_lines f = map flat_line f.files.entries
 
--- the bytes that an entry leads to; of a directory there are none
-abbrev pub file_bytes_at : State → Target → List ℕ
-file_bytes_at s (File file) = bytes_in (s.objects file)
-file_bytes_at s (Directory container listing) = []
+-- the kind, the owner and the mode of a file or a directory of a state
+abbrev pub node_stat : TreeNode → Stat
+node_stat node = stat_of (without_jobs node.class) (is_directory node.target)
 
--- what is shown of a file or a directory of a state
+-- what is shown of it
 abbrev pub line_at : State → TreeNode → TreeLine
-line_at s node = record { path = node.path; stat = node.stat; bytes = file_bytes_at s node.target }
+line_at s node = record { path = node.path; stat = node_stat node; bytes = file_bytes_at s node.target }
 
 -- what is shown of these, one after another
 abbrev pub lines_at : State → List TreeNode → List TreeLine

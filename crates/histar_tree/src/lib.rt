@@ -8,6 +8,6 @@ pub mod resolve;
 mod tree;
 pub mod tree_laws;
 
-pub use process::{JobList, Life, ProcessNode};
+pub use process::{Life, ProcessNode};
 pub use processes::procs_of;
 pub use tree::{TreeNode, bytes_of, tree_of};

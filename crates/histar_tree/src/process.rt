@@ -5,15 +5,14 @@ ghost use Rattle.histar_object.specs.Objects.{objects_of};
 ghost use Rattle.histar_syscall.specs.KernelModel.{state};
 ghost use Rattle.histar_tree.specs.Process.{ReadsFrom, container_label, life_in, node_in, owned_beside, running_by, thread_label};
 
-use histar_calls::{Home, UserTable, is_in_job, jobs_in, user_of};
+use histar_calls::Home;
 use histar_flat::{Name, ProcName};
 use histar_label::{Category, Label, LabelStore};
-use histar_layout::read_status;
+use histar_layout::{Chain, UserTable, is_in_job, jobs_in, read_status, user_of};
 use histar_object::ObjId;
 use histar_process::{Caller, caller_in, joined, owned_by, user_name};
 use histar_syscall::Kernel;
 use std::alloc::{AllocError, AllocFailed, Global};
-use std::marker::Model;
 
 /// A process that was not killed.
 #[derive(Drop)]
@@ -22,7 +21,7 @@ pub struct ProcessNode {
     /// Where it is found.
     pub home: Home,
     /// The jobs that it is in.
-    pub chain: JobList,
+    pub chain: Chain,
     pub life: Life,
     /// How many children were born to it.
     pub born: u8,
@@ -36,40 +35,10 @@ pub enum Life {
         /// Its user; nobody, where it has not logged in.
         user: Name,
         /// The jobs that it holds.
-        held: JobList,
+        held: Chain,
     },
     /// It has exited with this number.
     Exited(u8),
-}
-
-/// Jobs, each by its category, by rising numbers.
-#[derive(Drop)]
-pub struct JobList {
-    categories: Vec<Category>,
-}
-
-impl Model for JobList {
-    ghost use Rattle.std.specs.Prelude.{List, ℕ};
-
-    ghost Value = { List ℕ };
-
-    ghost view = { λ jobs. jobs.categories.items };
-}
-
-impl JobList {
-    /// Makes a list of the jobs of these categories.
-    fn new(categories: Vec<Category>) -> Self
-        ensures { result ≡ categories.items }
-    {
-        JobList { categories }
-    }
-
-    /// Returns the categories of the jobs.
-    pub fn categories(&self) -> &[Category]
-        ensures { result.now ≡ self.now }
-    {
-        self.categories.as_slice()
-    }
 }
 
 /// Why a process is not read.
@@ -121,7 +90,7 @@ pub fn read_process<S: LabelStore + Drop>(
     Ok(ProcessNode {
         name: *name,
         home: *home,
-        chain: JobList::new(jobs_in(alloc, outer)?),
+        chain: Chain::new(jobs_in(alloc, outer)?),
         life: read_life(alloc, kernel, users, home, head.exited)?,
         born: head.born,
     })
@@ -164,7 +133,7 @@ fn running_by(
     let held = owned_beside(alloc, own, known.as_slice())?;
     Ok(Life::Running {
         user: user_name(users, number),
-        held: JobList::new(held),
+        held: Chain::new(held),
     })
 }
 

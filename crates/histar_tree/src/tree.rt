@@ -1,16 +1,15 @@
 //! Reading the tree.
-ghost use Rattle.std.specs.Prelude.{◌≡◌, ◌≤◌, length, IfOk, ok_or};
+ghost use Rattle.std.specs.Prelude.{◌≡◌, ◌≤◌, length, IfOk};
 ghost use Rattle.histar_flat.specs.Words.{most_names};
 ghost use Rattle.histar_syscall.specs.KernelModel.{state};
-ghost use Rattle.histar_tree.specs.declared.tree.TreeError.TheVariants.{NotATree};
-ghost use Rattle.histar_tree.specs.TreeLines.{file_bytes_at};
-ghost use Rattle.histar_tree.specs.Tree.{AddsBelow, AddsTree, FindsTree, node_at};
+ghost use Rattle.histar_tree.specs.TreeEntries.{file_bytes_at};
+ghost use Rattle.histar_tree.specs.TreeLines.{node_stat};
+ghost use Rattle.histar_tree.specs.Tree.{AddsBelow, AddsTree, FindsNode, FindsTree};
 
-use histar_base::Bytes;
-use histar_calls::{Places, UserTable, class_of};
+use histar_calls::Places;
+use histar_layout::{Class, Target, UserTable, class_of, read_dir};
 use histar_flat::{Path, Stat};
 use histar_label::LabelStore;
-use histar_layout::{Target, read_dir};
 use histar_object::ObjId;
 use histar_syscall::Kernel;
 use std::alloc::{AllocError, AllocFailed, Global};
@@ -19,13 +18,22 @@ use std::alloc::{AllocError, AllocFailed, Global};
 const MOST_NAMES: usize = 8;
 
 /// A file or a directory of a tree.
-#[derive(Clone, Copy)]
+#[derive(Drop)]
 pub struct TreeNode {
     pub path: Path,
-    /// What is shown of it: its kind, its owner and its mode.
-    pub stat: Stat,
+    /// Whose it is and for whom, as its label has it.
+    pub class: Class,
     /// Where its entry leads.
     pub target: Target,
+}
+
+impl TreeNode {
+    /// Returns what is shown of it: its kind, its owner and its mode.
+    pub fn stat(&self) -> Stat
+        ensures { result ≡ node_stat self.now }
+    {
+        self.class.stat(self.target.is_directory())
+    }
 }
 
 /// Why no tree is read.
@@ -100,7 +108,7 @@ fn push_tree<S: LabelStore + Drop>(
     requires { length path.now ≤ most_names }
     ensures { AddsTree users.now (state kernel.now) path.now target tree.old.items tree.new.items result }
 {
-    let node = node_at(kernel, users, path, target)?;
+    let node = node_at(alloc, kernel, users, path, target)?;
     tree.push(node)?;
     match &target {
         Target::File(_) => Ok(()),
@@ -121,8 +129,7 @@ fn push_below<S: LabelStore + Drop>(
     requires { length path.now ≤ most_names }
     ensures { AddsBelow users.now (state kernel.now) path.now listing tree.old.items tree.new.items result }
 {
-    let bytes = Bytes::copy_of(alloc, kernel.bytes(listing))?;
-    let Some(directory) = read_dir(bytes) else {
+    let Some(directory) = read_dir(alloc, kernel.bytes(listing))? else {
         return Err(TreeError::NotATree);
     };
     let entries = directory.entries(alloc)?;
@@ -139,22 +146,23 @@ fn push_below<S: LabelStore + Drop>(
 
 /// What stands at a path where its entry leads: its object has a label, which is of a class.
 fn node_at<S: LabelStore + Drop>(
+    alloc: Global,
     kernel: &Kernel<S>,
     users: &UserTable,
     path: &Path,
     target: Target,
 ) -> Result<TreeNode, TreeError>
-    ensures { result ≡ ok_or (node_at users.now (state kernel.now) path.now target) NotATree }
+    ensures { FindsNode users.now (state kernel.now) path.now target result }
 {
     let Some(label) = kernel.label(target.object()) else {
         return Err(TreeError::NotATree);
     };
-    let Some(class) = class_of(label, users) else {
+    let Some(class) = class_of(alloc, label, users)? else {
         return Err(TreeError::NotATree);
     };
     Ok(TreeNode {
         path: *path,
-        stat: class.stat(target.is_directory()),
+        class,
         target,
     })
 }

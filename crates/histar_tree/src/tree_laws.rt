@@ -2,8 +2,8 @@
 ghost use Rattle.histar_tree.specs.Laws.{FlatStatesAreResolved, FlatStatesHaveTheirProcesses};
 ghost use Rattle.histar_tree.specs.Laws.{FlatStatesHaveTheirTrees, PathsLeadToOneTarget, StatesHaveOneTree};
 
-/// A state that lays out a flat state has a tree, which shows what the flat state has: path by path
-/// its kind, its owner, its mode and its bytes.
+/// A state that lays out a flat state has a tree, which is the flat state's map: path by path it has the
+/// same class, with each job by the number of its category, the same kind and the same bytes.
 pub fn flat_states_have_their_trees()
     ensures { FlatStatesHaveTheirTrees }
 {}

@@ -9,7 +9,7 @@ use Rattle.histar_rules.specs.declared.raw.RawCall.TheVariants.{MakeCategory, Ma
 use Rattle.histar_syscall.specs.KernelModel.{KernelModel}
 use Rattle.histar_syscall.proofs.Runs.{same_kernel}
 use Rattle.histar_layout.specs.Status.{ProcessStatus}
-use Rattle.histar_calls.specs.Categories.{IsUserOf, scratch_label}
+use Rattle.histar_layout.specs.Categories.{IsUserOf, scratch_label}
 use Rattle.histar_calls.specs.Parts.{ask, find_room}
 use Rattle.histar_calls.specs.Programs.{Program, Runs, RunsPart}
 use Rattle.histar_calls.specs.Programs.Program.{Answers}
@@ -21,7 +21,7 @@ use Rattle.histar_calls.specs.declared.find.Room.{Room}
 use Rattle.histar_calls.specs.declared.places.Home.{Home}
 use Rattle.histar_calls.specs.declared.places.Places.{Places}
 use Rattle.histar_calls.proofs.Running.{then_call, call_fails}
-use Rattle.histar_calls.proofs.UserOf.{user_is}
+use Rattle.histar_layout.proofs.UserOf.{user_is}
 use Rattle.histar_process.specs.Birth.{birth}
 use Rattle.histar_process.specs.Kin.{owned_by}
 use Rattle.histar_process.specs.SpawnCall.{room_for_child}

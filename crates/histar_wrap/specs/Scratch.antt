@@ -11,8 +11,8 @@ use Rattle.histar_rules.specs.declared.raw.RawCall.{RawCall}
 use Rattle.histar_rules.specs.declared.raw.RawCall.TheVariants.{MakeContainer, MakeSegment, SetLabel, SetClearance}
 use Rattle.histar_layout.specs.declared.entry.Target.TheVariants.{Directory}
 use Rattle.histar_calls.specs.declared.find.Room.{Room}
-use Rattle.histar_calls.specs.Categories.{scratch_label, user_of}
-use Rattle.histar_calls.specs.Jobs.{jobs_in}
+use Rattle.histar_layout.specs.Categories.{scratch_label, user_of}
+use Rattle.histar_layout.specs.Jobs.{jobs_in}
 use Rattle.histar_calls.specs.Refusals.{errno_for}
 use Rattle.histar_calls.specs.Programs.{AnswerOf, Program, Part}
 use Rattle.histar_calls.specs.Programs.Program.{Answers, Asks, Stops}

@@ -6,9 +6,8 @@ ghost use Rattle.histar_wrap.specs.Scratch.{jobs_with};
 ghost use Rattle.histar_wrap.specs.WrapCall.{wrap_program};
 
 use crate::scratch::{hold_job, make_scratch};
-use histar_calls::{
-    Ending, Places, Stopped, UserTable, find_room, jobs_in, scratch_label, settle, user_of,
-};
+use histar_calls::{Ending, Places, Stopped, find_room, settle};
+use histar_layout::{UserTable, jobs_in, scratch_label, user_of};
 use histar_flat::{Name, ProcName, Reply};
 use histar_label::{Category, Label, LabelStore};
 use histar_process::{Caller, Segment, give_birth, owned_by, room_for_child};

@@ -63,7 +63,8 @@ use Rattle.histar_refinement.proofs.RawChecks.{object}
 use Rattle.histar_refinement.proofs.SessionLemmas.{not_nobody}
 use Rattle.histar_refinement.proofs.Wrapping as wrapping
 use Rattle.histar_refinement.proofs.Wrapping.{Wrapper}
-use Rattle.histar_rows.specs.Rows.{IsReady, AreAmong}
+use Rattle.histar_rows.specs.Rows.{IsReady}
+use Rattle.histar_rows.specs.Reads.{AreAmong}
 use Rattle.histar_rows.proofs.Chains.{all_granted, entries_of, Chain}
 use Rattle.histar_rows.proofs.Steps.{Goal, granted_step, answered_step}
 use Rattle.histar_rows.proofs.Walks.{place_at, walk_reads, holds, among_then, has_walk}

@@ -27,7 +27,7 @@ use Rattle.histar_refinement.proofs.Beside.{Beside, own_set}
 use Rattle.histar_refinement.proofs.Counting.{boot_used}
 use Rattle.histar_refinement.proofs.Growing.{same_numbers}
 use Rattle.histar_refinement.proofs.JobBorn.{state_held}
-use Rattle.histar_refinement.proofs.Members.{is_in}
+use Rattle.histar_layout.proofs.Members.{is_in}
 use Rattle.histar_refinement.proofs.RawChecks.{object}
 use Rattle.histar_refinement.proofs.Spawned.{births}
 use Rattle.histar_refinement.proofs.Spawning.{reads_number, writes_number}

@@ -24,7 +24,7 @@ use Rattle.histar_refinement.specs.LaysOut.{AreInOrder, Laid}
 use Rattle.histar_refinement.specs.Processes.{process_bytes}
 use Rattle.histar_refinement.proofs.AmongNames.{each_head, each_append}
 use Rattle.histar_refinement.proofs.Growing.{RightsHave, IsOld, new_number, made_label, made_clearance, same_rights_label, same_rights_clearance}
-use Rattle.histar_refinement.proofs.Members.{first_of, second_of}
+use Rattle.histar_layout.proofs.Members.{first_of, second_of}
 use Rattle.histar_refinement.proofs.RawChecks.{object}
 use Rattle.histar_refinement.proofs.Spawning.{after, no_child, with_reads, different_reads, category, different, keeps_first, keeps, made_then, at_child}
 use Rattle.histar_refinement.proofs.Tested.{AreMade, guard_made, rights_made, clearance_made, guard_owns_nothing}

@@ -27,7 +27,7 @@ use Rattle.histar_refinement.specs.Categories.CategoryName.{OfJob}
 use Rattle.histar_refinement.specs.Guards.{guard_label}
 use Rattle.histar_refinement.specs.Addresses.{address_of}
 use Rattle.histar_refinement.specs.Addresses.Step.{Listing}
-use Rattle.histar_refinement.proofs.Members.{second_of}
+use Rattle.histar_layout.proofs.Members.{second_of}
 use Rattle.histar_refinement.proofs.RawChecks.{object}
 use Rattle.histar_rows.specs.Rows.{IsReady}
 use Rattle.histar_file_rows.proofs.FoundObjects.{label, clearance, container, listing, entries, directory_class, directory_stands, directory_guard, has_listing, thread_below, below, container_numbered, listing_numbered}

@@ -13,9 +13,9 @@ use Rattle.histar_flat.proofs.GivenNames.{longer_has}
 use Rattle.histar_label.specs.declared.levels.Level.TheVariants.{Star, L3}
 use Rattle.histar_label.specs.Levels.{Levels, with_level, is_below, is_below_raised, is_made}
 use Rattle.histar_object.specs.State.{State}
-use Rattle.histar_calls.specs.Categories.{read_category, scratch_label}
-use Rattle.histar_calls.specs.Jobs.{jobs_in}
-use Rattle.histar_calls.specs.Labelling.{guarded_by}
+use Rattle.histar_layout.specs.Categories.{read_category, scratch_label}
+use Rattle.histar_layout.specs.Jobs.{jobs_in}
+use Rattle.histar_layout.specs.Labelling.{guarded_by}
 use Rattle.histar_process.specs.Kin.{owned_by}
 use Rattle.histar_refinement.specs.Sessions.{IsSession}
 use Rattle.histar_refinement.specs.Categories.{CategoryName, Categories, AreDifferent, IsMade, among, naming_next, IsUsed}
@@ -30,8 +30,9 @@ use Rattle.histar_refinement.proofs.Counting.{number_named, keeps_named}
 use Rattle.histar_refinement.proofs.Growing.{RightsHave, IsOld, same_numbers, same_guard_label, still_different, made_label, made_clearance}
 use Rattle.histar_refinement.proofs.JobLabels.{jobs_are}
 use Rattle.histar_refinement.proofs.Levelled.{same_guarded}
-use Rattle.histar_refinement.proofs.Members.{is_in, is_in-append}
-use Rattle.histar_refinement.proofs.SessionLemmas.{user_range, is_number}
+use Rattle.histar_layout.proofs.Members.{is_in, is_in-append}
+use Rattle.histar_refinement.proofs.SessionLemmas.{is_number}
+use Rattle.histar_layout.proofs.Declared.{user_range}
 use Rattle.histar_refinement.proofs.Tested.{guard_made, guard_owns_nothing}
 use Rattle.histar_refinement.proofs.Uses.{job_among, class_used, rights_used}
 use Rattle.histar_refinement.proofs.WrapTests as tests

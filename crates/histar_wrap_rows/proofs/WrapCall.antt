@@ -43,7 +43,9 @@ use Rattle.histar_refinement.specs.LaysOut.{LaysOut}
 use Rattle.histar_refinement.proofs.Beside.{own_set}
 use Rattle.histar_refinement.proofs.Standing.{some_of}
 use Rattle.histar_refinement.proofs.WrapRefused.{lays_out_refused}
-use Rattle.histar_rows.specs.Rows.{IsReady, AreAmong, HasWalk, HasWalkUnlessFull, has_category}
+use Rattle.histar_rows.specs.Rows.{IsReady, has_category}
+use Rattle.histar_rows.specs.Reads.{AreAmong}
+use Rattle.histar_rows.proofs.ReadsByCall.{HasWalk, HasWalkUnlessFull}
 use Rattle.histar_rows.proofs.Chains.{all_granted, entries_of, Chain}
 use Rattle.histar_rows.proofs.Steps.{Goal, allowed_step, spent_step}
 use Rattle.histar_rows.proofs.Walks.{walk_reads, among_granted_behind, among_then, among_also}

@@ -5,7 +5,7 @@ use Rattle.histar_rules.specs.declared.raw.RawCall.TheVariants.{OwnLabel, MakeCo
 use Rattle.histar_layout.specs.Directory.{spelling}
 use Rattle.histar_layout.specs.declared.entry.Target.TheVariants.{Directory}
 use Rattle.histar_calls.specs.declared.ending.Ending.TheVariants.{Stopped}
-use Rattle.histar_calls.specs.Categories.{label_made}
+use Rattle.histar_layout.specs.Categories.{label_made}
 use Rattle.histar_calls.specs.Programs.Program.{Answers}
 use Rattle.histar_calls.specs.Parts.{ask, find_room, write_entries}
 use Rattle.histar_calls.specs.Mkdir.{mkdir_program}

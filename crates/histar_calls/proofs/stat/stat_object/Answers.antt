@@ -1,7 +1,7 @@
 use Rattle.std.proofs.Common.{None, Some, sym, ap, ◌∙◌}
 use Rattle.histar_flat.specs.declared.replies.Reply.TheVariants.{Stats}
 use Rattle.histar_rules.specs.declared.raw.RawCall.TheVariants.{LabelOf}
-use Rattle.histar_calls.specs.ClassOf.{class_shown, stat_of}
+use Rattle.histar_layout.specs.ShownClass.{class_shown, stat_of}
 use Rattle.histar_calls.specs.Parts.{ask}
 use Rattle.histar_calls.specs.StatCall.{find_object, class_reply, stat_program}
 use Rattle.histar_calls.proofs.Running.{grants, refuses, then_call, call_fails, call_fails_so, runs_as, replies_so, stops}

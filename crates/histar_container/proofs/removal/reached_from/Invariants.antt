@@ -11,4 +11,4 @@ invariant-loop-read g l = record {
 }
 
 abbrev pub decreases-loop-read : goal.decreases-loop-read
-decreases-loop-read g l = unread l.table (take l.read l.list.items)
+decreases-loop-read g l = unread l.table.objects (take l.read l.list.items)

@@ -1,5 +1,5 @@
 use Rattle.std.proofs.Common.{◌≡◌, take}
-use Rattle.histar_calls.specs.Labelling.{labelled}
+use Rattle.histar_layout.specs.Labelling.{labelled}
 use Rattle.histar_login.specs.Start.{at_both}
 use Rattle.histar_login.proofs.gates.label_at_both.Given as goal
 

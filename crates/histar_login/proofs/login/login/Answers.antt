@@ -4,7 +4,7 @@ use Rattle.histar_flat.specs.declared.replies.Errno.TheVariants.{ENOENT}
 use Rattle.histar_flat.specs.declared.replies.Reply.TheVariants.{Refused}
 use Rattle.histar_flat.specs.declared.replies.Reply.{Reply}
 use Rattle.histar_rules.specs.declared.raw.RawCall.TheVariants.{OwnLabel}
-use Rattle.histar_calls.specs.Categories.{owners_of}
+use Rattle.histar_layout.specs.Categories.{owners_of}
 use Rattle.histar_calls.specs.declared.ending.Ending.TheVariants.{Stopped}
 use Rattle.histar_calls.specs.declared.ending.Stopped.{Stopped as HasStopped}
 use Rattle.histar_calls.specs.Programs.Program.{Answers}

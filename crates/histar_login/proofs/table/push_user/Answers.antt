@@ -1,6 +1,6 @@
 use Rattle.std.proofs.Common.{◌≡◌, ◌++◌, ap, ◌∙◌}
 use Rattle.std.specs.Int.{w64, to_be_bytes}
-use Rattle.histar_calls.specs.Categories.{read_category, write_category}
+use Rattle.histar_layout.specs.Categories.{read_category, write_category}
 use Rattle.histar_login.proofs.StartLemmas.{entry_grows}
 use Rattle.histar_login.proofs.table.push_user.Goals as goal
 

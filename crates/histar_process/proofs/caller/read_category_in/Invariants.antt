@@ -1,7 +1,7 @@
 use Rattle.std.proofs.Common.{◌≡◌, ◌&&◌, not, drop}
 use Rattle.histar_label.specs.Levels.{level_of}
 use Rattle.histar_process.specs.Caller.{read_category_in}
-use Rattle.histar_calls.specs.Jobs.{is_three}
+use Rattle.histar_layout.specs.Jobs.{is_three}
 use Rattle.histar_process.proofs.Scanning.{first_passed}
 use Rattle.histar_process.proofs.caller.read_category_in.Given as goal
 

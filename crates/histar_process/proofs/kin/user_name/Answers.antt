@@ -1,7 +1,7 @@
 use Rattle.std.proofs.Common.{◌≡◌, ◌-◌, ◌≤◌, ℕ, length, ap, sym, subst, ◌∙◌, arith}
 use Rattle.std.proofs.lemmas.Option.{get_or_from_slice_get}
 use Rattle.histar_flat.specs.declared.calls.User.{User}
-use Rattle.histar_calls.specs.UserTable.{called}
+use Rattle.histar_layout.specs.UserTable.{called}
 use Rattle.histar_process.specs.Kin.{user_name}
 use Rattle.histar_process.proofs.Scanning.{name_at, name_none, name_past}
 use Rattle.histar_process.proofs.kin.user_name.Goals as goal

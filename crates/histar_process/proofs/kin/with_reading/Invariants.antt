@@ -1,5 +1,5 @@
 use Rattle.std.proofs.Common.{◌≡◌, ◌++◌, map, take}
-use Rattle.histar_calls.specs.Categories.{read_category}
+use Rattle.histar_layout.specs.Categories.{read_category}
 use Rattle.histar_process.proofs.kin.with_reading.Given as goal
 
 abbrev pub invariant-loop-owner : goal.invariant-loop-owner

@@ -17,11 +17,11 @@ returns-in_err-line-clause-err g c =
 pub returns-in_err-write_bytes-clause-err : goal.returns-in_err-write_bytes-clause-err
 returns-in_err-write_bytes-clause-err g c =
     let p = err_from_is_err_and c.from_residual-in_err-write_bytes.result c.from_residual-in_err-write_bytes.ensures.1 in
-    rw p.1 (subst (AppendsFront _ _) (nodes_text (state c.args.machine.now.kernel) c.args.nodes.now) (line_begun (node_text (state c.args.machine.now.kernel)) c.args.nodes.now c.lines.node-index c.node-item.result (search rules) (search rules) _ _ _ c.in_ok-line.line.items c.as_slice.result.now c.lines.invariant.written (c.in_ok-line.ensures ∙ ap (λ (bytes : List ℕ). tree_line_text (record { path = c.node-item.result.path; stat = c.node-item.result.stat; bytes = bytes })) c.bytes_of-bytes.ensures) c.as_slice.ensures.value c.in_err-write_bytes.ensures.err))
+    rw p.1 (subst (AppendsFront _ _) (nodes_text (state c.args.machine.now.kernel) c.args.nodes.now) (line_begun (node_text (state c.args.machine.now.kernel)) c.args.nodes.now c.lines.node-index c.node-item.result (search rules) (search rules) _ _ _ c.in_ok-line.line.items c.as_slice.result.now c.lines.invariant.written (c.in_ok-line.ensures ∙ (λ i. tree_line_text (record { path = c.node-item.result.path; stat = c.stat.ensures i; bytes = c.bytes_of-bytes.ensures i }))) c.as_slice.ensures.value c.in_err-write_bytes.ensures.err))
 
 pub lines-preserved : goal.lines-preserved
 lines-preserved g c = record {
-  written = line_more (node_text (state c.args.machine.now.kernel)) c.args.nodes.now c.lines.node-index c.node-item.result (search rules) (search rules) _ _ _ c.in_ok-line.line.items c.as_slice.result.now c.lines.invariant.written (c.in_ok-line.ensures ∙ ap (λ (bytes : List ℕ). tree_line_text (record { path = c.node-item.result.path; stat = c.node-item.result.stat; bytes = bytes })) c.bytes_of-bytes.ensures) c.as_slice.ensures.value c.in_ok-write_bytes.ensures.ok;
+  written = line_more (node_text (state c.args.machine.now.kernel)) c.args.nodes.now c.lines.node-index c.node-item.result (search rules) (search rules) _ _ _ c.in_ok-line.line.items c.as_slice.result.now c.lines.invariant.written (c.in_ok-line.ensures ∙ (λ i. tree_line_text (record { path = c.node-item.result.path; stat = c.stat.ensures i; bytes = c.bytes_of-bytes.ensures i }))) c.as_slice.ensures.value c.in_ok-write_bytes.ensures.ok;
   count = search rules;
 }
 

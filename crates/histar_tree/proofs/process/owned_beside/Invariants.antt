@@ -2,7 +2,7 @@ use Rattle.std.proofs.Common.{◌≡◌, ◌&&◌, ◌++◌, drop}
 use Rattle.std.specs.Prelude.{nat_eq, not}
 use Rattle.std.specs.List.{list_any}
 use Rattle.histar_label.specs.Level.{is_star}
-use Rattle.histar_calls.proofs.Scanning.{passed}
+use Rattle.histar_layout.proofs.Scanning.{passed}
 use Rattle.histar_tree.specs.Process.{owned_beside}
 use Rattle.histar_tree.proofs.process.owned_beside.Given as goal
 

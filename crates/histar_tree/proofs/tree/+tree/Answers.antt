@@ -20,7 +20,7 @@ pub push_below-entries-init : goal.push_below-entries-init
 push_below-entries-init g t c =
     let s = state c.args.kernel.now in (
       c.in-Some.directory,
-      read_as (bytes_in (s.objects c.args.listing)) c.in_ok-bytes.bytes c.read_dir.result c.in-Some.directory (c.in_ok-bytes.ensures ∙ c.bytes.ensures) c.in-Some.is c.read_dir.ensures,
+      read_as (bytes_in (s.objects c.args.listing)) c.bytes.result.now c.in_ok-read_dir.field-0 c.in-Some.directory c.bytes.ensures c.in-Some.is c.in_ok-read_dir.ensures,
       adds_none (below_at c.args.users.now s c.args.path.now) c.args.path.now (map.entries c.in-Some.directory) _ c.args.tree.now.items (c.deref-entry-items.ensures.value ∙ c.in_ok-entries.ensures),
     )
 
@@ -55,4 +55,4 @@ push_below-returns g t c =
 
 pub push_tree-returns-in-Directory : goal.push_tree-returns-in-Directory
 push_tree-returns-in-Directory g t c =
-    adds_directory c.args.users.now (state c.args.kernel.now) c.args.path.now c.args.target c.in-Directory.field-0 c.in-Directory.listing c.in-Directory.is c.in_ok-node.node _ c.node_at.ensures c.in_ok-node.was c.args.tree.now.items _ _ _ c.in_ok-push.ensures.items c.push_below.ensures
+    adds_directory c.args.users.now (state c.args.kernel.now) c.args.path.now c.args.target c.in-Directory.field-0 c.in-Directory.listing c.in-Directory.is c.in_ok-node.node c.in_ok-node.ensures c.args.tree.now.items _ _ _ c.in_ok-push.ensures.items c.push_below.ensures

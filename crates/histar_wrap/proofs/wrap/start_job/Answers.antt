@@ -3,7 +3,7 @@ use Rattle.histar_flat.specs.declared.replies.Reply.TheVariants.{Child}
 use Rattle.histar_rules.specs.declared.raw.RawCall.TheVariants.{MakeCategory, OwnLabel}
 use Rattle.histar_layout.specs.Status.{status_in}
 use Rattle.histar_layout.specs.declared.status.StatusHead.{StatusHead}
-use Rattle.histar_calls.specs.Categories.{scratch_label}
+use Rattle.histar_layout.specs.Categories.{scratch_label}
 use Rattle.histar_calls.specs.declared.ending.Ending.TheVariants.{Stopped}
 use Rattle.histar_calls.proofs.Running.{call_fails_so, grants, refuses, replies_so}
 use Rattle.histar_process.proofs.Calling.{before_birth, born_so}

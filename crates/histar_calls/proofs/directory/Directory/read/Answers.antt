@@ -18,7 +18,7 @@ returns-in_err-bytes g c =
 pub returns-in_default : goal.returns-in_default
 returns-in_default g c =
     let call = Read c.args.place.container c.args.place.listing in
-    let none = subst (λ (o : Option Entries). MatchOption o ((dir : Entries) → IsDirectory c.in_ok-bytes.bytes dir → ⊥) (IsDirectory c.in_ok-bytes.bytes)) c.in_default.is c.read_dir.ensures in
+    let none = subst (λ (o : Option Entries). MatchOption o ((dir : Entries) → IsDirectory c.in_ok-bytes.bytes dir → ⊥) (IsDirectory c.in_ok-bytes.bytes)) c.in_default.is c.from_bytes.ensures in
     list_fails c.args.thread c.args.kernel.now c.read_copy.new.self c.args.place c.in_ok-bytes.bytes (grants c.args.thread call c.args.kernel.now c.read_copy.new.self c.in_ok-bytes.bytes c.in_ok-bytes.ensures.0 c.in_ok-bytes.ensures.1)
     Stopped (lists_none c.args.thread c.in_ok-bytes.bytes c.read_copy.new.self none)
 
@@ -27,4 +27,4 @@ returns g c =
     let call = Read c.args.place.container c.args.place.listing in
     reads c.args.thread c.args.kernel.now c.read_copy.new.self c.args.place c.in_ok-bytes.bytes (grants c.args.thread call c.args.kernel.now c.read_copy.new.self c.in_ok-bytes.bytes c.in_ok-bytes.ensures.0 c.in_ok-bytes.ensures.1)
     c.in-Some.entries (lists c.args.thread c.in_ok-bytes.bytes c.read_copy.new.self c.in-Some.entries
-    (MatchOption-at_some _ (IsDirectory c.in_ok-bytes.bytes) c.in-Some.entries c.in-Some.is c.read_dir.ensures))
+    (MatchOption-at_some _ (IsDirectory c.in_ok-bytes.bytes) c.in-Some.entries c.in-Some.is c.from_bytes.ensures))

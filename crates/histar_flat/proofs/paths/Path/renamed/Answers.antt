@@ -1,7 +1,9 @@
-use Rattle.std.proofs.Common.{rules, ◌≡◌, ◌<◌, ◌-◌, ◌∷◌, [], true, false, length, slice_set, ap, sym, ◌∙◌, arith}
+use Rattle.std.specs.List.{list_all}
+use Rattle.std.proofs.Common.{rules, IsTrue, subst, take, ◌≡◌, ◌<◌, ◌-◌, ◌∷◌, [], true, false, length, slice_set, ap, sym, ◌∙◌, arith}
 use Rattle.std.proofs.lemmas.List.{nil_from_length}
 use Rattle.std.proofs.Math.Seq.{take-set-lt}
-use Rattle.histar_flat.specs.Words.{Path, most_names}
+use Rattle.histar_flat.specs.Words.{Path, most_names, is_name}
+use Rattle.histar_flat.proofs.NamedPaths.{named_set}
 use Rattle.histar_flat.specs.Padding.{unused_name}
 use Rattle.histar_flat.specs.PaddingLaws.{length-kept}
 use Rattle.histar_flat.specs.PathOrder.{same, parent, under_path}
@@ -23,8 +25,8 @@ returns-then-depth-eq0 c = elim c.then-depth-eq0.branch [
       c.self.view_is ∙ sym (moved_aside c.args.old.now (c.args.name ∷ parent c.args.old.now) c.args.self.now aside)
 ]
 
-pub overflow_sub-name : goal.overflow_sub-name
-overflow_sub-name c =
+pub overflow_sub-depth : goal.overflow_sub-depth
+overflow_sub-depth c =
     let below : under_path c.args.old.now c.args.self.now ≡ true = search rules in
     let longer = under_is_longer same same_path_found c.args.old.now c.args.self.now below in
     omega (arith, longer, c.depth-2.ensures.value, c.depth-3.ensures.value)
@@ -34,15 +36,20 @@ invariant_of-result-2 c =
     let inside = c.self.inside in
     let below : under_path c.args.old.now c.args.self.now ≡ true = search rules in
     let longer = under_is_longer same same_path_found c.args.old.now c.args.self.now below in
-    let depth : length c.args.self.now ≡ inside.len = ap length (sym c.self.view_is) ∙ length-kept most_names unused_name inside.names inside.len c.self.invariant in
+    let depth : length c.args.self.now ≡ inside.len = ap length (sym c.self.view_is) ∙ length-kept most_names unused_name inside.names inside.len c.self.invariant.padded in
     let here : c.depth-2.result - c.depth-3.result < inside.len = omega (arith, longer, depth, c.depth.ensures.value, c.depth-2.ensures.value, c.depth-3.ensures.value, c.if-depth-eq0.false) in
-    padded_set most_names unused_name c.args.name inside.names inside.len (c.depth-2.result - c.depth-3.result) c.self.invariant here
+    let i = c.depth-2.result - c.depth-3.result in
+    record {
+      padded = padded_set most_names unused_name c.args.name inside.names inside.len i c.self.invariant.padded here;
+      named = subst (λ (l : Path). IsTrue (list_all is_name l)) (sym (take-set-lt inside.len inside.names i c.args.name here))
+          (named_set (take inside.len inside.names) i c.args.name c.as_bytes-text.ensures.right c.self.invariant.named);
+    }
 
 pub returns : goal.returns
 returns c =
     let inside = c.self.inside in
     let below : under_path c.args.old.now c.args.self.now ≡ true = search rules in
-    let depth : length c.args.self.now ≡ inside.len = ap length (sym c.self.view_is) ∙ length-kept most_names unused_name inside.names inside.len c.self.invariant in
+    let depth : length c.args.self.now ≡ inside.len = ap length (sym c.self.view_is) ∙ length-kept most_names unused_name inside.names inside.len c.self.invariant.padded in
     let longer = under_is_longer same same_path_found c.args.old.now c.args.self.now below in
     let i = c.depth-2.result - c.depth-3.result in
     let here : i < inside.len = omega (arith, depth, c.depth.ensures.value, c.depth-2.ensures.value, c.depth-3.ensures.value, c.if-depth-eq0.false) in

@@ -1,8 +1,8 @@
-use Rattle.std.proofs.Common.{[], arith}
+use Rattle.std.proofs.Common.{[], refl, arith}
 use Rattle.histar_flat.proofs.PaddingLemmas.{padded_fits}
 use Rattle.histar_flat.specs.Padding.{padded, unused_name}
 use Rattle.histar_flat.proofs.paths.Path.root.Goals as goal
 
 pub invariant_of-result : goal.invariant_of-result
 unfolding padded
-invariant_of-result c = rw c.unused_name.ensures (padded_fits 8 unused_name [] (omega arith))
+invariant_of-result c = record { padded = rw c.unused_name.ensures (padded_fits 8 unused_name [] (omega arith)); named = refl }

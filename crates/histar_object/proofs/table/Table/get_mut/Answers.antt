@@ -1,9 +1,10 @@
 use Rattle.std.proofs.Common.{◌≡◌, None, Some, refl, sym, ap, ◌∙◌}
-use Rattle.std.specs.Prelude.{Option, OnSome}
+use Rattle.std.specs.Prelude.{Option, OnSome, ◌-◌, min}
+use Rattle.std.specs.HashMap.{spare}
 use Rattle.std.specs.Option.{option_copied}
 use Rattle.slab.specs.Slab.{get, with_value}
 use Rattle.slab.proofs.SlabLemmas.{Updates-with_value}
-use Rattle.histar_object.proofs.Placing.{slot_at, found_at, none_at, written, IsPlaced-changed, objects-changed}
+use Rattle.histar_object.proofs.Placing.{slot_at, found_at, none_at, written, slab_len-with_value, IsPlaced-changed, objects-changed}
 use Rattle.histar_object.proofs.table.Table.get_mut.Goals as goal
 
 -- what holds, holds where something is there
@@ -45,7 +46,12 @@ returns g c =
             let new = get (with_value c.self.inside.objects slot w) in
             let one = written old new slots c.self.invariant c.args.id slot w here updates.changed updates.others in
             let objects = objects-changed old new slots slots c.args.id slot (Some slot) (Some w) one c.self.invariant c.self.invariant.once in
-            on_some c.get_mut.result (rw (← c.self.view_is) objects)),
+            let held = slab_len-with_value c.self.inside.objects slot w (c.self.invariant.stands c.args.id slot here) in
+            on_some c.get_mut.result (rw (← c.self.view_is) (record {
+              objects = objects;
+              slots = λ i q. slot_at slots q;
+              room = ap (λ n. min (spare c.self.inside.slots) (c.self.inside.objects.capacity - n)) held;
+            }))),
         c.self.view_is,
       ),
       record {

@@ -1,6 +1,6 @@
 use Rattle.std.proofs.Common.{◌≡◌, None, Some, sym, ◌∙◌}
 use Rattle.slab.specs.Slab.{get}
-use Rattle.histar_object.proofs.Placing.{slot_at, found_at, none_at, none_without, removed, IsPlaced-changed, objects-changed}
+use Rattle.histar_object.proofs.Placing.{slot_at, found_at, none_at, none_without, other_slots, removed, IsPlaced-changed, objects-changed}
 use Rattle.histar_object.proofs.table.Table.remove.Goals as goal
 
 pub returns-in_err-slot-clause-value : goal.returns-in_err-slot-clause-value
@@ -42,3 +42,7 @@ returns-clause-without g c =
     let updates = c.try_remove.ensures.updates in
     let one = removed old new slots c.self.invariant c.args.id slot c.remove.new.self.entries here c.remove.ensures.updates.0 updates.changed updates.others in
     rw (← c.self.view_is) (objects-changed old new slots c.remove.new.self.entries c.args.id slot None None one c.self.invariant c.remove.ensures.unique)
+
+pub returns-clause-slots : goal.returns-clause-slots
+returns-clause-slots g c =
+    rw (← c.self.view_is) (other_slots c.self.inside.slots.entries c.remove.new.self.entries c.args.id None c.remove.ensures.updates.0)

@@ -24,7 +24,8 @@ returns-in_default-clause-answers g c =
     (gone_line before c.args.line c.args.process.now c.args.call c.if-self.false lost)
 
 pub returns-in_default-clause-means : goal.returns-in_default-clause-means
-returns-in_default-clause-means g c = line_follows lines_are_rows c.args.self.now c.args.self.now c.args.line c.args.process.now c.args.call (Ok Gone) (returns-in_default-clause-answers g c)
+returns-in_default-clause-means g c = line_follows lines_are_rows c.args.self.now c.args.self.now c.args.line c.args.process.now c.args.call (Ok Gone)
+    c.each_call_is_right.ensures (returns-in_default-clause-answers g c)
 
 -- who is found has the call made
 pub returns-clause-answers : goal.returns-clause-answers
@@ -38,4 +39,4 @@ returns-clause-answers g c =
     (record { made = makes; places = refl; users = refl; stops = c.is_err-self-inside.ensures.value }))
 
 pub returns-clause-means : goal.returns-clause-means
-returns-clause-means g c = line_follows lines_are_rows _ _ c.args.line c.args.process.now c.args.call _ (returns-clause-answers g c)
+returns-clause-means g c = line_follows lines_are_rows _ _ c.args.line c.args.process.now c.args.call _ c.each_call_is_right.ensures (returns-clause-answers g c)

@@ -1,6 +1,0 @@
-use Rattle.std.proofs.Common.{◌≡◌, ◌+◌, drop}
-use Rattle.histar_calls.specs.ClassOf.{class_from}
-use Rattle.histar_calls.proofs.class.class_of.Given as goal
-
-abbrev pub invariant-loop-place : goal.invariant-loop-place
-invariant-loop-place l = class_from l.label 1 l.users.groups l.users.users ≡ class_from l.label (l.place + 1) l.users.groups (drop l.place l.users.users)

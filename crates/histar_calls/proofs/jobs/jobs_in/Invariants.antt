@@ -1,7 +1,0 @@
-use Rattle.std.proofs.Common.{◌≡◌, ◌++◌, drop}
-use Rattle.histar_calls.specs.Jobs.{is_three, jobs_in}
-use Rattle.histar_calls.proofs.Scanning.{passed}
-use Rattle.histar_calls.proofs.jobs.jobs_in.Given as goal
-
-abbrev pub invariant-loop-category : goal.invariant-loop-category
-invariant-loop-category l = l.jobs.items ++ passed (λ e. is_three e.1) (drop l.category-index l.exceptions) ≡ jobs_in l.own

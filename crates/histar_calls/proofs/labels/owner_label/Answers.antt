@@ -1,7 +1,0 @@
-use Rattle.histar_label.specs.declared.levels.Level.TheVariants.{L1, L3, Star}
-use Rattle.histar_calls.specs.Labelling.{each_at}
-use Rattle.histar_calls.proofs.LabellingLemmas.{made_by_both}
-use Rattle.histar_calls.proofs.labels.owner_label.Goals as goal
-
-pub returns : goal.returns
-returns c = made_by_both c.with_each-2.result c.in_ok-label.label c.new.result L1 (each_at Star c.args.owned.now) (each_at L3 c.args.tainted.now) c.new.ensures.value c.in_ok-label.ensures c.with_each-2.ensures

@@ -1,6 +1,0 @@
-use Rattle.std.proofs.Common.{◌≡◌, take}
-use Rattle.histar_calls.specs.Labelling.{each_at, with_levels}
-use Rattle.histar_calls.proofs.labels.with_each.Given as goal
-
-abbrev pub invariant-loop-category : goal.invariant-loop-category
-invariant-loop-category l = l.label ≡ with_levels l.fn.label (each_at l.level (take l.category-index l.categories))

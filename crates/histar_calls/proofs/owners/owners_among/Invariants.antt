@@ -1,6 +1,0 @@
-use Rattle.std.proofs.Common.{◌≡◌, take}
-use Rattle.histar_calls.specs.Categories.{owners_among}
-use Rattle.histar_calls.proofs.owners.owners_among.Given as goal
-
-abbrev pub invariant-loop-k : goal.invariant-loop-k
-invariant-loop-k l = l.owners.items ≡ owners_among l.fn.users (take l.k l.groups) l.fn.number l.fn.name

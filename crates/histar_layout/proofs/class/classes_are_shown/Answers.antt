@@ -1,0 +1,5 @@
+use Rattle.histar_layout.proofs.ClassesShown.{classes_shown}
+use Rattle.histar_layout.proofs.class.classes_are_shown.Goals as goal
+
+pub returns : goal.returns
+returns c = classes_shown

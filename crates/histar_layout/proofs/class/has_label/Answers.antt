@@ -1,0 +1,14 @@
+use Rattle.std.proofs.Common.{◌≡◌, Option, Some, sym, ap, ◌∙◌}
+use Rattle.std.proofs.lemmas.Option.{same_Some}
+use Rattle.histar_label.specs.Levels.{Levels}
+use Rattle.histar_label.specs.Same.{same_label, own_label}
+use Rattle.histar_layout.specs.ClassLabels.{class_label}
+use Rattle.histar_layout.proofs.class.has_label.Goals as goal
+
+pub returns-in-Some : goal.returns-in-Some
+returns-in-Some c =
+    let due = c.in-Some.due in
+    let is : class_label c.args.users.now c.args.class.now ≡ Some due = sym c.in_ok-class_label.ensures ∙ c.in-Some.is in (
+      λ same. is ∙ ap Some (same_label due c.args.label.now (sym c.eq.ensures ∙ same)),
+      λ label. c.eq.ensures ∙ own_label due c.args.label.now (same_Some due c.args.label.now (sym is ∙ label)),
+    )

@@ -1,0 +1,7 @@
+use Rattle.histar_label.specs.declared.levels.Level.TheVariants.{L1, L0, L3}
+use Rattle.histar_layout.specs.Labelling.{each_at}
+use Rattle.histar_layout.proofs.LabellingLemmas.{made_by_both}
+use Rattle.histar_layout.proofs.labels.guarded_by.Goals as goal
+
+pub returns : goal.returns
+returns c = made_by_both c.with_each-2.result c.in_ok-label.label c.new.result L1 (each_at L3 c.args.secret.now) (each_at L0 c.args.written.now) c.new.ensures.value c.in_ok-label.ensures c.with_each-2.ensures

@@ -1,0 +1,206 @@
+//! The classes of files and directories, each with its label.
+ghost use Rattle.std.specs.Prelude.{◌≡◌, ◌+◌, ◌*◌, ◌↔◌, Some, IfOk, IsTrue};
+ghost use Rattle.histar_layout.specs.ShownClass.{stat_of};
+ghost use Rattle.histar_layout.specs.ClassLabels.{ClassesAreShown, FindsClass, LabelsHaveOneClass};
+ghost use Rattle.histar_layout.specs.ClassLabels.{class_label, first_after_groups, jobs_of, likely_class, without_jobs};
+
+use crate::categories::write_category;
+use crate::jobs::is_three;
+use crate::labels::{label_of, scratch_label, secret_of};
+use crate::owners::group_owner;
+use crate::shown::{ShownClass, shown_class};
+use crate::user_table::UserTable;
+use histar_flat::{Name, Stat};
+use histar_label::{Category, Label, Level};
+use std::alloc::{AllocError, Global};
+use std::marker::Model;
+
+/// The categories of jobs, by rising numbers. Contracts see them as their list.
+#[derive(Drop)]
+pub struct Chain {
+    jobs: Vec<Category>,
+}
+
+impl Model for Chain {
+    ghost use Rattle.std.specs.Prelude.{List, ℕ};
+
+    ghost Value = { List ℕ };
+
+    ghost view = { λ c. c.jobs.items };
+}
+
+impl Chain {
+    /// Returns the list of these categories.
+    pub fn new(jobs: Vec<Category>) -> Self
+        ensures { result ≡ jobs.items }
+    {
+        Chain { jobs }
+    }
+
+    /// Returns the categories.
+    pub fn as_slice(&self) -> &[Category]
+        ensures { result.now ≡ self.now }
+    {
+        self.jobs.as_slice()
+    }
+}
+
+/// Whose a file or a directory is, and for whom.
+#[derive(Drop)]
+pub enum Class {
+    /// For its owner alone.
+    Private(Name),
+    /// For everyone to read, and for its owner to write.
+    Readable(Name),
+    /// For everyone.
+    Open,
+    /// For its owner in jobs with these categories.
+    Scratch(Name, Chain),
+    /// For the members of a group.
+    Group(Name),
+}
+
+impl Class {
+    /// Returns this class without its jobs.
+    pub fn without_jobs(&self) -> ShownClass
+        ensures { result ≡ without_jobs self.now }
+    {
+        match self {
+            Class::Private(owner) => ShownClass::Private(*owner),
+            Class::Readable(owner) => ShownClass::Readable(*owner),
+            Class::Open => ShownClass::Open,
+            Class::Scratch(owner, _) => ShownClass::Scratch(*owner),
+            Class::Group(group) => ShownClass::Group(*group),
+        }
+    }
+
+    /// Returns what `stat` answers of a file or a directory of this class.
+    pub fn stat(&self, is_directory: bool) -> Stat
+        ensures { result ≡ stat_of (without_jobs self.now) is_directory }
+    {
+        self.without_jobs().stat(is_directory)
+    }
+}
+
+/// Returns the class of a label, which is of a class exactly where it is the label of that class: what is
+/// private to a user has `{r:3, w:0, 1}`, of the user's two categories, what everyone may read and a user
+/// may write `{w:0, 1}`, what is open `{1}`, what is for a user in jobs `{r:3, 1}` with level 3 at each
+/// job's category, and what is a group's `{r:3, w:0, 1}`, of the group's two.
+pub fn class_of(
+    alloc: Global,
+    label: &Label,
+    users: &UserTable,
+) -> Result<Option<Class>, AllocError>
+    ensures { IfOk result (FindsClass users.now label.now) }
+{
+    let Some(class) = likely_class(alloc, label, users)? else {
+        return Ok(None);
+    };
+    if has_label(alloc, &class, label, users)? {
+        Ok(Some(class))
+    } else {
+        Ok(None)
+    }
+}
+
+/// Returns the one class that a label can be of: the one that it shows, with the jobs that it has.
+fn likely_class(
+    alloc: Global,
+    label: &Label,
+    users: &UserTable,
+) -> Result<Option<Class>, AllocError>
+    ensures { IfOk result (λ class. class ≡ likely_class users.now label.now) }
+{
+    let Some(shown) = shown_class(label, users) else {
+        return Ok(None);
+    };
+    let class = match shown {
+        ShownClass::Private(owner) => Class::Private(owner),
+        ShownClass::Readable(owner) => Class::Readable(owner),
+        ShownClass::Open => Class::Open,
+        ShownClass::Scratch(owner) => Class::Scratch(owner, jobs_of(alloc, label, users)?),
+        ShownClass::Group(group) => Class::Group(group),
+    };
+    Ok(Some(class))
+}
+
+/// Returns the categories of jobs that a label has at 3.
+fn jobs_of(alloc: Global, label: &Label, users: &UserTable) -> Result<Chain, AllocError>
+    ensures { IfOk result (λ chain. chain ≡ jobs_of users.now label.now) }
+{
+    let first = first_after_groups(users);
+    let exceptions = label.exceptions().iter();
+    let of_jobs = exceptions.filter(|e| is_three(e.1) && first <= e.0.number());
+    let jobs = of_jobs.map(|e| e.0).collect(alloc)?;
+    Ok(Chain { jobs })
+}
+
+/// Returns the number of the first category after those of boot, nobody, the users and the groups.
+fn first_after_groups(users: &UserTable) -> u64
+    ensures { result ≡ first_after_groups users.now }
+{
+    4 + 2 * (users.len() as u64 + users.groups().len() as u64)
+}
+
+/// Checks whether this is the label of a class.
+fn has_label(
+    alloc: Global,
+    class: &Class,
+    label: &Label,
+    users: &UserTable,
+) -> Result<bool, AllocError>
+    ensures { IfOk result (λ has. IsTrue has ↔ (class_label users.now class.now ≡ Some label.now)) }
+{
+    match class_label(alloc, class, users)? {
+        None => Ok(false),
+        Some(due) => Ok(due == *label),
+    }
+}
+
+/// Returns the label of what is of a class. None where its owner or its group is not declared.
+pub fn class_label(
+    alloc: Global,
+    class: &Class,
+    users: &UserTable,
+) -> Result<Option<Label>, AllocError>
+    ensures { IfOk result (λ label. label ≡ class_label users.now class.now) }
+{
+    let label = match class {
+        Class::Open => Label::new(alloc, Level::L1),
+        Class::Group(group) => {
+            let Some(number) = users.group_number(*group) else {
+                return Ok(None);
+            };
+            secret_of(alloc, group_owner(users.len(), number))?
+        }
+        Class::Private(owner) => {
+            let Some(user) = users.number_of(*owner) else {
+                return Ok(None);
+            };
+            secret_of(alloc, user)?
+        }
+        Class::Readable(owner) => {
+            let Some(user) = users.number_of(*owner) else {
+                return Ok(None);
+            };
+            label_of(alloc, Level::L1, &[(write_category(user), Level::L0)])?
+        }
+        Class::Scratch(owner, jobs) => {
+            let Some(user) = users.number_of(*owner) else {
+                return Ok(None);
+            };
+            scratch_label(alloc, user, jobs.as_slice())?
+        }
+    };
+    Ok(Some(label))
+}
+
+/// A label is of one class at most.
+pub fn labels_have_one_class()
+    ensures { LabelsHaveOneClass }
+{}
+
+/// A label of a class shows this class, but for its jobs.
+pub fn classes_are_shown()
+    ensures { ClassesAreShown }
+{}

@@ -1,0 +1,130 @@
+//! Labels by their exceptions, and the labels of files.
+ghost use Rattle.std.specs.Prelude.{◌≡◌, ℕ, IfOk, length};
+ghost use Rattle.histar_layout.specs.Categories.{IsUserOf, file_label, label_made, read_category, scratch_label, write_category};
+ghost use Rattle.histar_layout.specs.Labelling.{cleared_at, each_at, guarded_by, labelled, owner_label, secret_of, with_levels};
+
+use crate::jobs::{is_in_job, jobs_in};
+use crate::owners::owner_of_group;
+use crate::categories::{read_category, write_category};
+use crate::user_table::UserTable;
+use histar_flat::Mode;
+use histar_label::{Category, Label, Level};
+use std::alloc::{AllocError, Global};
+
+/// A label with one level for all categories but for a few.
+pub fn label_of(
+    alloc: Global,
+    default: Level,
+    exceptions: &[(Category, Level)],
+) -> Result<Label, AllocError>
+    ensures { IfOk result (λ v. v ≡ labelled exceptions.now default) }
+{
+    let mut label = Label::new(alloc, default);
+    for &(category, level) in exceptions {
+        label.set(category, level)?;
+    }
+    Ok(label)
+}
+
+/// The label of what has secrets of the first categories, and is written by the owners of the others.
+pub fn guarded_by(
+    alloc: Global,
+    secret: &[Category],
+    written: &[Category],
+) -> Result<Label, AllocError>
+    ensures { IfOk result (λ label. label ≡ guarded_by secret.now written.now) }
+{
+    let label = with_each(Label::new(alloc, Level::L1), Level::L3, secret)?;
+    with_each(label, Level::L0, written)
+}
+
+/// The label of a thread that owns the first categories, and has the secrets of the others.
+pub fn owner_label(
+    alloc: Global,
+    owned: &[Category],
+    tainted: &[Category],
+) -> Result<Label, AllocError>
+    ensures { IfOk result (λ label. label ≡ owner_label owned.now tainted.now) }
+{
+    let label = with_each(Label::new(alloc, Level::L1), Level::Star, owned)?;
+    with_each(label, Level::L3, tainted)
+}
+
+/// The clearance of a thread that may have the secrets of these categories.
+pub fn cleared_at(alloc: Global, categories: &[Category]) -> Result<Label, AllocError>
+    ensures { IfOk result (λ label. label ≡ cleared_at categories.now) }
+{
+    with_each(Label::new(alloc, Level::L2), Level::L3, categories)
+}
+
+// A label with one level at each of these categories, and at all others as before.
+fn with_each(label: Label, level: Level, categories: &[Category]) -> Result<Label, AllocError>
+    ensures { IfOk result (λ made. made ≡ with_levels label (each_at level categories.now)) }
+{
+    let mut label = label;
+    for &category in categories {
+        label.set(category, level)?;
+    }
+    Ok(label)
+}
+
+/// The number of the user whose read category a thread owns by its label: 0, nobody's, where it owns
+/// none. That it is the thread's user is read off its label alone, as the kernel does.
+pub fn user_of(own: &Label, users: &UserTable) -> u8
+    ensures { IsUserOf own.now (length users.now.users) result }
+{
+    let count = users.len() as u8;
+    for before in 0..count {
+        if own.get(read_category(before + 1)).is_star() {
+            return before + 1;
+        }
+    }
+    0
+}
+
+/// The label of what one user or group alone reads and writes.
+pub fn secret_of(alloc: Global, owner: u8) -> Result<Label, AllocError>
+    ensures { IfOk result (λ label. label ≡ secret_of (read_category owner) (write_category owner)) }
+{
+    let (read, write) = (read_category(owner), write_category(owner));
+    label_of(alloc, Level::L1, &[(read, Level::L3), (write, Level::L0)])
+}
+
+/// The label of what a user makes in jobs with these categories.
+pub fn scratch_label(alloc: Global, user: u8, jobs: &[Category]) -> Result<Label, AllocError>
+    ensures { IfOk result (λ label. label ≡ scratch_label user jobs.now) }
+{
+    let mut secret = Vec::from_slice(alloc, &[read_category(user)])?;
+    secret.extend_from_slice(jobs)?;
+    guarded_by(alloc, secret.as_slice(), &[])
+}
+
+/// The label of what a user makes in no job, in this mode. Nobody's categories are owned by no thread, so
+/// nobody may make no file with them, and nobody makes a file for a group that is not declared.
+fn file_label(alloc: Global, users: &UserTable, mode: Mode, user: u8) -> Result<Label, AllocError>
+    ensures { IfOk result (λ label. label ≡ file_label users.now mode user) }
+{
+    match mode {
+        Mode::Readable => label_of(alloc, Level::L1, &[(write_category(user), Level::L0)]),
+        Mode::Private => secret_of(alloc, user),
+        Mode::Open => label_of(alloc, Level::L1, &[]),
+        Mode::Group(name) => secret_of(alloc, owner_of_group(users, name)),
+    }
+}
+
+/// The label of a file that a thread of this label makes. In jobs no mode counts: it is for the jobs.
+pub fn label_made(
+    alloc: Global,
+    own: &Label,
+    users: &UserTable,
+    mode: Mode,
+) -> Result<Label, AllocError>
+    ensures { IfOk result (λ label. label ≡ label_made users.now own.now mode) }
+{
+    let user = user_of(own, users);
+    if !is_in_job(own) {
+        return file_label(alloc, users, mode, user);
+    }
+    let jobs = jobs_in(alloc, own)?;
+    scratch_label(alloc, user, jobs.as_slice())
+}

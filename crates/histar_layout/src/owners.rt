@@ -1,0 +1,65 @@
+//! The numbers by which the categories of users and groups go: nobody is 0, and behind it come the users,
+//! and then the groups, in the order in which they were declared.
+ghost use Rattle.std.specs.Prelude.{◌≡◌, ◌≤◌, length, IfOk};
+ghost use Rattle.histar_flat.specs.Sessions.{most_groups, most_users};
+ghost use Rattle.histar_layout.specs.Categories.{group_owner, owner_of_group, owners_among, owners_of};
+
+use crate::user_table::UserTable;
+use histar_flat::{Group, Name};
+use std::alloc::{AllocError, Global};
+
+/// The number of nobody, whose categories no thread owns.
+const NOBODY: u8 = 0;
+
+/// The number by which the categories of a group go, where there are so many users.
+pub fn group_owner(users: usize, number: u8) -> u8
+    requires users { users ≤ most_users }
+    requires number { number ≤ most_groups }
+    ensures { result ≡ group_owner users number }
+{
+    users as u8 + number
+}
+
+/// The number by which the categories of the group of this name go; nobody's, where no group has it.
+pub fn owner_of_group(users: &UserTable, name: Name) -> u8
+    ensures { result ≡ owner_of_group users.now name }
+{
+    match users.group_number(name) {
+        None => NOBODY,
+        Some(number) => group_owner(users.len(), number),
+    }
+}
+
+/// The numbers by which the categories go that a user owns: its own, and those of the groups that it is a
+/// member of.
+pub fn owners_of(
+    alloc: Global,
+    users: &UserTable,
+    number: u8,
+    name: Name,
+) -> Result<Vec<u8>, AllocError>
+    ensures { IfOk result (λ owners. owners.items ≡ owners_of users.now number name) }
+{
+    owners_among(alloc, users.len(), users.groups(), number, name)
+}
+
+/// The same, where there are so many users and these groups.
+pub fn owners_among(
+    alloc: Global,
+    users: usize,
+    groups: &[Group],
+    number: u8,
+    name: Name,
+) -> Result<Vec<u8>, AllocError>
+    requires users { users ≤ most_users }
+    requires groups { length groups.now ≤ most_groups }
+    ensures { IfOk result (λ owners. owners.items ≡ owners_among users groups.now number name) }
+{
+    let mut owners = Vec::from_slice(alloc, &[number])?;
+    for (k, group) in groups.iter().enumerate() {
+        if group.has(name) {
+            owners.push(group_owner(users, k as u8 + 1))?;
+        }
+    }
+    Ok(owners)
+}

@@ -1,0 +1,162 @@
+//! The users and the groups of a machine, with no passwords.
+ghost use Rattle.std.specs.Prelude.{◌≡◌, ◌<◌, ◌≤◌, length, map, position, slice_get, Some, IfOk, IfSome};
+ghost use Rattle.histar_flat.specs.PathOrder.{same};
+ghost use Rattle.histar_flat.specs.Sessions.{IsSmall, group_number, most_groups, most_users, user_number};
+ghost use Rattle.histar_layout.specs.UserTable.{HaveOwnNames, called, without_passwords};
+
+use histar_flat::{Group, Name, Session, User};
+use indexmap::IndexSet;
+use std::alloc::{AllocError, Global};
+use std::hash::{Hash, Hasher};
+use std::marker::Model;
+
+/// The name of a user, by which its number is looked up.
+#[derive(Clone, Copy)]
+struct UserName {
+    name: Name,
+}
+
+impl PartialEq for UserName {
+    ghost use Rattle.std.specs.Prelude.{nat_eq};
+    ghost use Rattle.std.specs.Cmp.Lexicographic.{pointwise, on_texts_equal};
+    ghost use Rattle.std.specs.Cmp.{partial_equiv_from_equiv};
+
+    ghost eq = { λ a b. pointwise nat_eq a.name b.name };
+
+    ghost laws = { partial_equiv_from_equiv (on_texts_equal (λ a. a.name)) };
+
+    fn eq(&self, other: &UserName) -> bool {
+        self.name == other.name
+    }
+}
+
+impl Eq for UserName {
+    ghost use Rattle.std.specs.Cmp.Lexicographic.{on_texts_equal};
+
+    ghost laws = { on_texts_equal (λ a. a.name) };
+}
+
+impl Hash for UserName {
+    ghost use Rattle.std.specs.Hash as fed;
+    ghost use Rattle.std.specs.Cmp.Rules.{hashing};
+    ghost use Rattle.std.proofs.Common.{rules};
+
+    ghost hash_input = { λ a. fed.slice fed.u8 a.name };
+
+    ghost respects_eq = { Prim.search (hashing, rules) };
+
+    fn hash<H: Hasher>(&self, state: &mut H) {
+        self.name.as_bytes().hash(state);
+    }
+}
+
+/// The users of a machine and the groups of these. It has no passwords: only boot needs these, which
+/// keeps each in the segment of its user. The users have their numbers, from 1 on, and a user's number is
+/// looked up by the name. Contracts see the session that was declared, with each password empty.
+#[derive(Drop)]
+pub struct UserTable {
+    names: IndexSet<UserName>,
+    groups: Vec<Group>,
+}
+
+impl Model for UserTable {
+    ghost use Rattle.std.specs.Prelude.{map};
+    ghost use Rattle.histar_flat.specs.Sessions.{IsSmall, Session};
+    ghost use Rattle.histar_layout.specs.UserTable.{called};
+
+    ghost Value = { Session };
+
+    ghost view = { λ t. record { users = map (λ k. called k.name) t.names.keys; groups = t.groups.items } };
+
+    ghost invariant = { λ t. IsSmall (record { users = map (λ k. called k.name) t.names.keys; groups = t.groups.items }) };
+}
+
+impl UserTable {
+    /// The users and the groups of a session.
+    pub fn of(alloc: Global, session: &Session) -> Result<UserTable, AllocError>
+        requires { HaveOwnNames session.now.users }
+        ensures { IfOk result (λ table. table ≡ without_passwords session.now) }
+    {
+        Ok(UserTable {
+            names: names_of(alloc, session.users())?,
+            groups: copies_of(alloc, session.groups())?,
+        })
+    }
+
+    /// How many users there are.
+    pub fn len(&self) -> usize
+        ensures len { result ≡ length self.now.users }
+        ensures few { result ≤ most_users }
+    {
+        self.names.len()
+    }
+
+    /// The name of the user at a place, which is before its number.
+    pub fn name_at(&self, place: usize) -> Name
+        requires { place < length self.now.users }
+        ensures { slice_get self.now.users place ≡ Some (called result) }
+    {
+        self.names.as_slice()[place].name
+    }
+
+    /// The number of the user of this name.
+    pub fn number_of(&self, name: Name) -> Option<u8>
+        ensures number { result ≡ user_number self.now name }
+    {
+        match self.names.get_index_of(&UserName { name }) {
+            None => None,
+            Some(place) => Some(place as u8 + 1),
+        }
+    }
+
+    /// The groups, in the order in which they were declared.
+    pub fn groups(&self) -> &[Group]
+        ensures groups { result.now ≡ self.now.groups }
+        ensures few { length self.now.groups ≤ most_groups }
+    {
+        self.groups.as_slice()
+    }
+
+    /// The number of the group of this name.
+    pub fn group_number(&self, name: Name) -> Option<u8>
+        ensures number { result ≡ group_number self.now name }
+        ensures small { IfSome result (λ number. number ≤ most_groups) }
+    {
+        match place_of(self.groups.as_slice(), name) {
+            None => None,
+            Some(place) => Some(place as u8 + 1),
+        }
+    }
+}
+
+/// The names of users, in their order.
+fn names_of(alloc: Global, users: &[User]) -> Result<IndexSet<UserName>, AllocError>
+    requires { HaveOwnNames users.now }
+    ensures { IfOk result (λ names. names.keys ≡ map (λ user. record { name = user.name }) users.now) }
+{
+    let mut names = IndexSet::new(alloc);
+    for user in users {
+        names.insert(UserName { name: user.name })?;
+    }
+    Ok(names)
+}
+
+/// Copies of groups.
+fn copies_of(alloc: Global, groups: &[Group]) -> Result<Vec<Group>, AllocError>
+    ensures { IfOk result (λ copies. copies.items ≡ groups.now) }
+{
+    let mut copies = Vec::new(alloc);
+    for group in groups {
+        let members = Vec::from_slice(alloc, group.members())?;
+        copies.push(Group::new(group.name(), members))?;
+    }
+    Ok(copies)
+}
+
+/// The place of the group of this name.
+fn place_of(groups: &[Group], name: Name) -> Option<usize>
+    ensures place { result ≡ position (λ group. same group.name name) groups.now }
+    ensures within { IfSome result (λ place. place < length groups.now) }
+{
+    groups.iter().position(|group| group.name() == name)
+}

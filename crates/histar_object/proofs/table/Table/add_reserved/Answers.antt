@@ -1,0 +1,32 @@
+use Rattle.std.proofs.Common.{Some}
+use Rattle.slab.specs.Slab.{get}
+use Rattle.histar_object.proofs.Placing.{no_slot, other_slots, added, IsPlaced-changed, objects-changed}
+use Rattle.histar_object.proofs.table.Table.add_reserved.Goals as goal
+
+pub invariant_of-self : goal.invariant_of-self
+invariant_of-self g c =
+    let old = get c.self.inside.objects in
+    let new = get c.insert_reserved-slot.new.self in
+    let slots = c.self.inside.slots.entries in
+    let slot = c.insert_reserved-slot.result in
+    let updates = c.insert_reserved-slot.ensures.updates in
+    let none = no_slot old slots c.self.invariant c.args.id (rw (← c.self.view_is) at c.requires.absent) in
+    let one = added old new slots c.self.invariant c.args.id slot c.insert.new.self.entries c.args.object none c.in-Ok.ensures.updates.0
+    c.insert_reserved-slot.ensures.was_vacant updates.changed updates.others in
+    IsPlaced-changed old new slots c.insert.new.self.entries c.args.id slot (Some slot) (Some c.args.object) one c.self.invariant c.insert.ensures.unique
+
+pub returns-clause-objects : goal.returns-clause-objects
+returns-clause-objects g c =
+    let old = get c.self.inside.objects in
+    let new = get c.insert_reserved-slot.new.self in
+    let slots = c.self.inside.slots.entries in
+    let slot = c.insert_reserved-slot.result in
+    let updates = c.insert_reserved-slot.ensures.updates in
+    let none = no_slot old slots c.self.invariant c.args.id (rw (← c.self.view_is) at c.requires.absent) in
+    let one = added old new slots c.self.invariant c.args.id slot c.insert.new.self.entries c.args.object none c.in-Ok.ensures.updates.0
+    c.insert_reserved-slot.ensures.was_vacant updates.changed updates.others in
+    rw (← c.self.view_is) (objects-changed old new slots c.insert.new.self.entries c.args.id slot (Some slot) (Some c.args.object) one c.self.invariant c.insert.ensures.unique)
+
+pub returns-clause-slots : goal.returns-clause-slots
+returns-clause-slots g c =
+    rw (← c.self.view_is) (other_slots c.self.inside.slots.entries c.insert.new.self.entries c.args.id (Some c.insert_reserved-slot.result) c.in-Ok.ensures.updates.0)

@@ -1,0 +1,24 @@
+use Rattle.std.proofs.Common.{ap}
+use Rattle.slab.specs.Slab.{get}
+use Rattle.histar_object.specs.Slots.{placed}
+use Rattle.histar_object.proofs.Placing.{object_at, IsPlaced-reordered, objects-reordered}
+use Rattle.histar_object.proofs.table.Table.reserve.Goals as goal
+
+pub returns-in_err-reserve-clause-objects : goal.returns-in_err-reserve-clause-objects
+returns-in_err-reserve-clause-objects g c =
+    rw (← c.self.view_is) (λ i q. object_at (placed (get (c.reserve.ensures.rest_kept i)) c.self.inside.slots.entries) q)
+
+pub invariant_of-self-2 : goal.invariant_of-self-2
+invariant_of-self-2 g c =
+    let slots = c.self.inside.slots.entries in
+    IsPlaced-reordered (get c.self.inside.objects) (get c.reserve.new.self) slots c.reserve-2.new.self.entries c.self.invariant
+    (ap get c.reserve.ensures.rest_kept) c.reserve-2.ensures.entries.2 c.reserve-2.ensures.unique
+
+pub returns-clause-objects : goal.returns-clause-objects
+returns-clause-objects g c =
+    let slots = c.self.inside.slots.entries in
+    rw (← c.self.view_is) (objects-reordered (get c.self.inside.objects) (get c.reserve.new.self) slots c.reserve-2.new.self.entries c.self.invariant
+    (ap get c.reserve.ensures.rest_kept) c.reserve-2.ensures.entries.2 c.reserve-2.ensures.unique)
+
+pub returns-clause-slots : goal.returns-clause-slots
+returns-clause-slots g c = rw (← c.self.view_is) (λ i q. c.reserve-2.ensures.entries.2 q i)

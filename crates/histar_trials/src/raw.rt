@@ -1,0 +1,84 @@
+//! Raw sessions, run line by line and as one list of calls.
+use crate::devices::{ByteReader, ByteWriter};
+use crate::script::{DIFFERS, with_fault};
+use histar_label::{InternStore, PlainStore};
+use histar_object::ObjId;
+use histar_raw_session::run_raw_script;
+use histar_rawtext::{denial_name, read_raw};
+use histar_rules::RawCall;
+use histar_script::{Fault, split_line};
+use histar_shell::Counted;
+use histar_syscall::{Kernel, TraceEntry, run_raw};
+use std::alloc::Global;
+
+/// Reads the raw calls of a session; other lines are passed over.
+fn read_calls(alloc: Global, session: &[u8]) -> Result<Vec<(ObjId, RawCall)>, Fault> {
+    let mut calls = Vec::new(alloc);
+    let mut rest = session;
+    while !rest.is_empty() {
+        let (line, after) = split_line(rest);
+        if let Some(call) = read_raw(alloc, line)? {
+            calls.push(call)?;
+        }
+        rest = after;
+    }
+    Ok(calls)
+}
+
+/// Checks that a line of answers shows the denial of an entry, or none.
+fn agrees(line: &[u8], entry: &TraceEntry) -> bool {
+    match entry.denied {
+        Some(denied) => line.ends_with(denial_name(denied).as_bytes()),
+        None => line.contains(&b'='),
+    }
+}
+
+/// Checks that the lines of answers show the denials of a trace, line by line.
+fn shows(text: &[u8], trace: &[TraceEntry]) -> bool {
+    let mut rest = text;
+    for entry in trace {
+        let (line, after) = split_line(rest);
+        if !agrees(line, entry) {
+            return false;
+        }
+        rest = after;
+    }
+    rest.is_empty()
+}
+
+/// Checks that the list of all calls of a session, made at once, is granted and denied as these answers say.
+fn is_so_at_once(alloc: Global, session: &[u8], text: &[u8]) -> Result<bool, Fault> {
+    let calls = read_calls(alloc, session)?;
+    let mut kernel = Kernel::new(alloc, InternStore::new(alloc, 256)?)?;
+    run_raw(alloc, &mut kernel, calls.as_slice())?;
+    let mut plain = Kernel::new(alloc, PlainStore::new(alloc))?;
+    run_raw(alloc, &mut plain, calls.as_slice())?;
+    Ok(shows(text, kernel.trace()) && shows(text, plain.trace()))
+}
+
+/// Runs a session as the program does, and returns what it writes.
+fn run_whole(alloc: Global, session: &[u8]) -> Result<Vec<u8>, Fault> {
+    let mut reader = Counted::new(session);
+    let mut writer = Counted::new(Vec::new(alloc));
+    let ran = run_raw_script(alloc, &mut reader, &mut writer);
+    with_fault(alloc, ran, writer.into_inner())
+}
+
+/// Runs a session through devices that move one byte a call, and returns what it writes.
+fn run_by_bytes(alloc: Global, session: &[u8]) -> Result<Vec<u8>, Fault> {
+    let mut reader = Counted::new(ByteReader::new(session));
+    let mut writer = Counted::new(ByteWriter::new(alloc));
+    let ran = run_raw_script(alloc, &mut reader, &mut writer);
+    with_fault(alloc, ran, writer.into_inner().into_taken())
+}
+
+/// Returns what a raw session writes, the same line by line and as one list of calls.
+pub fn answers(alloc: Global, session: &[u8]) -> Result<Vec<u8>, Fault> {
+    let text = run_whole(alloc, session)?;
+    let by_bytes = run_by_bytes(alloc, session)?;
+    if by_bytes.as_slice() == text.as_slice() && is_so_at_once(alloc, session, text.as_slice())? {
+        Ok(text)
+    } else {
+        Ok(DIFFERS.to_vec(alloc)?)
+    }
+}
