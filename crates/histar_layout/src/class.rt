@@ -30,6 +30,13 @@ impl Model for Chain {
 }
 
 impl Chain {
+    /// Returns the list of these categories.
+    pub fn new(jobs: Vec<Category>) -> Self
+        ensures { result ≡ jobs.items }
+    {
+        Chain { jobs }
+    }
+
     /// Returns the categories.
     pub fn as_slice(&self) -> &[Category]
         ensures { result.now ≡ self.now }

@@ -54,9 +54,14 @@ caller_by s home status = if_runs status.exited (do
   read ← read_category_in outer inner
   Some (record { home = home; thread = status.thread; read = read; write = write }))
 
+-- the process that is found there, if it runs
+abbrev pub caller_in : State → Home → Option Caller
+caller_in s home = do
+  status ← status_at s home.segment
+  caller_by s home status
+
 -- the process of this name, if it was born, was not killed and runs
 abbrev pub caller_at : State → Home → ProcName → Option Caller
 caller_at s first name = do
   home ← home_at s first name
-  status ← status_at s home.segment
-  caller_by s home status
+  caller_in s home

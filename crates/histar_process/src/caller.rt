@@ -1,8 +1,8 @@
 //! The process that makes a call, found in the kernel's own table.
-ghost use Rattle.std.specs.Prelude.{◌≡◌, ◌&&◌, not, option_and_then};
+ghost use Rattle.std.specs.Prelude.{◌≡◌, ◌&&◌, not};
 ghost use Rattle.histar_label.specs.Levels.{level_of};
 ghost use Rattle.histar_syscall.specs.KernelModel.{state};
-ghost use Rattle.histar_process.specs.Caller.{caller_at, caller_by, home_at, is_zero, read_category_in, status_at, write_category_in};
+ghost use Rattle.histar_process.specs.Caller.{caller_at, caller_in, home_at, is_zero, read_category_in, write_category_in};
 ghost use Rattle.histar_layout.specs.Jobs.{is_three};
 
 use crate::find::home_of;
@@ -53,9 +53,9 @@ fn home_at<S: LabelStore + Drop>(kernel: &Kernel<S>, first: Home, numbers: &[u8]
     Some(home_of(child))
 }
 
-// The process that is found there, if it runs.
-fn caller_in<S: LabelStore + Drop>(kernel: &Kernel<S>, home: Home) -> Option<Caller>
-    ensures { result ≡ option_and_then (caller_by (state kernel.now) home) (status_at (state kernel.now) home.segment) }
+/// The process that is found there, if it runs.
+pub fn caller_in<S: LabelStore + Drop>(kernel: &Kernel<S>, home: Home) -> Option<Caller>
+    ensures { result ≡ caller_in (state kernel.now) home }
 {
     let head = read_status(kernel.bytes(home.segment))?;
     if head.exited.is_some() {

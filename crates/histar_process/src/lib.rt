@@ -17,7 +17,7 @@ pub mod status;
 pub mod whoami;
 
 pub use birth::give_birth;
-pub use caller::{Caller, find_caller};
+pub use caller::{Caller, caller_in, find_caller};
 pub use find::Segment;
-pub use kin::{categories_of, joined, owned_by};
+pub use kin::{categories_of, joined, owned_by, user_name};
 pub use spawn::room_for_child;

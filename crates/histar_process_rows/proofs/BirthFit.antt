@@ -36,7 +36,7 @@ use Rattle.histar_layout.proofs.Members.{is_in}
 use Rattle.histar_refinement.proofs.Spawned.{births, state_spawned, lays_out_spawned}
 use Rattle.histar_refinement.proofs.Spawning.{keeps, reads_number, writes_number}
 use Rattle.histar_refinement.proofs.Uses.{rights_used}
-use Rattle.histar_process_rows.proofs.OwnLabels.{own_user_is, name_of_number}
+use Rattle.histar_refinement.proofs.OwnLabels.{own_user_is, name_of_number}
 use Rattle.histar_refinement.proofs.JobLabels.{jobs_are, none_if_free}
 use Rattle.histar_process_rows.proofs.BirthChecks.{IsModified, IsLesser}
 use Rattle.histar_process_rows.proofs.BirthRights.{chain_used, chain_free, names, owner, owner_most, around_before, around_owner, home_modified, outer_modified, inner_modified, thread_lesser, own_taken}
@@ -90,7 +90,7 @@ module _ (session : Session) (ok : IsSession session) (s : State) (f : Flat) (la
   owned_told = λ i. owned_by session (told i) (none_if_free lays_out.laid.category session me p i)
 
   named : user_name session.users (or_zero (user_number session p.user)) ≡ p.user
-  named = name_of_number session ok p.user ((lays_out.laid.processes me p here).someone runs)
+  named = name_of_number session p.user ((lays_out.laid.processes me p here).someone runs)
 
   reads_is : then_names (ReadsProcess ((p.born + 1) ∷ me)) ≡ s.next_category
   reads_is = reads_number session s f lays_out.laid me p here runs room p.chain (chain_used session s f lays_out.laid me p here runs room C S at_home at_status) (lays_out.laid.processes me p here).chain (chain_free session s f lays_out.laid me p here runs room C S at_home at_status) C S at_home at_status

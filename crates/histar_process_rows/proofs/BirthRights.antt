@@ -10,8 +10,8 @@ use Rattle.histar_flat.specs.Classes.{Process}
 use Rattle.histar_flat.specs.FlatState.{Flat}
 use Rattle.histar_label.specs.declared.levels.Level.TheVariants.{Star, L3}
 use Rattle.histar_label.specs.Levels.{Levels, with_level, is_below, is_below_raised}
-use Rattle.histar_object.specs.declared.objects.Kind.TheVariants.{Segment, Container}
-use Rattle.histar_object.specs.Objects.{Numbers as Links, links_in}
+use Rattle.histar_object.specs.declared.objects.Kind.TheVariants.{Segment}
+use Rattle.histar_object.specs.Objects.{links_in}
 use Rattle.histar_rules.specs.Rights.{with_category}
 use Rattle.histar_object.specs.State.{State, Found}
 use Rattle.histar_refinement.specs.Categories.{CategoryName, Categories, AreDifferent, IsMade, IsUsed}
@@ -20,17 +20,16 @@ use Rattle.histar_refinement.specs.Guards.{Rights, guard_label, rights_label, ri
 use Rattle.histar_refinement.specs.Labels.{process_guard, inside_guard, thread_rights}
 use Rattle.histar_refinement.specs.Addresses.{same_step, home_address}
 use Rattle.histar_refinement.specs.Addresses.Step.{Status, Inside, Runner}
-use Rattle.histar_refinement.specs.Expected.{home_object, status_object, bytes_for, expected}
+use Rattle.histar_refinement.specs.Expected.{status_object, bytes_for, expected}
 use Rattle.histar_refinement.specs.LaysOut.{Laid}
 use Rattle.histar_refinement.specs.Processes.{process_bytes}
 use Rattle.histar_refinement.proofs.AmongNames.{each_head, each_append}
 use Rattle.histar_refinement.proofs.Growing.{RightsHave, IsOld, new_number, made_label, made_clearance, same_rights_label, same_rights_clearance}
 use Rattle.histar_refinement.proofs.Moving.{number_below, at_number, bare_is}
-use Rattle.histar_refinement.proofs.Places.{asked_home, asked_status}
+use Rattle.histar_refinement.proofs.Places.{asked_status}
 use Rattle.histar_refinement.proofs.Ranges.{grown, own_modified, outer_above, outer_below, outer_seen, inner_above, inner_below, inner_seen, thread_above, thread_below, clearance_below, label_again, clearance_again}
-use Rattle.histar_refinement.proofs.RawChecks.{object}
 use Rattle.histar_refinement.proofs.Spawning.{after, no_child, with_reads, different_reads, category, different, keeps_first, keeps, made_then, at_child, at_me}
-use Rattle.histar_refinement.proofs.Standing.{bare_container_is, thread_found, step_linked}
+use Rattle.histar_refinement.proofs.Standing.{home_found, thread_found, step_linked}
 use Rattle.histar_refinement.proofs.Steps.{step_tests_equality}
 use Rattle.histar_refinement.proofs.Tested.{AreMade, guard_made, rights_made, clearance_made, guard_owns_nothing}
 use Rattle.histar_refinement.proofs.Uses.{process_used, inside_used, rights_used, keep_process_label}
@@ -45,16 +44,11 @@ module _ (session : Session) (s : State) (f : Flat) (l : Laid session s f) (me :
   abbrev old_label : Levels
   old_label = guard_label l.category (process_guard me p)
 
-  home_found : (links : Links) × (s.objects C ≡ object old_label (Container links))
-  home_found = bare_container_is (s.objects C) old_label
-      (at_number same_step step_tests_equality s l.naming (expected session l.category f l.naming.number) l.stands (home_address me) C at_home
-      ∙ asked_home session l.category f l.naming.number me ∙ ap (home_object session l.category me) here)
-
   -- the thread, its container and its process segment in it
   pub around_before : Around T C S (rights_label l.category (thread_rights session me p)) (rights_clearance l.category (thread_rights session me p)) (guard_label l.category (process_guard me p)) (process_bytes f.processes l.naming.number me p) s
-  around_before = record {
+  around_before = let home = home_found session s f l me p here C at_home in record {
     thread = thread_found session s f l me p here runs T at_thread;
-    home = (home_found.0, home_found.1, sym (ap (λ (o : Found). set.contains (links_in o) S) home_found.1) ∙ step_linked session s f l Status (home_address me) C S at_home at_status);
+    home = (home.0, home.1, sym (ap (λ (o : Found). set.contains (links_in o) S) home.1) ∙ step_linked session s f l Status (home_address me) C S at_home at_status);
     segment = bare_is (s.objects S) (record { label = old_label; kind = Segment held }) refl
         (at_number same_step step_tests_equality s l.naming (expected session l.category f l.naming.number) l.stands (Status ∷ home_address me) S at_status
         ∙ asked_status session l.category f l.naming.number me ∙ ap (λ o. status_object session l.category (bytes_for session l.category f l.naming.number me o) me o) here);

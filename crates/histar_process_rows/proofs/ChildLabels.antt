@@ -2,39 +2,29 @@
 use Rattle.std.proofs.Common.{◌≡◌, ℕ, zero, suc, ◌==◌, ◌||◌, List, [], ◌∷◌, ◌++◌, Option, None, Some, arith, refl, sym, ap, ◌∙◌}
 use Rattle.std.specs.Prelude.{map}
 use Rattle.std.proofs.lemmas.List.{append-nil, map-append}
-use Rattle.histar_flat.specs.Words.{Name, ProcName}
+use Rattle.histar_flat.specs.Words.{ProcName}
 use Rattle.histar_flat.specs.Sessions.{Session, user_number}
 use Rattle.histar_flat.specs.Classes.{Process, is_free}
-use Rattle.histar_layout.specs.Categories.{owners_of}
 use Rattle.histar_layout.specs.Labelling.{guarded_by, owner_label, cleared_at}
-use Rattle.histar_process.specs.Kin.{Kin, user_name, categories_of, owned_by}
+use Rattle.histar_process.specs.Kin.{Kin, user_name, owned_by}
 use Rattle.histar_process.specs.Birth.{outer_label, inner_label, thread_label, thread_clearance}
 use Rattle.histar_refinement.specs.Categories.{CategoryName, Categories, boot_category}
 use Rattle.histar_refinement.specs.Categories.CategoryName.{ReadsProcess, WritesProcess, OfJob}
 use Rattle.histar_refinement.specs.Guards.{guard_label, rights_label, rights_clearance}
 use Rattle.histar_refinement.specs.Labels.{process_guard, inside_guard, owned_as, thread_rights}
 use Rattle.histar_refinement.specs.Processes.{or_zero}
-use Rattle.histar_refinement.proofs.GateLabels.{owned_is}
 use Rattle.histar_refinement.proofs.Levelled.{same_guarded, same_owning, same_cleared}
+use Rattle.histar_refinement.proofs.OwnLabels.{owned_numbers}
 use Rattle.histar_layout.proofs.Members.{is_in, is_in-append}
-use Rattle.histar_layout.proofs.Declared.{user_range}
 
 module _ (session : Session) (category : Categories) (p : Process) (as_made : (c : CategoryName) (q : ℕ) → boot_category session c ≡ Some q → category c ≡ q) (named : user_name session.users (or_zero (user_number session p.user)) ≡ p.user) where
   abbrev newborn : Process
   newborn = record { user = p.user; chain = p.chain; held = []; exited = None; born = 0 }
 
-  -- what a child owns as its user
-  owned_by_number : (o : Option ℕ) → user_number session p.user ≡ o → map category (owned_as session newborn o ++ []) ≡ owned_by session (or_zero o) (is_free p)
-  owned_by_number None is = refl
-  owned_by_number (Some zero) is = absurd (omega (arith, (user_range session p.user 0 is).0))
-  owned_by_number (Some (suc i)) is =
-      ap (map category) (append-nil (owned_as session newborn (Some (suc i)))) ∙ owned_is session category as_made p.user (suc i) (user_range session p.user (suc i) is).1 (is_free p)
-      ∙ ap (λ (name : Name). categories_of (owners_of session (suc i) name) (is_free p)) (sym named ∙ ap (λ (o : Option ℕ). user_name session.users (or_zero o)) is)
-
   -- what it gets from its parent are its jobs, and what it owns as its user
   module _ (kin : Kin) (alike : (q : ℕ) → is_in kin.jobs q ≡ is_in (map category (map OfJob p.chain)) q) (told : kin.owned ≡ owned_by session (or_zero (user_number session p.user)) (is_free p)) where
     kin_owned : kin.owned ≡ map category (owned_as session newborn (user_number session p.user) ++ [])
-    kin_owned = told ∙ sym (owned_by_number (user_number session p.user) refl)
+    kin_owned = told ∙ sym (ap (map category) (append-nil (owned_as session newborn (user_number session p.user))) ∙ owned_numbers session category as_made newborn named)
 
     module _ (child : ProcName) (r w : ℕ) (reads : category (ReadsProcess child) ≡ r) (writes : category (WritesProcess child) ≡ w) where
       pub outer_is : outer_label kin w ≡ guard_label category (process_guard child (record { user = p.user; chain = p.chain; held = []; exited = None; born = 0 }))

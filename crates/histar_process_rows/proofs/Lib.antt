@@ -1,7 +1,6 @@
 pub mod FoundProcesses
 pub mod Searches
 pub mod StatusCall
-pub mod OwnLabels
 pub mod Whoami
 pub mod OwnSegment
 pub mod ExitCall

@@ -32,7 +32,7 @@ use Rattle.histar_refinement.proofs.Standing.{thread_found}
 use Rattle.histar_rows.specs.Rows.{IsReady}
 use Rattle.histar_rows.proofs.Steps.{Goal, granted_step, answered_step}
 use Rattle.histar_process_rows.specs.Laws.{WhoamisAreRows}
-use Rattle.histar_process_rows.proofs.OwnLabels.{own_user_is, name_of_number}
+use Rattle.histar_refinement.proofs.OwnLabels.{own_user_is, name_of_number}
 use Rattle.histar_refinement.proofs.JobLabels.{none_if_free}
 use Rattle.histar_process_rows.proofs.Searches.{runs_as}
 
@@ -54,7 +54,7 @@ module _ (session : Session) (ok : IsSession session) (old new : KernelModel) (f
   reply_by label = replies.User (user_name session.users (user_of label (length session.users))) (not (is_empty (jobs_in label)))
 
   name_is : user_name session.users (user_of own (length session.users)) ≡ p.user
-  name_is = ap (user_name session.users) (own_user_is session (state old) f l me p) ∙ name_of_number session ok p.user ((l.processes me p ready.caller.stands).someone ready.caller.runs)
+  name_is = ap (user_name session.users) (own_user_is session (state old) f l me p) ∙ name_of_number session p.user ((l.processes me p ready.caller.stands).someone ready.caller.runs)
 
   told : (label : Levels) → Some label ≡ label_there ((state old).objects t) → reply_by label ≡ flat.answer f me p calls.Whoami
   told label right =

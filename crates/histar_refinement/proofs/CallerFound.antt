@@ -158,16 +158,19 @@ module _ (session : Session) (s : State) (f : Flat) (l : Laid session s f) where
           ∙ ap label_there (asked_inside session l.category f l.naming.number me ∙ ap (inside_object session l.category me) here)
           ∙ ap (λ (e : Option ℕ). label_there (inside_object session l.category me (Some (record p { exited = e })))) runs
 
-      -- it is found so
-      pub runs_found : caller_at s first me ≡ Some (caller_is me)
-      runs_found =
-          found_here
-          ∙ ap (λ (e : Option ℕ). if_runs e (option_and_then (λ outer. option_and_then (of_inner status outer) (label_there (s.objects status.internal))) (label_there (s.objects (where_is me).container)))) runs
+      -- it is found where it is
+      pub runs_here : caller_by s (where_is me) status ≡ Some (caller_is me)
+      runs_here =
+          ap (λ (e : Option ℕ). if_runs e (option_and_then (λ outer. option_and_then (of_inner status outer) (label_there (s.objects status.internal))) (label_there (s.objects (where_is me).container)))) runs
           ∙ ap (option_and_then (λ outer. option_and_then (of_inner status outer) (label_there (s.objects status.internal)))) outer_label
           ∙ ap (option_and_then (of_inner status (guard_label l.category (process_guard me p)))) inner_label
           ∙ ap (option_and_then (λ write. option_and_then (λ read. Some (record { home = where_is me; thread = status.thread; read = read; write = write })) (read_category_in (guard_label l.category (process_guard me p)) (guard_label l.category (inside_guard me p)))))
           (write_found l.category l.different me p)
           ∙ ap (option_and_then (λ read. Some (record { home = where_is me; thread = status.thread; read = read; write = l.category (WritesProcess me) }))) (read_found l.category l.different me p)
+
+      -- and by its name
+      pub runs_found : caller_at s first me ≡ Some (caller_is me)
+      runs_found = found_here ∙ runs_here
 
     -- one that has exited is not
     exited_lost : (n : ℕ) → p.exited ≡ Some n → caller_at s first me ≡ None

@@ -21,7 +21,7 @@ use Rattle.histar_layout.proofs.LabelLevels.{at_guarded, guarded_level, default_
 use Rattle.histar_refinement.proofs.CategoryTests.{among_none, is_in_names}
 use Rattle.histar_refinement.proofs.FoundCategories.{found_in_label}
 
-default_guarded : (S W : List ℕ) → default_of (guarded_by S W) ≡ L1
+pub default_guarded : (S W : List ℕ) → default_of (guarded_by S W) ≡ L1
 default_guarded S W = default_kept (constant L1) (each_at L3 S ++ each_at L0 W) ∙ default_of-constant L1
 
 -- no level of a category passes both tests, and the default passes none

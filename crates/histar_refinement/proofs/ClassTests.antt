@@ -127,7 +127,7 @@ module _ (session : Session) (me : ProcName) (p : Process) where
           ∙ turned (has_number (groups_of session p.user) g) (is_free p)
 
   -- of jobs the held ones are owned, and no other
-  none_as_user : (job : ProcName) (number : Option ℕ) → among (as_user number) (OfJob job) ≡ false
+  pub none_as_user : (job : ProcName) (number : Option ℕ) → among (as_user number) (OfJob job) ≡ false
   none_as_user job None = refl
   none_as_user job (Some j) =
       user_parts j (OfJob job)

@@ -50,6 +50,7 @@ pub mod LeftObjects
 pub mod LoginChecks
 pub mod CallLabels
 pub mod JobLabels
+pub mod OwnLabels
 pub mod Counting
 pub mod Birth
 pub mod Spawning

@@ -54,7 +54,7 @@ module _ (category : Categories) (different : AreDifferent category) where
   one_jobs xs ys a b alike = one_order xs ys a b (λ k. same_truth (is_in (map category (map OfJob xs)) k) (is_in (map category (map OfJob ys)) k) (number_in xs ys alike k) (number_in ys xs (λ job. sym (alike job)) k))
 
   -- a process's own category is no job's
-  not_own : (me : ProcName) (jobs : List ProcName) → is_in (map category (map OfJob jobs)) (category (WritesProcess me)) ≡ false
+  pub not_own : (me : ProcName) (jobs : List ProcName) → is_in (map category (map OfJob jobs)) (category (WritesProcess me)) ≡ false
   not_own me [] = refl
   not_own me (j ∷ jobs) = elim (eqb_tells (category (WritesProcess me)) (category (OfJob j))) [
     | inl e ↦ let k : 6 ≡ 7 = ap (λ (c : CategoryName). (split_category c).0) (different (WritesProcess me) (OfJob j) e.1) in absurd (omega (arith, k))

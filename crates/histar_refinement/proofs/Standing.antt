@@ -20,17 +20,17 @@ use Rattle.histar_container.proofs.Addresses.{same_itself}
 use Rattle.histar_container.proofs.Links.{none_linked}
 use Rattle.histar_layout.specs.Directory.{spelling}
 use Rattle.histar_refinement.specs.Guards.{Guard, guard_label, rights_label, rights_clearance}
-use Rattle.histar_refinement.specs.Labels.{class_guard, thread_rights}
+use Rattle.histar_refinement.specs.Labels.{class_guard, process_guard, thread_rights}
 use Rattle.histar_refinement.specs.Addresses.{Step, same_step, address_of, home_address}
 use Rattle.histar_refinement.specs.Addresses.Step.{Slash, Listing, Named, Inside, Runner}
 use Rattle.histar_refinement.specs.Directories.{directory_of}
 use Rattle.histar_refinement.specs.Stands.{kind_bare, bare}
-use Rattle.histar_refinement.specs.Expected.{bare_container, content_kind, guarded_object, node_object, listing_object, thread_object, expected}
+use Rattle.histar_refinement.specs.Expected.{bare_container, content_kind, guarded_object, node_object, listing_object, home_object, thread_object, expected}
 use Rattle.histar_login.specs.Start.{segment}
 use Rattle.histar_refinement.specs.LaysOut.{Laid}
 use Rattle.histar_refinement.proofs.Steps.{step_tests_equality}
 use Rattle.histar_refinement.proofs.Moving.{bare_is, at_number}
-use Rattle.histar_refinement.proofs.Places.{asked_runner, asked_path, asked_listing}
+use Rattle.histar_refinement.proofs.Places.{asked_home, asked_runner, asked_path, asked_listing}
 use Rattle.histar_refinement.proofs.FileRows.{numbered_path, nothing_in}
 
 -- a container but for its links is one with some links
@@ -67,6 +67,13 @@ module _ (session : Session) (s : State) (f : Flat) (l : Laid session s f) where
       (at_number same_step step_tests_equality s l.naming asked l.stands (Runner ∷ Inside ∷ home_address me) t at_thread
       ∙ asked_runner session l.category f l.naming.number me ∙ ap (thread_object session l.category me) here
       ∙ (λ i. elim (running i) as (λ _. Found) [ None ↦ Some (thread_of (rights_label l.category (thread_rights session me p)) (rights_clearance l.category (thread_rights session me p))) | Some n ↦ None ]))
+
+  -- the container of a process
+  pub home_found : (me : ProcName) (p : Process) → f.processes me ≡ Some p → (C : ℕ) → l.naming.number (home_address me) ≡ Some C
+      → (links : Links) × (s.objects C ≡ Some (record { label = guard_label l.category (process_guard me p); kind = Container links }))
+  home_found me p here C at_home = bare_container_is (s.objects C) (guard_label l.category (process_guard me p))
+      (at_number same_step step_tests_equality s l.naming asked l.stands (home_address me) C at_home
+      ∙ asked_home session l.category f l.naming.number me ∙ ap (home_object session l.category me) here)
 
   -- how what stands at a path is guarded
   pub guard_at : (q : Path) (there : Node) → get f.files q ≡ Some there → (g : Guard) × (class_guard session there.class ≡ Some g)

@@ -4,7 +4,7 @@ ghost use Rattle.std.specs.Option.{option_copied};
 ghost use Rattle.std.specs.FinSet as set;
 ghost use Rattle.histar_label.specs.Levels.{Levels};
 ghost use Rattle.histar_label.specs.Store.{label_at, Keeps};
-ghost use Rattle.histar_object.specs.Objects.{objects_of, put, changed_at, with_new, holding, no_objects, thread_of, is_thread, links_in, bytes_there, bytes_in, label_there};
+ghost use Rattle.histar_object.specs.Objects.{objects_of, put, changed_at, with_new, holding, no_objects, thread_of, is_container, is_thread, links_in, bytes_there, bytes_in, label_there};
 ghost use Rattle.histar_object.specs.State.{with_object, with_next, with_next_category, with_own, with_segment_bytes};
 ghost use Rattle.histar_container.specs.Shown.{objects_shown, kind_by, AllStand, KindStands, IsKept};
 ghost use Rattle.histar_container.specs.ObjectsModel.{state_of, CutsOff};
@@ -118,6 +118,26 @@ impl<S: LabelStore + Drop> LabelledObjects<S> {
         match self.table.get(object) {
             Some(object) => Some(self.store.get(object.label).unwrap()),
             None => None,
+        }
+    }
+
+    /// Checks whether there is a container of this number.
+    pub fn is_container(&self, object: ObjId) -> bool
+        ensures { result ≡ is_container (objects_of self.now.objects object) }
+    {
+        match self.table.get(object) {
+            Some(object) => matches!(object.kind, Kind::Container(_)),
+            None => false,
+        }
+    }
+
+    /// Checks whether there is a thread of this number.
+    pub fn is_thread(&self, object: ObjId) -> bool
+        ensures { result ≡ is_thread (objects_of self.now.objects object) }
+    {
+        match self.table.get(object) {
+            Some(object) => matches!(object.kind, Kind::Thread(_)),
+            None => false,
         }
     }
 

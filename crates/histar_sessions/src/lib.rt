@@ -9,8 +9,6 @@ mod processes;
 #[cfg(test)]
 mod raw_confined;
 #[cfg(test)]
-mod raw_open;
-#[cfg(test)]
 mod raw_segments;
 #[cfg(test)]
 mod raw_sessions;

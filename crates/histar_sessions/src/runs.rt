@@ -1,7 +1,6 @@
 //! Runs over readers and writers that move few bytes a call, or fail.
-use histar_label::{InternStore, LabelStore, PlainStore};
 use histar_script::Fault;
-use histar_shell::{Counted, Options, run, run_with};
+use histar_shell::{Counted, Options, run};
 use std::alloc::Global;
 use std::io;
 use std::io::{ErrorKind, Read, Write};
@@ -109,30 +108,6 @@ impl Write for FailingWriter {
     fn flush(&mut self) -> io::Result<()> {
         Ok(())
     }
-}
-
-/// What a run of the first session over this store writes, with its tree and its trace.
-fn text_over<S: LabelStore + Drop>(alloc: Global, store: S) -> Result<Vec<u8>, Fail> {
-    let mut reader = Counted::new(SCRIPT);
-    let mut writer = Counted::new(Vec::new(alloc));
-    let options = Options {
-        tree: true,
-        trace: true,
-    };
-    let _trace = run_with(alloc, store, &mut reader, &mut writer, options)?;
-    Ok(writer.into_inner())
-}
-
-#[test]
-fn writes_the_same_text_over_any_store(rt: HostRuntime) -> Result<(), Fail> {
-    let alloc = rt.alloc();
-    let plain = text_over(alloc, PlainStore::new(alloc))?;
-    assert!(rt; plain.starts_with(TEXT));
-    for places in [1, 2, 256] {
-        let interned = text_over(alloc, InternStore::new(alloc, places)?)?;
-        assert_eq!(rt; interned.as_slice(), plain.as_slice());
-    }
-    Ok(())
 }
 
 #[test]

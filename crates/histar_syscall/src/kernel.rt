@@ -1,7 +1,7 @@
 //! The kernel and its raw calls.
 ghost use Rattle.std.specs.Prelude.{◌≡◌, [], Some, IfOk};
 ghost use Rattle.std.specs.Option.{option_copied};
-ghost use Rattle.histar_object.specs.Objects.{objects_of, bytes_in, label_there};
+ghost use Rattle.histar_object.specs.Objects.{objects_of, bytes_in, is_container, is_thread, label_there};
 ghost use Rattle.histar_object.specs.State.{empty_state};
 ghost use Rattle.histar_rules.specs.Rules.{IsNextNumber, AreBytesOf, AreLabelsOf, IsLabelOf, IsEntryOf};
 ghost use Rattle.histar_rules.specs.Sound.{IsSound};
@@ -273,6 +273,20 @@ impl<S: LabelStore + Drop> Kernel<S> {
         ensures { option_copied result ≡ label_there (objects_of self.now.kept.objects object) }
     {
         self.objects.label(object)
+    }
+
+    /// Checks whether there is a container of this number. This is no raw call either.
+    pub fn is_container(&self, object: ObjId) -> bool
+        ensures { result ≡ is_container (objects_of self.now.kept.objects object) }
+    {
+        self.objects.is_container(object)
+    }
+
+    /// Checks whether there is a thread of this number. This is no raw call either.
+    pub fn is_thread(&self, object: ObjId) -> bool
+        ensures { result ≡ is_thread (objects_of self.now.kept.objects object) }
+    {
+        self.objects.is_thread(object)
     }
 
     /// The same call, answered with a copy of the bytes, which stays while the kernel goes on.

@@ -6,16 +6,18 @@ use Rattle.std.specs.Result.{IsErrAnd}
 use Rattle.std.proofs.lemmas.Option.{none-some}
 use Rattle.std.proofs.lemmas.Result.{err_from_is_err_and}
 use Rattle.histar_flat.specs.Words.{ProcName, most_numbers}
+use Rattle.histar_flat.specs.Sessions.{Session}
 use Rattle.histar_object.specs.State.{State}
 use Rattle.histar_layout.specs.Reading.{◌>>=◌}
 use Rattle.histar_layout.specs.declared.status.Child.{Child}
 use Rattle.histar_calls.specs.declared.places.Home.{Home}
 use Rattle.histar_calls.specs.declared.places.Places.{Places}
 use Rattle.histar_process.specs.Parts.{home_of}
-use Rattle.histar_tree.specs.declared.processes.ProcessNode.{ProcessNode}
-use Rattle.histar_tree.specs.declared.processes.ProcessError.{ProcessError}
-use Rattle.histar_tree.specs.declared.processes.ProcessError.TheVariants.{NoProcesses, OutOfMemory}
-use Rattle.histar_tree.specs.Processes.{Found, child_of, children_of, all_of, processes_at, levels_at, AreProcessesOf, HasNoProcesses, AddsProcesses, AddsChildren}
+use Rattle.histar_tree.specs.declared.process.ProcessNode.{ProcessNode}
+use Rattle.histar_tree.specs.declared.process.ProcessError.{ProcessError}
+use Rattle.histar_tree.specs.declared.process.ProcessError.TheVariants.{NoProcess, OutOfMemory}
+use Rattle.histar_tree.specs.Process.{ReadsFrom, node_in}
+use Rattle.histar_tree.specs.Processes.{Found, child_of, children_of, all_of, processes_at, levels_at, AreProcessesOf, HasNoProcesses, Adds, AddsProcesses}
 
 -- processes before others, if there are others
 abbrev before : List ProcessNode → Option (List ProcessNode) → Option (List ProcessNode)
@@ -33,10 +35,14 @@ before_rest : (first : List ProcessNode) (rest : Option (List ProcessNode)) → 
 before_rest first None = refl
 before_rest first (Some l) = refl
 
-module _ (s : State) (me : ProcName) (segment born : ℕ) where
+module _ (session : Session) (s : State) (me : ProcName) (segment born : ℕ) where
   -- the processes of a child and below it
   abbrev below : Found
-  below = processes_at (most_numbers - length me) s
+  below = processes_at (most_numbers - length me) session s
+
+  -- the processes of the children of a process were added, of which so many were born
+  abbrev pub AddsChildren : List ProcessNode → List ProcessNode → Result (Unit {0}) ProcessError → Type 0
+  AddsChildren = Adds (all_of (processes_at (most_numbers - length me) session s) me (children_of s segment born))
 
   -- the children that were born after the first ones
   abbrev later : ℕ → ℕ → List Child
@@ -95,52 +101,75 @@ module _ (s : State) (me : ProcName) (segment born : ℕ) where
       adds_no_more none = so_far.parts ∙ ap (before so_far.added) (left_from ∙ ap (λ (o : Option (List ProcessNode)). o >>= λ first. left (births + 1) >>= λ rest. Some (first ++ rest)) none)
 
   -- after the last birth all were added
-  pub adds_all : (births : ℕ) (old new : List ProcessNode) → births ≡ born → AddsBirths births old new → AddsChildren s me segment born old new (Ok tt)
+  pub adds_all : (births : ℕ) (old new : List ProcessNode) → births ≡ born → AddsBirths births old new → AddsChildren old new (Ok tt)
   adds_all births old new last so_far =
       let none_left : born - births ≡ 0 = omega (arith, last) in
       let none : left births ≡ Some [] = ap (λ (n : ℕ). all_of below me (later births n)) none_left in
       (so_far.added, so_far.parts ∙ ap (before so_far.added) none ∙ ap Some (append-nil so_far.added), so_far.grown)
 
-module _ (s : State) (me : ProcName) (segment born births : ℕ) (old mid new : List ProcessNode) (fits : births < born) (so_far : AddsBirths s me segment born births old mid) (child : Child) (listed : child_of s segment (births + 1) ≡ Some child) where
+-- a process, and then those of its children, are its processes
+module _ (session : Session) (s : State) (me : ProcName) (home : Home) (node : ProcessNode) (read : node_in session s me home ≡ Some node) (old mid new : List ProcessNode) (pushed : mid ≡ old ++ node ∷ []) where
+  -- they are found so
+  begins : processes_at (levels_at me) session s me home ≡ (all_of (processes_at (most_numbers - length me) session s) me (children_of s home.segment node.born) >>= λ rest. Some (node ∷ rest))
+  begins = ap (λ (x : Option ProcessNode). x >>= λ first. all_of (processes_at (most_numbers - length me) session s) me (children_of s home.segment first.born) >>= λ rest. Some (first ∷ rest)) read
+
+  pub after_node : (result : Result (Unit {0}) ProcessError) → AddsChildren session s me home.segment node.born mid new result → AddsProcesses session s me home old new result
+  after_node (Ok done) added =
+      (node ∷ added.0, begins ∙ ap (λ (x : Option (List ProcessNode)). x >>= λ rest. Some (node ∷ rest)) added.1, added.2 ∙ ap (λ (l : List ProcessNode). l ++ added.0) pushed ∙ append_assoc old (node ∷ []) added.0)
+  after_node (Err NoProcess) none = begins ∙ ap (λ (x : Option (List ProcessNode)). x >>= λ rest. Some (node ∷ rest)) none
+  after_node (Err OutOfMemory) none = tt
+
+-- where the process is none, there are none below it
+pub no_node : (session : Session) (s : State) (me : ProcName) (home : Home) (old : List ProcessNode) (error : ProcessError) (result : Result (Unit {0}) ProcessError) → IsErrAnd result (λ e. e ≡ error)
+    → ReadsFrom (node_in session s me home) (Err error) → AddsProcesses session s me home old old result
+no_node session s me home old error result gave none =
+    let given = err_from_is_err_and result gave in
+    subst (AddsProcesses session s me home old old) (sym (given.1 ∙ ap Err given.2)) (failed error none)
+  where
+    failed : (e : ProcessError) → ReadsFrom (node_in session s me home) (Err e) → AddsProcesses session s me home old old (Err e)
+    failed NoProcess none = ap (λ (x : Option ProcessNode). x >>= λ first. all_of (processes_at (most_numbers - length me) session s) me (children_of s home.segment first.born) >>= λ rest. Some (first ∷ rest)) none
+    failed OutOfMemory none = tt
+
+module _ (session : Session) (s : State) (me : ProcName) (segment born births : ℕ) (old mid new : List ProcessNode) (fits : births < born) (so_far : AddsBirths session s me segment born births old mid) (child : Child) (listed : child_of s segment (births + 1) ≡ Some child) where
   -- at the last level a child has no processes
-  pub no_level_more : length me ≡ most_numbers → AddsChildren s me segment born old mid (Err NoProcesses)
+  pub no_level_more : length me ≡ most_numbers → AddsChildren session s me segment born old mid (Err NoProcess)
   no_level_more last =
       let no_level : most_numbers - length me ≡ 0 = omega (arith, last) in
-      adds_no_more s me segment born births old mid mid fits so_far child listed (ap (λ (n : ℕ). processes_at n s (child.number ∷ me) (home_of child)) no_level)
+      adds_no_more session s me segment born births old mid mid fits so_far child listed (ap (λ (n : ℕ). processes_at n session s (child.number ∷ me) (home_of child)) no_level)
 
   module _ (fewer : length me ≤ most_numbers) (inner : length me ≢ most_numbers) (name : ProcName) (home : Home) (named : name ≡ child.number ∷ me) (found : home ≡ home_of child) where
     -- a child of a process that may have children stands a level below it
-    at_child : processes_at (levels_at name) s name home ≡ processes_at (most_numbers - length me) s (child.number ∷ me) (home_of child)
+    at_child : processes_at (levels_at name) session s name home ≡ processes_at (most_numbers - length me) session s (child.number ∷ me) (home_of child)
     at_child =
         let level : levels_at (child.number ∷ me) ≡ most_numbers - length me = omega (arith, fewer, inner) in
-        (λ i. processes_at (levels_at (named i)) s (named i) (found i)) ∙ ap (λ (n : ℕ). processes_at n s (child.number ∷ me) (home_of child)) level
+        (λ i. processes_at (levels_at (named i)) session s (named i) (found i)) ∙ ap (λ (n : ℕ). processes_at n session s (child.number ∷ me) (home_of child)) level
 
     -- the processes of the next child are added
-    pub child_more : AddsProcesses s name home mid new (Ok tt) → AddsBirths s me segment born (births + 1) old new
-    child_more one = adds_more s me segment born births old mid new fits so_far child listed one.0 (sym at_child ∙ one.1) one.2
+    pub child_more : AddsProcesses session s name home mid new (Ok tt) → AddsBirths session s me segment born (births + 1) old new
+    child_more one = adds_more session s me segment born births old mid new fits so_far child listed one.0 (sym at_child ∙ one.1) one.2
 
-    failed : (error : ProcessError) → AddsProcesses s name home mid new (Err error) → AddsChildren s me segment born old new (Err error)
-    failed NoProcesses none = adds_no_more s me segment born births old mid new fits so_far child listed (sym at_child ∙ none)
+    failed : (error : ProcessError) → AddsProcesses session s name home mid new (Err error) → AddsChildren session s me segment born old new (Err error)
+    failed NoProcess none = adds_no_more session s me segment born births old mid new fits so_far child listed (sym at_child ∙ none)
     failed OutOfMemory none = tt
 
     -- and where it has none, the addition fails so
-    pub fails_below : (error : ProcessError) (result : Result (Unit {0}) ProcessError) → IsErrAnd result (λ e. e ≡ error) → AddsProcesses s name home mid new (Err error) → AddsChildren s me segment born old new result
+    pub fails_below : (error : ProcessError) (result : Result (Unit {0}) ProcessError) → IsErrAnd result (λ e. e ≡ error) → AddsProcesses session s name home mid new (Err error) → AddsChildren session s me segment born old new result
     fails_below error result gave none =
         let given = err_from_is_err_and result gave in
-        subst (AddsChildren s me segment born old new) (sym (given.1 ∙ ap Err given.2)) (failed error none)
+        subst (AddsChildren session s me segment born old new) (sym (given.1 ∙ ap Err given.2)) (failed error none)
 
-module _ (s : State) (places : Places) (name : ProcName) (zero : name ≡ []) (old new : List ProcessNode) (result : Result (Unit {0}) ProcessError) (added : AddsProcesses s name places.home old new result) where
-  at_zero : (r : Result (Unit {0}) ProcessError) → result ≡ r → AddsProcesses s [] places.home old new r
-  at_zero r is = subst (AddsProcesses s [] places.home old new) is (subst (λ (me : ProcName). AddsProcesses s me places.home old new result) zero added)
+module _ (session : Session) (s : State) (places : Places) (name : ProcName) (zero : name ≡ []) (old new : List ProcessNode) (result : Result (Unit {0}) ProcessError) (added : AddsProcesses session s name places.home old new result) where
+  at_zero : (r : Result (Unit {0}) ProcessError) → result ≡ r → AddsProcesses session s [] places.home old new r
+  at_zero r is = subst (AddsProcesses session s [] places.home old new) is (subst (λ (me : ProcName). AddsProcesses session s me places.home old new result) zero added)
 
   -- the processes from process 0 on are those of the state
-  pub processes_added : (done : Unit {0}) → result ≡ Ok done → old ≡ [] → AreProcessesOf s places new
+  pub processes_added : (done : Unit {0}) → result ≡ Ok done → old ≡ [] → AreProcessesOf session s places new
   unfolding AreProcessesOf
   processes_added done is none =
       let at = at_zero (Ok done) is in
       at.1 ∙ ap Some (sym (at.2 ∙ ap (λ (l : List ProcessNode). l ++ at.0) none))
 
   -- and where there are none, the state has none
-  pub no_processes_added : (error : ProcessError) → result ≡ Err error → error ≡ NoProcesses → HasNoProcesses s places
+  pub no_processes_added : (error : ProcessError) → result ≡ Err error → error ≡ NoProcess → HasNoProcesses session s places
   unfolding AreProcessesOf
-  no_processes_added error is said processes are = none-some processes (sym (at_zero (Err NoProcesses) (is ∙ ap Err said)) ∙ are)
+  no_processes_added error is said processes are = none-some processes (sym (at_zero (Err NoProcess) (is ∙ ap Err said)) ∙ are)

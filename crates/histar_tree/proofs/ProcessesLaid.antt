@@ -7,101 +7,160 @@ use Rattle.histar_flat.specs.Words.{ProcName, most_numbers}
 use Rattle.histar_flat.specs.Sessions.{Session}
 use Rattle.histar_flat.specs.Classes.{Process}
 use Rattle.histar_flat.specs.FlatState.{Flat}
+use Rattle.histar_label.specs.Levels.{Levels}
 use Rattle.histar_object.specs.State.{State}
 use Rattle.histar_layout.specs.Reading.{◌>>=◌}
-use Rattle.histar_layout.specs.Status.{ProcessStatus, child_at, head_of}
+use Rattle.histar_layout.specs.Status.{ProcessStatus, child_at}
 use Rattle.histar_layout.specs.declared.status.Child.{Child as Listed}
+use Rattle.histar_layout.specs.Jobs.{jobs_in}
 use Rattle.histar_calls.specs.declared.places.Home.{Home as Where}
+use Rattle.histar_process.specs.Caller.{caller_by, caller_in}
+use Rattle.histar_process.specs.declared.caller.Caller.{Caller}
 use Rattle.histar_login.specs.Start.{places_of}
-use Rattle.histar_refinement.specs.Addresses.Step.{Home, Status}
+use Rattle.histar_refinement.specs.Addresses.{home_address}
+use Rattle.histar_refinement.specs.Addresses.Step.{Home, Status, Inside, Runner}
+use Rattle.histar_refinement.specs.Guards.{guard_label, rights_label}
+use Rattle.histar_refinement.specs.Labels.{process_guard, thread_rights}
+use Rattle.histar_refinement.specs.NumberedClasses.{job_numbers}
 use Rattle.histar_refinement.specs.Processes.{or_zero, listed_by, status_by}
 use Rattle.histar_refinement.specs.LaysOut.{Laid}
-use Rattle.histar_refinement.proofs.CallerFound.{where_is, status_is, child_is}
-use Rattle.histar_refinement.proofs.Standing.{some_of}
-use Rattle.histar_tree.specs.declared.processes.ProcessNode.{ProcessNode}
+use Rattle.histar_refinement.proofs.CallerFound.{is_or_zero, where_is, status_is, child_is, caller_is, runs_here}
+use Rattle.histar_refinement.proofs.JobLabels.{chain_is}
+use Rattle.histar_refinement.proofs.Standing.{some_of, home_found, thread_found}
+use Rattle.histar_refinement.proofs.StatusFound.{numbered_home, numbered_runner}
+use Rattle.histar_tree.specs.declared.process.Life.{Life}
+use Rattle.histar_tree.specs.declared.process.ProcessNode.{ProcessNode}
+use Rattle.histar_tree.specs.Process.{container_label, thread_label, running_by, running_at, life_in, node_in}
 use Rattle.histar_tree.specs.Processes.{AreProcessesOf, child_of, children_of, all_of, processes_at, levels_at}
-use Rattle.histar_tree.specs.ProcessLines.{ProcessLine, process_line, with_children, flat_processes}
+use Rattle.histar_tree.specs.ProcessLines.{ProcessLine, process_line, flat_life, with_children, flat_processes}
 use Rattle.histar_tree.specs.Laws.{AreNamed, FlatStatesHaveTheirProcesses}
-
--- of a process that is not there nothing is told
-nothing_told : (f : Flat) (levels : ℕ) (me : ProcName) → f.processes me ≡ None → flat_processes levels f me ≡ []
-nothing_told f zero me none = refl
-nothing_told f (suc levels) me none = ap (with_children (λ n. flat_processes levels f (n ∷ me)) me) none
+use Rattle.histar_tree.proofs.HeldJobs.{running_is}
 
 module _ (session : Session) (s : State) (f : Flat) (l : Laid session s f) where
   -- where a process is found
   abbrev found : ProcName → Where
   found me = where_is session s f l me
 
-  -- processes at a name and below it, which shows what the flat state has there, down to so many levels
+  -- what is shown of processes at a name and below it, down to so many levels
+  abbrev shown : ℕ → ProcName → List ProcessLine
+  shown levels me = flat_processes l.category levels f me
+
+  -- of a process that is not there nothing is shown
+  nothing_shown : (levels : ℕ) (me : ProcName) → f.processes me ≡ None → shown levels me ≡ []
+  nothing_shown zero me none = refl
+  nothing_shown (suc levels) me none = ap (with_children l.category (λ n. shown levels (n ∷ me)) me) none
+
+  -- processes at a name and below it, which show what the flat state has there, down to so many levels
   record HasProcessesAt (levels : ℕ) (me : ProcName) : Type 0 where
     processes : List ProcessNode
-    are : processes_at levels s me (found me) ≡ Some processes
-    lines : map process_line processes ≡ flat_processes levels f me
+    are : processes_at levels session s me (found me) ≡ Some processes
+    lines : map process_line processes ≡ shown levels me
 
-  module _ (levels : ℕ) (me : ProcName) (p : Process) (here : f.processes me ≡ Some p) where
-    -- what is shown of a child and below it
-    abbrev told : ℕ → List ProcessLine
-    told n = flat_processes levels f (n ∷ me)
+  module _ (me : ProcName) (p : Process) (here : f.processes me ≡ Some p) where
+    -- a process of these jobs and that life, to which so many children were born
+    abbrev shown_as : List ℕ → Life → ℕ → ProcessNode
+    shown_as chain life born = record { name = me; home = found me; chain = chain; life = life; born = born }
 
-    -- the children of these numbers that are listed
-    abbrev listed : List ℕ → List Listed
-    listed ns = filter_map (child_of s (found me).segment) ns
-
-    -- processes which shows what the flat state has at the children of these numbers and below them
-    record HaveProcesses (ns : List ℕ) : Type 0 where
-      processes : List ProcessNode
-      are : all_of (processes_at levels s) me (listed ns) ≡ Some processes
-      lines : map process_line processes ≡ flat_map told ns
-
-    -- a child is listed where it is there
-    child_listed : (n : ℕ) (o : Option Process) → f.processes (n ∷ me) ≡ o → child_of s (found me).segment n ≡ option_map (λ (q : Process). listed_by l.naming.number me n) o
-    child_listed n o is =
-        ap (λ (x : Option ProcessStatus). x >>= λ status. child_at status.children n) (status_is session s f l me p here)
-        ∙ child_is session s f l n me p here
-        ∙ ap (option_map (λ (q : Process). listed_by l.naming.number me n)) is
-
-    one_more : ((n : ℕ) (q : Process) → f.processes (n ∷ me) ≡ Some q → HasProcessesAt levels (n ∷ me)) → (n : ℕ) (ns : List ℕ) (o : Option Process) → f.processes (n ∷ me) ≡ o → HaveProcesses ns → HaveProcesses (n ∷ ns)
-    one_more each n ns None is rest = record {
-      processes = rest.processes;
-      are = ap (λ (c : Option Listed). all_of (processes_at levels s) me (cons_option c (listed ns))) (child_listed n None is) ∙ rest.are;
-      lines = rest.lines ∙ sym (ap (λ (lines : List ProcessLine). lines ++ flat_map told ns) (nothing_told f levels (n ∷ me) is));
-    }
-    one_more each n ns (Some q) is rest =
-        let one = each n q is in
-        record {
-          processes = one.processes ++ rest.processes;
-          are =
-              ap (λ (c : Option Listed). all_of (processes_at levels s) me (cons_option c (listed ns))) (child_listed n (Some q) is)
-              ∙ ap (λ (x : Option (List ProcessNode)). x >>= λ first. all_of (processes_at levels s) me (listed ns) >>= λ rest. Some (first ++ rest)) one.are
-              ∙ ap (λ (x : Option (List ProcessNode)). x >>= λ rest. Some (one.processes ++ rest)) rest.are;
-          lines = map-append process_line one.processes rest.processes ∙ (λ i. one.lines i ++ rest.lines i);
-        }
-
-    -- the processes of the children, one after another
-    of_children : ((n : ℕ) (q : Process) → f.processes (n ∷ me) ≡ Some q → HasProcessesAt levels (n ∷ me)) → (ns : List ℕ) → HaveProcesses ns
-    of_children each [] = record { processes = []; are = refl; lines = refl }
-    of_children each (n ∷ ns) = one_more each n ns (f.processes (n ∷ me)) refl (of_children each ns)
-
-    -- a process before those of its children
+    -- the process, as it is shown
     abbrev node : ProcessNode
-    node = record { name = me; home = found me; head = head_of (status_by f.processes l.naming.number me p) }
+    node = shown_as (job_numbers l.category p.chain) (flat_life l.category p p.exited) p.born
 
-    with_its_children : HaveProcesses (range_with_len 1 p.born) → HasProcessesAt (suc levels) me
-    with_its_children below = record {
-      processes = node ∷ below.processes;
-      are =
-          ap (λ (x : Option ProcessStatus). x >>= λ status. all_of (processes_at levels s) me (children_of s (found me).segment status.born) >>= λ rest. Some (record { name = me; home = found me; head = head_of status } ∷ rest)) (status_is session s f l me p here)
-          ∙ ap (λ (x : Option (List ProcessNode)). x >>= λ rest. Some (node ∷ rest)) below.are;
-      lines = (λ i. process_line node ∷ below.lines i) ∙ sym (ap (with_children told me) here);
-    }
+    -- its container is there
+    home_label : container_label (s.objects (found me).container) ≡ Some (guard_label l.category (process_guard me p))
+    home_label =
+        let numbered = numbered_home session s f l me ∙ ap is_some here in
+        ap container_label (home_found session s f l me p here (found me).container (is_or_zero _ numbered)).1
+
+    module _ (runs : p.exited ≡ None) where
+      -- where it runs, its thread is there
+      own_label : thread_label (s.objects (caller_is session s f l me).thread) ≡ Some (rights_label l.category (thread_rights session me p))
+      own_label =
+          ap thread_label (thread_found session s f l me p here runs (caller_is session s f l me).thread (is_or_zero _ (numbered_runner session s f l me p here runs)))
+
+      caller_here : caller_in s (found me) ≡ Some (caller_is session s f l me)
+      caller_here = ap (λ (x : Option ProcessStatus). x >>= λ status. caller_by s (found me) status) (status_is session s f l me p here) ∙ runs_here session s f l me p here runs
+
+      runs_as : running_at session s (found me) ≡ Some (flat_life l.category p None)
+      runs_as =
+          ap (λ (x : Option Caller). x >>= λ caller. thread_label (s.objects caller.thread) >>= λ own. Some (running_by session caller own)) caller_here
+          ∙ ap (λ (x : Option Levels). x >>= λ own. Some (running_by session (caller_is session s f l me) own)) own_label
+          ∙ ap Some (running_is session s f l me p here runs)
+
+    life_is : life_in session s (found me) p.exited ≡ Some (flat_life l.category p p.exited)
+    life_is = by p.exited refl
+      where
+        by : (e : Option ℕ) → p.exited ≡ e → life_in session s (found me) e ≡ Some (flat_life l.category p e)
+        by None runs = runs_as runs
+        by (Some number) exited = refl
+
+    -- It is shown so.
+    node_is : node_in session s me (found me) ≡ Some node
+    node_is =
+        ap (λ (x : Option ProcessStatus). x >>= λ status. container_label (s.objects (found me).container) >>= λ outer. life_in session s (found me) status.exited >>= λ life. Some (shown_as (jobs_in outer) life status.born)) (status_is session s f l me p here)
+        ∙ ap (λ (x : Option Levels). x >>= λ outer. life_in session s (found me) p.exited >>= λ life. Some (shown_as (jobs_in outer) life p.born)) home_label
+        ∙ ap (λ (x : Option Life). x >>= λ life. Some (shown_as (jobs_in (guard_label l.category (process_guard me p))) life p.born)) life_is
+        ∙ ap (λ (chain : List ℕ). Some (shown_as chain (flat_life l.category p p.exited) p.born)) (chain_is l.category l.different me p (l.processes me p here).chain)
+
+    module _ (levels : ℕ) where
+      -- what is shown of a child and below it
+      abbrev below : ℕ → List ProcessLine
+      below n = shown levels (n ∷ me)
+
+      -- the children of these numbers that are listed
+      abbrev listed : List ℕ → List Listed
+      listed ns = filter_map (child_of s (found me).segment) ns
+
+      -- processes which show what the flat state has at the children of these numbers and below them
+      record HaveProcesses (ns : List ℕ) : Type 0 where
+        processes : List ProcessNode
+        are : all_of (processes_at levels session s) me (listed ns) ≡ Some processes
+        lines : map process_line processes ≡ flat_map below ns
+
+      -- a child is listed where it is there
+      child_listed : (n : ℕ) (o : Option Process) → f.processes (n ∷ me) ≡ o → child_of s (found me).segment n ≡ option_map (λ (q : Process). listed_by l.naming.number me n) o
+      child_listed n o is =
+          ap (λ (x : Option ProcessStatus). x >>= λ status. child_at status.children n) (status_is session s f l me p here)
+          ∙ child_is session s f l n me p here
+          ∙ ap (option_map (λ (q : Process). listed_by l.naming.number me n)) is
+
+      one_more : ((n : ℕ) (q : Process) → f.processes (n ∷ me) ≡ Some q → HasProcessesAt levels (n ∷ me)) → (n : ℕ) (ns : List ℕ) (o : Option Process) → f.processes (n ∷ me) ≡ o → HaveProcesses ns → HaveProcesses (n ∷ ns)
+      one_more each n ns None is rest = record {
+        processes = rest.processes;
+        are = ap (λ (c : Option Listed). all_of (processes_at levels session s) me (cons_option c (listed ns))) (child_listed n None is) ∙ rest.are;
+        lines = rest.lines ∙ sym (ap (λ (lines : List ProcessLine). lines ++ flat_map below ns) (nothing_shown levels (n ∷ me) is));
+      }
+      one_more each n ns (Some q) is rest =
+          let one = each n q is in
+          record {
+            processes = one.processes ++ rest.processes;
+            are =
+                ap (λ (c : Option Listed). all_of (processes_at levels session s) me (cons_option c (listed ns))) (child_listed n (Some q) is)
+                ∙ ap (λ (x : Option (List ProcessNode)). x >>= λ first. all_of (processes_at levels session s) me (listed ns) >>= λ rest. Some (first ++ rest)) one.are
+                ∙ ap (λ (x : Option (List ProcessNode)). x >>= λ rest. Some (one.processes ++ rest)) rest.are;
+            lines = map-append process_line one.processes rest.processes ∙ (λ i. one.lines i ++ rest.lines i);
+          }
+
+      -- the processes of the children, one after another
+      of_children : ((n : ℕ) (q : Process) → f.processes (n ∷ me) ≡ Some q → HasProcessesAt levels (n ∷ me)) → (ns : List ℕ) → HaveProcesses ns
+      of_children each [] = record { processes = []; are = refl; lines = refl }
+      of_children each (n ∷ ns) = one_more each n ns (f.processes (n ∷ me)) refl (of_children each ns)
+
+      -- a process before those of its children
+      with_its_children : HaveProcesses (range_with_len 1 p.born) → HasProcessesAt (suc levels) me
+      with_its_children rest = record {
+        processes = node ∷ rest.processes;
+        are =
+            ap (λ (x : Option ProcessNode). x >>= λ first. all_of (processes_at levels session s) me (children_of s (found me).segment first.born) >>= λ more. Some (first ∷ more)) node_is
+            ∙ ap (λ (x : Option (List ProcessNode)). x >>= λ more. Some (node ∷ more)) rest.are;
+        lines = (λ i. process_line node ∷ rest.lines i) ∙ sym (ap (with_children l.category below me) here);
+      }
 
   -- a process that is there has processes, down to enough levels
   processes_there : AreNamed f → (levels : ℕ) (me : ProcName) (p : Process) → f.processes me ≡ Some p → most_numbers < length me + levels → HasProcessesAt levels me
   processes_there named zero me p here deep =
       let short = named me (ap is_some here) in
       absurd (omega arith)
-  processes_there named (suc levels) me p here deep = with_its_children levels me p here (of_children levels me p here (λ n q is. processes_there named levels (n ∷ me) q is (omega arith)) (range_with_len 1 p.born))
+  processes_there named (suc levels) me p here deep = with_its_children me p here levels (of_children me p here levels (λ n q is. processes_there named levels (n ∷ me) q is (omega arith)) (range_with_len 1 p.born))
 
   -- process 0 is found where boot left it
   first_found : found [] ≡ (places_of (length session.users)).home
@@ -115,6 +174,6 @@ flat_states_have_their_processes session s f lays named =
     let there = processes_there session s f lays.laid named (levels_at []) [] first.0 first.1 (omega arith) in
     record {
       processes = there.processes;
-      are_processes = subst (λ (home : Where). processes_at (levels_at []) s [] home ≡ Some there.processes) (first_found session s f lays.laid) there.are;
+      are_processes = subst (λ (home : Where). processes_at (levels_at []) session s [] home ≡ Some there.processes) (first_found session s f lays.laid) there.are;
       lines = there.lines;
     }

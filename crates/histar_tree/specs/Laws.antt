@@ -16,7 +16,7 @@ use Rattle.histar_tree.specs.Tree.{IsTreeOf}
 use Rattle.histar_tree.specs.TreeEntries.{file_bytes_at, tree_entry, flat_entry}
 use Rattle.histar_tree.specs.TreeLines.{flat_lines, lines_at}
 use Rattle.histar_tree.specs.Resolve.{LeadsTo, LeadsNowhere}
-use Rattle.histar_tree.specs.declared.processes.ProcessNode.{ProcessNode}
+use Rattle.histar_tree.specs.declared.process.ProcessNode.{ProcessNode}
 use Rattle.histar_tree.specs.Processes.{AreProcessesOf, levels_at}
 use Rattle.histar_tree.specs.ProcessLines.{process_line, flat_processes}
 
@@ -61,12 +61,14 @@ FlatStatesAreResolved =
 abbrev pub AreNamed : Flat → Type 0
 AreNamed f = (me : ProcName) → is_some (f.processes me) ≡ true → length me ≤ most_numbers
 
--- a state has processes, which shows what is shown of those of this flat state
-pub record HasProcessesOf (session : Session) (s : State) (f : Flat) : Type 0 where
+-- a state has processes, which show what is shown of those of this flat state, where the jobs have these categories
+pub record HasProcessesOf (session : Session) (s : State) (f : Flat) (category : Categories) : Type 0 where
   pub processes : List ProcessNode
-  pub are_processes : AreProcessesOf s (places_of (length session.users)) processes
-  pub lines : map process_line processes ≡ flat_processes (levels_at []) f []
+  pub are_processes : AreProcessesOf session s (places_of (length session.users)) processes
+  pub lines : map process_line processes ≡ flat_processes category (levels_at []) f []
 
--- a state that lays out a flat state has the processes of that, and what is shown of them is what the flat state has
+-- A state that lays out a flat state has the processes of that: what is shown of them is what the flat state has, each job by the
+-- category that it has in the state.
 abbrev pub FlatStatesHaveTheirProcesses : Type 0
-FlatStatesHaveTheirProcesses = (session : Session) (s : State) (f : Flat) → LaysOut session s f → AreNamed f → HasProcessesOf session s f
+FlatStatesHaveTheirProcesses =
+    (session : Session) (s : State) (f : Flat) (l : LaysOut session s f) → AreNamed f → HasProcessesOf session s f l.laid.category

@@ -3,6 +3,7 @@ pub mod TreeEntries
 pub mod TreeLines
 pub mod FlatTree
 pub mod Resolve
+pub mod Process
 pub mod Processes
 pub mod ProcessLines
 pub mod Laws

@@ -3,17 +3,19 @@ use Rattle.std.specs.Prelude.{◌≡◌, ℕ, zero, suc, ◌-◌, List, [], ◌�
 use Rattle.std.specs.Global.{Vec}
 use Rattle.std.specs.List.{filter_map, range_with_len}
 use Rattle.histar_flat.specs.Words.{ProcName, most_numbers}
+use Rattle.histar_flat.specs.Sessions.{Session}
 use Rattle.histar_object.specs.State.{State}
 use Rattle.histar_layout.specs.Reading.{◌>>=◌}
-use Rattle.histar_layout.specs.Status.{child_at, head_of}
+use Rattle.histar_layout.specs.Status.{child_at}
 use Rattle.histar_layout.specs.declared.status.Child.{Child}
 use Rattle.histar_calls.specs.declared.places.Home.{Home}
 use Rattle.histar_calls.specs.declared.places.Places.{Places}
 use Rattle.histar_process.specs.Caller.{status_at}
 use Rattle.histar_process.specs.Parts.{home_of}
-use Rattle.histar_tree.specs.declared.processes.ProcessNode.{ProcessNode}
-use Rattle.histar_tree.specs.declared.processes.ProcessError.{ProcessError}
-use Rattle.histar_tree.specs.declared.processes.ProcessError.TheVariants.{NoProcesses, OutOfMemory}
+use Rattle.histar_tree.specs.Process.{node_in}
+use Rattle.histar_tree.specs.declared.process.ProcessNode.{ProcessNode}
+use Rattle.histar_tree.specs.declared.process.ProcessError.{ProcessError}
+use Rattle.histar_tree.specs.declared.process.ProcessError.TheVariants.{NoProcess, OutOfMemory}
 
 -- the child of this number that a process segment lists
 abbrev pub child_of : State → ℕ → ℕ → Option Child
@@ -38,39 +40,35 @@ all_of found me (child ∷ children) = do
   Some (first ++ rest)
 
 -- The processes at a name and below it, down to so many levels: the process itself, and then its children, each with its own.
-abbrev pub processes_at : ℕ → State → Found
-processes_at zero s me home = None
-processes_at (suc levels) s me home = do
-  status ← status_at s home.segment
-  below ← all_of (processes_at levels s) me (children_of s home.segment status.born)
-  Some (record { name = me; home = home; head = head_of status } ∷ below)
+abbrev pub processes_at : ℕ → Session → State → Found
+processes_at zero session s me home = None
+processes_at (suc levels) session s me home = do
+  node ← node_in session s me home
+  below ← all_of (processes_at levels session s) me (children_of s home.segment node.born)
+  Some (node ∷ below)
 
 -- how many levels of processes stand at a name and below it, where no name has more numbers than can be shown
 abbrev pub levels_at : ProcName → ℕ
 levels_at me = suc (most_numbers - length me)
 
 -- these are the processes of a state, which are those from process 0 on
-unfoldable pub AreProcessesOf : State → Places → List ProcessNode → Type 0
-AreProcessesOf s places processes = processes_at (levels_at []) s [] places.home ≡ Some processes
+unfoldable pub AreProcessesOf : Session → State → Places → List ProcessNode → Type 0
+AreProcessesOf session s places processes = processes_at (levels_at []) session s [] places.home ≡ Some processes
 
 -- a state has no processes
-abbrev pub HasNoProcesses : State → Places → Type 0
-HasNoProcesses s places = (processes : List ProcessNode) → AreProcessesOf s places processes → ⊥
+abbrev pub HasNoProcesses : Session → State → Places → Type 0
+HasNoProcesses session s places = (processes : List ProcessNode) → AreProcessesOf session s places processes → ⊥
 
 -- what was found are the processes of a state, and nothing was found exactly where it has none
-abbrev pub FindsProcesses : State → Places → Option (Vec ProcessNode) → Type 0
-FindsProcesses s places found = MatchOption found (HasNoProcesses s places) (λ processes. AreProcessesOf s places processes.items)
+abbrev pub FindsProcesses : Session → State → Places → Option (Vec ProcessNode) → Type 0
+FindsProcesses session s places found = MatchOption found (HasNoProcesses session s places) (λ processes. AreProcessesOf session s places processes.items)
 
 -- these processes were added, or there are none such
 abbrev pub Adds : Option (List ProcessNode) → List ProcessNode → List ProcessNode → Result (Unit {0}) ProcessError → Type 0
 Adds some old new (Ok done) = (processes : List ProcessNode) × (some ≡ Some processes) × (new ≡ old ++ processes)
-Adds some old new (Err NoProcesses) = some ≡ None
+Adds some old new (Err NoProcess) = some ≡ None
 Adds some old new (Err OutOfMemory) = Unit {0}
 
 -- the processes at a name and below it were added
-abbrev pub AddsProcesses : State → ProcName → Home → List ProcessNode → List ProcessNode → Result (Unit {0}) ProcessError → Type 0
-AddsProcesses s me home = Adds (processes_at (levels_at me) s me home)
-
--- those of the children of a process were added, of which so many were born
-abbrev pub AddsChildren : State → ProcName → ℕ → ℕ → List ProcessNode → List ProcessNode → Result (Unit {0}) ProcessError → Type 0
-AddsChildren s me segment born = Adds (all_of (processes_at (most_numbers - length me) s) me (children_of s segment born))
+abbrev pub AddsProcesses : Session → State → ProcName → Home → List ProcessNode → List ProcessNode → Result (Unit {0}) ProcessError → Type 0
+AddsProcesses session s me home = Adds (processes_at (levels_at me) session s me home)

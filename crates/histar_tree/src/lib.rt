@@ -2,10 +2,12 @@
 //! own objects.
 #![tactic(auto)]
 
+mod process;
 mod processes;
 pub mod resolve;
 mod tree;
 pub mod tree_laws;
 
-pub use processes::{ProcessNode, procs_of};
+pub use process::{Life, ProcessNode};
+pub use processes::procs_of;
 pub use tree::{TreeNode, bytes_of, tree_of};

@@ -25,7 +25,8 @@ pub fn flat_states_are_resolved()
 {}
 
 /// A state that lays out a flat state has processes, which show what the flat state has: name by
-/// name whether it runs, or what it has exited with, and how many children were born to it.
+/// name the jobs that it is in, whether it runs, as whose and holding which jobs, or what it has
+/// exited with, and how many children were born to it.
 pub fn flat_states_have_their_processes()
     ensures { FlatStatesHaveTheirProcesses }
 {}

@@ -33,7 +33,7 @@ use Rattle.histar_refinement.proofs.Spawned.{births}
 use Rattle.histar_refinement.proofs.Spawning.{reads_number, writes_number}
 use Rattle.histar_refinement.proofs.Uses.{job_among}
 use Rattle.histar_refinement.proofs.WrapTests.{not_free}
-use Rattle.histar_process_rows.proofs.OwnLabels.{name_of_number}
+use Rattle.histar_refinement.proofs.OwnLabels.{name_of_number}
 use Rattle.histar_process_rows.proofs.BirthChecks.{IsModified, IsLesser}
 use Rattle.histar_process_rows.proofs.BirthRun.{IsFit, spawned}
 use Rattle.histar_process_rows.proofs.ChildBytes.{started_fits, grown_fits, few_listed, child_bytes_are, own_bytes_are}
@@ -105,7 +105,7 @@ module _ (session : Session) (ok : IsSession session) (s : State) (f : Flat) (l 
   told_then = told ∙ ap (owned_by session (or_zero (user_number session p.user))) (sym (not_free p.chain child))
 
   named : user_name session.users (or_zero (user_number session p.user)) ≡ p.user
-  named = name_of_number session ok p.user (inr parent.declared)
+  named = name_of_number session p.user (inr parent.declared)
 
   reads_is : then_names (ReadsProcess ((p.born + 1) ∷ me)) ≡ s.next_category
   reads_is = reads_number session s f l me p parent.here parent.runs parent.room jobs (jobs_used session s f l me p parent) parent.jobs_ordered (jobs_free session s f l me p parent) C S parent.at_home parent.at_status

@@ -36,7 +36,7 @@ use Rattle.histar_layout.proofs.Declared.{user_range}
 use Rattle.histar_refinement.proofs.Tested.{guard_made, guard_owns_nothing}
 use Rattle.histar_refinement.proofs.Uses.{job_among, class_used, rights_used}
 use Rattle.histar_refinement.proofs.WrapTests as tests
-use Rattle.histar_process_rows.proofs.OwnLabels.{own_user_is}
+use Rattle.histar_refinement.proofs.OwnLabels.{own_user_is}
 use Rattle.histar_process_rows.proofs.BirthChecks.{IsModified}
 use Rattle.histar_wrap.specs.Scratch.{jobs_with, directory_label, kin_in}
 
