@@ -28,7 +28,6 @@ module _ {L : Type 0} (objects : Objects L) (n : ℕ) where
   pub changed_other : (f : Object L → Object L) (q : ℕ) → q ≢ n → changed_at objects n f q ≡ objects q
   changed_other f q other = elim (eqb_tells q n) [ inl e ↦ absurd (other e.1) | inr e ↦ ap (λ b. if b then option_map f (objects q) else objects q) e.0 ]
 
-
 module _ {L : Type 0} (objects : Objects L) (n d : ℕ) (o : Object L) where
   -- a new object is there
   pub new_there : with_new objects d n o n ≡ Some o

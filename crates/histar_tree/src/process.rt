@@ -138,11 +138,7 @@ fn running_by(
 }
 
 /// Returns the categories that a label owns but for these.
-fn owned_beside(
-    alloc: Global,
-    own: &Label,
-    known: &[Category],
-) -> Result<Vec<Category>, AllocError>
+fn owned_beside(alloc: Global, own: &Label, known: &[Category]) -> Result<Vec<Category>, AllocError>
     ensures { IfOk result (λ owned. owned.items ≡ owned_beside known.now own.now) }
 {
     let mut owned = Vec::new(alloc);

@@ -37,7 +37,7 @@ returns-in-Some-clause-stand g c =
     let three = g.S.LabelStore.labels c.put-2.new.self in
     let left : Object g.row.S-Id.Denot = record { label = c.in_ok-label.label; kind = Thread c.in_ok-clearance.clearance } in
     let after : objects_of (c.get_mut.follows.lender left) ≡ put (objects_of c.args.table.now) c.args.thread left =
-        (on_some c.get_mut.result c.in-Some.object _ c.in-Some.is (c.get_mut.follows.holds left)).objects in
+    (on_some c.get_mut.result c.in-Some.object _ c.in-Some.is (c.get_mut.follows.holds left)).objects in
     subst (AllStand three) (sym after)
     (stand_put three (objects_of c.args.table.now) c.args.thread left
     (all_on one three (trans one two three c.put.ensures.keeps c.put-2.ensures.keeps) (objects_of c.args.table.now) c.requires.stand)
@@ -50,7 +50,7 @@ returns-in-Some-clause-ok g c =
     let three = g.S.LabelStore.labels c.put-2.new.self in
     let left : Object g.row.S-Id.Denot = record { label = c.in_ok-label.label; kind = Thread c.in_ok-clearance.clearance } in
     let after : objects_of (c.get_mut.follows.lender left) ≡ put (objects_of c.args.table.now) c.args.thread left =
-        (on_some c.get_mut.result c.in-Some.object _ c.in-Some.is (c.get_mut.follows.holds left)).objects in
+    (on_some c.get_mut.result c.in-Some.object _ c.in-Some.is (c.get_mut.follows.holds left)).objects in
     let same = shown_on one three (trans one two three c.put.ensures.keeps c.put-2.ensures.keeps) c.args.table.now c.requires.stand in
     let value = new_shown two three c.put-2.ensures.keeps (Thread c.in_ok-clearance.clearance) (ap is_some c.in_ok-clearance.ensures.stands) (Thread c.args.clearance)
     (ap Thread (label_at-stands two c.in_ok-clearance.clearance c.args.clearance c.in_ok-clearance.ensures.stands)) c.in_ok-label.label c.args.label c.in_ok-label.ensures.stands in
