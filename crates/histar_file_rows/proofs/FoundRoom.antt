@@ -21,7 +21,6 @@ use Rattle.histar_object.specs.State.{State}
 use Rattle.histar_rules.specs.declared.raw.RawCall.{RawCall}
 use Rattle.histar_syscall.specs.KernelModel.{KernelModel, state}
 use Rattle.histar_syscall.specs.declared.trace.TraceEntry.{TraceEntry}
-use Rattle.histar_layout.specs.Directory as layout
 use Rattle.histar_layout.specs.Directory.{Entries}
 use Rattle.histar_layout.specs.declared.entry.Target.{Target}
 use Rattle.histar_calls.specs.declared.ending.Stopped.{Stopped}
@@ -113,12 +112,12 @@ module _ (session : Session) (ok : IsSession session) (old new : KernelModel) (f
         into session f p d ≡ None → get f.files (m ∷ d) ≡ None → nat_lt (length (entries_in f d)) most_entries ≡ true
         → (mid : KernelModel) → state mid ≡ state old → Chain old t (all_granted (before ++ walk_reads session ok (state old) f me t ready d)) mid → Runs (rest (the_room session ok (state old) f me t ready d m)) mid new t result → Row
 
-    module _ (go_on : GoesOnWithRoom) (open_so_far : into session f p d ≡ None) (mid : KernelModel) (stays : state mid ≡ state old) (chain : Chain old t (all_granted reached) mid) (on : Runs (at_entry (map.get listed m) (map.len listed == layout.most_entries)) mid new t result) where
+    module _ (go_on : GoesOnWithRoom) (open_so_far : into session f p d ≡ None) (mid : KernelModel) (stays : state mid ≡ state old) (chain : Chain old t (all_granted reached) mid) (on : Runs (at_entry (map.get listed m) (map.len listed == most_entries)) mid new t result) where
       -- the directory is full exactly where it has no room
-      few : map.len listed ≤ layout.most_entries
+      few : map.len listed ≤ most_entries
       few = (holds session ok (state old) f me t ready d (is_dir session ok (state old) f me t ready d open_so_far)).listable.few
 
-      full_test : (has_room : Bool) → roomy ≡ has_room → (map.len listed == layout.most_entries) ≡ not has_room
+      full_test : (has_room : Bool) → roomy ≡ has_room → (map.len listed == most_entries) ≡ not has_room
       full_test true e = let count = count_entries session (state old) f ready.lays_out.laid d in grind (arith, nat_tests, count, few, e)
       full_test false e = let count = count_entries session (state old) f ready.lays_out.laid d in grind (arith, nat_tests, count, few, e)
 
@@ -128,8 +127,8 @@ module _ (session : Session) (ok : IsSession session) (old new : KernelModel) (f
           refused_at_once session f me ready.caller call old new t ready.thread result reached mid chain stays ready.lays_out errno is no_access no_permission
           (has_reads (all_granted reached) (Refused errno) (among_granted_behind old.line t before reads)) end
 
-      looked_up : (target : Option Target) → map.get listed m ≡ target → Runs (at_entry target (map.len listed == layout.most_entries)) mid new t result
-      looked_up target is = subst (λ (o : Option Target). Runs (at_entry o (map.len listed == layout.most_entries)) mid new t result) is on
+      looked_up : (target : Option Target) → map.get listed m ≡ target → Runs (at_entry target (map.len listed == most_entries)) mid new t result
+      looked_up target is = subst (λ (o : Option Target). Runs (at_entry o (map.len listed == most_entries)) mid new t result) is on
 
       by_content : (class : Class) (c : Content) → get f.files (m ∷ d) ≡ Some (record { class = class; content = c }) → Row
       by_content class Dir is = ends_here EEXIST refl refl (refused_is None _ roomy (writes session f p d) open_so_far is refl refl) (looked_up _ (directory_there session ok (state old) f me t ready m d class is))
@@ -149,6 +148,6 @@ module _ (session : Session) (ok : IsSession session) (old new : KernelModel) (f
     unfolding find_room
     room_step runs go_on =
         walk_step_behind session ok old new f me t ready call result before start unchanged begun d
-        (λ directory. given (room_at (map.get directory.entries m) (map.len directory.entries == layout.most_entries)) (λ _. rest (record { place = directory.place; entries = directory.entries; name = m }))) runs
+        (λ directory. given (room_at (map.get directory.entries m) (map.len directory.entries == most_entries)) (λ _. rest (record { place = directory.place; entries = directory.entries; name = m }))) runs
         (λ errno is steps among. (refused_is (Some errno) (get f.files (m ∷ d)) roomy (writes session f p d) is refl refl refl, has_reads steps (Refused errno) among))
         (λ open_so_far mid stays chain on. by_stands go_on open_so_far mid stays chain on (get f.files (m ∷ d)) refl)

@@ -1,4 +1,4 @@
-//! What class a label is of: with the jobs that it is for, and of none where a category more stands in it.
+//! Classes that are read off labels, with their jobs, and of a label with a category more none.
 use crate::processes::session;
 use histar_flat::read_user_name;
 use histar_label::{Category, Label, Level};

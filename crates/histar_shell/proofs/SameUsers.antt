@@ -1,5 +1,5 @@
 -- What is read of the users and groups of a session reads no password.
-use Rattle.std.proofs.Common.{◌≡◌, ℕ, zero, suc, ◌+◌, ◌*◌, subst, Bool, false, List, [], ◌∷◌, length, cond, Option, None, Some, refl, sym, ap, if◌then◌else◌}
+use Rattle.std.proofs.Common.{◌≡◌, ◌∙◌, ℕ, zero, suc, ◌+◌, ◌*◌, subst, Bool, false, List, [], ◌∷◌, length, cond, Option, None, Some, refl, sym, ap, if◌then◌else◌}
 use Rattle.std.specs.Prelude.{map, not, nat_lt, option_and_then, option_map}
 use Rattle.std.specs.List.{position_or_len}
 use Rattle.std.specs.FinMap as maps
@@ -128,10 +128,10 @@ module _ (session : Session) where
     -- what stands at a path is of the same class
     node_still : (q : Path) (target : Target) (node : TreeNode) → IsNodeAt session s q target node → IsNodeAt (without_passwords session) s q target node
     node_still q target node is = record {
-      stands = is.stands;
-      leads = is.leads;
+      path_is = is.path_is;
+      target_is = is.target_is;
       label = is.label;
-      labelled = is.labelled;
+      label_is = is.label_is;
       of_class = record { jobs = jobs_still node.class is.of_class.jobs; is = same_class_label node.class ∙ is.of_class.is };
     }
 

@@ -43,9 +43,9 @@ same_node a b path class target = λ i. record { path = path i; class = class i;
 -- one node at most stands at a path
 one_node : (session : Session) (s : State) (q : Path) (target : Target) (a b : TreeNode) → IsNodeAt session s q target a → IsNodeAt session s q target b → a ≡ b
 one_node session s q target a b g h =
-    let label = same_Some g.label h.label (sym g.labelled ∙ h.labelled) in
-    same_node a b (g.stands ∙ sym h.stands)
-    (one_class session h.label a.class b.class (subst (IsClassLabel session a.class) label g.of_class) h.of_class) (g.leads ∙ sym h.leads)
+    let label = same_Some g.label h.label (sym g.label_is ∙ h.label_is) in
+    same_node a b (g.path_is ∙ sym h.path_is)
+    (one_class session h.label a.class b.class (subst (IsClassLabel session a.class) label g.of_class) h.of_class) (g.target_is ∙ sym h.target_is)
 
 -- at each path there is one tree at most, down to so many levels
 one_tree : (session : Session) (s : State) (levels : ℕ) → IsOne (IsTreeAt levels session s)

@@ -95,10 +95,10 @@ module _ (session : Session) (s : State) (f : Flat) (l : Laid session s f) where
   stands_at q there at target numbered =
       let g = guard_at session s f l q there at in
       record {
-        stands = refl;
-        leads = refl;
+        path_is = refl;
+        target_is = refl;
         label = guard_label l.category g.0;
-        labelled = label_at session s f l q there at (object_of target) numbered g.0 g.1;
+        label_is = label_at session s f l q there at (object_of target) numbered g.0 g.1;
         of_class = label_of_class session s f l q there at g.0 g.1;
       }
 

@@ -19,10 +19,10 @@ use Rattle.histar_tree.specs.declared.tree.TreeError.TheVariants.{NotATree, OutO
 
 -- what stands at a path where its entry leads: the object there has a label, which is of a class
 pub record IsNodeAt (session : Session) (s : State) (q : Path) (target : Target) (node : TreeNode) : Type 0 where
-  pub stands : node.path ≡ q
-  pub leads : node.target ≡ target
+  pub path_is : node.path ≡ q
+  pub target_is : node.target ≡ target
   pub label : Levels
-  pub labelled : label_there (s.objects (object_of target)) ≡ Some label
+  pub label_is : label_there (s.objects (object_of target)) ≡ Some label
   pub of_class : IsClassLabel session node.class label
 
 -- a tree at a path: what it is by its path, and where its entry leads
