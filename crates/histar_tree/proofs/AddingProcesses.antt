@@ -16,7 +16,7 @@ use Rattle.histar_process.specs.Parts.{home_of}
 use Rattle.histar_tree.specs.declared.process.ProcessNode.{ProcessNode}
 use Rattle.histar_tree.specs.declared.process.ProcessError.{ProcessError}
 use Rattle.histar_tree.specs.declared.process.ProcessError.TheVariants.{NoProcess, OutOfMemory}
-use Rattle.histar_tree.specs.Process.{ReadsFrom, node_in}
+use Rattle.histar_tree.specs.Process.{node_in}
 use Rattle.histar_tree.specs.Processes.{Found, child_of, children_of, all_of, processes_at, levels_at, AreProcessesOf, HasNoProcesses, Adds, AddsProcesses}
 
 -- processes before others, if there are others
@@ -118,17 +118,6 @@ module _ (session : Session) (s : State) (me : ProcName) (home : Home) (node : P
       (node ∷ added.0, begins ∙ ap (λ (x : Option (List ProcessNode)). x >>= λ rest. Some (node ∷ rest)) added.1, added.2 ∙ ap (λ (l : List ProcessNode). l ++ added.0) pushed ∙ append_assoc old (node ∷ []) added.0)
   after_node (Err NoProcess) none = begins ∙ ap (λ (x : Option (List ProcessNode)). x >>= λ rest. Some (node ∷ rest)) none
   after_node (Err OutOfMemory) none = tt
-
--- where the process is none, there are none below it
-pub no_node : (session : Session) (s : State) (me : ProcName) (home : Home) (old : List ProcessNode) (error : ProcessError) (result : Result (Unit {0}) ProcessError) → IsErrAnd result (λ e. e ≡ error)
-    → ReadsFrom (node_in session s me home) (Err error) → AddsProcesses session s me home old old result
-no_node session s me home old error result gave none =
-    let given = err_from_is_err_and result gave in
-    subst (AddsProcesses session s me home old old) (sym (given.1 ∙ ap Err given.2)) (failed error none)
-  where
-    failed : (e : ProcessError) → ReadsFrom (node_in session s me home) (Err e) → AddsProcesses session s me home old old (Err e)
-    failed NoProcess none = ap (λ (x : Option ProcessNode). x >>= λ first. all_of (processes_at (most_numbers - length me) session s) me (children_of s home.segment first.born) >>= λ rest. Some (first ∷ rest)) none
-    failed OutOfMemory none = tt
 
 module _ (session : Session) (s : State) (me : ProcName) (segment born births : ℕ) (old mid new : List ProcessNode) (fits : births < born) (so_far : AddsBirths session s me segment born births old mid) (child : Child) (listed : child_of s segment (births + 1) ≡ Some child) where
   -- at the last level a child has no processes

@@ -1,7 +1,7 @@
 -- The label of the thread of a process that runs tells the jobs that it holds.
-use Rattle.std.proofs.Common.{◌≡◌, ℕ, ◌==◌, ◌||◌, ◌&&◌, Bool, true, false, List, [], ◌∷◌, ◌++◌, length, None, Some, arith, refl, sym, ap, ◌∙◌}
+use Rattle.std.proofs.Common.{◌≡◌, ℕ, ◌==◌, ◌||◌, ◌&&◌, Bool, true, false, List, [], ◌∷◌, ◌++◌, None, Some, arith, refl, sym, ap, ◌∙◌}
 use Rattle.std.specs.Prelude.{map, nat_eq, not}
-use Rattle.std.specs.List.{list_any}
+use Rattle.std.specs.Set.{is_member}
 use Rattle.std.proofs.lemmas.Bool.Decides.{nat_tests}
 use Rattle.std.proofs.lemmas.List.{map-append}
 use Rattle.std.proofs.lemmas.Simd.{map-map}
@@ -14,7 +14,6 @@ use Rattle.histar_label.specs.Level.{is_star}
 use Rattle.histar_label.specs.declared.levels.Level.{Level}
 use Rattle.histar_label.specs.Levels.{Levels, default_of, level_of}
 use Rattle.histar_object.specs.State.{State}
-use Rattle.histar_layout.specs.Categories.{user_of}
 use Rattle.histar_layout.specs.Labelling.{owner_label}
 use Rattle.histar_layout.proofs.LabelLevels.{at_owning, owning_level}
 use Rattle.histar_layout.proofs.Members.{is_in, is_in-append}
@@ -34,14 +33,13 @@ use Rattle.histar_refinement.proofs.ClassTests.{none_as_user}
 use Rattle.histar_refinement.proofs.JobLabels.{default_owning}
 use Rattle.histar_refinement.proofs.OwnLabels.{name_of_number, own_user_is, own_kin_is}
 use Rattle.histar_refinement.proofs.Uses.{job_among}
-use Rattle.histar_tree.specs.declared.process.Life.{Life}
 use Rattle.histar_tree.specs.declared.process.Life.TheVariants.{Running}
 use Rattle.histar_tree.specs.Process.{owned_beside, held_by, running_by}
 
 -- a number is among some exactly where one of them is equal to it
-equal_to_one : (known : List ℕ) (c : ℕ) → list_any (λ k. nat_eq k c) known ≡ is_in known c
+equal_to_one : (known : List ℕ) (c : ℕ) → is_member nat_eq known c ≡ is_in known c
 equal_to_one [] c = refl
-equal_to_one (k ∷ known) c = let turned : nat_eq k c ≡ (c == k) = grind (arith, nat_tests) in (λ i. turned i || equal_to_one known c i)
+equal_to_one (k ∷ known) c = let equal : nat_eq c k ≡ (c == k) = grind (arith, nat_tests) in (λ i. equal i || equal_to_one known c i)
 
 -- the default is no star
 no_star : is_star (owning_level false false) ≡ false
@@ -65,7 +63,7 @@ module _ (category : Categories) (different : AreDifferent category) (known : Li
 
   -- whether an exception is owned and not known
   abbrev test : ℕ × Level → Bool
-  test e = is_star e.1 && not (list_any (λ k. nat_eq k e.0) (map category known))
+  test e = is_star e.1 && not (is_member nat_eq (map category known) e.0)
 
   abbrev numbers : List ProcName → List ℕ
   numbers jobs = map category (map OfJob jobs)
@@ -77,7 +75,7 @@ module _ (category : Categories) (different : AreDifferent category) (known : Li
   level c = at_owning (map category (known ++ map OfJob held)) (numbers chain) c ∙ ap (λ b. owning_level b (is_in (numbers chain) c)) (owned_parts c)
 
   fails : (c : ℕ) (l : Level) → is_star l ≡ false → test (c, l) ≡ false
-  fails c l none = ap (λ b. b && not (list_any (λ k. nat_eq k c) (map category known))) none
+  fails c l none = ap (λ b. b && not (is_member nat_eq (map category known) c)) none
 
   module _ (no_job : (job : ProcName) → among known (OfJob job) ≡ false) (apart : (job : ProcName) → has chain job ≡ true → has held job ≡ false) where
     not_known : (c : ℕ) → is_in (numbers held) c ≡ true → is_in (map category known) c ≡ false

@@ -5,7 +5,6 @@ pub mod TreeLaid
 pub mod OneTarget
 pub mod Resolving
 pub mod PathsLaid
-pub mod ReadingProcesses
 pub mod AddingProcesses
 pub mod HeldJobs
 pub mod ProcessesLaid

@@ -17,12 +17,11 @@ use Rattle.histar_calls.specs.declared.places.Home.{Home as Where}
 use Rattle.histar_process.specs.Caller.{caller_by, caller_in}
 use Rattle.histar_process.specs.declared.caller.Caller.{Caller}
 use Rattle.histar_login.specs.Start.{places_of}
-use Rattle.histar_refinement.specs.Addresses.{home_address}
-use Rattle.histar_refinement.specs.Addresses.Step.{Home, Status, Inside, Runner}
+use Rattle.histar_refinement.specs.Addresses.Step.{Home, Status}
 use Rattle.histar_refinement.specs.Guards.{guard_label, rights_label}
 use Rattle.histar_refinement.specs.Labels.{process_guard, thread_rights}
 use Rattle.histar_refinement.specs.NumberedClasses.{job_numbers}
-use Rattle.histar_refinement.specs.Processes.{or_zero, listed_by, status_by}
+use Rattle.histar_refinement.specs.Processes.{or_zero, listed_by}
 use Rattle.histar_refinement.specs.LaysOut.{Laid}
 use Rattle.histar_refinement.proofs.CallerFound.{is_or_zero, where_is, status_is, child_is, caller_is, runs_here}
 use Rattle.histar_refinement.proofs.JobLabels.{chain_is}

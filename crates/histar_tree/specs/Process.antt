@@ -1,6 +1,7 @@
 -- What a state shows of one process: its user, the jobs that it is in and those that it holds, and whether it runs.
 use Rattle.std.specs.Prelude.{◌≡◌, ℕ, not, ◌&&◌, nat_eq, List, ◌∷◌, length, map, Option, None, Some, Result, Ok, Err, if◌then◌else◌}
-use Rattle.std.specs.List.{filter, list_any}
+use Rattle.std.specs.List.{filter}
+use Rattle.std.specs.Set.{is_member}
 use Rattle.histar_flat.specs.Words.{ProcName}
 use Rattle.histar_flat.specs.Sessions.{Session}
 use Rattle.histar_label.specs.Level.{is_star}
@@ -30,7 +31,7 @@ thread_label found = if is_thread found then label_there found else None
 
 -- the categories that a label owns but for these, by rising numbers
 abbrev pub owned_beside : List ℕ → Levels → List ℕ
-owned_beside known own = map (λ e. e.0) (filter (λ e. is_star e.1 && not (list_any (λ c. nat_eq c e.0) known)) (exceptions_of own))
+owned_beside known own = map (λ e. e.0) (filter (λ e. is_star e.1 && not (is_member nat_eq known e.0)) (exceptions_of own))
 
 -- The jobs that a process holds, by the label of its thread: what that owns but for the process's own two categories and what the
 -- process owns as its user.

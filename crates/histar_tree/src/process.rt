@@ -1,13 +1,15 @@
 //! Reading one process.
-ghost use Rattle.std.specs.Prelude.{◌≡◌, IfOk};
+ghost use Rattle.std.specs.Prelude.{◌≡◌, ◌&&◌, not, nat_eq, IfOk};
+ghost use Rattle.std.specs.Set.{is_member};
 ghost use Rattle.std.specs.Option.{option_copied};
+ghost use Rattle.histar_label.specs.Level.{is_star};
 ghost use Rattle.histar_object.specs.Objects.{objects_of};
 ghost use Rattle.histar_syscall.specs.KernelModel.{state};
 ghost use Rattle.histar_tree.specs.Process.{ReadsFrom, container_label, life_in, node_in, owned_beside, running_by, thread_label};
 
 use histar_calls::Home;
 use histar_flat::{Name, ProcName};
-use histar_label::{Category, Label, LabelStore};
+use histar_label::{Category, Label, LabelStore, Level};
 use histar_layout::{Chain, UserTable, is_in_job, jobs_in, read_status, user_of};
 use histar_object::ObjId;
 use histar_process::{Caller, caller_in, joined, owned_by, user_name};
@@ -144,11 +146,25 @@ fn owned_beside(alloc: Global, own: &Label, known: &[Category]) -> Result<Vec<Ca
     let mut owned = Vec::new(alloc);
     let exceptions = own.exceptions();
     for &(category, level) in exceptions {
-        if level.is_star() && !known.contains(&category) {
+        if is_owned_beside(known, category, level) {
             owned.push(category)?;
         }
     }
     Ok(owned)
+}
+
+/// Checks whether a category is owned at this level, and is none of these.
+fn is_owned_beside(known: &[Category], category: Category, level: Level) -> bool
+    ensures { result ≡ (is_star level && not (is_member nat_eq known.now category)) }
+{
+    level.is_star() && !is_among(known, category)
+}
+
+/// Checks whether a category is one of these.
+fn is_among(known: &[Category], category: Category) -> bool
+    ensures { result ≡ is_member nat_eq known.now category }
+{
+    known.iter().any(|other| category == *other)
 }
 
 /// Returns the label of a container.
