@@ -1,6 +1,6 @@
 -- What a run says, put together from what its parts say.
 use Rattle.std.proofs.Common.{◌≡◌, ℕ, ◌<◌, true, false, ltb, List, [], ◌++◌, length, Option, Some, None, Result, Ok, Err, refl, sym, ap, subst, ◌∙◌, arith, rules, tests, append-nil, inl, inr}
-use Rattle.std.specs.Prelude.{IfSome, IsOk, is_ok}
+use Rattle.std.specs.Prelude.{Bool, IfSome, IsOk, is_ok}
 use Rattle.std.specs.Io.KnownBytes.{Keeps}
 use Rattle.std.proofs.lemmas.Bool.{cases_lt, false≢true}
 use Rattle.std.proofs.lemmas.List.{length-append}
@@ -14,6 +14,7 @@ use Rattle.histar_script.specs.Outcome.{Gives, input_fault}
 use Rattle.histar_script.specs.Lines.{most_script_bytes}
 use Rattle.histar_script.specs.Reading.{script_of}
 use Rattle.histar_script.specs.Runs.{IsOutputFault, StopsReading, LeavesSink, is_read_failed, RunsTaken, RunsInput}
+use Rattle.histar_devices.specs.Device.{CountsFailure}
 use Rattle.histar_devices.specs.Input.{most_taken, TakesAll, TakesSome}
 use Rattle.histar_flat.specs.Sessions.{Session}
 use Rattle.histar_shell.specs.declared.session.Options.{Options}
@@ -31,6 +32,18 @@ use Rattle.histar_shell.proofs.SessionMeanings.{meant_run}
 -- what a run answers
 abbrev Answer : Type 0
 Answer = Result (List TraceEntry) Fault
+
+-- no read failed where the fault is one of the output
+pub no_read_failed : (f : Fault) → IsOutputFault f → is_read_failed {A = List TraceEntry} (Err f) ≡ false
+no_read_failed (BadScript n) fault = refl
+no_read_failed TooLong fault = refl
+no_read_failed OutOfMemory fault = refl
+no_read_failed ReadFailed fault = absurd fault
+no_read_failed WriteFailed fault = refl
+
+-- a count that went on from where it was left
+pub counts_on : (old mid new : ℕ) (failed : Bool) → mid ≡ old → CountsFailure mid new failed → CountsFailure old new failed
+counts_on old mid new failed same counts = rw (sym same) counts
 
 module _ (options : Options) where
   -- ---- a text that is run

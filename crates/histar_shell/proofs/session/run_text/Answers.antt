@@ -2,7 +2,7 @@ use Rattle.std.proofs.lemmas.Result.{err_from_is_err_and}
 use Rattle.histar_script.proofs.Sinks.{sink_left}
 use Rattle.histar_shell.proofs.CallRows.{lines_are_rows}
 use Rattle.histar_shell.proofs.SessionMeanings.{tree_at_last}
-use Rattle.histar_shell.proofs.RunLemmas.{answered_text, answers_script, begins_ending, begins_script, begun_text, faulty_text, sink_called, starts_with, unbooted_text}
+use Rattle.histar_shell.proofs.RunLemmas.{answered_text, answers_script, begins_ending, begins_script, begun_text, counts_on, faulty_text, no_read_failed, sink_called, starts_with, unbooted_text}
 use Rattle.histar_shell.proofs.session.run_text.Goals as goal
 
 pub returns-in_err-script-clause-nothing : goal.returns-in_err-script-clause-nothing
@@ -23,6 +23,16 @@ returns-in_err-answer_calls-clause-nothing g c =
     let p = err_from_is_err_and c.from_residual-in_err-answer_calls.result c.from_residual-in_err-answer_calls.ensures.1 in
     rw (p.1, p.2) (sink_called c.args.writer.now c.answer_calls.new.writer c.in_err-answer_calls.field-0.0 c.in_err-answer_calls.ensures.faults)
 
+pub returns-in_err-answer_calls-clause-reads : goal.returns-in_err-answer_calls-clause-reads
+returns-in_err-answer_calls-clause-reads g c =
+    let p = err_from_is_err_and c.from_residual-in_err-answer_calls.result c.from_residual-in_err-answer_calls.ensures.1 in
+    rw (p.1, p.2) (no_read_failed c.in_err-answer_calls.field-0.0 c.in_err-answer_calls.ensures.faults)
+
+pub returns-in_err-answer_calls-clause-writes : goal.returns-in_err-answer_calls-clause-writes
+returns-in_err-answer_calls-clause-writes g c =
+    let p = err_from_is_err_and c.from_residual-in_err-answer_calls.result c.from_residual-in_err-answer_calls.ensures.1 in
+    rw (p.1, p.2) c.in_err-answer_calls.ensures.count
+
 pub returns-in_err-answer_calls-clause-runs : goal.returns-in_err-answer_calls-clause-runs
 returns-in_err-answer_calls-clause-runs g c =
     let p = err_from_is_err_and c.from_residual-in_err-answer_calls.result c.from_residual-in_err-answer_calls.ensures.1 in
@@ -40,6 +50,16 @@ pub returns-in_err-write_ending-clause-nothing : goal.returns-in_err-write_endin
 returns-in_err-write_ending-clause-nothing g c =
     let p = err_from_is_err_and c.from_residual-in_err-write_ending.result c.from_residual-in_err-write_ending.ensures.1 in
     rw (p.1, p.2) (sink_called c.args.writer.now c.write_ending.new.writer c.in_err-write_ending.field-0.0 c.in_err-write_ending.ensures.faults)
+
+pub returns-in_err-write_ending-clause-reads : goal.returns-in_err-write_ending-clause-reads
+returns-in_err-write_ending-clause-reads g c =
+    let p = err_from_is_err_and c.from_residual-in_err-write_ending.result c.from_residual-in_err-write_ending.ensures.1 in
+    rw (p.1, p.2) (no_read_failed c.in_err-write_ending.field-0.0 c.in_err-write_ending.ensures.faults)
+
+pub returns-in_err-write_ending-clause-writes : goal.returns-in_err-write_ending-clause-writes
+returns-in_err-write_ending-clause-writes g c =
+    let p = err_from_is_err_and c.from_residual-in_err-write_ending.result c.from_residual-in_err-write_ending.ensures.1 in
+    rw (p.1, p.2) (counts_on _ _ _ _ c.in_ok-answer_calls.ensures.count c.in_err-write_ending.ensures.count)
 
 pub returns-in_err-write_ending-clause-runs : goal.returns-in_err-write_ending-clause-runs
 returns-in_err-write_ending-clause-runs g c =
