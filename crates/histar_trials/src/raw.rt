@@ -37,6 +37,9 @@ fn agrees(line: &[u8], entry: &TraceEntry) -> bool {
 fn shows(text: &[u8], trace: &[TraceEntry]) -> bool {
     let mut rest = text;
     for entry in trace {
+        if rest.is_empty() {
+            return false;
+        }
         let (line, after) = split_line(rest);
         if !agrees(line, entry) {
             return false;
