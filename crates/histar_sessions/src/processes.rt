@@ -3,6 +3,7 @@
 ghost use Rattle.std.specs.Prelude.{IfOk};
 ghost use Rattle.histar_layout.specs.UserTable.{HaveOwnNames};
 
+use histar_calls::Places;
 use histar_flat::{
     Name, Password, Path, ProcName, Session, User, read_name, read_password, read_user_name,
 };
@@ -10,6 +11,7 @@ use histar_label::PlainStore;
 use histar_layout::{Chain, Target, UserTable};
 use histar_login::{boot, login};
 use histar_process::{exit, find_caller, spawn};
+use histar_syscall::Kernel;
 use histar_tree::{Life, ProcessNode, procs_of, resolve};
 use histar_wrap::wrap;
 use std::alloc::Global;
@@ -111,6 +113,25 @@ fn is_life(life: &Life, expected: &Expected) -> bool {
     }
 }
 
+/// Has a child be born and exit, then has process 0 log in and begin a job.
+fn make_calls(
+    alloc: Global,
+    kernel: &mut Kernel<PlainStore>,
+    places: &Places,
+    users: &UserTable,
+) -> Result<(), Fail> {
+    let zero = ProcName::zero();
+    let caller = find_caller(kernel, places.home, &zero).ok_or("process 0")?;
+    spawn::spawn(alloc, kernel, users, &zero, &caller)?;
+    let child = find_caller(kernel, places.home, &zero.child(1)).ok_or("child 1")?;
+    exit::exit(alloc, kernel, &child, 5)?;
+    let (name, password) = root()?;
+    login::login(alloc, kernel, users, &caller, name, password)?;
+    let scratch = [read_name(b"scratch").ok_or("a name")?];
+    wrap::wrap(alloc, kernel, places, users, &zero, &caller, &scratch)?;
+    Ok(())
+}
+
 #[test]
 fn slash_and_the_processes_are_found(rt: HostRuntime) -> Result<(), Fail> {
     let alloc = rt.alloc();
@@ -123,23 +144,7 @@ fn slash_and_the_processes_are_found(rt: HostRuntime) -> Result<(), Fail> {
     assert!(rt; found == Some(Target::Directory(place.container, place.listing)));
     let first = procs_of(alloc, &kernel, &places, &users)?.ok_or("processes")?;
     check_processes(&rt, first.as_slice(), AFTER_BOOT);
-    let zero = ProcName::zero();
-    let caller = find_caller(&kernel, places.home, &zero).ok_or("process 0")?;
-    spawn::spawn(alloc, &mut kernel, &users, &zero, &caller)?;
-    let child = find_caller(&kernel, places.home, &zero.child(1)).ok_or("child 1")?;
-    exit::exit(alloc, &mut kernel, &child, 5)?;
-    let (name, password) = root()?;
-    login::login(alloc, &mut kernel, &users, &caller, name, password)?;
-    let scratch = [read_name(b"scratch").ok_or("a name")?];
-    wrap::wrap(
-        alloc,
-        &mut kernel,
-        &places,
-        &users,
-        &zero,
-        &caller,
-        &scratch,
-    )?;
+    make_calls(alloc, &mut kernel, &places, &users)?;
     let last = procs_of(alloc, &kernel, &places, &users)?.ok_or("processes")?;
     check_processes(&rt, last.as_slice(), AT_THE_END);
     Ok(())
