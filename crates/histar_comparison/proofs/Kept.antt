@@ -3,7 +3,7 @@ use Rattle.std.proofs.Common.{◌≡◌, Bool, true, false, List, [], ◌∷◌,
 use Rattle.std.specs.Prelude.{◌||◌}
 use Rattle.histar_flat.specs.declared.calls.CallLine.{CallLine}
 use Rattle.histar_flat.specs.declared.calls.UnixCall.{UnixCall}
-use Rattle.histar_flat.specs.declared.calls.UnixCall.TheVariants.{Create, Mkdir, Write, Append, Read, List as ListCall, Stat, Unlink, Rmdir, Rmtree, Rename, Spawn, Exit, Status, Kill, Whoami, Login, Wrap}
+use Rattle.histar_flat.specs.declared.calls.UnixCall.TheVariants.{Unlink, Rmdir, Rmtree, Rename, Wrap}
 use Rattle.histar_flat.specs.declared.replies.Reply.{Reply}
 use Rattle.histar_flat.specs.declared.replies.Reply.TheVariants.{Done, Data, Entries, Stats, Child, Running, Exited, User, Refused, Gone}
 use Rattle.histar_flat.specs.Words.{Path, ProcName}
@@ -72,19 +72,7 @@ module _ (job : ProcName) where
   directory_is directory (Rmtree q) reply = once_granted directory (left_without q directory) reply
   directory_is directory (Rename q name) reply = once_granted directory (once_done directory (Rename q name)) reply
   directory_is directory (Wrap q) reply = once_wrapped directory q reply
-  directory_is directory (Create q mode) reply = stays directory reply
-  directory_is directory (Mkdir q mode) reply = stays directory reply
-  directory_is directory (Write q bytes) reply = stays directory reply
-  directory_is directory (Append q bytes) reply = stays directory reply
-  directory_is directory (Read q) reply = stays directory reply
-  directory_is directory (ListCall q) reply = stays directory reply
-  directory_is directory (Stat q) reply = stays directory reply
-  directory_is directory Spawn reply = stays directory reply
-  directory_is directory (Exit n) reply = stays directory reply
-  directory_is directory (Status name) reply = stays directory reply
-  directory_is directory (Kill name) reply = stays directory reply
-  directory_is directory Whoami reply = stays directory reply
-  directory_is directory (Login name password) reply = stays directory reply
+  directory_is directory _ reply = stays directory reply
 
   -- a reply that was followed and shown is kept
   pub reply_kept : (old mid new : RepliesModel) (a : Answered) (wraps granted : Option Path) → wraps ≡ wrap_path a.call.call → granted ≡ once_done old.directory a.call.call

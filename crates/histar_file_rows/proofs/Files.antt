@@ -16,7 +16,8 @@ use Rattle.histar_flat.specs.Classes.{Class, Process}
 use Rattle.histar_flat.specs.FlatState.{Flat, Node, Content, is_some_and, is_dir, into, bytes_at, writes, with_bytes as with_file_bytes}
 use Rattle.histar_flat.specs.FlatState.Content.{Dir, File}
 use Rattle.histar_flat.specs.FlatCalls as flat
-use Rattle.histar_flat.specs.FlatCalls.{refused, no_file, changed, most_bytes}
+use Rattle.histar_flat.specs.FlatCalls.{refused, changed, most_bytes}
+use Rattle.histar_flat.proofs.CommonNeeds.{no_file}
 use Rattle.histar_object.specs.State.{State, with_segment_bytes}
 use Rattle.histar_object.specs.Objects.{bytes_in}
 use Rattle.histar_rules.specs.declared.raw.RawCall.{RawCall}

@@ -16,7 +16,8 @@ use Rattle.histar_flat.specs.Files.{get}
 use Rattle.histar_flat.specs.Classes.{Class, Process, may_write}
 use Rattle.histar_flat.specs.FlatState.{Flat, Content, entries_in, into, Node, is_some_and, writes}
 use Rattle.histar_flat.specs.FlatState.Content.{Dir, File}
-use Rattle.histar_flat.specs.FlatCalls.{refused, most_entries, no_room}
+use Rattle.histar_flat.specs.FlatCalls.{refused, most_entries}
+use Rattle.histar_flat.proofs.CommonNeeds.{no_room}
 use Rattle.histar_object.specs.State.{State}
 use Rattle.histar_rules.specs.declared.raw.RawCall.{RawCall}
 use Rattle.histar_syscall.specs.KernelModel.{KernelModel, state}

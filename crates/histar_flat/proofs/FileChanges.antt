@@ -106,7 +106,7 @@ writers_take_private_files f tree q owner bytes at session me p call runs other 
           ∙ ap (get f.files) (stays (k ∷ d) (n ∷ d) q (not_above k d w)) ∙ at;
       spawns = λ is. at;
       exits = λ n is. at;
-      logs_in = λ name password is known free. at;
+      logs_in = λ name is known free. at;
       kills = λ n. at;
       wraps = λ n d is walked free w named. get_other f.files (n ∷ d) _ q (elsewhere f q owner bytes at (n ∷ d) free) ∙ at;
     }

@@ -5,24 +5,30 @@ use Rattle.std.proofs.Common.{ap, sym, ◌∙◌, subst}
 use Rattle.std.proofs.lemmas.Bool.{true≢false, and_parts}
 use Rattle.histar_flat.specs.declared.calls.CallLine.{CallLine}
 use Rattle.histar_flat.specs.declared.calls.UnixCall.{UnixCall}
-use Rattle.histar_flat.specs.declared.calls.UnixCall.TheVariants.{Spawn, Exit, Wrap}
 use Rattle.histar_flat.specs.declared.replies.Reply.TheVariants.{Gone}
 use Rattle.histar_flat.specs.Words.{ProcName}
 use Rattle.histar_flat.specs.PathOrder.{under_process}
 use Rattle.histar_flat.specs.Sessions.{Session}
 use Rattle.histar_flat.specs.Classes.{Process}
 use Rattle.histar_flat.specs.FlatState.{Flat}
+use Rattle.histar_flat.specs.Effects.{Effect}
+use Rattle.histar_flat.specs.Effects.Effect.{Spawns, Exits, Wraps}
+use Rattle.histar_flat.specs.CallRules.{rule}
 use Rattle.histar_flat.specs.FlatCalls.{if_running, running, reply_to, flat_after}
 use Rattle.histar_flat.specs.Meaning.{boot, first_process, flat_end}
 use Rattle.histar_flat.proofs.Laws.{not_running_is_gone}
 use Rattle.histar_flat.proofs.Changes.{EachChange, by_line}
 
+-- an effect that neither makes a process nor ends the one whose it is
+abbrev pub keeps : Effect → Bool
+keeps Spawns = false
+keeps (Exits n) = false
+keeps Wraps = false
+keeps _ = true
+
 -- a call that neither makes a process nor ends the one that makes it
 abbrev pub keeps_processes : UnixCall → Bool
-keeps_processes Spawn = false
-keeps_processes (Exit n) = false
-keeps_processes (Wrap q) = false
-keeps_processes _ = true
+keeps_processes call = keeps (rule call).effect
 
 -- all calls of a script are such
 abbrev pub all_keep_processes : List CallLine → Bool
@@ -59,22 +65,22 @@ others_are_still f h n q = ap if_running (h.others n q)
 
 module _ (session : Session) where
   alone_changes : (f : Flat) → IsAlone f → (p : Process) (call : UnixCall) → IsPlain p → keeps_processes call ≡ true → EachChange session f [] p call IsAlone
-  alone_changes f h p call plain keeps = record {
+  alone_changes f h p call plain keeping = record {
     stays = h;
     makes = λ n d x walked free w own. record { first = h.first; is_first = h.is_first; plain = h.plain; others = h.others };
     overwrites = λ n d bytes file w. record { first = h.first; is_first = h.is_first; plain = h.plain; others = h.others };
     cuts = λ n d takes w. record { first = h.first; is_first = h.is_first; plain = h.plain; others = h.others };
     renames = λ n k d takes apart free w. record { first = h.first; is_first = h.is_first; plain = h.plain; others = h.others };
-    spawns = λ is. absurd (true≢false (sym keeps ∙ ap keeps_processes is));
-    exits = λ n is. absurd (true≢false (sym keeps ∙ ap keeps_processes is));
-    logs_in = λ name password is known free. record {
+    spawns = λ is. absurd (true≢false (sym keeping ∙ ap keeps is));
+    exits = λ n is. absurd (true≢false (sym keeping ∙ ap keeps is));
+    logs_in = λ name is known free. record {
       first = record p { user = name; held = [] };
       is_first = refl;
       plain = record { free = plain.free; runs = plain.runs };
       others = h.others;
     };
     kills = λ n. record { first = h.first; is_first = h.is_first; plain = h.plain; others = λ m q. gone (under_process (n ∷ []) (m ∷ q)) (f.processes (m ∷ q)) (h.others m q) };
-    wraps = λ n d is walked free w named. absurd (true≢false (sym keeps ∙ ap keeps_processes is));
+    wraps = λ n d is walked free w named. absurd (true≢false (sym keeping ∙ ap keeps is));
   }
     where
       gone : (b : Bool) (o : Option Process) → o ≡ None → cond b None o ≡ None

@@ -103,7 +103,7 @@ module _ (f : Flat) (me : ProcName) (p : Process) (here : f.processes me ≡ Som
     renames = λ n k d takes apart free w name h. h;
     spawns = λ is. given_at_birth (record p { born = p.born + 1 }) (record { user = p.user; chain = p.chain; held = []; exited = None; born = 0 }) (omega arith);
     exits = λ n is. given_with (record p { exited = Some n }) (omega arith);
-    logs_in = λ name password is known free. given_with (record p { user = name; held = [] }) (omega arith);
+    logs_in = λ name is known free. given_with (record p { user = name; held = [] }) (omega arith);
     kills = λ n. given_without f (n ∷ me);
     wraps = λ n d is walked free w named.
         given_at_birth (record p { held = p.held ++ next_child me p ∷ []; born = p.born + 1 })
@@ -245,7 +245,7 @@ module _ (f : Flat) (given : NamesAreGiven f) (tree : IsTree f) (me : ProcName) 
     };
     spawns = λ is. given_birth (record p { born = p.born + 1 }) (record { user = p.user; chain = p.chain; held = []; exited = None; born = 0 }) refl (λ job k. inl k) (λ job k. inl (known_in_chain job (in_chain p.chain job k)));
     exits = λ n is. given_instead (record p { exited = Some n }) (omega arith) (λ job k. k);
-    logs_in = λ name password is known free. given_instead (record p { user = name; held = [] }) (omega arith) (λ job k. known_in_chain job (in_chain p.chain job k));
+    logs_in = λ name is known free. given_instead (record p { user = name; held = [] }) (omega arith) (λ job k. known_in_chain job (in_chain p.chain job k));
     kills = λ n. given_processes f given (without_process f (n ∷ me)).processes (given_without f (n ∷ me)) (λ q y e. inl (left (under_process (n ∷ me) q) (f.processes q) y e));
     wraps = λ n d is walked free w named.
         let q : Process = record p { held = p.held ++ next_child me p ∷ []; born = p.born + 1 } in

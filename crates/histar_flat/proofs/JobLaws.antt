@@ -119,7 +119,7 @@ module _ (session : Session) (f : Flat) (tree : IsTree f) (job : ProcName) (q : 
           ∙ ap (get f.files) (stays (k ∷ d) (n ∷ d) q (not_below k d w));
       spawns = λ is. refl;
       exits = λ n is. refl;
-      logs_in = λ name password is known free. refl;
+      logs_in = λ name is known free. refl;
       kills = λ n. refl;
       wraps = λ n d is walked free w named. get_other f.files (n ∷ d) _ q (apart n d w);
     }
@@ -208,7 +208,7 @@ module _ (f : Flat) (me : ProcName) (p : Process) (other : ProcName) (apart : un
     renames = λ n k d away differs free w. refl;
     spawns = λ is. born_other (record p { born = p.born + 1 }) (record { user = p.user; chain = p.chain; held = []; exited = None; born = 0 }) (p.born + 1);
     exits = λ n is. with_other (record p { exited = Some n });
-    logs_in = λ name password is known free. with_other (record p { user = name; held = [] });
+    logs_in = λ name is known free. with_other (record p { user = name; held = [] });
     kills = λ n. not_killed n;
     wraps = λ n d is walked free w named.
         born_other (record p { held = p.held ++ next_child me p ∷ []; born = p.born + 1 }) (record { user = p.user; chain = inner_chain me p; held = []; exited = None; born = 0 }) (p.born + 1);

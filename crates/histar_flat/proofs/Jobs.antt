@@ -58,7 +58,7 @@ module _ (session : Session) where
         (record { nobodys = λ e. let h = here.nobodys e in record { in_none = h.in_none; holds_none = refl }; declared = here.declared });
     exits = λ n is. placed_with f me (record p { exited = Some n }) placed
         (record { nobodys = λ e. let h = here.nobodys e in record { in_none = h.in_none; holds_none = h.holds_none }; declared = here.declared });
-    logs_in = λ name password is known free. placed_with f me (record p { user = name; held = [] }) placed
+    logs_in = λ name is known free. placed_with f me (record p { user = name; held = [] }) placed
         (record { nobodys = λ e. record { in_none = in_no_job p free; holds_none = refl }; declared = inr known });
     kills = λ n q x e. placed q x (left (under_process (n ∷ me) q) (f.processes q) x e);
     wraps = λ n d is walked free w named.

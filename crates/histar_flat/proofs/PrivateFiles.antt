@@ -12,7 +12,8 @@ use Rattle.histar_flat.specs.Sessions.{Session}
 use Rattle.histar_flat.specs.Files.{get}
 use Rattle.histar_flat.specs.Classes.{Process, is_free, may_write}
 use Rattle.histar_flat.specs.FlatState.{Flat, IsTree, is_some_and, writes, moved}
-use Rattle.histar_flat.specs.FlatCalls.{most_bytes, no_file, refused, flat_after}
+use Rattle.histar_flat.specs.FlatCalls.{most_bytes, refused, flat_after}
+use Rattle.histar_flat.proofs.CommonNeeds.{no_file}
 use Rattle.histar_flat.specs.Laws.{private_file, runs_for, takes_away}
 use Rattle.histar_flat.proofs.FileLemmas.{get_other, get-keep}
 use Rattle.histar_flat.proofs.Refusals.{passes_first, passes_later, passed}
@@ -57,7 +58,7 @@ module _ (f : Flat) (q : Path) (owner : Name) (bytes : List ℕ) (h : get f.file
           ∙ ap (get f.files) (stays (k ∷ d) (n ∷ d) q below) ∙ h;
       spawns = λ is. h;
       exits = λ n is. h;
-      logs_in = λ name password is known free. h;
+      logs_in = λ name is known free. h;
       kills = λ n. h;
       wraps = λ n d is walked free w named. get_other f.files (n ∷ d) _ q (elsewhere (n ∷ d) free) ∙ h;
     }

@@ -110,7 +110,7 @@ module _ (session : Session) (f : Flat) (me : ProcName) (given : is_given f.proc
       renames = λ n k d takes apart free w. gone;
       spawns = λ is. gone_at_birth (record p { born = p.born + 1 }) (record { user = p.user; chain = p.chain; held = []; exited = None; born = 0 });
       exits = λ n is. gone_with (record p { exited = Some n });
-      logs_in = λ name password is known free. gone_with (record p { user = name; held = [] });
+      logs_in = λ name is known free. gone_with (record p { user = name; held = [] });
       kills = λ n. gone_without (under_process (n ∷ caller) me);
       wraps = λ n d is walked free w named.
           gone_at_birth (record p { held = p.held ++ next_child caller p ∷ []; born = p.born + 1 })

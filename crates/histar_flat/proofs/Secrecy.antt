@@ -1,31 +1,33 @@
 -- No reply to others tells what a file holds that is its owner's alone, or a group's: one call, and a whole run.
-use Rattle.std.specs.Prelude.{◌≡◌, ◌+◌, ℕ, Bool, true, false, not, cond, List, [], ◌∷◌, ◌++◌, map, length, nat_le, Option, Some, None, option_map, refl}
+use Rattle.std.specs.Prelude.{◌≡◌, ◌+◌, ℕ, Bool, true, false, not, cond, List, [], ◌∷◌, ◌++◌, map, Option, Some, None, option_map, refl}
 use Rattle.std.proofs.Common.{ap, sym, ◌∙◌, subst, inl, inr}
 use Rattle.std.proofs.lemmas.Bool.{true≢false, and_parts, not-true}
 use Rattle.std.specs.FinMap.{find}
 use Rattle.histar_flat.specs.declared.calls.CallLine.{CallLine}
 use Rattle.histar_flat.specs.declared.calls.UnixCall.{UnixCall}
-use Rattle.histar_flat.specs.declared.calls.UnixCall.TheVariants.{Create, Mkdir, Read, Write, Append, List as ListCall, Stat, Unlink, Rmdir, Rmtree, Rename, Spawn, Exit, Status, Kill, Whoami, Login, Wrap}
+use Rattle.histar_flat.specs.Effects.{Effect, apply}
+use Rattle.histar_flat.specs.Effects.Effect.{Nothing, Makes, Stores, Removes, Renames, Wraps}
+use Rattle.histar_flat.specs.CallRules.{path_of, rule}
 use Rattle.histar_flat.specs.declared.replies.Errno.{Errno}
-use Rattle.histar_flat.specs.declared.replies.Errno.TheVariants.{EACCES, EFBIG}
-use Rattle.histar_flat.specs.declared.replies.Reply.TheVariants.{Refused}
 use Rattle.histar_flat.specs.Words.{Name, Path, ProcName}
 use Rattle.histar_flat.specs.PathOrder.{path_cmp, same, same_path, under_path, under_process, parent}
 use Rattle.histar_flat.specs.Sessions.{Session, is_member}
 use Rattle.histar_flat.specs.Files.{get, insert, from_list}
-use Rattle.histar_flat.specs.Classes.{Class, Process, is_free, may_read, may_write, class_made}
+use Rattle.histar_flat.specs.Classes.{Class, Process, is_free, may_read, may_write}
 use Rattle.histar_flat.specs.Classes.Class.{Private, Readable, Open, Scratch, Grouped}
-use Rattle.histar_flat.specs.FlatState.{Flat, Node, Content, is_some_and, reads, writes, bytes_of, bytes_at, class_of, with_bytes, with_process, with_child, without_below, with_renamed, moved}
+use Rattle.histar_flat.specs.FlatState.{Flat, Node, Content, is_some_and, reads, bytes_of, bytes_at, class_of, with_bytes, with_process, with_child, without_below, with_renamed, moved}
 use Rattle.histar_flat.specs.FlatState.Content.{Dir, File}
-use Rattle.histar_flat.specs.FlatCalls.{most_bytes, no_file, refused, class_or_open, inner_chain, next_child, changed, answer, reply_or, flat_or, if_running, running, reply_by, flat_by, reply_to, flat_after}
+use Rattle.histar_flat.specs.FlatCalls.{refused, inner_chain, next_child, changed, flat_or, if_running, running, reply_by, flat_by, reply_to, flat_after}
 use Rattle.histar_flat.specs.Meaning.{answered_from}
-use Rattle.histar_flat.specs.Laws.{is_login_of, has_no_login_of, AreAway, PrivateBytesAreHidden, GroupBytesAreHidden, GroupBytesStayHidden}
+use Rattle.histar_flat.specs.Laws.{becomes, is_login_of, has_no_login_of, AreAway, PrivateBytesAreHidden, GroupBytesAreHidden, GroupBytesStayHidden}
 use Rattle.histar_flat.proofs.FileLemmas.{same_name_found, same_path_found, get-insert, get-keep}
-use Rattle.histar_flat.proofs.Refusals.{two_pass}
 use Rattle.histar_flat.proofs.Entries.{shown, all_told, find_told, same_told}
 use Rattle.histar_flat.proofs.Renaming.{get-from_list}
 use Rattle.histar_flat.proofs.Changes.{EachChange, by_line}
-use Rattle.histar_flat.proofs.Alike.{ShowAlike, refused_alike, answer_alike}
+use Rattle.histar_flat.specs.RuleLaws.{Warrant}
+use Rattle.histar_flat.proofs.Warrants.{warranted}
+use Rattle.histar_flat.proofs.LooksAlike.{LooksAlike, refused_alike, reply_alike}
+use Rattle.histar_flat.proofs.Alike.{ShowAlike, looks_alike}
 
 -- a file or a directory without the bytes that are secret
 abbrev veiled_content : Bool → Content → Content
@@ -133,11 +135,8 @@ module _ (session : Session) (secret : Class → Bool) (users : Name → Bool) (
       read_alike : (r : Path) → reads session f p r ≡ true → bytes_at f r ≡ bytes_at g r
       read_alike r h = unveiled_alike r (test_follows (λ n. may_read session p n.class) (λ n. not (secret n.class)) (λ n. kept.unread p n.class other) (get f.files r) h)
 
-      written_alike : (r : Path) → writes session f p r ≡ true → bytes_at f r ≡ bytes_at g r
-      written_alike r h = unveiled_alike r (test_follows (λ n. may_write session p n.class) (λ n. not (secret n.class)) (λ n. kept.unwritten p n.class other) (get f.files r) h)
-
-      refusals_alike : (call : UnixCall) → refused session f me p call ≡ refused session g me p call
-      refusals_alike call = refused_alike session f g shown_alike alike.processes me p written_alike call
+      both_look_alike : (q : Path) → LooksAlike true session f g p q
+      both_look_alike = looks_alike session f g shown_alike p alike.processes read_alike
 
       overwritten_alike : (r : Path) (b c : List ℕ) → b ≡ c → IsAlikeBut secret (with_bytes f r b) (with_bytes g r c)
       overwritten_alike r b c e = record {
@@ -145,40 +144,22 @@ module _ (session : Session) (secret : Class → Bool) (users : Name → Bool) (
         processes = alike.processes;
       }
 
-      -- a call of another user's process leaves them alike
-      changed_alike : (call : UnixCall) → refused session f me p call ≡ None → IsAlikeBut secret (changed session f me p call) (changed session g me p call)
-      changed_alike (Create r mode) h = record { files = put_alike r (record { class = class_or_open (class_made session p mode); content = File [] }) (record { class = class_or_open (class_made session p mode); content = File [] }) refl; processes = alike.processes }
-      changed_alike (Mkdir r mode) h = record { files = put_alike r (record { class = class_or_open (class_made session p mode); content = Dir }) (record { class = class_or_open (class_made session p mode); content = Dir }) refl; processes = alike.processes }
-      changed_alike (Read r) h = alike
-      changed_alike (Write r bytes) h = overwritten_alike r bytes bytes refl
-      changed_alike (Append r bytes) h =
-          let tests = two_pass (no_file session f p r) (writes session f p r) (nat_le (length (bytes_at f r ++ bytes)) most_bytes) EACCES EFBIG h in
-          overwritten_alike r (bytes_at f r ++ bytes) (bytes_at g r ++ bytes) (ap (λ b. b ++ bytes) (written_alike r tests.1))
-      changed_alike (ListCall r) h = alike
-      changed_alike (Stat r) h = alike
-      changed_alike (Unlink r) h = record { files = cut_alike r; processes = alike.processes }
-      changed_alike (Rmdir r) h = record { files = cut_alike r; processes = alike.processes }
-      changed_alike (Rmtree r) h = record { files = cut_alike r; processes = alike.processes }
-      changed_alike (Rename r name) h = record { files = renamed_alike r (name ∷ parent r); processes = alike.processes }
-      changed_alike Spawn h = record { files = alike.files; processes = λ i. (changed session (record f { processes = alike.processes i }) me p Spawn).processes }
-      changed_alike (Exit n) h = record { files = alike.files; processes = λ i. (changed session (record f { processes = alike.processes i }) me p (Exit n)).processes }
-      changed_alike (Status name) h = alike
-      changed_alike (Kill name) h = record { files = alike.files; processes = λ i. (changed session (record f { processes = alike.processes i }) me p (Kill name)).processes }
-      changed_alike Whoami h = alike
-      changed_alike (Login name password) h = record { files = alike.files; processes = λ i. (changed session (record f { processes = alike.processes i }) me p (Login name password)).processes }
-      changed_alike (Wrap r) h = record {
-        files = put_alike r (record { class = Scratch p.user (inner_chain me p); content = Dir }) (record { class = Scratch p.user (inner_chain me p); content = Dir }) refl;
-        processes = λ i. (changed session (record f { processes = alike.processes i }) me p (Wrap r)).processes;
+      -- an effect of another user's process leaves them alike
+      applied_alike : (q : Path) (effect : Effect) → Warrant session f me p q effect → IsAlikeBut secret (apply session f me p q effect) (apply session g me p q effect)
+      applied_alike q Nothing may = alike
+      applied_alike q (Makes content mode) may = record { files = put_alike q _ _ refl; processes = alike.processes }
+      applied_alike q (Stores new) may =
+          overwritten_alike q (new (bytes_at f q)) (new (bytes_at g q)) (ap new (read_alike q may.4))
+      applied_alike q Removes may = record { files = cut_alike q; processes = alike.processes }
+      applied_alike q (Renames name) may = record { files = renamed_alike q (name ∷ parent q); processes = alike.processes }
+      applied_alike q Wraps may = record {
+        files = put_alike q (record { class = Scratch p.user (inner_chain me p); content = Dir }) _ refl;
+        processes = λ i. (apply session (record f { processes = alike.processes i }) me p q Wraps).processes;
       }
-
-      replies_alike : (call : UnixCall) (d e : Option Errno) → refused session f me p call ≡ d → d ≡ e → reply_or d (answer f me p call) ≡ reply_or e (answer g me p call)
-      replies_alike call None None h k = answer_alike session f g shown_alike alike.processes me p read_alike call h
-      replies_alike call None (Some x) h k = absurd (cc)
-      replies_alike call (Some x) None h k = absurd (cc)
-      replies_alike call (Some x) (Some y) h k = let t : x ≡ y = cc in ap Refused t
+      applied_alike q effect may = record { files = alike.files; processes = λ i. (apply session (record f { processes = alike.processes i }) me p q effect).processes }
 
       states_alike : (call : UnixCall) (d e : Option Errno) → refused session f me p call ≡ d → d ≡ e → IsAlikeBut secret (flat_or d f (changed session f me p call)) (flat_or e g (changed session g me p call))
-      states_alike call None None h k = changed_alike call h
+      states_alike call None None h k = applied_alike (path_of call) (rule call).effect (warranted session f me p call h)
       states_alike call None (Some x) h k = absurd (cc)
       states_alike call (Some x) None h k = absurd (cc)
       states_alike call (Some x) (Some y) h k = alike
@@ -190,7 +171,7 @@ module _ (session : Session) (secret : Class → Bool) (users : Name → Bool) (
         where
           by : (r : Option Process) → is_some_and r (λ p. users p.user) ≡ false → reply_by session f me r call ≡ reply_by session g me r call
           by None i = refl
-          by (Some p) i = replies_alike me p i call (refused session f me p call) (refused session g me p call) refl (refusals_alike me p i call)
+          by (Some p) i = reply_alike session f g me p call (both_look_alike me p i (path_of call))
 
       -- It leaves states that differ in these bytes alone.
       flat_after_alike : IsAlikeBut secret (flat_after session f me call) (flat_after session g me call)
@@ -198,7 +179,7 @@ module _ (session : Session) (secret : Class → Bool) (users : Name → Bool) (
         where
           by : (r : Option Process) → is_some_and r (λ p. users p.user) ≡ false → IsAlikeBut secret (flat_by session f me r call) (flat_by session g me r call)
           by None i = alike
-          by (Some p) i = states_alike me p i call (refused session f me p call) (refused session g me p call) refl (refusals_alike me p i call)
+          by (Some p) i = states_alike me p i call (refused session f me p call) (refused session g me p call) refl (refused_alike session f g me p call (both_look_alike me p i (path_of call)))
 
   -- a process of another user is of none of these, whether it runs or not
   other_is_away : (p : Process) → users p.user ≡ false → is_some_and (if_running (Some p)) (λ r. users r.user) ≡ false
@@ -233,7 +214,7 @@ module _ (session : Session) (secret : Class → Bool) (users : Name → Bool) (
     renames = λ n k d takes apart free w. away;
     spawns = λ is. away_with_child f me p p.chain away other;
     exits = λ n is. away_with f me (record p { exited = Some n }) away other;
-    logs_in = λ name password is known free. away_with f me (record p { user = name; held = [] }) away (sym (ap (is_login_of users) is) ∙ quiet);
+    logs_in = λ name is known free. away_with f me (record p { user = name; held = [] }) away (sym (ap (becomes users) is) ∙ quiet);
     kills = λ n x. away_without (under_process (n ∷ me) x) (f.processes x) (away x);
     wraps = λ n d is walked free w named. away_with_child f me (record p { held = p.held ++ next_child me p ∷ [] }) (inner_chain me p) away other;
   }

@@ -134,7 +134,7 @@ module _ (f : Flat) (tree : IsTree f) where
     renames = λ n k d away other free w. renamed n k d other free;
     spawns = λ is. record { root = tree.root; below = tree.below };
     exits = λ n is. record { root = tree.root; below = tree.below };
-    logs_in = λ name password is known free. record { root = tree.root; below = tree.below };
+    logs_in = λ name is known free. record { root = tree.root; below = tree.below };
     kills = λ n. record { root = tree.root; below = tree.below };
     wraps = λ n d is walked free w other.
         let t = made n d (record { class = Scratch p.user (inner_chain me p); content = Dir }) (walked_into_directory session f p tree.root d walked) free in

@@ -1,5 +1,5 @@
 -- What stands below a directory that a process may not read changes no reply to it.
-use Rattle.std.specs.Prelude.{◌≡◌, Bool, true, false, not, ◌||◌, ◌&&◌, ◌==◌, cond, List, [], ◌∷◌, ◌++◌, length, nat_lt, nat_le, ℕ, Option, Some, None, is_some, refl}
+use Rattle.std.specs.Prelude.{◌≡◌, Bool, true, false, not, ◌||◌, ◌&&◌, cond, List, [], ◌∷◌, Option, Some, None, option_map, refl}
 use Rattle.std.specs.List.{filter_map, cons_option}
 use Rattle.std.proofs.Common.{ap, sym, ◌∙◌, inl, inr}
 use Rattle.std.proofs.lemmas.Bool.{true≢false, cases_Bool}
@@ -7,22 +7,20 @@ use Rattle.std.proofs.lemmas.Option.{none-some}
 use Rattle.std.specs.FinMap.Entries.{where_key}
 use Rattle.std.proofs.Math.Bool.{and-true}
 use Rattle.histar_base.specs.Refusals.{◌orelse◌, unless}
-use Rattle.histar_flat.specs.declared.calls.UnixCall.{UnixCall}
-use Rattle.histar_flat.specs.declared.calls.UnixCall.TheVariants.{Create, Mkdir, Read, Write, Append, List as ListCall, Stat, Unlink, Rmdir, Rmtree, Rename, Spawn, Exit, Status, Kill, Whoami, Login, Wrap}
 use Rattle.histar_flat.specs.declared.replies.Errno.{Errno}
-use Rattle.histar_flat.specs.declared.replies.Errno.TheVariants.{ENOENT, ENOTDIR, EISDIR, EEXIST, EACCES, EPERM, ENOTEMPTY, ENOSPC, EFBIG, ESRCH}
-use Rattle.histar_flat.specs.declared.replies.Reply.TheVariants.{Data, Entries}
-use Rattle.histar_flat.specs.Words.{Name, Path, ProcName}
+use Rattle.histar_flat.specs.declared.replies.Errno.TheVariants.{ENOENT, ENOTDIR, EACCES}
+use Rattle.histar_flat.specs.CallRules.{path_of}
+use Rattle.histar_flat.specs.Words.{Name, Path}
 use Rattle.histar_flat.specs.PathOrder.{path_cmp, same, same_path, under_path}
 use Rattle.histar_flat.specs.Sessions.{Session}
 use Rattle.histar_flat.specs.Files.{get, keep}
-use Rattle.histar_flat.specs.Classes.{Process, nobody, sees, may_read, may_write, class_made}
-use Rattle.histar_flat.specs.FlatState.{Flat, Node, is_some_and, is_dir, is_there, is_dir_at, reads, bytes_of, entry_in, entries_in, into}
-use Rattle.histar_flat.specs.FlatCalls.{most_entries, most_bytes, no_child, no_file, not_found, is_child, refused, life_reply, stat_reply, answer, reply_or, if_running, reply_by}
+use Rattle.histar_flat.specs.Classes.{Process, may_read}
+use Rattle.histar_flat.specs.FlatState.{Flat, Node, is_some_and, is_dir, is_there, is_dir_at, reads, bytes_of, entry_in, entries_in, into, walk}
+use Rattle.histar_flat.specs.FlatCalls.{life_reply, if_running, reply_by}
 use Rattle.histar_flat.specs.FileLaws.{is_inside, UnreadDirectoriesAreHidden}
-use Rattle.histar_flat.proofs.Alike.{guarded}
+use Rattle.histar_flat.proofs.Entries.{shown}
+use Rattle.histar_flat.proofs.LooksAlike.{LooksAlike, found_alike, later_alike, reply_alike}
 use Rattle.histar_flat.proofs.FileLemmas.{same_path_found, same_lists, get-keep}
-use Rattle.histar_flat.proofs.Refusals.{passes_first, passes_later}
 use Rattle.histar_flat.proofs.Under.{above_is_not_under}
 
 -- ---- what lies inside a directory
@@ -131,156 +129,48 @@ module _ (session : Session) (f g : Flat) (d : Path) (processes : f.processes �
   -- each way is as open
   way_alike : (e : Path) → into session f p e ≡ into session g p e
   way_alike [] = ap (λ (o : Option Node). unless (is_some_and o (λ n. may_read session p n.class)) EACCES) root_alike
-  way_alike (n ∷ e) = elim (cases_Bool (under_path d e)) [
-    | inl u ↦
-        let stops = way_stops e u in
-        ap (λ (o : Option Errno). o orelse way_tests (get f.files (n ∷ e))) stops.1 ∙ sym (ap (λ (o : Option Errno). o orelse way_tests (get g.files (n ∷ e))) (sym (way_alike e) ∙ stops.1))
-    | inr u ↦ λ i. way_alike e i orelse way_tests (child_alike n e u i)
+  way_alike (n ∷ e) = later_alike (into session f p e) (into session g p e) (way_tests (get f.files (n ∷ e))) (way_tests (get g.files (n ∷ e))) (way_alike e)
+      (λ open_so_far. ap way_tests (child_alike n e (open_is_outside e open_so_far)))
+
+  -- what may be read is outside where it is reached
+  readable_is_outside : (q : Path) → reads session f p q ≡ true → walk session f p q ≡ None → under_path d q ≡ false
+  readable_is_outside q may w = elim (same_path_found d q) [
+    | inl t ↦ absurd (true≢false (sym may ∙ ap (reads session f p) (sym t.1) ∙ unread))
+    | inr t ↦ by q t.0 w
   ]
-
-  -- what comes after a way counts only where that leads outside
-  by_way : (e : Path) (x y : Option Errno) → (under_path d e ≡ false → x ≡ y) → (into session f p e orelse x) ≡ (into session g p e orelse y)
-  by_way e x y same_rest = elim (cases_Bool (under_path d e)) [
-    | inl u ↦ let stops = way_stops e u in ap (λ (o : Option Errno). o orelse x) stops.1 ∙ sym (ap (λ (o : Option Errno). o orelse y) (sym (way_alike e) ∙ stops.1))
-    | inr u ↦ λ i. way_alike e i orelse same_rest u i
-  ]
-
-  -- and so does what comes after that
-  by_way_then : (e : Path) (a b x y : Option Errno) → (under_path d e ≡ false → a ≡ b) → (under_path d e ≡ false → x ≡ y) → ((into session f p e orelse a) orelse x) ≡ ((into session g p e orelse b) orelse y)
-  by_way_then e a b x y same_first same_rest = elim (cases_Bool (under_path d e)) [
-    | inl u ↦ let stops = way_stops e u in ap (λ (o : Option Errno). (o orelse a) orelse x) stops.1 ∙ sym (ap (λ (o : Option Errno). (o orelse b) orelse y) (sym (way_alike e) ∙ stops.1))
-    | inr u ↦ λ i. (way_alike e i orelse same_first u i) orelse same_rest u i
-  ]
-
-  -- ---- refusals
-
-  abbrev there : Option Node → Option Errno
-  there o = unless (is_some_and o (λ n. true)) ENOENT
-
-  abbrev file : Option Node → Option Errno
-  file o = unless (is_some_and o (λ n. not (is_dir n))) EISDIR
-
-  abbrev directory : Option Node → Option Errno
-  directory o = unless (is_some_and o is_dir) ENOTDIR
-
-  abbrev readable : Option Node → Option Errno
-  readable o = unless (is_some_and o (λ n. may_read session p n.class)) EACCES
-
-  abbrev writable : Option Node → Option Errno
-  writable o = unless (is_some_and o (λ n. may_write session p n.class)) EACCES
-
-  abbrev room : Flat → Path → Option Node → Option Node → ℕ → Option Errno
-  room h e o above entries = unless (not (is_some_and o (λ n. true))) EEXIST orelse unless (nat_lt entries most_entries) ENOSPC orelse writable above
-
-  room_alike : (n : Name) (e : Path) (last : Option Errno)
-      → ((into session f p e orelse room f e (get f.files (n ∷ e)) (get f.files e) (length (entries_in f e))) orelse last) ≡ ((into session g p e orelse room g e (get g.files (n ∷ e)) (get g.files e) (length (entries_in g e))) orelse last)
-  room_alike n e last = by_way_then e _ _ last last (λ u. λ i. room f e (child_alike n e u i) (above_alike e u i) (length (entries_alike e u i))) (λ u. refl)
-
-  file_alike : (n : Name) (e : Path) (last : Option Node → Option Errno)
-      → ((into session f p e orelse there (get f.files (n ∷ e)) orelse file (get f.files (n ∷ e))) orelse last (get f.files (n ∷ e))) ≡ ((into session g p e orelse there (get g.files (n ∷ e)) orelse file (get g.files (n ∷ e))) orelse last (get g.files (n ∷ e)))
-  file_alike n e last = by_way_then e _ _ _ _ (λ u. λ i. there (child_alike n e u i) orelse file (child_alike n e u i)) (λ u. ap last (child_alike n e u))
-
-  -- a directory that may be read has the same entries, so it is as empty
-  empty_alike : (n : Name) (e : Path) → under_path d e ≡ false
-      → (readable (get f.files (n ∷ e)) orelse unless (length (entries_in f (n ∷ e)) == 0) ENOTEMPTY orelse writable (get f.files e)) ≡ (readable (get g.files (n ∷ e)) orelse unless (length (entries_in g (n ∷ e)) == 0) ENOTEMPTY orelse writable (get g.files e))
-  empty_alike n e u =
-      guarded (reads session f p (n ∷ e)) EACCES _ _ (λ may. λ i. unless (length (entries_alike (n ∷ e) (outside may) i) == 0) ENOTEMPTY orelse writable (above_alike e u i))
-      ∙ ap (λ (o : Option Node). readable o orelse unless (length (entries_in g (n ∷ e)) == 0) ENOTEMPTY orelse writable (get g.files e)) (child_alike n e u)
     where
-      outside : reads session f p (n ∷ e) ≡ true → under_path d (n ∷ e) ≡ false
-      outside may = elim (same_path_found d (n ∷ e)) [
-        | inl t ↦ absurd (true≢false (sym may ∙ ap (reads session f p) (sym t.1) ∙ unread))
-        | inr t ↦ λ i. t.0 i || u i
-      ]
+      by : (r : Path) → same_path d r ≡ false → walk session f p r ≡ None → under_path d r ≡ false
+      by [] other w = other
+      by (n ∷ e) other w = λ i. other i || open_is_outside e w i
 
-  found_alike : (q : ProcName) → not_found f p q ≡ not_found g p q
-  found_alike [] = refl
-  found_alike (n ∷ above) = λ i. found_alike above i orelse unless (is_some (processes i (n ∷ above))) ESRCH orelse unless (is_some_and (processes i (n ∷ above)) (sees p)) EACCES
-
-  -- each call has the same refusal
-  refused_alike : (me : ProcName) (call : UnixCall) → refused session f me p call ≡ refused session g me p call
-  refused_alike me (Create [] mode) = refl
-  refused_alike me (Create (n ∷ e) mode) = room_alike n e (unless (is_some (class_made session p mode)) EPERM)
-  refused_alike me (Mkdir [] mode) = refl
-  refused_alike me (Mkdir (n ∷ e) mode) = room_alike n e (unless (is_some (class_made session p mode)) EPERM)
-  refused_alike me (Read []) = refl
-  refused_alike me (Read (n ∷ e)) = file_alike n e readable
-  refused_alike me (Write [] bytes) = refl
-  refused_alike me (Write (n ∷ e) bytes) = file_alike n e (λ o. writable o orelse unless (nat_le (length bytes) most_bytes) EFBIG)
-  refused_alike me (Append [] bytes) = refl
-  refused_alike me (Append (n ∷ e) bytes) = file_alike n e (λ o. writable o orelse unless (nat_le (length (bytes_of o ++ bytes)) most_bytes) EFBIG)
-  refused_alike me (ListCall []) = ap (λ (o : Option Node). there o orelse directory o orelse readable o) root_alike
-  refused_alike me (ListCall (n ∷ e)) = by_way e _ _ (λ u. ap (λ (o : Option Node). there o orelse directory o orelse readable o) (child_alike n e u))
-  refused_alike me (Stat []) = ap there root_alike
-  refused_alike me (Stat (n ∷ e)) = by_way e _ _ (λ u. ap there (child_alike n e u))
-  refused_alike me (Unlink []) = refl
-  refused_alike me (Unlink (n ∷ e)) = by_way_then e _ _ _ _ (λ u. ap there (child_alike n e u)) (λ u. λ i. file (child_alike n e u i) orelse writable (above_alike e u i))
-  refused_alike me (Rmdir []) = refl
-  refused_alike me (Rmdir (n ∷ e)) = by_way_then e _ _ _ _ (λ u. ap there (child_alike n e u)) (λ u. λ i. directory (child_alike n e u i) orelse empty_alike n e u i)
-  refused_alike me (Rmtree []) = refl
-  refused_alike me (Rmtree (n ∷ e)) = by_way_then e _ _ _ _ (λ u. ap there (child_alike n e u)) (λ u. ap writable (above_alike e u))
-  refused_alike me (Rename [] name) = refl
-  refused_alike me (Rename (n ∷ e) name) = by_way_then e _ _ _ _ (λ u. ap there (child_alike n e u)) (λ u. λ i. unless (not (is_some_and (child_alike name e u i) (λ n. true))) EEXIST orelse writable (above_alike e u i))
-  refused_alike me Spawn = refl
-  refused_alike me (Exit n) = refl
-  refused_alike me (Status name) = found_alike name
-  refused_alike me (Kill name) = λ i. found_alike name i orelse unless (is_child me name) EACCES
-  refused_alike me Whoami = refl
-  refused_alike me (Login name password) = refl
-  refused_alike me (Wrap []) = refl
-  refused_alike me (Wrap (n ∷ e)) = ap (λ (o : Option Errno). no_child me p orelse o) (room_alike n e (unless (not (same p.user nobody)) EPERM))
-
-  -- ---- answers
-
-  -- a file that is read stands outside
-  read_alike : (me : ProcName) (q : Path) → refused session f me p (Read q) ≡ None → get f.files q ≡ get g.files q
-  read_alike me [] h = root_alike
-  read_alike me (n ∷ e) h =
-      let found = passes_first (no_file session f p (n ∷ e)) (unless (reads session f p (n ∷ e)) EACCES) h in
-      child_alike n e (open_is_outside e (passes_first (into session f p e) (there (get f.files (n ∷ e)) orelse file (get f.files (n ∷ e))) found))
-
-  -- what is told of stands outside
-  told_alike : (me : ProcName) (q : Path) → refused session f me p (Stat q) ≡ None → get f.files q ≡ get g.files q
-  told_alike me [] h = root_alike
-  told_alike me (n ∷ e) h = child_alike n e (open_is_outside e (passes_first (into session f p e) (there (get f.files (n ∷ e))) h))
-
-  -- a directory that is listed is none that may not be read
-  listed_alike : (me : ProcName) (q : Path) → refused session f me p (ListCall q) ≡ None → entries_in f q ≡ entries_in g q
-  listed_alike me [] h = entries_alike [] (open_is_outside [] (passes_later (directory (get f.files [])) (readable (get f.files [])) (passes_later (there (get f.files [])) (directory (get f.files []) orelse readable (get f.files [])) h)))
-  listed_alike me (n ∷ e) h = entries_alike (n ∷ e) (open_is_outside (n ∷ e) h)
-
-  -- each call that is not refused has the same answer
-  answer_alike : (me : ProcName) (call : UnixCall) → refused session f me p call ≡ None → answer f me p call ≡ answer g me p call
-  answer_alike me (Create q mode) h = refl
-  answer_alike me (Mkdir q mode) h = refl
-  answer_alike me (Read q) h = ap (λ (o : Option Node). Data (bytes_of o)) (read_alike me q h)
-  answer_alike me (Write q bytes) h = refl
-  answer_alike me (Append q bytes) h = refl
-  answer_alike me (ListCall q) h = ap Entries (listed_alike me q h)
-  answer_alike me (Stat q) h = ap stat_reply (told_alike me q h)
-  answer_alike me (Unlink q) h = refl
-  answer_alike me (Rmdir q) h = refl
-  answer_alike me (Rmtree q) h = refl
-  answer_alike me (Rename q name) h = refl
-  answer_alike me Spawn h = refl
-  answer_alike me (Exit n) h = refl
-  answer_alike me (Status name) h = λ i. life_reply (processes i name)
-  answer_alike me (Kill name) h = refl
-  answer_alike me Whoami h = refl
-  answer_alike me (Login name password) h = refl
-  answer_alike me (Wrap q) h = refl
-
-  -- so each call has the same reply
-  reply_alike : (me : ProcName) (call : UnixCall) → reply_by session f me (Some p) call ≡ reply_by session g me (Some p) call
-  reply_alike me call = by (refused session f me p call) refl ∙ ap (λ (e : Option Errno). reply_or e (answer g me p call)) (refused_alike me call)
-    where
-      by : (e : Option Errno) → refused session f me p call ≡ e → reply_or (refused session f me p call) (answer f me p call) ≡ reply_or (refused session f me p call) (answer g me p call)
-      by None is = ap (reply_or (refused session f me p call)) (answer_alike me call is)
-      by (Some e) is = ap (λ (o : Option Errno). reply_or o (answer f me p call)) is ∙ sym (ap (λ (o : Option Errno). reply_or o (answer g me p call)) is)
+  -- so the states look alike to the process
+  both_look_alike : (q : Path) → LooksAlike true session f g p q
+  both_look_alike [] = record {
+    way = refl;
+    here = λ w. ap (option_map shown) root_alike;
+    above = λ below w. absurd (true≢false (sym below));
+    beside = λ name below w. absurd (true≢false (sym below));
+    entries_above = λ below w. absurd (true≢false (sym below));
+    entries = λ wide w may. entries_alike [] (readable_is_outside [] may w);
+    bytes = λ w may. ap bytes_of root_alike;
+    found = λ wide. found_alike f g p processes;
+    life = λ wide name there i. life_reply (processes i name);
+  }
+  both_look_alike (n ∷ e) = record {
+    way = way_alike e;
+    here = λ w. ap (option_map shown) (child_alike n e (open_is_outside e w));
+    above = λ below w. ap (option_map shown) (above_alike e (open_is_outside e w));
+    beside = λ name below w. ap (option_map shown) (child_alike name e (open_is_outside e w));
+    entries_above = λ below w. entries_alike e (open_is_outside e w);
+    entries = λ wide w may. entries_alike (n ∷ e) (readable_is_outside (n ∷ e) may w);
+    bytes = λ w may. ap bytes_of (child_alike n e (open_is_outside e w));
+    found = λ wide. found_alike f g p processes;
+    life = λ wide name there i. life_reply (processes i name);
+  }
 
 -- whatever stands below a directory that a process may not read, each call of the process has the same reply
 pub unread_directories_are_hidden : UnreadDirectoriesAreHidden
 unread_directories_are_hidden session f g d processes alike me p call runs unread =
     ap (λ (o : Option Process). reply_by session f me o call) runs
-    ∙ reply_alike session f g d processes alike p unread me call
+    ∙ reply_alike session f g me p call (both_look_alike session f g d processes alike p unread (path_of call))
     ∙ sym (ap (λ (o : Option Process). reply_by session g me o call) (sym (λ i. if_running (processes i me)) ∙ runs))

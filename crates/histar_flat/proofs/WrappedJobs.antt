@@ -17,7 +17,8 @@ use Rattle.histar_flat.specs.Classes.{Process, carries}
 use Rattle.histar_flat.specs.Classes.Class.{Scratch}
 use Rattle.histar_flat.specs.FlatState.{Flat, IsTree, Node, is_given, is_some_and, was_given, with_process}
 use Rattle.histar_flat.specs.FlatState.Content.{Dir}
-use Rattle.histar_flat.specs.FlatCalls.{changed, flat_after, inner_chain, next_child, no_child, reply_to, running}
+use Rattle.histar_flat.specs.FlatCalls.{changed, flat_after, inner_chain, next_child, reply_to, running}
+use Rattle.histar_flat.proofs.CommonNeeds.{no_child}
 use Rattle.histar_flat.specs.Meaning.{boot, flat_end}
 use Rattle.histar_flat.specs.Laws.{NamesAreGiven}
 use Rattle.histar_flat.specs.JobLaws.{lies_in_scratch, runs_in, AreOfJob, all_under, WrappedJobsStayInside}
@@ -101,7 +102,7 @@ module _ (job : ProcName) where
       renames = λ n k d takes apart free w. all;
       spawns = λ is. born_in (record p { born = p.born + 1 }) (record { user = p.user; chain = p.chain; held = []; exited = None; born = 0 }) refl (λ h. h);
       exits = λ n is. put_in f me (record p { exited = Some n }) all own_in;
-      logs_in = λ name password is known free. put_in f me (record p { user = name; held = [] }) all own_in;
+      logs_in = λ name is known free. put_in f me (record p { user = name; held = [] }) all own_in;
       kills = λ n q x at under. all q x (left_in (under_process (n ∷ me) q) (f.processes q) x at) under;
       wraps = λ n d is walked free w named.
           born_in (record p { held = p.held ++ next_child me p ∷ []; born = p.born + 1 }) (record { user = p.user; chain = inner_chain me p; held = []; exited = None; born = 0 }) refl

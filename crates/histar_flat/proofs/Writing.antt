@@ -1,42 +1,25 @@
 -- What is written is read.
-use Rattle.std.specs.Prelude.{◌≡◌, Bool, true, false, not, ◌&&◌, List, ℕ, length, nat_le, Option, Some, None, option_map, refl}
-use Rattle.std.specs.List.{list_all}
+use Rattle.std.specs.Prelude.{◌≡◌, Bool, true, false, not, List, ℕ, length, nat_le, Option, Some, None, option_map, refl}
 use Rattle.std.proofs.Common.{ap, sym, ◌∙◌, subst, inl, inr}
-use Rattle.std.proofs.lemmas.Bool.{true≢false, and_parts, not-true}
+use Rattle.std.proofs.lemmas.Bool.{true≢false, not-true}
 use Rattle.histar_base.specs.Refusals.{◌orelse◌, unless}
 use Rattle.histar_flat.specs.declared.calls.UnixCall.TheVariants.{Read, Write}
 use Rattle.histar_flat.specs.declared.replies.Errno.{Errno}
 use Rattle.histar_flat.specs.declared.replies.Errno.TheVariants.{ENOENT, EISDIR, EACCES, EFBIG}
 use Rattle.histar_flat.specs.declared.replies.Reply.TheVariants.{Done, Data}
 use Rattle.histar_flat.specs.Words.{Path, ProcName}
-use Rattle.histar_flat.specs.PathOrder.{same}
-use Rattle.histar_flat.specs.Sessions.{Session, has, is_member}
+use Rattle.histar_flat.specs.Sessions.{Session}
 use Rattle.histar_flat.specs.Files.{get}
-use Rattle.histar_flat.specs.Classes.{Class, Process, is_free, knows, may_read, may_write}
-use Rattle.histar_flat.specs.Classes.Class.{Private, Readable, Open, Scratch, Grouped}
-use Rattle.histar_flat.specs.FlatState.{Flat, Node, is_some_and, is_dir, is_there, is_file_at, reads, writes, bytes_of, class_of, walk, with_bytes}
-use Rattle.histar_flat.specs.FlatCalls.{most_bytes, is_below_root, no_file, refused, answer, reply_or, flat_or, running, reply_by, flat_by, reply_to, flat_after}
+use Rattle.histar_flat.specs.Classes.{Process}
+use Rattle.histar_flat.specs.FlatState.{Flat, Node, is_some_and, is_dir, is_there, is_file_at, writes, bytes_of, class_of, walk, with_bytes}
+use Rattle.histar_flat.specs.FlatCalls.{most_bytes, is_below_root, refused, answer, reply_or, flat_or, running, reply_by, flat_by, reply_to, flat_after}
+use Rattle.histar_flat.proofs.CommonNeeds.{no_file}
+use Rattle.histar_flat.proofs.Warrants.{writes_and_reads}
 use Rattle.histar_flat.proofs.Alike.{ShowAlike, file_reached_alike, reads_alike}
 use Rattle.histar_flat.proofs.Entries.{shown}
 use Rattle.histar_flat.proofs.FileLemmas.{same_path_found, get_other, get_new}
 use Rattle.histar_flat.proofs.PrivateFiles.{written_is_writable}
 use Rattle.histar_flat.proofs.Refusals.{passes_first, passes_later, passed}
-
--- What a process may write it may read.
-pub writable_is_readable : (session : Session) (p : Process) (class : Class) → may_write session p class ≡ true → may_read session p class ≡ true
-writable_is_readable session p (Private owner) h = (and_parts (same p.user owner) (is_free p) h).0
-writable_is_readable session p (Readable owner) h = refl
-writable_is_readable session p Open h = refl
-writable_is_readable session p (Scratch owner jobs) h = (and_parts (same p.user owner && list_all (knows p) jobs) (list_all (has jobs) p.chain) h).0
-writable_is_readable session p (Grouped group) h = (and_parts (is_member session p.user group) (is_free p) h).0
-
--- so a process reads what it writes
-pub writes_and_reads : (session : Session) (f : Flat) (p : Process) (q : Path) → writes session f p q ≡ true → reads session f p q ≡ true
-writes_and_reads session f p q h = by (get f.files q) h
-  where
-    by : (o : Option Node) → is_some_and o (λ n. may_write session p n.class) ≡ true → is_some_and o (λ n. may_read session p n.class) ≡ true
-    by None i = i
-    by (Some n) i = writable_is_readable session p n.class i
 
 -- new bytes in a file show nothing else
 bytes_show_nothing : (f : Flat) (q : Path) (bytes : List ℕ) → is_file_at f q ≡ true → ShowAlike (with_bytes f q bytes) f

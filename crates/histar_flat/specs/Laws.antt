@@ -1,10 +1,10 @@
 -- What the meaning amounts to: calls that are refused, the private files of others, what is written, the replies of a script, names
 -- and jobs.
-use Rattle.std.specs.Prelude.{◌≡◌, ◌≢◌, ℕ, Bool, true, false, not, List, [], map, None, Some}
+use Rattle.std.specs.Prelude.{◌&&◌, ◌≡◌, ◌≢◌, ℕ, Bool, true, false, not, List, [], map, None, Some}
 use Rattle.std.specs.List.{list_all}
 use Rattle.histar_flat.specs.declared.calls.CallLine.{CallLine}
 use Rattle.histar_flat.specs.declared.calls.UnixCall.{UnixCall}
-use Rattle.histar_flat.specs.declared.calls.UnixCall.TheVariants.{Read, Write, Unlink, Rmdir, Rmtree, Rename, Login}
+use Rattle.histar_flat.specs.declared.calls.UnixCall.TheVariants.{Read, Write}
 use Rattle.histar_flat.specs.declared.replies.Errno.{Errno}
 use Rattle.histar_flat.specs.declared.replies.Reply.TheVariants.{Done, Data, Refused}
 use Rattle.histar_flat.specs.Words.{Name, Path, ProcName}
@@ -15,6 +15,9 @@ use Rattle.histar_flat.specs.Classes.{Process, nobody, knows, carries}
 use Rattle.histar_flat.specs.Classes.Class.{Private, Grouped}
 use Rattle.histar_flat.specs.FlatState.{Flat, Node, IsTree, is_some_and, with_bytes, is_given}
 use Rattle.histar_flat.specs.FlatState.Content.{File}
+use Rattle.histar_flat.specs.Effects.{Effect}
+use Rattle.histar_flat.specs.Effects.Effect.{Removes, Renames, LogsIn}
+use Rattle.histar_flat.specs.CallRules.{path_of, rule}
 use Rattle.histar_flat.specs.FlatCalls.{next_child, running, reply_to, flat_after}
 use Rattle.histar_flat.specs.Meaning.{Answered, boot, answered_from, flat_end, meaning}
 
@@ -26,10 +29,14 @@ private_file owner bytes = record { class = Private owner; content = File bytes 
 abbrev pub runs_for : Flat → ProcName → Name → Bool
 runs_for f me owner = is_some_and (running f me) (λ p. same p.user owner)
 
+-- an effect by which a process becomes one of these users
+abbrev pub becomes : (Name → Bool) → Effect → Bool
+becomes users (LogsIn name) = users name
+becomes users _ = false
+
 -- a login as one of these users
 abbrev pub is_login_of : (Name → Bool) → UnixCall → Bool
-is_login_of users (Login name password) = users name
-is_login_of users _ = false
+is_login_of users call = becomes users (rule call).effect
 
 -- none of the calls is a login as one of these users
 abbrev pub has_no_login_of : (Name → Bool) → List CallLine → Bool
@@ -43,13 +50,15 @@ AreAway users f = (me : ProcName) → is_some_and (running f me) (λ p. users p.
 abbrev pub RefusalsChangeNothing : Type 0
 RefusalsChangeNothing = (session : Session) (f : Flat) (me : ProcName) (call : UnixCall) (e : Errno) → reply_to session f me call ≡ Refused e → flat_after session f me call ≡ f
 
+-- the effect takes away or renames what stands at the path of the call
+abbrev pub removes : Effect → Bool
+removes Removes = true
+removes (Renames name) = true
+removes _ = false
+
 -- the call takes away or renames what stands at the path, or a directory that it lies in
 abbrev pub takes_away : UnixCall → Path → Bool
-takes_away (Unlink r) q = under_path r q
-takes_away (Rmdir r) q = under_path r q
-takes_away (Rmtree r) q = under_path r q
-takes_away (Rename r name) q = under_path r q
-takes_away _ q = false
+takes_away call q = removes (rule call).effect && under_path (path_of call) q
 
 -- In a tree a call of a process that is not the owner's leaves a private file as it is, unless it takes it away or renames it: it
 -- stands at its path, is private, and has its bytes.

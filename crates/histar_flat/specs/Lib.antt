@@ -9,7 +9,11 @@ pub mod Sessions
 pub mod Files
 pub mod Classes
 pub mod FlatState
+pub mod Needs
+pub mod Effects
+pub mod CallRules
 pub mod FlatCalls
+pub mod RuleLaws
 pub mod Meaning
 pub mod Texts
 pub mod Laws

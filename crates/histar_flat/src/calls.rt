@@ -1,4 +1,6 @@
 //! Users, the calls that they make, and the lines of a script that hold them.
+ghost use Rattle.histar_flat.specs.Calls.{IsCall};
+
 use crate::names::{Name, Password};
 use crate::owned_paths::OwnedPath;
 use crate::processes::ProcName;
@@ -63,6 +65,36 @@ pub enum UnixCall {
     Login(Name, Password),
     /// Starts a job: a directory for it, and a child of the process that is in it.
     Wrap(OwnedPath),
+}
+
+/// Shows that a call is such as a line of a script can have: its path, its name and its status obey
+/// their rules by their types. It does nothing.
+pub fn each_call_is_right(call: &UnixCall)
+    ensures { IsCall call.now }
+{
+    match call {
+        UnixCall::Create(path, _)
+        | UnixCall::Mkdir(path, _)
+        | UnixCall::Read(path)
+        | UnixCall::Write(path, _)
+        | UnixCall::Append(path, _)
+        | UnixCall::List(path)
+        | UnixCall::Stat(path)
+        | UnixCall::Unlink(path)
+        | UnixCall::Rmdir(path)
+        | UnixCall::Rmtree(path)
+        | UnixCall::Wrap(path) => {
+            let _names = path.names();
+        }
+        UnixCall::Rename(path, name) => {
+            let _names = path.names();
+            let _text = name.as_bytes();
+        }
+        UnixCall::Exit(status) => {
+            let _status = *status;
+        }
+        _ => {}
+    }
 }
 
 /// A call line of a script.

@@ -1,9 +1,9 @@
 //! Words, calls and replies of the Unix library, as a user of it writes and reads them.
 //!
-//! What calls mean is `specs/Meaning.antt`, and [`flat_laws`] says what this meaning amounts to.
+//! What calls mean is `specs/Meaning.antt`, by the rules of `specs/CallRules.antt`. [`rule_laws`] says what every
+//! rule keeps to, and [`flat_laws`] what the meaning amounts to.
 #![tactic(auto)]
 
-mod call_laws;
 mod calls;
 pub mod flat_laws;
 mod groups;
@@ -13,12 +13,12 @@ mod paths;
 mod processes;
 mod readers;
 mod replies;
+pub mod rule_laws;
 mod sessions;
 mod suffix;
 mod words;
 
-pub use call_laws::each_call_is_right;
-pub use calls::{CallLine, Mode, UnixCall, User};
+pub use calls::{CallLine, Mode, UnixCall, User, each_call_is_right};
 pub use groups::Group;
 pub use names::{Name, Password};
 pub use owned_paths::OwnedPath;

@@ -1,33 +1,39 @@
 -- A call of anyone outside the job but `rmdir` and `wrap`: the states stay the same outside the job.
-use Rattle.std.specs.Prelude.{None, Option, Some, [], false, is_some, length, nat_le, not, refl, true, ℕ, ◌++◌, ◌∷◌, ◌≡◌}
+use Rattle.std.specs.Prelude.{Bool, None, Option, Some, [], false, is_some, not, option_map, refl, true, ℕ, ◌||◌, ◌∷◌, ◌≡◌, ◌⊎◌}
 use Rattle.std.proofs.Common.{ap, inl, inr, subst, sym, ◌∙◌}
 use Rattle.std.proofs.lemmas.Bool.{or_parts, true≢false, cases_Bool}
 use Rattle.histar_base.specs.Refusals.{unless, ◌orelse◌}
 use Rattle.histar_flat.specs.declared.calls.UnixCall.{UnixCall}
-use Rattle.histar_flat.specs.declared.calls.UnixCall.TheVariants.{Append, Create, Exit, Kill, List as ListCall, Login, Mkdir, Read, Rename, Rmdir, Rmtree, Spawn, Stat, Status, Unlink, Whoami, Wrap, Write}
+use Rattle.histar_flat.specs.declared.calls.UnixCall.TheVariants.{Kill, Rmdir, Status, Wrap}
 use Rattle.histar_flat.specs.declared.replies.Errno.{Errno}
-use Rattle.histar_flat.specs.declared.replies.Errno.TheVariants.{EACCES, EEXIST, EFBIG, EISDIR, ENOENT, EPERM}
-use Rattle.histar_flat.specs.Classes.{Class, Process, class_made, may_write}
+use Rattle.histar_flat.specs.declared.replies.Errno.TheVariants.{EACCES}
+use Rattle.histar_flat.specs.Classes.{Process}
 use Rattle.histar_flat.specs.Files.{get}
-use Rattle.histar_flat.specs.FlatCalls.{changed, flat_by, flat_or, is_child, most_bytes, no_entry, no_file, no_room, not_found, refused}
-use Rattle.histar_flat.specs.FlatState.{Content, Flat, bytes_of, entries_in, into, is_dir, is_some_and, is_there, with_node}
-use Rattle.histar_flat.specs.PathOrder.{same, under_process}
+use Rattle.histar_flat.specs.FlatCalls.{changed, flat_by, flat_or, is_below_root, is_child, not_found, refused}
+use Rattle.histar_flat.specs.CallRules.{path_of, rule}
+use Rattle.histar_flat.specs.Effects.{Effect, apply}
+use Rattle.histar_flat.specs.Effects.Effect.{Nothing, Makes, Stores, Removes, Renames, Spawns, Exits, LogsIn, Kills, Wraps}
+use Rattle.histar_flat.specs.FlatState.{Flat, bytes_of, walk}
+use Rattle.histar_flat.specs.PathOrder.{parent, same, under_process}
 use Rattle.histar_flat.specs.Sessions.{Session}
 use Rattle.histar_flat.specs.Words.{Name, Path, ProcName}
-use Rattle.histar_flat.proofs.Changes.{rename_tests, or_stays}
+use Rattle.histar_flat.proofs.Changes.{another_name, or_stays}
+use Rattle.histar_flat.proofs.Entries.{shown}
+use Rattle.histar_flat.proofs.LooksAlike.{LooksAlike, is_narrow, refused_alike_narrow}
+use Rattle.histar_flat.specs.RuleLaws.{Warrant}
+use Rattle.histar_flat.proofs.Warrants.{warranted}
 use Rattle.histar_flat.proofs.Trees.{nothing_below}
 use Rattle.histar_isolation.specs.Comparison.{is_dir_of, lies_in_job}
 use Rattle.histar_isolation.specs.Isolation.{is_rmdir_or_wrap}
-use Rattle.histar_isolation.proofs.Both.{both, looked_at}
+use Rattle.histar_isolation.proofs.Both.{both}
 use Rattle.histar_isolation.proofs.Effects.{cut_below, insert_below}
 use Rattle.histar_isolation.proofs.Inside.{ChangesFilesBelow, aside, rename_below}
 use Rattle.histar_isolation.proofs.Outside.{lie_alike}
-use Rattle.histar_isolation.proofs.Outsiders.{file_tests_of, room_tests_of}
 use Rattle.histar_isolation.proofs.Processes.{found_alike, job_found_alike}
 use Rattle.histar_isolation.proofs.Relation.{IsStarted, SameOutside}
 use Rattle.histar_isolation.proofs.Renames.{renamed}
 use Rattle.histar_isolation.proofs.Steps.{outside_turned}
-use Rattle.histar_isolation.proofs.TestLemmas.{failed, guarded, is_same, left_holds, stops_later}
+use Rattle.histar_isolation.proofs.TestLemmas.{failed, is_same, left_holds, stops_later}
 use Rattle.histar_isolation.proofs.Walks.{entries_alike, into_alike}
 
 -- a refused call changes nothing on either side
@@ -44,54 +50,77 @@ still job f g None (Some y) r = r
 still job f g (Some x) None r = r
 still job f g (Some x) (Some y) r = r
 
+-- an effect changes files alone, where the call names a path, and else the caller and its children
+abbrev is_calm : Path → Effect → Bool
+is_calm q (Kills name) = false
+is_calm q Wraps = false
+is_calm q Spawns = not (is_below_root q)
+is_calm q (Exits n) = not (is_below_root q)
+is_calm q (LogsIn name) = not (is_below_root q)
+is_calm q _ = true
+
 module _ (m : ℕ) (w : ProcName) (session : Session) (f g : Flat) (r : SameOutside (m ∷ w) f g) (hf : IsStarted (m ∷ w) f)
     (hg : IsStarted (m ∷ w) g) (me : ProcName) (p : Process) (out : under_process (m ∷ w) me ≡ false) where
   -- at a path that doesn't lie in the job
-  module _ (n : Name) (d : Path) (u : lies_in_job (m ∷ w) f.files (n ∷ d) ≡ false) where
-    up : get f.files d ≡ get g.files d
-    up = r.files.same d ((or_parts (is_dir_of (m ∷ w) (get f.files d)) (lies_in_job (m ∷ w) f.files d) u).1)
+  looks_alike : (q : Path) → lies_in_job (m ∷ w) f.files q ≡ false → LooksAlike false session f g p q
+  looks_alike q u = record {
+    way = way q u;
+    here = λ walked. ap (option_map shown) (r.files.same q u);
+    above = λ below walked. ap (option_map shown) (r.files.same (parent q) (above q u));
+    beside = λ name below walked. ap (option_map shown) (r.files.same (name ∷ parent q) (beside q u below));
+    entries_above = λ below walked. entries_alike (m ∷ w) f g r.files (parent q) (beside q u below);
+    entries = λ wide. absurd (true≢false (sym wide));
+    bytes = λ walked may. ap bytes_of (r.files.same q u);
+    found = λ wide. absurd (true≢false (sym wide));
+    life = λ wide. absurd (true≢false (sym wide));
+  }
+    where
+      way : (q : Path) → lies_in_job (m ∷ w) f.files q ≡ false → walk session f p q ≡ walk session g p q
+      way [] u = refl
+      way (n ∷ d) u = into_alike (m ∷ w) session p f g r.files d u
 
-    no_room_anyone : no_room session f p (n ∷ d) ≡ no_room session g p (n ∷ d)
-    unfolding room_tests_of
-    no_room_anyone = guarded (into session f p d) (into session g p d)
-        (room_tests_of session p (get f.files (n ∷ d)) (entries_in f d) (get f.files d))
-        (room_tests_of session p (get g.files (n ∷ d)) (entries_in g d) (get g.files d)) (into_alike (m ∷ w) session p f g r.files d u)
-        (λ _ i. room_tests_of session p (r.files.same (n ∷ d) u i) (entries_alike (m ∷ w) f g r.files d u i) (up i))
+      above : (q : Path) → lies_in_job (m ∷ w) f.files q ≡ false → lies_in_job (m ∷ w) f.files (parent q) ≡ false
+      above [] u = refl
+      above (n ∷ d) u = (or_parts (is_dir_of (m ∷ w) (get f.files d)) (lies_in_job (m ∷ w) f.files d) u).1
 
-    no_file_anyone : no_file session f p (n ∷ d) ≡ no_file session g p (n ∷ d)
-    unfolding file_tests_of
-    no_file_anyone = guarded (into session f p d) (into session g p d) (file_tests_of (get f.files (n ∷ d)))
-        (file_tests_of (get g.files (n ∷ d))) (into_alike (m ∷ w) session p f g r.files d u)
-        (λ _ i. file_tests_of (r.files.same (n ∷ d) u i))
+      beside : (q : Path) → lies_in_job (m ∷ w) f.files q ≡ false → is_below_root q ≡ true → (is_dir_of (m ∷ w) (get f.files (parent q)) || lies_in_job (m ∷ w) f.files (parent q)) ≡ false
+      beside [] u below = absurd (true≢false (sym below))
+      beside (n ∷ d) u below = u
 
-    no_entry_anyone : no_entry session f p (n ∷ d) ≡ no_entry session g p (n ∷ d)
-    no_entry_anyone = guarded (into session f p d) (into session g p d) (unless (is_there f (n ∷ d)) ENOENT)
-        (unless (is_there g (n ∷ d)) ENOENT) (into_alike (m ∷ w) session p f g r.files d u)
-        (λ _ i. unless (is_some_and (r.files.same (n ∷ d) u i) (λ n. true)) ENOENT)
+  -- at a path that does, a calm effect changes files below the directory alone
+  changes_below : (a : Flat) → IsStarted (m ∷ w) a → (n : Name) (d : Path) (effect : Effect) → Warrant session a me p (n ∷ d) effect
+      → is_calm (n ∷ d) effect ≡ true → ChangesFilesBelow d a (apply session a me p (n ∷ d) effect)
+  unfolding renamed
+  changes_below a h n d Nothing may calm = record { files = record { rest = λ q below. refl }; processes = refl }
+  changes_below a h n d (Makes content mode) may calm = record { files = insert_below (m ∷ w) a.files n d _; processes = refl }
+  changes_below a h n d (Stores new) may calm = record { files = insert_below (m ∷ w) a.files n d _; processes = refl }
+  changes_below a h n d Removes may calm = record { files = cut_below (m ∷ w) a.files n d; processes = refl }
+  changes_below a h n d (Renames k) may calm =
+      record { files = rename_below (m ∷ w) a.files n k d (another_name a n k d may.1 may.2) (nothing_below a h.tree (k ∷ d) may.2); processes = refl }
+  changes_below a h n d _ may calm = absurd (true≢false (sym calm))
 
-  -- a call at one path: either it lies in the job, or the call is refused alike
-  split : (call : UnixCall) (n : Name) (d : Path)
-      → (lies_in_job (m ∷ w) f.files (n ∷ d) ≡ false → refused session f me p call ≡ refused session g me p call)
-      → (lies_in_job (m ∷ w) f.files (n ∷ d) ≡ false → lies_in_job (m ∷ w) f.files (looked_at call) ≡ false)
-      → (refused session f me p call ≡ None → ChangesFilesBelow d f (changed session f me p call))
-      → (refused session g me p call ≡ None → ChangesFilesBelow d g (changed session g me p call))
+  -- a calm call with narrow needs: its path lies in the job, or it is refused alike
+  calmly : (call : UnixCall) → is_narrow (rule call).needs ≡ true → is_calm (path_of call) (rule call).effect ≡ true
       → SameOutside (m ∷ w) (flat_by session f me (Some p) call) (flat_by session g me (Some p) call)
-  split call n d e l cf cg = elim (cases_Bool (lies_in_job (m ∷ w) f.files (n ∷ d))) [
-    | inl h ↦
-        let one = or_stays (λ x. SameOutside (m ∷ w) x g) f (changed session f me p call) (refused session f me p call) r
-        (λ v. aside (m ∷ w) f g r (changed session f me p call) d h (cf v)) in
-        outside_turned (m ∷ w) (flat_by session g me (Some p) call) (flat_by session f me (Some p) call)
-        (or_stays (λ x. SameOutside (m ∷ w) x (flat_by session f me (Some p) call)) g (changed session g me p call)
-        (refused session g me p call)
-        (outside_turned (m ∷ w) (flat_by session f me (Some p) call) g one)
-        (λ v. aside (m ∷ w) g (flat_by session f me (Some p) call) (outside_turned (m ∷ w) (flat_by session f me (Some p) call) g one)
-        (changed session g me p call) d (sym (lie_alike (m ∷ w) f.files g.files r.files (n ∷ d)) ∙ h) (cg v)))
-    | inr u ↦ both m w session f g r hf hg me p call (e u) (λ v. l u)
-  ]
-
-  put : (a : Flat) (n : Name) (d : Path) (class : Class) (content : Content) → ChangesFilesBelow d a (with_node a (n ∷ d) class content)
-  put a n d class content =
-      record { files = insert_below (m ∷ w) a.files n d (record { class = class; content = content }); processes = refl }
+  calmly call narrow calm = by (path_of call) refl (cases_Bool (lies_in_job (m ∷ w) f.files (path_of call)))
+    where
+      by : (q : Path) → path_of call ≡ q → (lies_in_job (m ∷ w) f.files (path_of call) ≡ true) ⊎ (lies_in_job (m ∷ w) f.files (path_of call) ≡ false)
+          → SameOutside (m ∷ w) (flat_by session f me (Some p) call) (flat_by session g me (Some p) call)
+      by q at (inr u) = both m w session f g r hf hg me p call (refused_alike_narrow session f g me p call (looks_alike (path_of call) u) narrow) (λ v h. u)
+      by [] at (inl h) = absurd (true≢false (sym h ∙ ap (lies_in_job (m ∷ w) f.files) at))
+      by (n ∷ d) at (inl h) =
+          let inside = ap (lies_in_job (m ∷ w) f.files) (sym at) ∙ h in
+          let below : (a : Flat) → IsStarted (m ∷ w) a → refused session a me p call ≡ None → ChangesFilesBelow d a (changed session a me p call) = λ a s v.
+          subst (λ q. ChangesFilesBelow d a (apply session a me p q (rule call).effect)) (sym at)
+          (changes_below a s n d (rule call).effect (subst (λ q. Warrant session a me p q (rule call).effect) at (warranted session a me p call v))
+          (ap (λ q. is_calm q (rule call).effect) (sym at) ∙ calm)) in
+          let one = or_stays (λ x. SameOutside (m ∷ w) x g) f (changed session f me p call) (refused session f me p call) r
+          (λ v. aside (m ∷ w) f g r (changed session f me p call) d inside (below f hf v)) in
+          let turned = outside_turned (m ∷ w) (flat_by session f me (Some p) call) g one in
+          outside_turned (m ∷ w) (flat_by session g me (Some p) call) (flat_by session f me (Some p) call)
+          (or_stays (λ x. SameOutside (m ∷ w) x (flat_by session f me (Some p) call)) g (changed session g me p call) (refused session g me p call) turned
+          (λ v. aside (m ∷ w) g (flat_by session f me (Some p) call) turned (changed session g me p call) d
+          (sym (lie_alike (m ∷ w) f.files g.files r.files (n ∷ d)) ∙ inside) (below g hg v)))
 
   -- a process outside the job has no child in the job but the job itself
   child_found : (q : ProcName) → is_child me q ≡ true → not_found f p q ≡ not_found g p q
@@ -103,64 +132,16 @@ module _ (m : ℕ) (w : ProcName) (session : Session) (f g : Flat) (r : SameOuts
         (ap (under_process (m ∷ w)) (sym (is_same me a c)) ∙ out) u)) (job_found_alike m w f g r hf p)
   ]
 
-  rename_changes : (n k : Name) (d : Path) (a : Flat) → IsStarted (m ∷ w) a → refused session a me p (Rename (n ∷ d) k) ≡ None
-      → ChangesFilesBelow d a (changed session a me p (Rename (n ∷ d) k))
-  unfolding renamed
-  rename_changes n k d a h v =
-      let t = rename_tests session a me p n k d v in
-      record { files = rename_below (m ∷ w) a.files n k d t.0 (nothing_below a h.tree (k ∷ d) t.1); processes = refl }
-
   pub anyone : (call : UnixCall) → is_rmdir_or_wrap call ≡ false
       → SameOutside (m ∷ w) (flat_by session f me (Some p) call) (flat_by session g me (Some p) call)
-  unfolding put
-  anyone (Create [] mode) c = r
-  anyone (Create (n ∷ d) mode) c =
-      split (Create (n ∷ d) mode) n d (λ u. ap (λ x. x orelse unless (is_some (class_made session p mode)) EPERM) (no_room_anyone n d u))
-      (λ u. refl) (λ v. put f n d _ _) (λ v. put g n d _ _)
-  anyone (Mkdir [] mode) c = r
-  anyone (Mkdir (n ∷ d) mode) c =
-      split (Mkdir (n ∷ d) mode) n d (λ u. ap (λ x. x orelse unless (is_some (class_made session p mode)) EPERM) (no_room_anyone n d u))
-      (λ u. refl) (λ v. put f n d _ _) (λ v. put g n d _ _)
-  anyone (Read q) c = still (m ∷ w) f g (refused session f me p (Read q)) (refused session g me p (Read q)) r
-  anyone (Write [] bytes) c = r
-  anyone (Write (n ∷ d) bytes) c = split (Write (n ∷ d) bytes) n d
-      (λ u i. no_file_anyone n d u i orelse unless (is_some_and (r.files.same (n ∷ d) u i) (λ x. may_write session p x.class)) EACCES
-      orelse unless (nat_le (length bytes) most_bytes) EFBIG)
-      (λ u. u) (λ v. put f n d _ _) (λ v. put g n d _ _)
-  anyone (Append [] bytes) c = r
-  anyone (Append (n ∷ d) bytes) c = split (Append (n ∷ d) bytes) n d
-      (λ u i. no_file_anyone n d u i orelse unless (is_some_and (r.files.same (n ∷ d) u i) (λ x. may_write session p x.class)) EACCES
-      orelse unless (nat_le (length (bytes_of (r.files.same (n ∷ d) u i) ++ bytes)) most_bytes) EFBIG)
-      (λ u. u) (λ v. put f n d _ _) (λ v. put g n d _ _)
-  anyone (ListCall q) c = still (m ∷ w) f g (refused session f me p (ListCall q)) (refused session g me p (ListCall q)) r
-  anyone (Stat q) c = still (m ∷ w) f g (refused session f me p (Stat q)) (refused session g me p (Stat q)) r
-  anyone (Unlink []) c = r
-  anyone (Unlink (n ∷ d)) c = split (Unlink (n ∷ d)) n d
-      (λ u i. no_entry_anyone n d u i orelse unless (is_some_and (r.files.same (n ∷ d) u i) (λ x. not (is_dir x))) EISDIR orelse unless
-      (is_some_and (up n d u i) (λ x. may_write session p x.class)) EACCES)
-      (λ u. refl) (λ v. record { files = cut_below (m ∷ w) f.files n d; processes = refl })
-      (λ v. record { files = cut_below (m ∷ w) g.files n d; processes = refl })
   anyone (Rmdir q) c = absurd (true≢false c)
-  anyone (Rmtree []) c = r
-  anyone (Rmtree (n ∷ d)) c = split (Rmtree (n ∷ d)) n d
-      (λ u i. no_entry_anyone n d u i orelse unless (is_some_and (up n d u i) (λ x. may_write session p x.class)) EACCES)
-      (λ u. refl) (λ v. record { files = cut_below (m ∷ w) f.files n d; processes = refl })
-      (λ v. record { files = cut_below (m ∷ w) g.files n d; processes = refl })
-  anyone (Rename [] k) c = r
-  anyone (Rename (n ∷ d) k) c = split (Rename (n ∷ d) k) n d
-      (λ u i. no_entry_anyone n d u i orelse unless (not (is_some_and (r.files.same (k ∷ d) u i) (λ x. true))) EEXIST orelse unless
-      (is_some_and (up n d u i) (λ x. may_write session p x.class)) EACCES)
-      (λ u. refl) (rename_changes n k d f hf) (rename_changes n k d g hg)
-  anyone Spawn c = both m w session f g r hf hg me p Spawn refl (λ v. refl)
-  anyone (Exit n) c = both m w session f g r hf hg me p (Exit n) refl (λ v. refl)
+  anyone (Wrap q) c = absurd (true≢false c)
   anyone (Status q) c = still (m ∷ w) f g (refused session f me p (Status q)) (refused session g me p (Status q)) r
   anyone (Kill q) c = elim (cases_Bool (is_child me q)) [
-    | inl h ↦ both m w session f g r hf hg me p (Kill q) (ap (λ x. x orelse unless (is_child me q) EACCES) (child_found q h)) (λ v. refl)
+    | inl h ↦ both m w session f g r hf hg me p (Kill q) (ap (λ x. x orelse unless (is_child me q) EACCES) (child_found q h)) (λ v t. absurd (true≢false (sym t)))
     | inr h ↦ both_refused (m ∷ w) f g (changed session f me p (Kill q)) (changed session g me p (Kill q)) (refused session f me p (Kill q))
         (refused session g me p (Kill q)) r
         (stops_later (not_found f p q) (unless (is_child me q) EACCES) (failed (is_child me q) EACCES h))
         (stops_later (not_found g p q) (unless (is_child me q) EACCES) (failed (is_child me q) EACCES h))
   ]
-  anyone Whoami c = r
-  anyone (Login name password) c = both m w session f g r hf hg me p (Login name password) refl (λ v. refl)
-  anyone (Wrap q) c = absurd (true≢false c)
+  anyone call c = calmly call refl refl

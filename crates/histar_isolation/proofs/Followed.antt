@@ -13,7 +13,10 @@ use Rattle.histar_flat.specs.declared.replies.Reply.TheVariants.{Gone, Refused}
 use Rattle.histar_flat.specs.Classes.{Process, carries, may_write, nobody}
 use Rattle.histar_flat.specs.Classes.Class.{Readable, Scratch}
 use Rattle.histar_flat.specs.Files.{empty, get, insert}
-use Rattle.histar_flat.specs.FlatCalls.{answer, changed, flat_after, flat_by, flat_or, inner_chain, next_child, no_child, no_room, refused, reply_by, reply_or, reply_to, running}
+use Rattle.histar_flat.specs.CallRules.{rule}
+use Rattle.histar_flat.specs.Effects.Effect.{Wraps}
+use Rattle.histar_flat.specs.FlatCalls.{answer, changed, flat_after, flat_by, flat_or, inner_chain, next_child, refused, reply_by, reply_or, reply_to, running}
+use Rattle.histar_flat.proofs.CommonNeeds.{no_child, no_room}
 use Rattle.histar_flat.specs.FlatState.{Flat, IsTree, Node, class_of, into, is_dir, is_given, is_some_and, writes}
 use Rattle.histar_flat.specs.FlatState.Content.{Dir, File}
 use Rattle.histar_flat.specs.Laws.{NamesAreGiven, takes_away}
@@ -68,7 +71,7 @@ module _ (job : ProcName) (session : Session) (f : Flat) (tree : IsTree f) (name
       (writes_dir_of p (get f.files d) inside (walked_into_directory session f p tree.root d walked) w))
 
   -- a call that takes nothing away, renames nothing and starts no job leaves the directory where it is
-  plain_changes : (call : UnixCall) → ((q : Path) → takes_away call q ≡ false) → ((n : Name) (d : Path) → call ≡ Wrap (n ∷ d) → ⊥)
+  plain_changes : (call : UnixCall) → ((q : Path) → takes_away call q ≡ false) → ((rule call).effect ≡ Wraps → ⊥)
       → (p : Process) → EachChange session f me p call (λ g. IsFollowed job g directory)
   plain_changes call takes_none no_wrap p = record {
     stays = h;
@@ -81,15 +84,15 @@ module _ (job : ProcName) (session : Session) (f : Flat) (tree : IsTree f) (name
     renames = λ n k d takes ne free w. absurd (taken n d takes);
     spawns = λ is. record { carried = h.carried; there = h.there };
     exits = λ n is. record { carried = h.carried; there = h.there };
-    logs_in = λ name password is known free. record { carried = h.carried; there = h.there };
+    logs_in = λ name is known free. record { carried = h.carried; there = h.there };
     kills = λ n. record { carried = h.carried; there = h.there };
-    wraps = λ n d is walked free w named. absurd (no_wrap n d is);
+    wraps = λ n d is walked free w named. absurd (no_wrap is);
   }
     where
       taken : (n : Name) (d : Path) → ((q : Path) → takes_away call q ≡ under_path (n ∷ d) q) → ⊥
       taken n d takes = true≢false (sym (under_itself same same_path_found (n ∷ d)) ∙ sym (takes (n ∷ d)) ∙ takes_none (n ∷ d))
 
-  plain_line : (call : UnixCall) → ((q : Path) → takes_away call q ≡ false) → ((n : Name) (d : Path) → call ≡ Wrap (n ∷ d) → ⊥)
+  plain_line : (call : UnixCall) → ((q : Path) → takes_away call q ≡ false) → ((rule call).effect ≡ Wraps → ⊥)
       → IsFollowed job (flat_after session f me call) directory
   plain_line call takes_none no_wrap =
       by_line session f me call (λ g. IsFollowed job g directory) h (λ p runs. plain_changes call takes_none no_wrap p)
@@ -158,7 +161,7 @@ module _ (job : ProcName) (session : Session) (f : Flat) (tree : IsTree f) (name
       by [] p here passes = absurd (not_passed _ refl passes)
       by (n ∷ d) p here passes =
           let tests = rename_tests session f me p n name d passes in rename_followed job f directory h tree n name d tests.0 tests.1
-  line_followed call = plain_line call (λ q. refl) (λ n d e. cc)
+  line_followed call = plain_line call (λ q. refl) (λ e. cc)
 
 -- So do all lines.
 all_followed : (job : ProcName) (session : Session) (f : Flat) → IsTree f → NamesAreGiven f → (directory : Option Path)

@@ -114,7 +114,7 @@ module _ (job : ProcName) (session : Session) (f g : Flat) (r : SameOutside job 
     spawns = λ is. birth f r refl (record p { born = p.born + 1 })
         (record { user = p.user; chain = p.chain; held = []; exited = None; born = 0 }) refl;
     exits = λ n is. aside_process job f g r me (record p { exited = Some n }) inside (own (record p { exited = Some n }) refl);
-    logs_in = λ name password is known free. aside_process job f g r me (record p { user = name; held = [] }) inside
+    logs_in = λ name is known free. aside_process job f g r me (record p { user = name; held = [] }) inside
         (own (record p { user = name; held = [] }) refl);
     kills = λ n. record {
       files = r.files;

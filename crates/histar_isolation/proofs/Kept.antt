@@ -197,7 +197,7 @@ module _ (job : ProcName) (session : Session) (f : Flat) (h : IsStarted job f) (
     spawns = λ is. kept_birth job f h me p here (record p { born = p.born + 1 })
         (record { user = p.user; chain = p.chain; held = []; exited = None; born = 0 }) refl (λ e. e) refl refl;
     exits = λ n is. kept_process job f h me p here (record p { exited = Some n }) refl (λ e. e);
-    logs_in = λ name password is known free. kept_process job f h me p here (record p { user = name; held = [] }) refl (λ e. refl);
+    logs_in = λ name is known free. kept_process job f h me p here (record p { user = name; held = [] }) refl (λ e. refl);
     kills = λ n. kept_processes job f h (without_process f (n ∷ me)).processes (λ q y e.
         let was = left (under_process (n ∷ me) q) (f.processes q) y e in (h.inside q y was, h.held q y was));
     wraps = λ n d is walked free w named tree given.

@@ -2,11 +2,11 @@ pub mod Relation
 pub mod TestLemmas
 pub mod Outside
 pub mod Walks
-pub mod Outsiders
 pub mod Effects
 pub mod Renames
 pub mod Steps
 pub mod Processes
+pub mod Outsiders
 pub mod Folds
 pub mod Kept
 pub mod Inside

@@ -14,7 +14,8 @@ use Rattle.histar_flat.specs.Files.{get}
 use Rattle.histar_flat.specs.Classes.{Class}
 use Rattle.histar_flat.specs.FlatState.{Flat, Node, Content, is_some_and, is_dir, is_dir_at, into}
 use Rattle.histar_flat.specs.FlatState.Content.{Dir, File}
-use Rattle.histar_flat.specs.FlatCalls.{refused, no_entry}
+use Rattle.histar_flat.specs.FlatCalls.{refused}
+use Rattle.histar_flat.proofs.CommonNeeds.{no_entry}
 use Rattle.histar_object.specs.State.{State}
 use Rattle.histar_rules.specs.declared.raw.RawCall.{RawCall}
 use Rattle.histar_syscall.specs.KernelModel.{KernelModel, state}

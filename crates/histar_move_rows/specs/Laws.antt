@@ -22,10 +22,3 @@ RmtreesAreRows = (session : Session) → IsSession session → (path : Path) →
 
 abbrev pub RenamesAreRows : Type 0
 RenamesAreRows = (session : Session) → IsSession session → (path : Path) (name : Name) → IsTrue (is_name name) → IsRowOf session (Rename path name) (rename_program (places_of (length session.users)) path name)
-
--- the calls that take entries away or rename them are rows
-pub record MovesAreRows : Type 0 where
-  pub unlink : UnlinksAreRows
-  pub rmdir : RmdirsAreRows
-  pub rmtree : RmtreesAreRows
-  pub rename : RenamesAreRows

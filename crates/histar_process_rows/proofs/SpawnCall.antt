@@ -13,7 +13,8 @@ use Rattle.histar_flat.specs.Sessions.{Session}
 use Rattle.histar_flat.specs.Classes.{Process}
 use Rattle.histar_flat.specs.FlatState.{Flat}
 use Rattle.histar_flat.specs.FlatState as flat
-use Rattle.histar_flat.specs.FlatCalls.{no_child, refused}
+use Rattle.histar_flat.specs.FlatCalls.{refused}
+use Rattle.histar_flat.proofs.CommonNeeds.{no_child}
 use Rattle.histar_label.specs.Levels.{Levels}
 use Rattle.histar_object.specs.State.{State}
 use Rattle.histar_rules.specs.declared.raw.RawCall.{RawCall}

@@ -27,11 +27,3 @@ KillsAreRows = (session : Session) → IsSession session → (name : ProcName) �
 
 abbrev pub WhoamisAreRows : Type 0
 WhoamisAreRows = (session : Session) → IsSession session → IsRowOf session Whoami (whoami_program session)
-
--- the calls on processes are rows
-pub record ProcessCallsAreRows : Type 0 where
-  pub spawn : SpawnsAreRows
-  pub exit : ExitsAreRows
-  pub status : StatusesAreRows
-  pub kill : KillsAreRows
-  pub whoami : WhoamisAreRows

@@ -1,7 +1,7 @@
 -- The reads of each call, in the words of its walk, its search or its label, and that they are what the call is due to ask.
 use Rattle.std.proofs.Common.{◌≡◌, ℕ, ◌+◌, Bool, true, false, List, [], ◌∷◌, ◌++◌, Option, None, Some, map, refl, ap, subst, sym}
 use Rattle.histar_flat.specs.declared.calls.UnixCall.{UnixCall}
-use Rattle.histar_flat.specs.declared.calls.UnixCall.TheVariants.{Create, Mkdir, Write, Append, Read, List as ListCall, Stat, Unlink, Rmdir, Rmtree, Rename, Spawn, Exit, Status, Kill, Whoami, Login, Wrap}
+use Rattle.histar_flat.specs.declared.calls.UnixCall.TheVariants.{List as ListCall, Stat, Rmdir, Status, Kill, Whoami, Login, Wrap}
 use Rattle.histar_flat.specs.declared.replies.Errno.TheVariants.{EAGAIN}
 use Rattle.histar_flat.specs.declared.replies.Reply.{Reply}
 use Rattle.histar_flat.specs.declared.replies.Reply.TheVariants.{Stats, Refused}
@@ -9,6 +9,7 @@ use Rattle.histar_flat.specs.Words.{Path, ProcName}
 use Rattle.histar_flat.specs.Sessions.{Session}
 use Rattle.histar_flat.specs.Classes.{Process}
 use Rattle.histar_flat.specs.FlatState.{Flat}
+use Rattle.histar_flat.specs.CallRules.{path_of}
 use Rattle.histar_object.specs.State.{State}
 use Rattle.histar_rules.specs.declared.raw.RawCall.{RawCall}
 use Rattle.histar_rules.specs.declared.raw.RawCall.TheVariants as raw
@@ -81,23 +82,15 @@ module _ (session : Session) where
 
   -- among the entries are the reads that the call of a process cannot do without, so that what it tells was asked of the kernel
   abbrev pub HasReadsByCall : State → Flat → Process → UnixCall → Reply → List TraceEntry → Type 0
-  HasReadsByCall s f p (Create path mode) reply entries = HasWalk s f p path entries
-  HasReadsByCall s f p (Mkdir path mode) reply entries = HasWalk s f p path entries
-  HasReadsByCall s f p (Write path bytes) reply entries = HasWalk s f p path entries
-  HasReadsByCall s f p (Append path bytes) reply entries = HasWalk s f p path entries
-  HasReadsByCall s f p (Read path) reply entries = HasWalk s f p path entries
   HasReadsByCall s f p (ListCall path) reply entries = HasWay s f p path entries
   HasReadsByCall s f p (Stat path) reply entries = HasLabel s f p path reply entries
-  HasReadsByCall s f p (Unlink path) reply entries = HasWalk s f p path entries
   HasReadsByCall s f p (Rmdir path) reply entries = HasWayUnlessSlash s f p path entries
-  HasReadsByCall s f p (Rmtree path) reply entries = HasWalk s f p path entries
-  HasReadsByCall s f p (Rename path name) reply entries = HasWalk s f p path entries
   HasReadsByCall s f p (Status name) reply entries = HasSearch s f p name entries
   HasReadsByCall s f p (Kill name) reply entries = HasSearch s f p name entries
   HasReadsByCall s f p Whoami reply entries = AreAmong (raw.OwnLabel ∷ []) entries
   HasReadsByCall s f p (Login name password) reply entries = AreAmong (reads_of_login (place_of session.users name) (is_compared reply)) entries
   HasReadsByCall s f p (Wrap path) reply entries = HasWalkUnlessFull s f p path reply entries
-  HasReadsByCall s f p _ reply entries = Unit {0}
+  HasReadsByCall s f p call reply entries = HasWalk s f p (path_of call) entries
 
   module _ (s : State) (f : Flat) (p : Process) where
     -- what is asked first, and then what is asked behind it
@@ -153,22 +146,13 @@ module _ (session : Session) where
 
     -- what is due to a call is asked, where it has the reads of its words
     pub reads_due : (call : UnixCall) (reply : Reply) (entries : List TraceEntry) → HasReadsByCall s f p call reply entries → HasReads session s f (Some p) call reply entries
-    reads_due (Create path mode) reply entries h = walk_due path entries h
-    reads_due (Mkdir path mode) reply entries h = walk_due path entries h
-    reads_due (Write path bytes) reply entries h = walk_due path entries h
-    reads_due (Append path bytes) reply entries h = walk_due path entries h
-    reads_due (Read path) reply entries h = walk_due path entries h
     reads_due (ListCall path) reply entries h = (h.0, asked_entries (tested session f p path) h.0 h.1, h.2)
     reads_due (Stat path) reply entries h =
         (h.0 ++ h.1, asked_then (walked session f p path) (label_asked path reply) h.0 h.1 (asked_walk path h.0 h.2) (asked_label path reply h.1 h.3), h.4)
-    reads_due (Unlink path) reply entries h = walk_due path entries h
     reads_due (Rmdir path) reply entries h = into_due path entries h
-    reads_due (Rmtree path) reply entries h = walk_due path entries h
-    reads_due (Rename path name) reply entries h = walk_due path entries h
-    reads_due Spawn reply entries h = ([], refl, tt)
-    reads_due (Exit number) reply entries h = ([], refl, tt)
     reads_due (Status name) reply entries h = search_due name entries h
     reads_due (Kill name) reply entries h = search_due name entries h
     reads_due Whoami reply entries h = (raw.OwnLabel ∷ [], (raw.OwnLabel, [], refl, refl, refl), h)
     reads_due (Login name password) reply entries h = login_due (place_of session.users name) (is_compared reply) entries h
     reads_due (Wrap path) reply entries h = wrap_due path reply entries h
+    reads_due call reply entries h = walk_due (path_of call) entries h

@@ -60,14 +60,3 @@ StatsAreRows = (session : Session) → IsSession session → (path : Path) → I
 
 abbrev pub LoginsAreRows : Type 0
 LoginsAreRows = (session : Session) → IsSession session → (name : Name) (password : Password) → IsRowOfCaller session (Login name password) (λ me caller. login_program session caller name password)
-
--- the file calls of `histar_calls` and the login are rows
-pub record CallsAreRows : Type 0 where
-  pub read : ReadsAreRows
-  pub write : WritesAreRows
-  pub create : CreatesAreRows
-  pub mkdir : MkdirsAreRows
-  pub append : AppendsAreRows
-  pub list : ListsAreRows
-  pub stat : StatsAreRows
-  pub login : LoginsAreRows

@@ -1,7 +1,7 @@
 -- What the call of a process cannot do without asking the kernel, so that what it replies was asked.
 use Rattle.std.specs.Prelude.{◌≡◌, ℕ, ◌+◌, Bool, true, false, ◌&&◌, not, ◌⊎◌, List, [], ◌∷◌, ◌++◌, map, Option, None, Some, is_some, if◌then◌else◌}
 use Rattle.histar_flat.specs.declared.calls.UnixCall.{UnixCall}
-use Rattle.histar_flat.specs.declared.calls.UnixCall.TheVariants.{Create, Mkdir, Write, Append, Read, List as ListCall, Stat, Unlink, Rmdir, Rmtree, Rename, Status, Kill, Whoami, Login, Wrap}
+use Rattle.histar_flat.specs.declared.calls.UnixCall.TheVariants.{List as ListCall, Stat, Rmdir, Status, Kill, Whoami, Login, Wrap}
 use Rattle.histar_flat.specs.declared.replies.Errno.TheVariants.{EAGAIN, EAUTH}
 use Rattle.histar_flat.specs.declared.replies.Reply.{Reply}
 use Rattle.histar_flat.specs.declared.replies.Reply.TheVariants.{Done, Stats, Refused}
@@ -9,6 +9,7 @@ use Rattle.histar_flat.specs.Words.{Path, ProcName}
 use Rattle.histar_flat.specs.Sessions.{Session}
 use Rattle.histar_flat.specs.Classes.{Process}
 use Rattle.histar_flat.specs.FlatState.{Flat, is_dir_at, into}
+use Rattle.histar_flat.specs.CallRules.{path_of}
 use Rattle.histar_flat.specs.FlatCalls.{not_found}
 use Rattle.histar_object.specs.State.{State}
 use Rattle.histar_rules.specs.declared.raw.RawCall.{RawCall}
@@ -81,23 +82,15 @@ module _ (session : Session) where
 
   -- what the call of a process, replied to so, is due to ask, in this order
   abbrev pub due : Flat → Process → UnixCall → Reply → List Question
-  due f p (Create path mode) reply = walked f p path
-  due f p (Mkdir path mode) reply = walked f p path
-  due f p (Write path bytes) reply = walked f p path
-  due f p (Append path bytes) reply = walked f p path
-  due f p (Read path) reply = walked f p path
   due f p (ListCall path) reply = map EntriesOf (tested f p path)
   due f p (Stat path) reply = walked f p path ++ label_asked path reply
-  due f p (Unlink path) reply = walked f p path
   due f p (Rmdir path) reply = walked_into f p path
-  due f p (Rmtree path) reply = walked f p path
-  due f p (Rename path name) reply = walked f p path
   due f p (Status name) reply = map StatusOf (looked_at f p name)
   due f p (Kill name) reply = map StatusOf (looked_at f p name)
   due f p Whoami reply = OwnLabel ∷ []
   due f p (Login name password) reply = password_asked (place_of session.users name) (is_compared reply)
   due f p (Wrap path) reply = walked_unless_full f p path reply
-  due f p _ reply = []
+  due f p call reply = walked f p (path_of call)
 
   -- a raw call asks this of a state
   abbrev pub Asks : State → Question → RawCall → Type 0

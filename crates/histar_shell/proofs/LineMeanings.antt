@@ -4,7 +4,6 @@ use Rattle.std.specs.Prelude.{is_some}
 use Rattle.std.specs.List.{AllByRecursion}
 use mathlib.Core.Bool.{true≢false}
 use Rattle.histar_flat.specs.declared.calls.UnixCall.{UnixCall}
-use Rattle.histar_flat.specs.declared.calls.UnixCall.TheVariants.{Create, Mkdir, Write, Append, Read, List as ListCall, Stat, Unlink, Rmdir, Rmtree, Rename, Spawn, Exit, Status, Kill, Whoami, Login, Wrap}
 use Rattle.histar_flat.specs.declared.replies.Reply.{Reply}
 use Rattle.histar_flat.specs.declared.replies.Reply.TheVariants.{Gone}
 use Rattle.histar_flat.specs.Words.{ProcName}
@@ -72,33 +71,11 @@ module _ (rows : LinesAreRows) (session : Session) (old new : MachineModel) (f :
     -- a call of the process is its row
     made_row : (k : KernelModel) → state k ≡ state old.kernel → (call : UnixCall) (result : Result Reply Stopped) → IsCall call
         → Makes session (places_of (length session.users)) me caller k new.kernel call result → DoesItsRow session f me call k new.kernel caller.thread result
-    made_row k same call result can made = by call can made
-      where
-        there : IsReady session (state k) f me caller.thread
-        there = subst (λ (s : State). IsReady session s f me caller.thread) (sym same) ready
-
-        at : caller_at (state k) (places_of (length session.users)).home me ≡ Some caller
-        at = ap (λ (s : State). caller_at s (places_of (length session.users)).home me) same ∙ found
-
-        by : (c : UnixCall) → IsCall c → Makes session (places_of (length session.users)) me caller k new.kernel c result → DoesItsRow session f me c k new.kernel caller.thread result
-        by (Create path mode) can made = rows.calls.create session ok path mode can me k new.kernel f caller.thread result there made
-        by (Write path bytes) can made = rows.calls.write session ok path bytes me k new.kernel f caller.thread result there made
-        by (Mkdir path mode) can made = rows.calls.mkdir session ok path mode can me k new.kernel f caller.thread result there made
-        by (Append path bytes) can made = rows.calls.append session ok path bytes me k new.kernel f caller.thread result there made
-        by (ListCall path) can made = rows.calls.list session ok path me k new.kernel f caller.thread result there made
-        by (Read path) can made = rows.calls.read session ok path me k new.kernel f caller.thread result there made
-        by (Stat path) can made = rows.calls.stat session ok path me k new.kernel f caller.thread result there made
-        by (Unlink path) can made = rows.moves.unlink session ok path me k new.kernel f caller.thread result there made
-        by (Rmdir path) can made = rows.moves.rmdir session ok path me k new.kernel f caller.thread result there made
-        by (Rmtree path) can made = rows.moves.rmtree session ok path me k new.kernel f caller.thread result there made
-        by (Rename path name) can made = rows.moves.rename session ok path name can.1 me k new.kernel f caller.thread result there made
-        by Spawn can made = rows.processes.spawn session ok me caller k new.kernel f result there at made
-        by (Exit number) can made = rows.processes.exit session ok number can me caller k new.kernel f result there at made
-        by (Status name) can made = rows.processes.status session ok name me k new.kernel f caller.thread result there made
-        by (Kill name) can made = rows.processes.kill session ok name me k new.kernel f caller.thread result there made
-        by Whoami can made = rows.processes.whoami session ok me k new.kernel f caller.thread result there made
-        by (Login name password) can made = rows.calls.login session ok name password me caller k new.kernel f result there at made
-        by (Wrap path) can made = rows.wraps session ok path can me caller k new.kernel f result there at made
+    made_row k same call result can made =
+        let there : IsReady session (state k) f me caller.thread = subst (λ (s : State). IsReady session s f me caller.thread) (sym same) ready in
+        let at : caller_at (state k) (places_of (length session.users)).home me ≡ Some caller =
+            ap (λ (s : State). caller_at s (places_of (length session.users)).home me) same ∙ found in
+        rows session ok call can me caller k new.kernel f result there at made
 
     -- its program reads no password
     made_of : (k : KernelModel) (call : UnixCall) (result : Result Reply Stopped) → Makes old.users (places_of (length session.users)) me caller k new.kernel call result → Makes session (places_of (length session.users)) me caller k new.kernel call result
@@ -142,7 +119,7 @@ module _ (rows : LinesAreRows) (session : Session) (old new : MachineModel) (f :
           row = row.1.row;
           shows = still_shows line call (Ok reply) (flat_after session f me call) h row.1.row.lays_out
               (first_free_after session f shows.first me call)
-              (small_after f shows.small session me (nothing_under session (state old.kernel) f shows.lays_out.laid) call can)
+              (small_after f shows.small session me (nothing_under session (state old.kernel) f shows.lays_out.laid) call)
               (shallow_after f shows.shallow session me (nothing_under session (state old.kernel) f shows.lays_out.laid) call can);
         }
     made_ends line call (Err stopped) can h =

@@ -3,7 +3,7 @@ use Rattle.std.proofs.Common.{◌≡◌, ℕ, ◌+◌, List, [], ◌∷◌, not,
 use Rattle.std.specs.FinMap as map
 use Rattle.histar_flat.specs.declared.calls.Mode.{Mode}
 use Rattle.histar_flat.specs.declared.calls.UnixCall.{UnixCall}
-use Rattle.histar_flat.specs.declared.calls.UnixCall.TheVariants.{Create, Mkdir, Write, Append, Read, List as ListCall, Stat, Unlink, Rmdir, Rmtree, Rename, Spawn, Exit, Status, Kill, Whoami, Login, Wrap}
+use Rattle.histar_flat.specs.declared.calls.UnixCall.TheVariants.{Create, Mkdir, Stat, Spawn, Whoami, Login, Wrap}
 use Rattle.histar_flat.specs.declared.replies.Reply.TheVariants as replies
 use Rattle.histar_flat.specs.Sessions.{Session}
 use Rattle.histar_flat.specs.Words.{Name, Path, ProcName}
@@ -120,19 +120,9 @@ module _ (session : Session) where
   pub same_program : (places : Places) (me : ProcName) (caller : Caller) (call : UnixCall) → program_of (without_passwords session) places me caller call ≡ program_of session places me caller call
   same_program places me caller (Create path mode) = same_create places path mode
   same_program places me caller (Mkdir path mode) = same_mkdir places path mode
-  same_program places me caller (Write path bytes) = refl
-  same_program places me caller (Append path bytes) = refl
-  same_program places me caller (Read path) = refl
-  same_program places me caller (ListCall path) = refl
   same_program places me caller (Stat path) = same_stat places path
-  same_program places me caller (Unlink path) = refl
-  same_program places me caller (Rmdir path) = refl
-  same_program places me caller (Rmtree path) = refl
-  same_program places me caller (Rename path name) = refl
   same_program places me caller Spawn = same_spawn me caller.home
-  same_program places me caller (Exit number) = refl
-  same_program places me caller (Status name) = refl
-  same_program places me caller (Kill name) = refl
   same_program places me caller Whoami = same_whoami
   same_program places me caller (Login name password) = same_login caller name password
   same_program places me caller (Wrap path) = same_wrap places me caller.home path
+  same_program places me caller _ = refl

@@ -5,24 +5,24 @@ use Rattle.std.specs.List.{list_all}
 use Rattle.std.proofs.lemmas.Bool.Decides.{nat_tests}
 use mathlib.Core.Bool.{true≢false}
 use Rattle.histar_flat.specs.declared.calls.UnixCall.{UnixCall}
-use Rattle.histar_flat.specs.declared.calls.UnixCall.TheVariants.{Create, Mkdir, Write, Append, Read, List as ListCall, Stat, Unlink, Rmdir, Rmtree, Rename, Spawn, Exit, Status, Kill, Whoami, Login, Wrap}
-use Rattle.histar_flat.specs.declared.replies.Errno.{Errno}
-use Rattle.histar_flat.specs.declared.replies.Errno.TheVariants.{ENOENT, EEXIST, EACCES}
 use Rattle.histar_flat.specs.Words.{Name, Path, ProcName, most_names, is_name, is_path}
 use Rattle.histar_flat.specs.PathOrder.{under_path}
 use Rattle.histar_flat.specs.Sessions.{Session}
 use Rattle.histar_flat.specs.Files.{get, empty}
 use Rattle.histar_flat.specs.Classes.{Class, Process}
 use Rattle.histar_flat.specs.Classes.Class.{Readable}
-use Rattle.histar_flat.specs.FlatState.{Flat, Node, Content, is_some_and, is_there, into, writes, moved, with_node, with_renamed, without_below}
+use Rattle.histar_flat.specs.FlatState.{Flat, Node, Content, is_some_and, bytes_at, is_there, into, writes, moved, with_node, with_renamed, without_below}
 use Rattle.histar_flat.specs.FlatState.Content.{Dir, File}
-use Rattle.histar_flat.specs.FlatCalls.{no_entry, running, refused, changed, flat_or, flat_by, flat_after}
+use Rattle.histar_flat.specs.Effects.{Effect, apply}
+use Rattle.histar_flat.specs.Effects.Effect.{Makes, Stores, Removes, Renames, Wraps}
+use Rattle.histar_flat.specs.CallRules.{path_of, rule}
+use Rattle.histar_flat.specs.FlatCalls.{flat_after}
+use Rattle.histar_flat.specs.RuleLaws.{Warrant}
 use Rattle.histar_flat.specs.Meaning.{boot, first_user}
 use Rattle.histar_flat.proofs.FileLemmas.{same_path_found, get_other, get-keep}
 use Rattle.histar_flat.proofs.Renaming.{get_renamed}
-use Rattle.histar_flat.proofs.Changes.{nothing_there}
-use Rattle.histar_flat.proofs.Refusals.{one_passes, two_pass}
-use Rattle.histar_flat.specs.Calls.{IsCall}
+use Rattle.histar_flat.proofs.Changes.{another_name, by_rule}
+use Rattle.histar_flat.specs.Calls.{CanBeNamed, IsCall}
 use Rattle.histar_tree.specs.Laws.{AreShallow}
 
 -- a path that can be named has no more names
@@ -67,42 +67,19 @@ module _ (f : Flat) (shallow : AreShallow f) where
       by false e = subst (λ (l : ℕ). l ≤ most_names) (same_length (k ∷ d) (n ∷ d) refl r) (shallow (moved (k ∷ d) (n ∷ d) r) e)
 
   module _ (session : Session) (me : ProcName) (below : (top : Path) → get f.files top ≡ None → (r : Path) → under_path top r ≡ true → get f.files r ≡ None) where
-    -- the change of a call that is not refused
-    after_change : (p : Process) (call : UnixCall) → IsCall call → refused session f me p call ≡ None → AreShallow (changed session f me p call)
-    after_change p (Create q mode) can passes = shallow_put q _ (File []) (short_path q can)
-    after_change p (Mkdir q mode) can passes = shallow_put q _ Dir (short_path q can)
-    after_change p (Write q bytes) can passes = shallow_put q _ (File bytes) (short_path q can)
-    after_change p (Append q bytes) can passes = shallow_put q _ _ (short_path q can)
-    after_change p (Read q) can passes = shallow
-    after_change p (ListCall q) can passes = shallow
-    after_change p (Stat q) can passes = shallow
-    after_change p (Unlink q) can passes = shallow_cut q
-    after_change p (Rmdir q) can passes = shallow_cut q
-    after_change p (Rmtree q) can passes = shallow_cut q
-    after_change p (Rename [] k) can passes = absurd cc
-    after_change p (Rename (n ∷ d) k) can passes =
-        let tests = two_pass (no_entry session f p (n ∷ d)) (not (is_there f (k ∷ d))) (writes session f p d) EEXIST EACCES passes in
-        let there = (one_passes (into session f p d) (is_there f (n ∷ d)) ENOENT tests.0).1 in
-        shallow_renamed n k d (λ e. true≢false (sym tests.1 ∙ ap (λ (x : Name). not (is_there f (x ∷ d))) (sym e) ∙ ap not there)) (below (k ∷ d) (nothing_there (get f.files (k ∷ d)) tests.1))
-    after_change p Spawn can passes = shallow
-    after_change p (Exit n) can passes = shallow
-    after_change p (Status name) can passes = shallow
-    after_change p (Kill name) can passes = shallow
-    after_change p Whoami can passes = shallow
-    after_change p (Login name password) can passes = shallow
-    after_change p (Wrap q) can passes = shallow_put q _ Dir (short_path q can)
-
-    by_refusal : (p : Process) (call : UnixCall) → IsCall call → (refusal : Option Errno) → refused session f me p call ≡ refusal → AreShallow (flat_or refusal f (changed session f me p call))
-    by_refusal p call can None is = after_change p call can is
-    by_refusal p call can (Some e) is = shallow
+    -- an effect that has its warrant, of a call that a line can make
+    shallow_effect : (p : Process) (q : Path) (effect : Effect) → Warrant session f me p q effect → CanBeNamed q effect → AreShallow (apply session f me p q effect)
+    shallow_effect p q (Makes content mode) may can = shallow_put q _ (content) (short_path q can)
+    shallow_effect p q (Stores new) may can = shallow_put q _ (File (new (bytes_at f q))) (short_path q can)
+    shallow_effect p q Removes may can = shallow_cut q
+    shallow_effect p [] (Renames k) may can = absurd (true≢false (sym may.0))
+    shallow_effect p (n ∷ d) (Renames k) may can = shallow_renamed n k d (another_name f n k d may.1 may.2) (below (k ∷ d) may.2)
+    shallow_effect p q Wraps may can = shallow_put q _ Dir (short_path q can)
+    shallow_effect p q _ may can = shallow
 
     -- and so after each line
     pub shallow_after : (call : UnixCall) → IsCall call → AreShallow (flat_after session f me call)
-    shallow_after call can = by (running f me)
-      where
-        by : (o : Option Process) → AreShallow (flat_by session f me o call)
-        by None = shallow
-        by (Some p) = by_refusal p call can (refused session f me p call) refl
+    shallow_after call can = by_rule session f me call AreShallow shallow (λ p there may. shallow_effect p (path_of call) (rule call).effect may can)
 
 -- at the start there is `/` alone
 pub shallow_at_start : (session : Session) → AreShallow (boot session)

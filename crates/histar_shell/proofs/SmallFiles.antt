@@ -5,9 +5,6 @@ use Rattle.std.proofs.lemmas.Bool.Decides.{nat_tests}
 use Rattle.std.proofs.lemmas.Option.{same_Some}
 use mathlib.Core.Bool.{true≢false}
 use Rattle.histar_flat.specs.declared.calls.UnixCall.{UnixCall}
-use Rattle.histar_flat.specs.declared.calls.UnixCall.TheVariants.{Create, Mkdir, Write, Append, Read, List as ListCall, Stat, Unlink, Rmdir, Rmtree, Rename, Spawn, Exit, Status, Kill, Whoami, Login, Wrap}
-use Rattle.histar_flat.specs.declared.replies.Errno.{Errno}
-use Rattle.histar_flat.specs.declared.replies.Errno.TheVariants.{ENOENT, EEXIST, EACCES, EFBIG}
 use Rattle.histar_flat.specs.Words.{Name, Path, ProcName}
 use Rattle.histar_flat.specs.PathOrder.{under_path}
 use Rattle.histar_flat.specs.Sessions.{Session}
@@ -16,13 +13,15 @@ use Rattle.histar_flat.specs.Classes.{Class, Process}
 use Rattle.histar_flat.specs.Classes.Class.{Readable}
 use Rattle.histar_flat.specs.FlatState.{Flat, Node, Content, bytes_at, is_there, into, writes, moved, with_node, with_renamed, without_below}
 use Rattle.histar_flat.specs.FlatState.Content.{Dir, File}
-use Rattle.histar_flat.specs.FlatCalls.{most_bytes, no_file, no_entry, running, refused, changed, flat_or, flat_by, flat_after}
+use Rattle.histar_flat.specs.Effects.{Effect, apply}
+use Rattle.histar_flat.specs.Effects.Effect.{Makes, Stores, Removes, Renames, Wraps}
+use Rattle.histar_flat.specs.CallRules.{path_of, rule}
+use Rattle.histar_flat.specs.FlatCalls.{most_bytes, flat_after}
+use Rattle.histar_flat.specs.RuleLaws.{IsBlank, Warrant}
 use Rattle.histar_flat.specs.Meaning.{boot, first_user}
 use Rattle.histar_flat.proofs.FileLemmas.{same_path_found, get_new, get_other, get-keep}
 use Rattle.histar_flat.proofs.Renaming.{get_renamed}
-use Rattle.histar_flat.proofs.Changes.{nothing_there}
-use Rattle.histar_flat.proofs.Refusals.{one_passes, two_pass}
-use Rattle.histar_flat.specs.Calls.{IsCall}
+use Rattle.histar_flat.proofs.Changes.{another_name, by_rule}
 use Rattle.histar_rows.specs.Rows.{AreFilesSmall}
 
 -- what is put at a path is a directory, or a file that is small enough
@@ -33,6 +32,12 @@ IsSmall (File bytes) = length bytes ≤ most_bytes
 -- a file that is the content of what is there is small enough
 same_content : (class other : Class) (content : Content) (bytes : List ℕ) (a b : Node) → a ≡ record { class = class; content = content } → b ≡ record { class = other; content = File bytes } → Some a ≡ Some b → IsSmall content → length bytes ≤ most_bytes
 same_content class other content bytes a b is_a is_b same fits = subst IsSmall (ap (λ (n : Node). n.content) (sym is_a ∙ same_Some a b same ∙ is_b)) fits
+
+-- what has no bytes is small enough
+blank_is_small : (content : Content) → IsBlank content → IsSmall content
+blank_is_small Dir blank = tt
+blank_is_small (File []) blank = grind arith
+blank_is_small (File (b ∷ bytes)) blank = absurd blank
 
 module _ (f : Flat) (small : AreFilesSmall f) where
   small_put : (q : Path) (class : Class) (content : Content) → IsSmall content → AreFilesSmall (with_node f q class content)
@@ -64,44 +69,19 @@ module _ (f : Flat) (small : AreFilesSmall f) where
     fits_test : (n : ℕ) → nat_le n most_bytes ≡ true → n ≤ most_bytes
     fits_test n e = grind (arith, nat_tests, e)
 
-    -- the change of a call that is not refused
-    after_change : (p : Process) (call : UnixCall) → IsCall call → refused session f me p call ≡ None → AreFilesSmall (changed session f me p call)
-    after_change p (Create q mode) can passes = small_put q _ (File []) (grind arith)
-    after_change p (Mkdir q mode) can passes = small_put q _ Dir tt
-    after_change p (Write q bytes) can passes =
-        small_put q _ (File bytes) (fits_test (length bytes) (two_pass (no_file session f p q) (writes session f p q) (nat_le (length bytes) most_bytes) EACCES EFBIG passes).2)
-    after_change p (Append q bytes) can passes =
-        small_put q _ (File (bytes_at f q ++ bytes)) (fits_test (length (bytes_at f q ++ bytes)) (two_pass (no_file session f p q) (writes session f p q) (nat_le (length (bytes_at f q ++ bytes)) most_bytes) EACCES EFBIG passes).2)
-    after_change p (Read q) can passes = small
-    after_change p (ListCall q) can passes = small
-    after_change p (Stat q) can passes = small
-    after_change p (Unlink q) can passes = small_cut q
-    after_change p (Rmdir q) can passes = small_cut q
-    after_change p (Rmtree q) can passes = small_cut q
-    after_change p (Rename [] k) can passes = absurd cc
-    after_change p (Rename (n ∷ d) k) can passes =
-        let tests = two_pass (no_entry session f p (n ∷ d)) (not (is_there f (k ∷ d))) (writes session f p d) EEXIST EACCES passes in
-        let there = (one_passes (into session f p d) (is_there f (n ∷ d)) ENOENT tests.0).1 in
-        small_renamed n k d (λ e. true≢false (sym tests.1 ∙ ap (λ (x : Name). not (is_there f (x ∷ d))) (sym e) ∙ ap not there)) (below (k ∷ d) (nothing_there (get f.files (k ∷ d)) tests.1))
-    after_change p Spawn can passes = small
-    after_change p (Exit n) can passes = small
-    after_change p (Status name) can passes = small
-    after_change p (Kill name) can passes = small
-    after_change p Whoami can passes = small
-    after_change p (Login name password) can passes = small
-    after_change p (Wrap q) can passes = small_put q _ Dir tt
-
-    by_refusal : (p : Process) (call : UnixCall) → IsCall call → (refusal : Option Errno) → refused session f me p call ≡ refusal → AreFilesSmall (flat_or refusal f (changed session f me p call))
-    by_refusal p call can None is = after_change p call can is
-    by_refusal p call can (Some e) is = small
+    -- an effect that has its warrant
+    small_effect : (p : Process) (q : Path) (effect : Effect) → Warrant session f me p q effect → AreFilesSmall (apply session f me p q effect)
+    small_effect p q (Makes content mode) may = small_put q _ content (blank_is_small content may.4)
+    small_effect p q (Stores new) may = small_put q _ (File (new (bytes_at f q))) (fits_test (length (new (bytes_at f q))) may.5)
+    small_effect p q Removes may = small_cut q
+    small_effect p [] (Renames k) may = absurd (true≢false (sym may.0))
+    small_effect p (n ∷ d) (Renames k) may = small_renamed n k d (another_name f n k d may.1 may.2) (below (k ∷ d) may.2)
+    small_effect p q Wraps may = small_put q _ Dir tt
+    small_effect p q _ may = small
 
     -- and so after each line
-    pub small_after : (call : UnixCall) → IsCall call → AreFilesSmall (flat_after session f me call)
-    small_after call can = by (running f me)
-      where
-        by : (o : Option Process) → AreFilesSmall (flat_by session f me o call)
-        by None = small
-        by (Some p) = by_refusal p call can (refused session f me p call) refl
+    pub small_after : (call : UnixCall) → AreFilesSmall (flat_after session f me call)
+    small_after call = by_rule session f me call AreFilesSmall small (λ p there may. small_effect p (path_of call) (rule call).effect may)
 
 -- nothing is no file
 nothing_here : {Told : Type 0} (node : Node) → None ≡ Some node → Told

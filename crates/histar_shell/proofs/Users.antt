@@ -116,12 +116,12 @@ spelled_scriptable text (Unlink path) h = h.1
 spelled_scriptable text (Rmdir path) h = h.1
 spelled_scriptable text (Rmtree path) h = h.1
 spelled_scriptable text (Rename path name) h = (h.1, h.2)
-spelled_scriptable text Spawn h = tt
+spelled_scriptable text Spawn h = refl
 spelled_scriptable text (Exit status) h = h.1
-spelled_scriptable text (Status name) h = tt
-spelled_scriptable text (Kill name) h = tt
-spelled_scriptable text Whoami h = tt
-spelled_scriptable text (Login name password) h = tt
+spelled_scriptable text (Status name) h = refl
+spelled_scriptable text (Kill name) h = refl
+spelled_scriptable text Whoami h = refl
+spelled_scriptable text (Login name password) h = refl
 spelled_scriptable text (Wrap path) h = h.1
 
 -- a call line says a call that a line can make

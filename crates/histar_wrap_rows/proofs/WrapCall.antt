@@ -14,7 +14,8 @@ use Rattle.histar_flat.specs.Sessions.{Session, user_number}
 use Rattle.histar_flat.specs.Classes.{Process, nobody, may_write}
 use Rattle.histar_flat.specs.Files.{get}
 use Rattle.histar_flat.specs.FlatState.{Flat, entries_in, into}
-use Rattle.histar_flat.specs.FlatCalls.{most_entries, no_room, refused}
+use Rattle.histar_flat.specs.FlatCalls.{most_entries, refused}
+use Rattle.histar_flat.proofs.CommonNeeds.{no_room}
 use Rattle.histar_label.specs.Levels.{Levels}
 use Rattle.histar_rules.specs.Rights.{with_category, with_label, with_changed}
 use Rattle.histar_object.specs.State.{State, with_object}

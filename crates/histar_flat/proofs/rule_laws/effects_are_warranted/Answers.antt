@@ -1,0 +1,5 @@
+use Rattle.histar_flat.proofs.Warrants.{warranted}
+use Rattle.histar_flat.proofs.rule_laws.effects_are_warranted.Goals as goal
+
+pub returns : goal.returns
+returns c = warranted

@@ -1,0 +1,5 @@
+use Rattle.histar_flat.proofs.Warrants.{ordered}
+use Rattle.histar_flat.proofs.rule_laws.tests_are_ordered.Goals as goal
+
+pub returns : goal.returns
+returns c = ordered
