@@ -13,8 +13,6 @@ pub mod Choices
 pub mod Under
 pub mod Moved
 pub mod Renaming
-pub mod OldCalls
-pub mod SameRules
 pub mod CommonNeeds
 pub mod Warrants
 pub mod LooksAlike
