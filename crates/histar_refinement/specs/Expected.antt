@@ -1,5 +1,5 @@
 -- What a flat state asks for at each address: the object that stands there, but for its links.
-use Rattle.std.specs.Prelude.{ℕ, List, [], ◌∷◌, Option, None, Some, option_map}
+use Rattle.std.specs.Prelude.{ℕ, List, [], ◌∷◌, Option, None, Some, option_and_then, option_map}
 use Rattle.std.specs.FinSet as set
 use Rattle.histar_flat.specs.Words.{Path, ProcName}
 use Rattle.histar_flat.specs.Sessions.{Session}
@@ -40,52 +40,43 @@ module _ (session : Session) (category : Categories) where
 
   -- what stands at a path, with the label of its class
   abbrev pub node_object : Option Node → Found
-  node_object None = None
-  node_object (Some there) = guarded_object (content_kind there.content) (class_guard session there.class)
+  node_object = option_and_then (λ there. guarded_object (content_kind there.content) (class_guard session there.class))
 
   -- the directory segment of a directory: it has the directory's label, and spells its entries; a file has none
   abbrev pub listing_object : List ℕ → Option Node → Found
-  listing_object bytes None = None
-  listing_object bytes (Some there) = elim there.content [ Dir ↦ guarded_object (Segment bytes) (class_guard session there.class) | File old ↦ None ]
+  listing_object bytes = option_and_then (λ there. elim there.content [ Dir ↦ guarded_object (Segment bytes) (class_guard session there.class) | File old ↦ None ])
 
   -- the container of a process that is there
   abbrev pub home_object : ProcName → Option Process → Found
-  home_object me None = None
-  home_object me (Some p) = bare_container (guard_label category (process_guard me p))
+  home_object me = option_and_then (λ p. bare_container (guard_label category (process_guard me p)))
 
   -- its process segment, with the container's label
   abbrev pub status_object : List ℕ → ProcName → Option Process → Found
-  status_object bytes me None = None
-  status_object bytes me (Some p) = segment (guard_label category (process_guard me p)) bytes
+  status_object bytes me = option_and_then (λ p. segment (guard_label category (process_guard me p)) bytes)
 
   -- its internal container, which a process that has exited has no more
   abbrev pub inside_object : ProcName → Option Process → Found
-  inside_object me None = None
-  inside_object me (Some p) = elim p.exited [ None ↦ bare_container (guard_label category (inside_guard me p)) | Some n ↦ None ]
+  inside_object me = option_and_then (λ p. elim p.exited [ None ↦ bare_container (guard_label category (inside_guard me p)) | Some n ↦ None ])
 
   -- its thread, which a process that has exited has no more
   abbrev pub thread_object : ProcName → Option Process → Found
-  thread_object me None = None
-  thread_object me (Some p) = elim p.exited [
+  thread_object me = option_and_then (λ p. elim p.exited [
     | None ↦ Some (thread_of (rights_label category (thread_rights session me p)) (rights_clearance category (thread_rights session me p)))
     | Some n ↦ None
-  ]
+  ])
 
   module _ (f : Flat) (number : AddressNumbers) where
     -- what stands at a path
     abbrev pub expected_node : Option Path → Found
-    expected_node None = None
-    expected_node (Some q) = node_object (get f.files q)
+    expected_node = option_and_then (λ q. node_object (get f.files q))
 
     -- the directory segment of the directory at a path
     abbrev pub listing_at : Option Path → Found
-    listing_at None = None
-    listing_at (Some d) = listing_object (spelling (directory_of f.files number d)) (get f.files d)
+    listing_at = option_and_then (λ d. listing_object (spelling (directory_of f.files number d)) (get f.files d))
 
     -- the container of a process
     abbrev pub expected_home : Option ProcName → Found
-    expected_home None = None
-    expected_home (Some me) = home_object me (f.processes me)
+    expected_home = option_and_then (λ me. home_object me (f.processes me))
 
     -- the bytes of its process segment
     abbrev pub bytes_for : ProcName → Option Process → List ℕ
@@ -94,18 +85,15 @@ module _ (session : Session) (category : Categories) where
 
     -- its process segment
     abbrev pub expected_status : Option ProcName → Found
-    expected_status None = None
-    expected_status (Some me) = status_object (bytes_for me (f.processes me)) me (f.processes me)
+    expected_status = option_and_then (λ me. status_object (bytes_for me (f.processes me)) me (f.processes me))
 
     -- its internal container
     abbrev pub container_inside : Option ProcName → Found
-    container_inside None = None
-    container_inside (Some me) = inside_object me (f.processes me)
+    container_inside = option_and_then (λ me. inside_object me (f.processes me))
 
     -- its thread
     abbrev pub thread_at : Option ProcName → Found
-    thread_at None = None
-    thread_at (Some me) = thread_object me (f.processes me)
+    thread_at = option_and_then (λ me. thread_object me (f.processes me))
 
     -- What the flat state asks for at each address, but for links. In the root container stand what boot left, `/` and process 0;
     -- in a directory its directory segment and its entries; in a process's container its process segment, the containers of its
