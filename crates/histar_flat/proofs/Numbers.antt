@@ -1,5 +1,5 @@
 -- Numbers are read from the texts that they are written as, and from no others.
-use Rattle.std.proofs.Common.{◌≡◌, ℕ, ◌+◌, ◌-◌, ◌*◌, ◌/◌, ◌%◌, ◌<◌, ◌≤◌, Bool, true, cond, leb, ◌&&◌, List, [], ◌∷◌, ◌++◌, Option, Some, None, refl, sym, ap, subst, ◌∙◌, inl, inr, arith}
+use Rattle.std.proofs.Common.{◌≡◌, ℕ, ◌+◌, ◌-◌, ◌*◌, ◌/◌, ◌%◌, ◌^◌, ◌<◌, ◌≤◌, Bool, true, cond, leb, ◌&&◌, List, [], ◌∷◌, ◌++◌, Option, Some, None, refl, sym, ap, subst, ◌∙◌, inl, inr, arith}
 use Rattle.std.specs.List.{list_all}
 use Rattle.std.specs.Fmt.{decimal}
 use Rattle.std.specs.Str.{bytes_eq}
@@ -31,7 +31,7 @@ is_a_first_digit : (b : ℕ) → 49 ≤ b → b ≤ 57 → is_first_digit b ≡ 
 is_a_first_digit b low high = rw (le-leb 49 b low, le-leb b 57 high) refl
 
 -- what is written of a number are digits
-pub decimal_digits : (n : ℕ) → n < 1000 → list_all is_digit (decimal n) ≡ true
+pub decimal_digits : (n : ℕ) → n < 2 ^ 64 → list_all is_digit (decimal n) ≡ true
 decimal_digits n small = decimal_by_steps (λ m ds. list_all is_digit ds ≡ true) one more n (omega arith)
   where
     one : (m : ℕ) → m < 10 → list_all is_digit ((48 + m) ∷ []) ≡ true
@@ -149,7 +149,7 @@ number_takes test text n e =
     ((bytes_eq-Decides text (decimal m)).0 p.1 ∙ ap decimal g.1, ap test (sym g.1) ∙ p.0)
 
 -- a number that is written so is read where it passes
-number_written : (test : ℕ → Bool) (n : ℕ) → n < 1000 → number_of test (decimal n) ≡ if_passes test (Some n)
+number_written : (test : ℕ → Bool) (n : ℕ) → n < 2 ^ 64 → number_of test (decimal n) ≡ if_passes test (Some n)
 unfolding number_of
 number_written test n small =
     let same : digits_value 10 (decimal n) ≡ n = (decimal_is_IsNumeral n (omega arith)).1 in
@@ -158,7 +158,7 @@ number_written test n small =
     ∙ ap (λ b. cond b (Some n) None) (and-true (test n))
 
 -- and the other way
-pub number_again : (test : ℕ → Bool) (n : ℕ) → n < 1000 → test n ≡ true → number_of test (decimal n) ≡ Some n
+pub number_again : (test : ℕ → Bool) (n : ℕ) → n < 2 ^ 64 → test n ≡ true → number_of test (decimal n) ≡ Some n
 number_again test n small passes = number_written test n small ∙ ap (λ b. cond b (Some n) None) passes
 
 -- where the test lets small numbers through alone, a number is read digit by digit
@@ -174,7 +174,7 @@ by_digits test text small = by (number_by_digits text) refl
 
     by : (o : Option ℕ) → number_by_digits text ≡ o → number_of test text ≡ if_passes test o
     by None e = none e (number_of test text) refl
-    by (Some n) e = let is = digits_take text n e in ap (number_of test) is.0 ∙ number_written test n is.1
+    by (Some n) e = let is = digits_take text n e in ap (number_of test) is.0 ∙ number_written test n (omega (arith, is.1))
 
 -- ---- statuses and numbers of children
 

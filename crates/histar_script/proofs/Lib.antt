@@ -5,6 +5,9 @@ pub mod Parting
 pub mod WordsBack
 pub mod PathsBack
 pub mod ProcessesBack
+pub mod ArgumentsBack
+pub mod FormsBack
+pub mod OldGrammar
 pub mod CallsBack
 pub mod Members
 pub mod GroupsBack

@@ -102,7 +102,7 @@ joined_text (n ∷ p) after = sym (with_number p n (after_dot after)) ∙ joined
 
 -- a child's number has only digits
 number_digits : (n : ℕ) → is_child_number n ≡ true → list_all is_digit (decimal n) ≡ true
-number_digits n h = decimal_digits n (child_number_small n h)
+number_digits n h = decimal_digits n (omega (arith, child_number_small n h))
 
 -- numbers are read up to the last of a process
 read_on : (process : ProcName) (most : ℕ) (after : Option (List ℕ)) → list_all is_child_number process ≡ true → process_from (length process + most) [] (joined process after) ≡ process_from most process after
@@ -113,7 +113,7 @@ read_on (n ∷ p) most after right =
     let left : length (n ∷ p) + most ≡ length p + suc most = omega arith in
     let less : suc most - 1 ≡ most = omega arith in
     let split = split_dot (decimal n) after (bytes_lack is_digit dot (decimal n) refl (number_digits n h.0)) in
-    let is : number_of is_child_number (split_at_first dot text).0 ≡ Some n = ap (λ w. number_of is_child_number w.0) split ∙ number_again is_child_number n (child_number_small n h.0) h.0 in
+    let is : number_of is_child_number (split_at_first dot text).0 ≡ Some n = ap (λ w. number_of is_child_number w.0) split ∙ number_again is_child_number n (omega (arith, child_number_small n h.0)) h.0 in
     ap (λ k. process_from k [] (joined p (Some text))) left
     ∙ read_on p (suc most) (Some text) h.1
     ∙ next_number (suc most) p text n (omega arith) is
@@ -142,7 +142,7 @@ pub process_begins : (process : ProcName) → (rest : List ℕ) × (process_text
 process_begins process = (after_dot (joined process None), sym (append-nil (process_text process)) ∙ joined_text process None)
 
 -- numbers with dots have no space
-process_lacks_space : (process : ProcName) → list_all is_child_number process ≡ true → lacks 32 (process_text process) ≡ true
+pub process_lacks_space : (process : ProcName) → list_all is_child_number process ≡ true → lacks 32 (process_text process) ≡ true
 process_lacks_space [] h = refl
 process_lacks_space (n ∷ p) h =
     let parts = and_parts (is_child_number n) (list_all is_child_number p) h in
