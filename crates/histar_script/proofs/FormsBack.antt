@@ -119,11 +119,6 @@ any_first P x xs p = (0, x, omega arith, refl, p)
 pub any_other : {X : Type 0} (P : X → Type 0) (x : X) (xs : List X) → Any P xs → Any P (x ∷ xs)
 any_other P x xs (k, y, lt, is, p) = (suc k, y, omega arith, is, p)
 
--- what follows from it for each element follows
-pub from_any : {X : Type 0} (P : X → Type 0) (Q : Type 0) (xs : List X) → AllByRecursion (λ x. P x → Q) xs → Any P xs → Q
-from_any P Q [] all (k, y, lt, is, p) = absurd (omega arith)
-from_any P Q (x ∷ xs) all h = elim (first_or_other P x xs h) [ inl p ↦ all.0 p | inr other ↦ from_any P Q xs all.1 other ]
-
 -- a call that is read by a list of forms is spelled by one of them
 pub among_takes : (forms : List CallForm) (word : List ℕ) (rest : Option (List ℕ)) (c : UnixCall) → call_among forms word rest ≡ Some c
     → Any (SpellsCall (word_and word rest) c) forms
