@@ -10,9 +10,8 @@ use Rattle.histar_flat.specs.declared.calls.Mode.TheVariants.{Private, Readable,
 use Rattle.histar_flat.specs.Words.{is_name, is_password, is_password_byte, is_child_number, name_of, password_of, path_of, process_of, number_of}
 use Rattle.histar_flat.specs.Modes.{mode_of, is_line_mode}
 use Rattle.histar_flat.specs.Texts.{mode_text}
-use Rattle.histar_flat.specs.Digits.{is_digit}
 use Rattle.histar_flat.proofs.SplitLemmas.{lacks, split_before}
-use Rattle.histar_flat.proofs.Numbers.{decimal_digits, number_takes, number_again}
+use Rattle.histar_flat.proofs.Numbers.{is_digit, decimal_digits, number_takes, number_again}
 use Rattle.histar_script.specs.Lines.{split_word, ◌space◌}
 use Rattle.histar_script.specs.CallForms.{Argument, a_path, a_mode, any_bytes, a_name, a_password, a_process, a_number, Value, Spells}
 use Rattle.histar_script.specs.Reading.{value_of}

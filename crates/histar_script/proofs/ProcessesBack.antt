@@ -6,9 +6,8 @@ use Rattle.std.specs.Fmt.{decimal}
 use Rattle.std.proofs.lemmas.List.Folds.{list_all-append}
 use Rattle.std.proofs.lemmas.Bool.{and_parts, leb-true, le-leb}
 use Rattle.histar_flat.specs.Words.{ProcName, dot, number_of, is_child_number, is_process, most_numbers, split_at_first, process_from, process_of}
-use Rattle.histar_flat.specs.Digits.{is_digit}
 use Rattle.histar_flat.specs.Texts.{process_text}
-use Rattle.histar_flat.proofs.Numbers.{decimal_digits, number_takes, number_again, child_number_small}
+use Rattle.histar_flat.proofs.Numbers.{is_digit, decimal_digits, number_takes, number_again, child_number_small}
 use Rattle.histar_flat.proofs.ProcessLemmas.{next_from, from_first, next_number, no_more, too_many}
 use Rattle.histar_flat.proofs.SplitLemmas.{lacks, split_before, split_alone}
 use Rattle.histar_flat.proofs.Options.{either_chosen}
@@ -102,7 +101,7 @@ joined_text (n ∷ p) after = sym (with_number p n (after_dot after)) ∙ joined
 
 -- a child's number has only digits
 number_digits : (n : ℕ) → is_child_number n ≡ true → list_all is_digit (decimal n) ≡ true
-number_digits n h = decimal_digits n (omega (arith, child_number_small n h))
+number_digits n h = decimal_digits n (child_number_small n h)
 
 -- numbers are read up to the last of a process
 read_on : (process : ProcName) (most : ℕ) (after : Option (List ℕ)) → list_all is_child_number process ≡ true → process_from (length process + most) [] (joined process after) ≡ process_from most process after
@@ -113,7 +112,7 @@ read_on (n ∷ p) most after right =
     let left : length (n ∷ p) + most ≡ length p + suc most = omega arith in
     let less : suc most - 1 ≡ most = omega arith in
     let split = split_dot (decimal n) after (bytes_lack is_digit dot (decimal n) refl (number_digits n h.0)) in
-    let is : number_of is_child_number (split_at_first dot text).0 ≡ Some n = ap (λ w. number_of is_child_number w.0) split ∙ number_again is_child_number n (omega (arith, child_number_small n h.0)) h.0 in
+    let is : number_of is_child_number (split_at_first dot text).0 ≡ Some n = ap (λ w. number_of is_child_number w.0) split ∙ number_again is_child_number n (child_number_small n h.0) h.0 in
     ap (λ k. process_from k [] (joined p (Some text))) left
     ∙ read_on p (suc most) (Some text) h.1
     ∙ next_number (suc most) p text n (omega arith) is
