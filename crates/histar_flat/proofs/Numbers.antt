@@ -1,38 +1,33 @@
 -- Numbers are read from the texts that they are written as, and from no others.
-use Rattle.std.proofs.Common.{◌≡◌, ℕ, ◌+◌, ◌-◌, ◌*◌, ◌/◌, ◌%◌, ◌<◌, ◌≤◌, Bool, true, cond, leb, ◌&&◌, List, [], ◌∷◌, ◌++◌, Option, Some, None, refl, sym, ap, subst, ◌∙◌, inl, inr, arith}
+use Rattle.std.proofs.Common.{◌≡◌, ℕ, zero, suc, ◌+◌, ◌%◌, ◌^◌, ◌<◌, ◌≤◌, Bool, true, false, cond, ltb, leb, ◌&&◌, List, [], ◌∷◌, ◌++◌, Option, Some, None, Result, Ok, Err, refl, sym, ap, subst, ◌∙◌, arith}
 use Rattle.std.specs.List.{list_all}
+use Rattle.std.specs.Result.{result_ok}
 use Rattle.std.specs.Fmt.{decimal}
-use Rattle.std.specs.Str.{bytes_eq}
-use Rattle.std.specs.Str.Parse.{digits_value}
+use Rattle.std.specs.Str.{bytes_eq, IsUtf8}
+use Rattle.std.specs.Str.Parse.{AllDigits, ParsesUnsigned, digits_value}
 use Rattle.std.proofs.lemmas.Slice.Eq.{bytes_eq-Decides}
-use Rattle.std.proofs.lemmas.Fmt.{decimal_is_IsNumeral, decimal_digit, decimal_step, decimal_by_steps}
-use Rattle.std.proofs.lemmas.Bool.{cases_lt, and_parts, leb-true, le-leb}
+use Rattle.std.proofs.lemmas.Fmt.{decimal_is_IsNumeral, decimal_digit, decimal_by_steps, first_decimal, IsAscii-decimal, parse-decimal, decimal-digits_value}
+use Rattle.std.proofs.lemmas.Str.{IsUtf8-from_ascii}
+use Rattle.std.proofs.lemmas.Str.Parse.{IsNumeralModel, parse_plain}
+use Rattle.std.proofs.lemmas.Bool.{and_parts, ltb-true, leb-true, lt-ltb, le-leb}
 use Rattle.std.proofs.lemmas.List.Folds.{list_all-append}
 use Rattle.std.proofs.lemmas.Option.{cond_some}
 use Rattle.std.proofs.Math.Bool.{and-true}
-use Rattle.histar_flat.specs.Words.{number_of, greatest_status, status_of, is_child_number}
-use Rattle.histar_flat.specs.Digits.{is_digit, is_first_digit, digit_count, number_by_digits, if_passes}
+use Rattle.histar_flat.specs.Words.{BeginsPlainly, number_of, is_child_number, most_children}
 
 -- ---- digits
 
--- a digit is between 0 and 9
-digit_bounds : (b : ℕ) → is_digit b ≡ true → (48 ≤ b) × (b ≤ 57)
-digit_bounds b h = let p = and_parts (leb 48 b) (leb b 57) h in (leb-true 48 b p.0, leb-true b 57 p.1)
+-- a digit: 0 to 9
+abbrev pub is_digit : ℕ → Bool
+is_digit b = leb 48 b && leb b 57
 
--- a first digit is between 1 and 9
-first_digit_bounds : (b : ℕ) → is_first_digit b ≡ true → (49 ≤ b) × (b ≤ 57)
-first_digit_bounds b h = let p = and_parts (leb 49 b) (leb b 57) h in (leb-true 49 b p.0, leb-true b 57 p.1)
-
--- and the other way
+-- a byte between 0 and 9 is one
 is_a_digit : (b : ℕ) → 48 ≤ b → b ≤ 57 → is_digit b ≡ true
 is_a_digit b low high = rw (le-leb 48 b low, le-leb b 57 high) refl
 
-is_a_first_digit : (b : ℕ) → 49 ≤ b → b ≤ 57 → is_first_digit b ≡ true
-is_a_first_digit b low high = rw (le-leb 49 b low, le-leb b 57 high) refl
-
 -- what is written of a number are digits
-pub decimal_digits : (n : ℕ) → n < 1000 → list_all is_digit (decimal n) ≡ true
-decimal_digits n small = decimal_by_steps (λ m ds. list_all is_digit ds ≡ true) one more n (omega arith)
+pub decimal_digits : (n : ℕ) → n < 2 ^ 64 → list_all is_digit (decimal n) ≡ true
+decimal_digits n small = decimal_by_steps (λ m ds. list_all is_digit ds ≡ true) one more n small
   where
     one : (m : ℕ) → m < 10 → list_all is_digit ((48 + m) ∷ []) ≡ true
     one m l = rw (is_a_digit (48 + m) (omega arith) (omega arith)) refl
@@ -40,102 +35,10 @@ decimal_digits n small = decimal_by_steps (λ m ds. list_all is_digit ds ≡ tru
     more : (m : ℕ) (ds : List ℕ) → 10 ≤ m → list_all is_digit ds ≡ true → list_all is_digit (ds ++ (48 + m % 10) ∷ []) ≡ true
     more m ds l h = list_all-append is_digit ds ((48 + m % 10) ∷ []) ∙ rw (h, is_a_digit (48 + m % 10) (omega arith) (omega arith)) refl
 
--- a number of two digits is written with these
-two_digits : (n : ℕ) → 10 ≤ n → n < 100 → decimal n ≡ (48 + n / 10) ∷ (48 + n % 10) ∷ []
-two_digits n large small = decimal_step n large (omega arith) ∙ ap (λ ds. ds ++ (48 + n % 10) ∷ []) (decimal_digit (n / 10) (omega arith))
-
--- a number of three digits is written with these
-three_digits : (n : ℕ) → 100 ≤ n → n < 1000 → decimal n ≡ (48 + n / 10 / 10) ∷ (48 + n / 10 % 10) ∷ (48 + n % 10) ∷ []
-three_digits n large small = decimal_step n (omega arith) (omega arith) ∙ ap (λ ds. ds ++ (48 + n % 10) ∷ []) (two_digits (n / 10) (omega arith) (omega arith))
-
--- ---- numbers
-
--- the text is what is written of the number, which has at most three digits
-abbrev IsNumber : List ℕ → ℕ → Type 0
-IsNumber text n = (text ≡ decimal n) × (n < 1000)
-
--- one digit is a number
-one_takes : (a : ℕ) → is_digit a ≡ true → IsNumber (a ∷ []) (digit_count a)
-one_takes a h =
-    let low = digit_bounds a h in
-    let back : a ≡ 48 + (a - 48) = omega (arith, low) in
-    (ap (λ x. x ∷ []) back ∙ sym (decimal_digit (a - 48) (omega (arith, low))), omega (arith, low))
-
--- and so are two
-two_take : (a b : ℕ) → (is_first_digit a && is_digit b) ≡ true → IsNumber (a ∷ b ∷ []) (10 * digit_count a + digit_count b)
-two_take a b h =
-    let p = and_parts (is_first_digit a) (is_digit b) h in
-    let first = first_digit_bounds a p.0 in
-    let last = digit_bounds b p.1 in
-    let n : ℕ = 10 * (a - 48) + (b - 48) in
-    let tens : a ≡ 48 + n / 10 = omega (arith, first, last) in
-    let ones : b ≡ 48 + n % 10 = omega (arith, first, last) in
-    ((λ i. tens i ∷ ones i ∷ []) ∙ sym (two_digits n (omega (arith, first, last)) (omega (arith, first, last))), omega (arith, first, last))
-
--- and three
-three_take : (a b c : ℕ) → (is_first_digit a && is_digit b && is_digit c) ≡ true → IsNumber (a ∷ b ∷ c ∷ []) (100 * digit_count a + 10 * digit_count b + digit_count c)
-three_take a b c h =
-    let p = and_parts (is_first_digit a && is_digit b) (is_digit c) h in
-    let q = and_parts (is_first_digit a) (is_digit b) p.0 in
-    let first = first_digit_bounds a q.0 in
-    let next = digit_bounds b q.1 in
-    let last = digit_bounds c p.1 in
-    let n : ℕ = 100 * (a - 48) + 10 * (b - 48) + (c - 48) in
-    let hundreds : a ≡ 48 + n / 10 / 10 = omega (arith, first, next, last) in
-    let tens : b ≡ 48 + n / 10 % 10 = omega (arith, first, next, last) in
-    let ones : c ≡ 48 + n % 10 = omega (arith, first, next, last) in
-    ((λ i. hundreds i ∷ tens i ∷ ones i ∷ []) ∙ sym (three_digits n (omega (arith, first, next, last)) (omega (arith, first, next, last))), omega (arith, first, next, last))
-
--- a test that gives a number has passed
-passed_test : (text : List ℕ) (t : Bool) (made n : ℕ) → (t ≡ true → IsNumber text made) → cond t (Some made) None ≡ Some n → IsNumber text n
-passed_test text t made n is e = let g = cond_some t made n e in subst (IsNumber text) g.1 (is g.0)
-
--- a number that is read is spelled so
-digits_take : (text : List ℕ) (n : ℕ) → number_by_digits text ≡ Some n → IsNumber text n
-unfolding number_by_digits
-digits_take [] n e = absurd cc
-digits_take (a ∷ []) n e = passed_test (a ∷ []) (is_digit a) (digit_count a) n (one_takes a) e
-digits_take (a ∷ b ∷ []) n e = passed_test (a ∷ b ∷ []) (is_first_digit a && is_digit b) (10 * digit_count a + digit_count b) n (two_take a b) e
-digits_take (a ∷ b ∷ c ∷ []) n e = passed_test (a ∷ b ∷ c ∷ []) (is_first_digit a && is_digit b && is_digit c) (100 * digit_count a + 10 * digit_count b + digit_count c) n (three_take a b c) e
-digits_take (a ∷ b ∷ c ∷ d ∷ bs) n e = absurd cc
-
--- one digit is read
-one_again : (n : ℕ) → n < 10 → number_by_digits (decimal n) ≡ Some n
-unfolding number_by_digits
-one_again n small =
-    let back : 48 + n - 48 ≡ n = omega arith in
-    ap number_by_digits (decimal_digit n small) ∙ rw (is_a_digit (48 + n) (omega arith) (omega arith)) (ap (λ (x : ℕ). Some x) back)
-
--- and so are two
-two_again : (n : ℕ) → 10 ≤ n → n < 100 → number_by_digits (decimal n) ≡ Some n
-unfolding number_by_digits
-two_again n large small =
-    let back : 10 * (48 + n / 10 - 48) + (48 + n % 10 - 48) ≡ n = omega arith in
-    ap number_by_digits (two_digits n large small)
-    ∙ rw (is_a_first_digit (48 + n / 10) (omega arith) (omega arith), is_a_digit (48 + n % 10) (omega arith) (omega arith)) (ap (λ (x : ℕ). Some x) back)
-
--- and three
-three_again : (n : ℕ) → 100 ≤ n → n < 1000 → number_by_digits (decimal n) ≡ Some n
-unfolding number_by_digits
-three_again n large small =
-    let back : 100 * (48 + n / 10 / 10 - 48) + 10 * (48 + n / 10 % 10 - 48) + (48 + n % 10 - 48) ≡ n = omega arith in
-    ap number_by_digits (three_digits n large small)
-    ∙ rw (
-      is_a_first_digit (48 + n / 10 / 10) (omega arith) (omega arith),
-      is_a_digit (48 + n / 10 % 10) (omega arith) (omega arith),
-      is_a_digit (48 + n % 10) (omega arith) (omega arith),
-    ) (ap (λ (x : ℕ). Some x) back)
-
--- a number that is spelled is read
-digits_again : (n : ℕ) → n < 1000 → number_by_digits (decimal n) ≡ Some n
-digits_again n small =
-    elim (cases_lt n 10) [
-      | inl one ↦ one_again n one
-      | inr large ↦ elim (cases_lt n 100) [
-        | inl two ↦ two_again n (omega arith) two
-        | inr larger ↦ three_again n (omega arith) small
-      ]
-    ]
+-- a number that is written begins with its first digit, which is 0 for 0 alone
+decimal_begins : (n : ℕ) → n < 2 ^ 64 → BeginsPlainly (decimal n)
+decimal_begins zero small = let e = decimal_digit 0 (omega arith) in rw e (λ h. absurd (omega arith), λ h. refl)
+decimal_begins (suc n) small = let first = first_decimal (suc n) (omega arith) small in (λ h. absurd (omega arith), λ h. absurd (omega arith))
 
 -- ---- numbers that pass a test
 
@@ -148,56 +51,76 @@ number_takes test text n e =
     let p = and_parts (test m) (bytes_eq text (decimal m)) g.0 in
     ((bytes_eq-Decides text (decimal m)).0 p.1 ∙ ap decimal g.1, ap test (sym g.1) ∙ p.0)
 
--- a number that is written so is read where it passes
-number_written : (test : ℕ → Bool) (n : ℕ) → n < 1000 → number_of test (decimal n) ≡ if_passes test (Some n)
+-- and the other way
+pub number_again : (test : ℕ → Bool) (n : ℕ) → n < 2 ^ 64 → test n ≡ true → number_of test (decimal n) ≡ Some n
 unfolding number_of
-number_written test n small =
-    let same : digits_value 10 (decimal n) ≡ n = (decimal_is_IsNumeral n (omega arith)).1 in
+number_again test n small passes =
+    let same : digits_value 10 (decimal n) ≡ n = (decimal_is_IsNumeral n small).1 in
     ap (λ m. cond (test m && bytes_eq (decimal n) (decimal m)) (Some m) None) same
     ∙ ap (λ b. cond (test n && b) (Some n) None) ((bytes_eq-Decides (decimal n) (decimal n)).1 refl)
-    ∙ ap (λ b. cond b (Some n) None) (and-true (test n))
+    ∙ ap (λ b. cond b (Some n) None) (and-true (test n) ∙ passes)
 
--- and the other way
-pub number_again : (test : ℕ → Bool) (n : ℕ) → n < 1000 → test n ≡ true → number_of test (decimal n) ≡ Some n
-number_again test n small passes = number_written test n small ∙ ap (λ b. cond b (Some n) None) passes
+-- the number, if it passes the test
+abbrev pub if_passes : (ℕ → Bool) → Option ℕ → Option ℕ
+if_passes test None = None
+if_passes test (Some n) = cond (test n) (Some n) None
 
--- where the test lets small numbers through alone, a number is read digit by digit
-pub by_digits : (test : ℕ → Bool) (text : List ℕ) → ((n : ℕ) → test n ≡ true → n < 1000) → number_of test text ≡ if_passes test (number_by_digits text)
-by_digits test text small = by (number_by_digits text) refl
+-- a number that passes a narrower test is read by a wider one, and then tested
+pub narrowed : (narrow wide : ℕ → Bool) (text : List ℕ) → ((n : ℕ) → narrow n ≡ true → wide n ≡ true) → number_of narrow text ≡ if_passes narrow (number_of wide text)
+unfolding number_of
+narrowed narrow wide text wider = let m : ℕ = digits_value 10 text in by (narrow m) (wide m) (bytes_eq text (decimal m)) m refl (wider m)
   where
-    none : number_by_digits text ≡ None → (o : Option ℕ) → number_of test text ≡ o → number_of test text ≡ None
-    none e None f = f
-    none e (Some n) f =
-        let is = number_takes test text n f in
-        let both : None ≡ Some n = sym e ∙ ap number_by_digits is.0 ∙ digits_again n (small n is.1) in
-        absurd cc
+    by : (n w same : Bool) (m : ℕ) → narrow m ≡ n → (n ≡ true → w ≡ true) → cond (n && same) (Some m) None ≡ if_passes narrow (cond (w && same) (Some m) None)
+    by true true true m is h = rw is refl
+    by true true false m is h = refl
+    by true false same m is h = let never : false ≡ true = h refl in absurd cc
+    by false true true m is h = rw is refl
+    by false true false m is h = refl
+    by false false same m is h = refl
 
-    by : (o : Option ℕ) → number_by_digits text ≡ o → number_of test text ≡ if_passes test o
-    by None e = none e (number_of test text) refl
-    by (Some n) e = let is = digits_take text n e in ap (number_of test) is.0 ∙ number_written test n is.1
+-- ---- the numbers of 64 bits
 
--- ---- statuses and numbers of children
+-- a text that is no number of 64 bits is read as none
+no_number : (text : List ℕ) → ((n : ℕ) → n < 2 ^ 64 → text ≡ decimal n → ⊥) → number_of (λ n. ltb n (2 ^ 64)) text ≡ None
+no_number text none = by (number_of (λ n. ltb n (2 ^ 64)) text) refl
+  where
+    by : (o : Option ℕ) → number_of (λ n. ltb n (2 ^ 64)) text ≡ o → number_of (λ n. ltb n (2 ^ 64)) text ≡ None
+    by None e = e
+    by (Some n) e = let is = number_takes (λ n. ltb n (2 ^ 64)) text n e in absurd (none n (ltb-true n (2 ^ 64) is.1) is.0)
 
--- a status is small
-status_small : (n : ℕ) → leb n greatest_status ≡ true → n < 1000
-status_small n h = let most = leb-true n greatest_status h in omega (arith, most)
+-- one that begins with a plus, or with a zero before other digits, is none
+pub none_unless_plain : (text : List ℕ) → (BeginsPlainly text → ⊥) → number_of (λ n. ltb n (2 ^ 64)) text ≡ None
+none_unless_plain text h = no_number text (λ n small is. h (subst BeginsPlainly (sym is) (decimal_begins n small)))
+
+-- nor is one that is no text
+pub none_unless_text : (text : List ℕ) → (IsUtf8 text → ⊥) → number_of (λ n. ltb n (2 ^ 64)) text ≡ None
+none_unless_text text h = no_number text (λ n small is. h (subst IsUtf8 (sym is) (IsUtf8-from_ascii (decimal n) (IsAscii-decimal n small))))
+
+-- digits have their value
+digits_model : IsNumeralModel (AllDigits 10) (digits_value 10)
+digits_model = record { to = λ ds h. h; from = λ ds h. h; same = λ ds h. refl }
+
+-- on others `parse` answers the number
+pub parsed : {E : Type 0} (text : List ℕ) (r : Result ℕ E) → BeginsPlainly text → ParsesUnsigned 64 10 text r → result_ok r ≡ number_of (λ n. ltb n (2 ^ 64)) text
+parsed {E} text (Ok x) plain h =
+    let read = parse_plain digits_model {E = E} 64 text (Ok x) h plain.0 in
+    let n : ℕ = digits_value 10 text in
+    let written : decimal n ≡ text = decimal-digits_value digits_model text read.0.0 read.0.1 plain.1 read.0.2 in
+    ap (λ (m : ℕ). Some m) read.1
+    ∙ sym (number_again (λ m. ltb m (2 ^ 64)) n read.0.2 (lt-ltb n (2 ^ 64) read.0.2))
+    ∙ ap (number_of (λ m. ltb m (2 ^ 64))) written
+parsed {E} text (Err e) plain h = sym (no_number text (λ n small is. let read = parse-decimal 64 n text (Err e) small small is h in absurd cc))
+
+-- ---- numbers up to a greatest one, statuses and numbers of children
+
+-- a number up to one of 64 bits is read among those of 64 bits
+pub number_within : (greatest : ℕ) (text : List ℕ) → greatest < 2 ^ 64 → number_of (λ n. leb n greatest) text ≡ if_passes (λ n. leb n greatest) (number_of (λ n. ltb n (2 ^ 64)) text)
+number_within greatest text fits = narrowed (λ n. leb n greatest) (λ n. ltb n (2 ^ 64)) text (λ n h. lt-ltb n (2 ^ 64) (omega (arith, leb-true n greatest h)))
+
+-- a child's number is read among those up to the greatest
+pub child_number_within : (text : List ℕ) → number_of is_child_number text ≡ if_passes is_child_number (number_of (λ n. leb n most_children) text)
+child_number_within text = narrowed is_child_number (λ n. leb n most_children) text (λ n h. (and_parts (leb 1 n) (leb n most_children) h).1)
 
 -- a child's number is small
-pub child_number_small : (n : ℕ) → is_child_number n ≡ true → n < 1000
-child_number_small n h = let most = leb-true n 64 (and_parts (leb 1 n) (leb n 64) h).1 in omega (arith, most)
-
--- a status is read digit by digit
-pub status_by_digits : (text : List ℕ) → status_of text ≡ if_passes (λ n. leb n greatest_status) (number_by_digits text)
-status_by_digits text = by_digits (λ n. leb n greatest_status) text status_small
-
--- and so is the number of a child
-pub child_number_by_digits : (text : List ℕ) → number_of is_child_number text ≡ if_passes is_child_number (number_by_digits text)
-child_number_by_digits text = by_digits is_child_number text child_number_small
-
--- a status that is read is written so
-pub status_takes : (text : List ℕ) (n : ℕ) → status_of text ≡ Some n → (text ≡ decimal n) × (n ≤ greatest_status)
-status_takes text n e = let is = number_takes (λ m. leb m greatest_status) text n e in (is.0, leb-true n greatest_status is.1)
-
--- and a status that is written so is read
-pub status_again : (n : ℕ) → n ≤ greatest_status → status_of (decimal n) ≡ Some n
-status_again n most = number_again (λ m. leb m greatest_status) n (omega arith) (le-leb n greatest_status most)
+pub child_number_small : (n : ℕ) → is_child_number n ≡ true → n < 2 ^ 64
+child_number_small n h = let most = leb-true n most_children (and_parts (leb 1 n) (leb n most_children) h).1 in omega (arith, most)

@@ -1,7 +1,6 @@
 pub mod Padding
 pub mod PaddingLaws
 pub mod Words
-pub mod Digits
 pub mod Modes
 pub mod PathOrder
 pub mod PathOrderLaws

@@ -1,5 +1,5 @@
 -- Names, passwords, paths and processes: what they are, and which bytes are read as one.
-use Rattle.std.specs.Prelude.{ℕ, zero, suc, Bool, false, not, ◌&&◌, ◌||◌, ◌==◌, nat_le, nat_lt, List, [], ◌∷◌, length, codes, Option, Some, None, if◌then◌else◌}
+use Rattle.std.specs.Prelude.{◌≡◌, ◌≢◌, ℕ, zero, suc, Bool, false, not, ◌&&◌, ◌||◌, ◌==◌, nat_le, nat_lt, slice_index, List, [], ◌∷◌, length, codes, Option, Some, None, if◌then◌else◌}
 use Rattle.std.specs.List.{list_all}
 use Rattle.std.specs.Str.{bytes_eq}
 use Rattle.std.specs.Str.Parse.{digits_value}
@@ -131,6 +131,10 @@ path_of (b ∷ bs) = if b == slash then path_from_root bs else None
 -- the number that the bytes spell in decimal, with no leading zero, if it passes the test
 unfoldable pub number_of : (ℕ → Bool) → List ℕ → Option ℕ
 number_of test bs = let n = digits_value 10 bs in if test n && bytes_eq bs (decimal n) then Some n else None
+
+-- no plus comes first, and no zero before other digits
+abbrev pub BeginsPlainly : List ℕ → Type 0
+BeginsPlainly bs = (slice_index bs 0 ≢ 43) × (slice_index bs 0 ≡ 48 → length bs ≡ 1)
 
 -- the exit status that the bytes are, if they are one: 0 to 255
 abbrev pub status_of : List ℕ → Option ℕ

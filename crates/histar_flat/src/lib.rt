@@ -25,8 +25,8 @@ pub use owned_paths::OwnedPath;
 pub use paths::Path;
 pub use processes::{MOST_NUMBERS, ProcName};
 pub use readers::{
-    is_name, read_mode, read_name, read_password, read_path, read_process, read_status,
-    read_user_name, split_at_first,
+    is_name, read_mode, read_name, read_number, read_password, read_path, read_process,
+    read_status, read_user_name, split_at_first,
 };
 pub use replies::{Errno, FileMode, Listing, Reply, Stat};
 pub use sessions::Session;

@@ -1,10 +1,9 @@
 //! Readers of single words.
-ghost use Rattle.std.specs.Prelude.{◌≡◌, ◌<◌, [], IsTrue};
+ghost use Rattle.std.specs.Prelude.{◌≡◌, ◌≤◌, ◌^◌, ◌↔◌, nat_le, nat_lt, [], IsTrue, IfSome};
 ghost use Rattle.std.specs.List.{list_all};
 ghost use Rattle.std.specs.Option.{option_copied};
-ghost use Rattle.histar_flat.specs.Digits.{number_by_digits, digit_count as count, is_digit as digit, is_first_digit as first_digit};
 ghost use Rattle.histar_flat.specs.Modes.{group_mode_of, mode_of};
-ghost use Rattle.histar_flat.specs.Words.{most_names, path_from, split_at_first as split, name_of, user_name_of, password_of, path_of, number_of, status_of, most_numbers, process_from, process_of, is_child_number as child_number, is_name_byte as name_byte, is_dots as dots, is_letter as letter, begins_with_letter as letter_first, is_name as name, is_user_name as user_name, is_password_byte as password_byte, is_password as password};
+ghost use Rattle.histar_flat.specs.Words.{most_names, path_from, split_at_first as split, name_of, user_name_of, password_of, path_of, BeginsPlainly, number_of, status_of, most_numbers, process_from, process_of, is_child_number as child_number, is_name_byte as name_byte, is_dots as dots, is_letter as letter, begins_with_letter as letter_first, is_name as name, is_user_name as user_name, is_password_byte as password_byte, is_password as password};
 
 use crate::calls::Mode;
 use crate::names::{Name, Password};
@@ -14,10 +13,10 @@ use crate::words::MOST_WORD_BYTES;
 use memchr::memchr;
 
 /// How many children may be born to a process.
-const MOST_CHILDREN: u16 = 64;
+const MOST_CHILDREN: u64 = 64;
 
 /// The greatest number that a process can exit with.
-const GREATEST_STATUS: u16 = 255;
+const GREATEST_STATUS: u64 = 255;
 
 /// The name that the bytes are.
 pub fn read_name(text: &[u8]) -> Option<Name>
@@ -120,43 +119,58 @@ fn read_numbers(numbers: Option<&[u8]>) -> Option<ProcName>
 }
 
 /// The exit status that the bytes are: 0 to 255 in decimal.
-#[tactic(auto, using(crate::proofs::Numbers::status_by_digits))]
 pub fn read_status(text: &[u8]) -> Option<u8>
     ensures { result ≡ status_of text.now }
 {
-    let number = read_number(text)?;
-    if number > GREATEST_STATUS {
-        return None;
-    }
+    let number = read_number(text, GREATEST_STATUS)?;
     Some(number as u8)
 }
 
 /// The number of a child that the bytes are: 1 to 64 in decimal.
-#[tactic(auto, using(crate::proofs::Numbers::child_number_by_digits))]
+#[tactic(auto, using(crate::proofs::Numbers::child_number_within))]
 fn read_child_number(text: &[u8]) -> Option<u8>
     ensures { result ≡ number_of child_number text.now }
 {
-    let number = read_number(text)?;
+    let number = read_number(text, MOST_CHILDREN)?;
     if !is_child_number(number) {
         return None;
     }
     Some(number as u8)
 }
 
-/// The number that the bytes are in decimal: up to three digits, of which several don't begin with 0.
-#[tactic(auto, unfolding(crate::specs::Digits::number_by_digits))]
-fn read_number(text: &[u8]) -> Option<u16>
-    ensures { result ≡ number_by_digits text.now }
+/// The number that the bytes are in decimal, without leading zeros, if it is up to the greatest.
+pub fn read_number(text: &[u8], greatest: u64) -> Option<u64>
+    ensures value { result ≡ number_of (λ n. nat_le n greatest) text.now }
+    ensures small { IfSome result (λ n. n ≤ greatest) }
+{
+    let number = read_digits(text)?;
+    if number > greatest {
+        return None;
+    }
+    Some(number)
+}
+
+/// The number of 64 bits that the bytes are in decimal, without leading zeros.
+fn read_digits(text: &[u8]) -> Option<u64>
+    ensures { result ≡ number_of (λ n. nat_lt n (2 ^ 64)) text.now }
+{
+    if !begins_plainly(text) {
+        return None;
+    }
+    match std::str::from_utf8(text) {
+        Ok(digits) => digits.parse().ok(),
+        Err(_) => None,
+    }
+}
+
+/// Whether neither a plus nor a zero before other digits, which `parse` takes, comes first.
+fn begins_plainly(text: &[u8]) -> bool
+    ensures { IsTrue result ↔ BeginsPlainly text.now }
 {
     match text {
-        [a] if is_digit(*a) => Some(digit_count(*a)),
-        [a, b] if is_first_digit(*a) && is_digit(*b) => {
-            Some(10 * digit_count(*a) + digit_count(*b))
-        }
-        [a, b, c] if is_first_digit(*a) && is_digit(*b) && is_digit(*c) => {
-            Some(100 * digit_count(*a) + 10 * digit_count(*b) + digit_count(*c))
-        }
-        _ => None,
+        [b'+', ..] => false,
+        [b'0', _, ..] => false,
+        _ => true,
     }
 }
 
@@ -247,30 +261,10 @@ fn is_letter(b: u8) -> bool
     matches!(b, b'a'..=b'z')
 }
 
-fn is_child_number(number: u16) -> bool
+fn is_child_number(number: u64) -> bool
     ensures { result ≡ child_number number }
 {
     matches!(number, 1..=MOST_CHILDREN)
-}
-
-fn is_digit(b: u8) -> bool
-    ensures { result ≡ digit b }
-{
-    matches!(b, b'0'..=b'9')
-}
-
-fn is_first_digit(b: u8) -> bool
-    ensures { result ≡ first_digit b }
-{
-    matches!(b, b'1'..=b'9')
-}
-
-/// What a digit counts.
-fn digit_count(b: u8) -> u16
-    ensures value { result ≡ count b }
-    ensures small { result < 256 }
-{
-    u16::from(b.saturating_sub(b'0'))
 }
 
 fn is_name_byte(b: u8) -> bool

@@ -5,6 +5,8 @@ pub mod Parting
 pub mod WordsBack
 pub mod PathsBack
 pub mod ProcessesBack
+pub mod ArgumentsBack
+pub mod FormsBack
 pub mod CallsBack
 pub mod Members
 pub mod GroupsBack

@@ -138,7 +138,7 @@ names_lack_space (n ∷ d) h =
     ap (lacks 32) (entry_text d n) ∙ list_all-append (λ b. not (eqb b 32)) (names_text d) (slash ∷ n) ∙ rw (names_lack_space d p.1, name_lacks_space n p.0) refl
 
 -- a path has no space
-path_lacks_space : (path : Path) → list_all is_name path ≡ true → lacks 32 (path_text path) ≡ true
+pub path_lacks_space : (path : Path) → list_all is_name path ≡ true → lacks 32 (path_text path) ≡ true
 path_lacks_space [] h = refl
 path_lacks_space (n ∷ d) h = names_lack_space (n ∷ d) h
 

@@ -6,9 +6,8 @@ use Rattle.std.specs.Fmt.{decimal}
 use Rattle.std.proofs.lemmas.List.Folds.{list_all-append}
 use Rattle.std.proofs.lemmas.Bool.{and_parts, leb-true, le-leb}
 use Rattle.histar_flat.specs.Words.{ProcName, dot, number_of, is_child_number, is_process, most_numbers, split_at_first, process_from, process_of}
-use Rattle.histar_flat.specs.Digits.{is_digit}
 use Rattle.histar_flat.specs.Texts.{process_text}
-use Rattle.histar_flat.proofs.Numbers.{decimal_digits, number_takes, number_again, child_number_small}
+use Rattle.histar_flat.proofs.Numbers.{is_digit, decimal_digits, number_takes, number_again, child_number_small}
 use Rattle.histar_flat.proofs.ProcessLemmas.{next_from, from_first, next_number, no_more, too_many}
 use Rattle.histar_flat.proofs.SplitLemmas.{lacks, split_before, split_alone}
 use Rattle.histar_flat.proofs.Options.{either_chosen}
@@ -142,7 +141,7 @@ pub process_begins : (process : ProcName) → (rest : List ℕ) × (process_text
 process_begins process = (after_dot (joined process None), sym (append-nil (process_text process)) ∙ joined_text process None)
 
 -- numbers with dots have no space
-process_lacks_space : (process : ProcName) → list_all is_child_number process ≡ true → lacks 32 (process_text process) ≡ true
+pub process_lacks_space : (process : ProcName) → list_all is_child_number process ≡ true → lacks 32 (process_text process) ≡ true
 process_lacks_space [] h = refl
 process_lacks_space (n ∷ p) h =
     let parts = and_parts (is_child_number n) (list_all is_child_number p) h in

@@ -1,17 +1,15 @@
 -- The grammar: what a line says, which script a text is, and which line is bad.
-use Rattle.std.specs.Prelude.{◌≡◌, ◌≢◌, ℕ, ◌+◌, ◌-◌, ◌<◌, ◌≤◌, ◌⊎◌, IsTrue, All, List, [], ◌∷◌, ◌++◌, length, take, codes, decimal}
+use Rattle.std.specs.Prelude.{◌≡◌, ◌≢◌, ℕ, ◌+◌, ◌-◌, ◌<◌, ◌≤◌, ◌⊎◌, IsTrue, All, Any, List, [], ◌∷◌, ◌++◌, length, take, codes}
 use Rattle.std.specs.List.{flat_map}
-use Rattle.histar_flat.specs.declared.calls.Mode.{Mode}
 use Rattle.histar_flat.specs.declared.calls.User.{User}
 use Rattle.histar_flat.specs.declared.calls.UnixCall.{UnixCall}
-use Rattle.histar_flat.specs.declared.calls.UnixCall.TheVariants.{Create, Mkdir, Write, Append, Read, List as ListCall, Stat, Unlink, Rmdir, Rmtree, Rename, Spawn, Exit, Status, Kill, Whoami, Login, Wrap}
-use Rattle.histar_flat.specs.Words.{Path, ProcName, greatest_status, is_name, is_user_name, is_password, is_path, is_process}
-use Rattle.histar_flat.specs.Modes.{is_line_mode}
-use Rattle.histar_flat.specs.Texts.{path_text, process_text, mode_text}
+use Rattle.histar_flat.specs.Words.{is_user_name, is_password, is_process}
+use Rattle.histar_flat.specs.Texts.{process_text}
 use Rattle.histar_flat.specs.Sessions.{Group, most_users, most_groups, most_members, with_user, with_group}
 use Rattle.histar_script.specs.declared.items.Item.{Item}
 use Rattle.histar_script.specs.declared.items.Item.TheVariants as items
 use Rattle.histar_script.specs.Lines.{lines_of, is_plain, ◌space◌}
+use Rattle.histar_script.specs.CallForms.{Value, Spells, CallForm, alone, one, two, call_forms}
 use Rattle.histar_script.specs.Script.{Reading, IsMembership, nothing_read, is_declared_call}
 
 -- `user NAME PASSWORD`, the name being one that a user may have
@@ -32,43 +30,16 @@ pub record IsGroupText (text : List ℕ) (g : Group) : Type 0 where
   pub some : 0 < length g.members
   pub few : length g.members ≤ most_members
 
--- a word, a path that can be named, and a mode that a line can name
-abbrev pub SpellsMode : List ℕ → List ℕ → Path → Mode → Type 0
-SpellsMode text word path mode = (text ≡ word space path_text path space mode_text mode) × IsTrue (is_path path) × IsTrue (is_line_mode mode)
+-- the text is the word of the form and the texts of its arguments, with a space before each, and the call is the one that their values make
+abbrev pub SpellsCall : List ℕ → UnixCall → CallForm → Type 0
+SpellsCall text call (alone word made) = (text ≡ word) × (call ≡ made)
+SpellsCall text call (one word a make) = (s : List ℕ) × (x : Value a) × (text ≡ word space s) × Spells a s x × (call ≡ make x)
+SpellsCall text call (two word a b make) =
+    (s t : List ℕ) × (x : Value a) × (y : Value b) × (text ≡ word space s space t) × Spells a s x × Spells b t y × (call ≡ make x y)
 
--- a word, a path that can be named, and any bytes
-abbrev pub SpellsBytes : List ℕ → List ℕ → Path → List ℕ → Type 0
-SpellsBytes text word path bytes = (text ≡ word space path_text path space bytes) × IsTrue (is_path path)
-
--- a word and a path that can be named
-abbrev pub SpellsPath : List ℕ → List ℕ → Path → Type 0
-SpellsPath text word path = (text ≡ word space path_text path) × IsTrue (is_path path)
-
--- a word and a process that can be named
-abbrev pub SpellsProcess : List ℕ → List ℕ → ProcName → Type 0
-SpellsProcess text word name = (text ≡ word space process_text name) × IsTrue (is_process name)
-
--- `create` and `mkdir PATH MODE`, `write` and `append PATH BYTES`, `read`, `list`, `stat`, `unlink`, `rmdir`, `rmtree` and `wrap PATH`,
--- `rename PATH NAME`, `spawn`, `exit` and a status, `status` and `kill PROC`, `whoami`, or `login NAME PASSWORD` with any name
+-- the text spells the call by one of the forms
 abbrev pub IsCallText : List ℕ → UnixCall → Type 0
-IsCallText text (Create path mode) = SpellsMode text (codes "create") path mode
-IsCallText text (Mkdir path mode) = SpellsMode text (codes "mkdir") path mode
-IsCallText text (Write path bytes) = SpellsBytes text (codes "write") path bytes
-IsCallText text (Append path bytes) = SpellsBytes text (codes "append") path bytes
-IsCallText text (Read path) = SpellsPath text (codes "read") path
-IsCallText text (ListCall path) = SpellsPath text (codes "list") path
-IsCallText text (Stat path) = SpellsPath text (codes "stat") path
-IsCallText text (Unlink path) = SpellsPath text (codes "unlink") path
-IsCallText text (Rmdir path) = SpellsPath text (codes "rmdir") path
-IsCallText text (Rmtree path) = SpellsPath text (codes "rmtree") path
-IsCallText text (Rename path name) = (text ≡ codes "rename" space path_text path space name) × IsTrue (is_path path) × IsTrue (is_name name)
-IsCallText text (Login name password) = (text ≡ codes "login" space name space password) × IsTrue (is_name name) × IsTrue (is_password password)
-IsCallText text Spawn = text ≡ codes "spawn"
-IsCallText text (Exit status) = (text ≡ codes "exit" space decimal status) × (status ≤ greatest_status)
-IsCallText text (Status name) = SpellsProcess text (codes "status") name
-IsCallText text (Kill name) = SpellsProcess text (codes "kill") name
-IsCallText text Whoami = text ≡ codes "whoami"
-IsCallText text (Wrap path) = SpellsPath text (codes "wrap") path
+IsCallText text call = Any (SpellsCall text call) call_forms
 
 -- what a line that is not empty says: `#..`, `user NAME PASSWORD`, `group NAME USER..` or `PROC CALL`
 abbrev pub SaysInWords : List ℕ → Item → Type 0

@@ -1,5 +1,6 @@
 pub mod Lines
 pub mod Script
+pub mod CallForms
 pub mod Reading
 pub mod Outcome
 pub mod Grammar

@@ -1,12 +1,10 @@
 -- Reading a script from its first line to its last, up to the first bad line.
-use Rattle.std.specs.Prelude.{ℕ, zero, suc, ◌+◌, Bool, true, not, ◌&&◌, List, [], ◌∷◌, ◌++◌, length, codes, Option, Some, None, Result, Ok, Err, option_and_then, option_map, nat_lt, ◌==◌, if◌then◌else◌}
+use Rattle.std.specs.Prelude.{ℕ, zero, suc, ◌+◌, Bool, true, not, ◌&&◌, List, [], ◌∷◌, ◌++◌, length, codes, Option, Some, None, Result, Ok, Err, option_and_then, option_map, nat_lt, nat_le, ◌==◌, if◌then◌else◌}
 use Rattle.std.specs.List.{list_any, list_all}
 use Rattle.std.specs.Str.{bytes_eq}
-use Rattle.histar_flat.specs.declared.calls.Mode.{Mode}
 use Rattle.histar_flat.specs.declared.calls.User.{User}
 use Rattle.histar_flat.specs.declared.calls.UnixCall.{UnixCall}
-use Rattle.histar_flat.specs.declared.calls.UnixCall.TheVariants.{Create, Mkdir, Write, Append, Read, List as ListCall, Stat, Unlink, Rmdir, Rmtree, Rename, Spawn, Exit, Status, Kill, Whoami, Login, Wrap}
-use Rattle.histar_flat.specs.Words.{Name, Path, name_of, user_name_of, password_of, path_of, process_of, status_of}
+use Rattle.histar_flat.specs.Words.{Name, name_of, user_name_of, password_of, path_of, process_of, number_of}
 use Rattle.histar_flat.specs.Modes.{mode_of}
 use Rattle.histar_flat.specs.Sessions.{Session, Group, most_users, most_groups, most_members, with_user, with_group, has, is_group}
 use Rattle.histar_script.specs.declared.fault.Fault.{Fault}
@@ -14,6 +12,7 @@ use Rattle.histar_script.specs.declared.fault.Fault.TheVariants.{BadScript, TooL
 use Rattle.histar_script.specs.declared.items.Item.{Item}
 use Rattle.histar_script.specs.declared.items.Item.TheVariants as items
 use Rattle.histar_script.specs.Lines.{lines_of, is_too_long, is_plain, split_word}
+use Rattle.histar_script.specs.CallForms.{Argument, a_path, a_mode, any_bytes, a_name, a_password, a_process, a_number, Value, CallForm, alone, one, two, call_forms}
 use Rattle.histar_script.specs.Script.{Reading, nothing_read, is_declared_call}
 
 -- with what is there, go on
@@ -47,70 +46,49 @@ group_of text = do
   members ← members_of rest
   Some (record { name = name; members = members })
 
--- PATH MODE
-unfoldable pub path_mode_of : List ℕ → Option (Path × Mode)
-path_mode_of text = do
-  path ← path_of (split_word text).0
+-- the value of an argument that a text is
+abbrev pub value_of : (a : Argument) → List ℕ → Option (Value a)
+value_of a_path text = path_of text
+value_of a_mode text = mode_of text
+value_of any_bytes text = Some text
+value_of a_name text = name_of text
+value_of a_password text = password_of text
+value_of a_process text = process_of text
+value_of (a_number greatest) text = number_of (λ n. nat_le n greatest) text
+
+-- those of two arguments, the first of which ends at the first space
+unfoldable pub two_values_of : (a b : Argument) → List ℕ → Option (Value a × Value b)
+two_values_of a b text = do
+  x ← value_of a (split_word text).0
   rest ← (split_word text).1
-  mode ← mode_of rest
-  Some (path, mode)
+  y ← value_of b rest
+  Some (x, y)
 
--- PATH BYTES
-unfoldable pub path_bytes_of : List ℕ → Option (Path × List ℕ)
-path_bytes_of text = do
-  path ← path_of (split_word text).0
-  bytes ← (split_word text).1
-  Some (path, bytes)
+-- the word of a form
+abbrev pub form_word : CallForm → List ℕ
+form_word (alone word call) = word
+form_word (one word a make) = word
+form_word (two word a b make) = word
 
--- NAME PASSWORD of a login
-unfoldable pub login_of : List ℕ → Option UnixCall
-login_of text = do
-  name ← name_of (split_word text).0
-  rest ← (split_word text).1
-  password ← password_of rest
-  Some (Login name password)
+-- the call that has no argument, unless something follows its word
+abbrev pub lone_call_of : UnixCall → Option (List ℕ) → Option UnixCall
+lone_call_of call None = Some call
+lone_call_of call (Some text) = None
 
--- PATH NAME of a rename
-unfoldable pub rename_of : List ℕ → Option UnixCall
-rename_of text = do
-  path ← path_of (split_word text).0
-  rest ← (split_word text).1
-  name ← name_of rest
-  Some (Rename path name)
+-- the call that a form makes of what follows its word, if anything does
+abbrev pub call_by : CallForm → Option (List ℕ) → Option UnixCall
+call_by (alone word call) rest = lone_call_of call rest
+call_by (one word a make) rest = rest >>= λ text. option_map make (value_of a text)
+call_by (two word a b make) rest = rest >>= λ text. option_map (λ w. make w.0 w.1) (two_values_of a b text)
 
--- the call of this word, which has a path and nothing else
-abbrev pub call_on : List ℕ → Path → Option UnixCall
-call_on word path =
-    if bytes_eq word (codes "read") then Some (Read path)
-    else (if bytes_eq word (codes "list") then Some (ListCall path)
-    else (if bytes_eq word (codes "stat") then Some (Stat path)
-    else (if bytes_eq word (codes "unlink") then Some (Unlink path)
-    else (if bytes_eq word (codes "rmdir") then Some (Rmdir path)
-    else (if bytes_eq word (codes "rmtree") then Some (Rmtree path)
-    else (if bytes_eq word (codes "wrap") then Some (Wrap path)
-    else None))))))
-
--- the call of this word, which stands alone
-abbrev pub call_alone : List ℕ → Option UnixCall
-call_alone word = if bytes_eq word (codes "spawn") then Some Spawn else (if bytes_eq word (codes "whoami") then Some Whoami else None)
-
--- the call of this word, with what follows the word
-abbrev pub call_named : List ℕ → List ℕ → Option UnixCall
-call_named word rest =
-    if bytes_eq word (codes "create") then option_map (λ w. Create w.0 w.1) (path_mode_of rest)
-    else (if bytes_eq word (codes "mkdir") then option_map (λ w. Mkdir w.0 w.1) (path_mode_of rest)
-    else (if bytes_eq word (codes "write") then option_map (λ w. Write w.0 w.1) (path_bytes_of rest)
-    else (if bytes_eq word (codes "append") then option_map (λ w. Append w.0 w.1) (path_bytes_of rest)
-    else (if bytes_eq word (codes "rename") then rename_of rest
-    else (if bytes_eq word (codes "login") then login_of rest
-    else (if bytes_eq word (codes "exit") then option_map (λ status. Exit status) (status_of rest)
-    else (if bytes_eq word (codes "status") then option_map (λ process. Status process) (process_of rest)
-    else (if bytes_eq word (codes "kill") then option_map (λ process. Kill process) (process_of rest)
-    else path_of rest >>= call_on word))))))))
+-- the call of the first form that has this word, with what follows the word
+abbrev pub call_among : List CallForm → List ℕ → Option (List ℕ) → Option UnixCall
+call_among [] word rest = None
+call_among (form ∷ forms) word rest = if bytes_eq word (form_word form) then call_by form rest else call_among forms word rest
 
 -- a call: its word, and what follows it, if anything does
 unfoldable pub call_of : List ℕ → Option UnixCall
-call_of text = elim (split_word text).1 [ None ↦ call_alone (split_word text).0 | Some rest ↦ call_named (split_word text).0 rest ]
+call_of text = call_among call_forms (split_word text).0 (split_word text).1
 
 -- a user, as what a line says
 abbrev pub user_item : List ℕ → Option Item

@@ -1,16 +1,18 @@
 //! Reading what a line says. `Ok(None)` is a bad line; paths, the bytes of a `write` or an `append` and the members of a group are
 //! copied, so memory may run out.
-ghost use Rattle.std.specs.Prelude.{◌≡◌, IfOk};
+ghost use Rattle.std.specs.Prelude.{◌≡◌, ◌++◌, Some, IfOk};
+ghost use Rattle.std.specs.Option.{option_copied};
 ghost use Rattle.histar_flat.specs.Words.{path_of};
-ghost use Rattle.histar_script.specs.Reading.{user_of, path_mode_of, path_bytes_of, rename_of, login_of, call_on, call_alone, call_named, call_of, words_item, item_of};
+ghost use Rattle.histar_script.specs.CallForms.{a_path, a_mode, any_bytes, a_name, a_password, calls_of_two, process_calls, calls_with_arguments};
+ghost use Rattle.histar_script.specs.Reading.{user_of, two_values_of, lone_call_of, call_among, call_of, words_item, item_of};
 
 use crate::groups::read_group;
 use crate::items::Item;
 use crate::lines::{is_plain, split_word};
 use histar_base::Bytes;
 use histar_flat::{
-    Mode, OwnedPath, UnixCall, User, read_mode, read_name, read_password, read_path, read_process,
-    read_status, read_user_name,
+    Mode, Name, OwnedPath, Password, UnixCall, User, read_mode, read_name, read_password,
+    read_path, read_process, read_status, read_user_name,
 };
 use std::alloc::{AllocError, Global};
 
@@ -37,9 +39,9 @@ fn read_owned_path(alloc: Global, text: &[u8]) -> Result<Option<OwnedPath>, Allo
 }
 
 /// `PATH MODE`
-#[tactic(auto, unfolding(crate::specs::Reading::path_mode_of))]
+#[tactic(auto, unfolding(crate::specs::Reading::two_values_of))]
 fn read_path_and_mode(alloc: Global, text: &[u8]) -> Result<Option<(OwnedPath, Mode)>, AllocError>
-    ensures { IfOk result (λ parts. parts ≡ path_mode_of text.now) }
+    ensures { IfOk result (λ values. values ≡ two_values_of a_path a_mode text.now) }
 {
     let (word, rest) = split_word(text);
     let Some(path) = read_owned_path(alloc, word)? else {
@@ -52,9 +54,9 @@ fn read_path_and_mode(alloc: Global, text: &[u8]) -> Result<Option<(OwnedPath, M
 }
 
 /// `PATH BYTES`
-#[tactic(auto, unfolding(crate::specs::Reading::path_bytes_of))]
+#[tactic(auto, unfolding(crate::specs::Reading::two_values_of))]
 fn read_path_and_bytes(alloc: Global, text: &[u8]) -> Result<Option<(OwnedPath, Bytes)>, AllocError>
-    ensures { IfOk result (λ parts. parts ≡ path_bytes_of text.now) }
+    ensures { IfOk result (λ values. values ≡ two_values_of a_path any_bytes text.now) }
 {
     let (word, rest) = split_word(text);
     let Some(path) = read_owned_path(alloc, word)? else {
@@ -67,21 +69,10 @@ fn read_path_and_bytes(alloc: Global, text: &[u8]) -> Result<Option<(OwnedPath, 
     Ok(Some((path, bytes)))
 }
 
-/// `NAME PASSWORD`, with any name.
-#[tactic(auto, unfolding(crate::specs::Reading::login_of))]
-fn read_login(text: &[u8]) -> Option<UnixCall>
-    ensures { result ≡ login_of text.now }
-{
-    let (word, rest) = split_word(text);
-    let name = read_name(word)?;
-    let password = read_password(rest?)?;
-    Some(UnixCall::Login(name, password))
-}
-
 /// `PATH NAME`
-#[tactic(auto, unfolding(crate::specs::Reading::rename_of))]
-fn read_rename(alloc: Global, text: &[u8]) -> Result<Option<UnixCall>, AllocError>
-    ensures { IfOk result (λ call. call ≡ rename_of text.now) }
+#[tactic(auto, unfolding(crate::specs::Reading::two_values_of))]
+fn read_path_and_name(alloc: Global, text: &[u8]) -> Result<Option<(OwnedPath, Name)>, AllocError>
+    ensures { IfOk result (λ values. values ≡ two_values_of a_path a_name text.now) }
 {
     let (word, rest) = split_word(text);
     let Some(path) = read_owned_path(alloc, word)? else {
@@ -90,86 +81,110 @@ fn read_rename(alloc: Global, text: &[u8]) -> Result<Option<UnixCall>, AllocErro
     let Some(name) = rest.and_then(|name| read_name(name)) else {
         return Ok(None);
     };
-    Ok(Some(UnixCall::Rename(path, name)))
+    Ok(Some((path, name)))
 }
 
-/// The call of this word on a path and nothing else.
-fn call_on(word: &[u8], path: OwnedPath) -> Option<UnixCall>
-    ensures { result ≡ call_on word.now path }
+/// `NAME PASSWORD`, with any name.
+#[tactic(auto, unfolding(crate::specs::Reading::two_values_of))]
+fn read_name_and_password(text: &[u8]) -> Option<(Name, Password)>
+    ensures { result ≡ two_values_of a_name a_password text.now }
 {
-    if word == b"read".as_slice() {
-        Some(UnixCall::Read(path))
-    } else if word == b"list".as_slice() {
-        Some(UnixCall::List(path))
-    } else if word == b"stat".as_slice() {
-        Some(UnixCall::Stat(path))
-    } else if word == b"unlink".as_slice() {
-        Some(UnixCall::Unlink(path))
-    } else if word == b"rmdir".as_slice() {
-        Some(UnixCall::Rmdir(path))
-    } else if word == b"rmtree".as_slice() {
-        Some(UnixCall::Rmtree(path))
-    } else if word == b"wrap".as_slice() {
-        Some(UnixCall::Wrap(path))
-    } else {
-        None
-    }
-}
-
-/// The call of this word, which stands alone.
-fn call_alone(word: &[u8]) -> Option<UnixCall>
-    ensures { result ≡ call_alone word.now }
-{
-    if word == b"spawn".as_slice() {
-        Some(UnixCall::Spawn)
-    } else if word == b"whoami".as_slice() {
-        Some(UnixCall::Whoami)
-    } else {
-        None
-    }
-}
-
-/// The call of this word, with what follows the word.
-fn call_named(alloc: Global, word: &[u8], rest: &[u8]) -> Result<Option<UnixCall>, AllocError>
-    ensures { IfOk result (λ call. call ≡ call_named word.now rest.now) }
-{
-    if word == b"create".as_slice() {
-        let parts = read_path_and_mode(alloc, rest)?;
-        Ok(parts.map(|(path, mode)| UnixCall::Create(path, mode)))
-    } else if word == b"mkdir".as_slice() {
-        let parts = read_path_and_mode(alloc, rest)?;
-        Ok(parts.map(|(path, mode)| UnixCall::Mkdir(path, mode)))
-    } else if word == b"write".as_slice() {
-        let parts = read_path_and_bytes(alloc, rest)?;
-        Ok(parts.map(|(path, bytes)| UnixCall::Write(path, bytes)))
-    } else if word == b"append".as_slice() {
-        let parts = read_path_and_bytes(alloc, rest)?;
-        Ok(parts.map(|(path, bytes)| UnixCall::Append(path, bytes)))
-    } else if word == b"rename".as_slice() {
-        read_rename(alloc, rest)
-    } else if word == b"login".as_slice() {
-        Ok(read_login(rest))
-    } else if word == b"exit".as_slice() {
-        Ok(read_status(rest).map(UnixCall::Exit))
-    } else if word == b"status".as_slice() {
-        Ok(read_process(rest).map(UnixCall::Status))
-    } else if word == b"kill".as_slice() {
-        Ok(read_process(rest).map(UnixCall::Kill))
-    } else {
-        let path = read_owned_path(alloc, rest)?;
-        Ok(path.and_then(|path| call_on(word, path)))
-    }
+    let (word, rest) = split_word(text);
+    let name = read_name(word)?;
+    let password = read_password(rest?)?;
+    Some((name, password))
 }
 
 /// A call: its word, and what follows it, if anything does.
-#[tactic(auto, unfolding(crate::specs::Reading::call_of))]
+#[tactic(auto, unfolding(crate::specs::Reading::call_of), using(crate::proofs::FormsBack::none_without_argument))]
 fn read_call(alloc: Global, text: &[u8]) -> Result<Option<UnixCall>, AllocError>
     ensures { IfOk result (λ call. call ≡ call_of text.now) }
 {
     let (word, rest) = split_word(text);
+    if word == b"spawn".as_slice() {
+        return Ok(lone_call(UnixCall::Spawn, rest));
+    }
+    if word == b"whoami".as_slice() {
+        return Ok(lone_call(UnixCall::Whoami, rest));
+    }
     match rest {
-        None => Ok(call_alone(word)),
-        Some(rest) => call_named(alloc, word, rest),
+        None => Ok(None),
+        Some(rest) => read_path_call(alloc, word, rest),
+    }
+}
+
+/// The call that has no argument, unless something follows its word.
+fn lone_call(call: UnixCall, rest: Option<&[u8]>) -> Option<UnixCall>
+    ensures { result ≡ lone_call_of call (option_copied rest.entry) }
+{
+    match rest {
+        None => Some(call),
+        Some(_) => None,
+    }
+}
+
+/// The call of this word, with the arguments that follow it.
+fn read_path_call(alloc: Global, word: &[u8], rest: &[u8]) -> Result<Option<UnixCall>, AllocError>
+    ensures { IfOk result (λ call. call ≡ call_among calls_with_arguments word.now (Some rest.now)) }
+{
+    if word == b"read".as_slice() {
+        Ok(read_owned_path(alloc, rest)?.map(UnixCall::Read))
+    } else if word == b"list".as_slice() {
+        Ok(read_owned_path(alloc, rest)?.map(UnixCall::List))
+    } else if word == b"stat".as_slice() {
+        Ok(read_owned_path(alloc, rest)?.map(UnixCall::Stat))
+    } else if word == b"unlink".as_slice() {
+        Ok(read_owned_path(alloc, rest)?.map(UnixCall::Unlink))
+    } else if word == b"rmdir".as_slice() {
+        Ok(read_owned_path(alloc, rest)?.map(UnixCall::Rmdir))
+    } else if word == b"rmtree".as_slice() {
+        Ok(read_owned_path(alloc, rest)?.map(UnixCall::Rmtree))
+    } else if word == b"wrap".as_slice() {
+        Ok(read_owned_path(alloc, rest)?.map(UnixCall::Wrap))
+    } else {
+        read_call_of_two(alloc, word, rest)
+    }
+}
+
+/// The call of this word, unless it is one on a path alone.
+fn read_call_of_two(alloc: Global, word: &[u8], rest: &[u8]) -> Result<Option<UnixCall>, AllocError>
+    ensures { IfOk result (λ call. call ≡ call_among (calls_of_two ++ process_calls) word.now (Some rest.now)) }
+{
+    if word == b"create".as_slice() {
+        let values = read_path_and_mode(alloc, rest)?;
+        Ok(values.map(|(path, mode)| UnixCall::Create(path, mode)))
+    } else if word == b"mkdir".as_slice() {
+        let values = read_path_and_mode(alloc, rest)?;
+        Ok(values.map(|(path, mode)| UnixCall::Mkdir(path, mode)))
+    } else if word == b"write".as_slice() {
+        let values = read_path_and_bytes(alloc, rest)?;
+        Ok(values.map(|(path, bytes)| UnixCall::Write(path, bytes)))
+    } else if word == b"append".as_slice() {
+        let values = read_path_and_bytes(alloc, rest)?;
+        Ok(values.map(|(path, bytes)| UnixCall::Append(path, bytes)))
+    } else if word == b"rename".as_slice() {
+        let values = read_path_and_name(alloc, rest)?;
+        Ok(values.map(|(path, name)| UnixCall::Rename(path, name)))
+    } else if word == b"login".as_slice() {
+        let values = read_name_and_password(rest);
+        Ok(values.map(|(name, password)| UnixCall::Login(name, password)))
+    } else {
+        Ok(read_process_call(word, rest))
+    }
+}
+
+/// The call of this word on a process or with a status.
+fn read_process_call(word: &[u8], rest: &[u8]) -> Option<UnixCall>
+    ensures { result ≡ call_among process_calls word.now (Some rest.now) }
+{
+    if word == b"exit".as_slice() {
+        read_status(rest).map(UnixCall::Exit)
+    } else if word == b"status".as_slice() {
+        read_process(rest).map(UnixCall::Status)
+    } else if word == b"kill".as_slice() {
+        read_process(rest).map(UnixCall::Kill)
+    } else {
+        None
     }
 }
 
