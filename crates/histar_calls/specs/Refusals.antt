@@ -31,10 +31,8 @@ write_errno_of Observe = Some EACCES
 write_errno_of Modify = Some EACCES
 write_errno_of Range = Some EPERM
 write_errno_of Gate = Some EACCES
-write_errno_of NoEntry = None
-write_errno_of NoThread = None
-write_errno_of BadKind = None
 write_errno_of TooBig = Some EFBIG
+write_errno_of _ = None
 
 -- the errno of a denial of this raw call
 abbrev pub errno_for : RawCall → Denied → Option Errno

@@ -27,43 +27,30 @@ inner_chain me p = p.chain ++ next_child me p ∷ []
 
 -- what a call changes, at the path that it names or of its process
 pub data Effect : Type 0 where
-  -- nothing
-  Nothing : Effect
+  -- nothing; removes what is at the path, with all below it; spawns a child, in the jobs of its parent; makes a directory of a new job
+  -- at the path and a child in that job, and the process holds the job
+  Nothing Removes Spawns Wraps : Effect
   -- makes a file or a directory at the path, of a mode
   Makes : Content → Mode → Effect
   -- gives the file at the path the bytes that this makes of its old ones
   Stores : (List ℕ → List ℕ) → Effect
-  -- removes what is at the path, with all below it
-  Removes : Effect
-  -- gives it this name in its directory, with all below it
+  -- gives what is at the path this name in its directory, with all below it
   Renames : Name → Effect
-  -- spawns a child, in the jobs of its parent
-  Spawns : Effect
   -- ends the process with this status
   Exits : ℕ → Effect
   -- makes the process this user's; it then holds no job
   LogsIn : Name → Effect
   -- kills this process, with all processes below it
   Kills : ProcName → Effect
-  -- makes a directory of a new job at the path, and a child in that job; the process holds the job
-  Wraps : Effect
 
 -- what a call answers
 pub data Answer : Type 0 where
-  -- that it was done
-  Done : Answer
-  -- the bytes of the file at the path
-  Bytes : Answer
-  -- the entries of the directory at the path
-  Listing : Answer
-  -- kind, owner and mode of what is at the path
-  Attributes : Answer
+  -- that it was done; the bytes of the file at the path; the entries of the directory there; kind, owner and mode of what is there
+  Done Bytes Listing Attributes : Answer
+  -- whose the process is, and whether it is in a job; the name of the new child
+  Identity NewChild : Answer
   -- whether the process of this name runs
   StatusOf : ProcName → Answer
-  -- whose the process is, and whether it is in a job
-  Identity : Answer
-  -- the name of the new child
-  NewChild : Answer
 
 -- the reply that shows whether a process runs
 abbrev pub life_reply : Option Process → Reply

@@ -38,52 +38,39 @@ not_found f p (n ∷ above) =
 
 -- what a call tests, of the path that it names and of its process
 pub data Test : Type 0 where
-  -- the path is not `/`
-  NotRoot : Test
-  -- a file or a directory is at the path; a file is; a directory is; nothing is
-  Exists : Test
-  IsFile : Test
-  IsDirectory : Test
-  Absent : Test
+  -- the path is not `/`; a file or a directory is there; a file is; a directory is; nothing is
+  NotRoot Exists IsFile IsDirectory Absent : Test
   -- nothing has this name in the directory of the path
   AbsentBeside : Name → Test
   -- the process may read what is at the path; may write it; may write the directory of the path
-  MayRead : Test
-  MayWrite : Test
-  MayWriteAbove : Test
-  -- the directory of the path has room for an entry
-  HasRoomAbove : Test
-  -- the directory at the path has no entry
-  IsEmpty : Test
+  MayRead MayWrite MayWriteAbove : Test
+  -- the directory of the path has room for an entry; the directory at the path has none
+  HasRoomAbove IsEmpty : Test
   -- the file may have as many bytes as this makes of its old ones
   Fits : (List ℕ → List ℕ) → Test
   -- the process may make something of this mode
   MayMake : Mode → Test
   -- fewer than 64 children were born to the process; its name has fewer than 8 numbers
-  HasChildLeft : Test
-  HasNumberLeft : Test
+  HasChildLeft HasNumberLeft : Test
   -- the process that is named is a child of this one
   IsChild : ProcName → Test
   -- a user has this name; and this password
   IsUser : Name → Test
   HasPassword : Name → Password → Test
   -- the process is in no job; it is not nobody's
-  InNoJob : Test
-  IsSomebody : Test
+  InNoJob IsSomebody : Test
 
 -- what a call needs
 infixr 16 ◌then◌
 infix 17 ◌or◌
 pub data Need : Type 0 where
-  -- nothing
-  Nothing : Need
+  -- nothing; that the process can walk to the path, where the walk has refusals of its own
+  Nothing Walk : Need
   -- the one, and then the other
   ◌then◌ : Need → Need → Need
   -- that a test passes, and else this refusal
   ◌or◌ : Test → Errno → Need
-  -- that the process can walk to the path: the walk has its own refusals
-  Walk : Need
-  -- that the process finds the one that is named: so has the search
+  -- that the process finds the one that is named, where the search has refusals of its own
   Found : ProcName → Need
 
 module _ (session : Session) (f : Flat) (me : ProcName) (p : Process) (q : Path) where

@@ -13,17 +13,10 @@ use Rattle.histar_flat.specs.FlatState.{Node, Flat}
 pub data CategoryName : Type 0 where
   -- the one of the empty kernel, which nobody owns once the boot thread is gone
   OfBoot : CategoryName
-  -- to read what is a user's, and to write it: users by their numbers, of which 0 is nobody's
-  ReadsUser : ℕ → CategoryName
-  WritesUser : ℕ → CategoryName
-  -- to read what is a group's, and to write it
-  ReadsGroup : ℕ → CategoryName
-  WritesGroup : ℕ → CategoryName
-  -- a process's own two
-  ReadsProcess : ProcName → CategoryName
-  WritesProcess : ProcName → CategoryName
-  -- the one of a job, which is named by its first process
-  OfJob : ProcName → CategoryName
+  -- to read what is a user's, and to write it: users by their numbers, of which 0 is nobody's; and so of a group
+  ReadsUser WritesUser ReadsGroup WritesGroup : ℕ → CategoryName
+  -- a process's own two; and the one of a job, which is named by its first process
+  ReadsProcess WritesProcess OfJob : ProcName → CategoryName
 
 -- a name as the number of its kind, and the number or the name that it has
 abbrev pub split_category : CategoryName → ℕ × List ℕ

@@ -10,12 +10,7 @@ use Rattle.histar_flat.specs.Texts.{path_text, process_text, mode_text}
 
 -- what an argument of a call can be; a number has a greatest one
 pub data Argument : Type 0 where
-  a_path : Argument
-  a_mode : Argument
-  any_bytes : Argument
-  a_name : Argument
-  a_password : Argument
-  a_process : Argument
+  a_path a_mode any_bytes a_name a_password a_process : Argument
   a_number : ℕ → Argument
 
 -- the values of an argument
@@ -79,10 +74,6 @@ process_calls =
     ∷ one (codes "status") a_process Status
     ∷ one (codes "kill") a_process Kill ∷ []
 
--- the calls that have arguments
-abbrev pub calls_with_arguments : List CallForm
-calls_with_arguments = path_calls ++ calls_of_two ++ process_calls
-
 -- all calls
 abbrev pub call_forms : List CallForm
-call_forms = lone_calls ++ calls_with_arguments
+call_forms = lone_calls ++ path_calls ++ calls_of_two ++ process_calls

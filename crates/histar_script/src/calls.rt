@@ -3,7 +3,7 @@
 ghost use Rattle.std.specs.Prelude.{◌≡◌, ◌++◌, Some, IfOk};
 ghost use Rattle.std.specs.Option.{option_copied};
 ghost use Rattle.histar_flat.specs.Words.{path_of};
-ghost use Rattle.histar_script.specs.CallForms.{a_path, a_mode, any_bytes, a_name, a_password, calls_of_two, process_calls, calls_with_arguments};
+ghost use Rattle.histar_script.specs.CallForms.{a_path, a_mode, any_bytes, a_name, a_password, calls_of_two, process_calls, path_calls};
 ghost use Rattle.histar_script.specs.Reading.{user_of, two_values_of, lone_call_of, call_among, call_of, words_item, item_of};
 
 use crate::groups::read_group;
@@ -125,7 +125,7 @@ fn lone_call(call: UnixCall, rest: Option<&[u8]>) -> Option<UnixCall>
 
 /// The call of this word, with the arguments that follow it.
 fn read_path_call(alloc: Global, word: &[u8], rest: &[u8]) -> Result<Option<UnixCall>, AllocError>
-    ensures { IfOk result (λ call. call ≡ call_among calls_with_arguments word.now (Some rest.now)) }
+    ensures { IfOk result (λ call. call ≡ call_among (path_calls ++ calls_of_two ++ process_calls) word.now (Some rest.now)) }
 {
     if word == b"read".as_slice() {
         Ok(read_owned_path(alloc, rest)?.map(UnixCall::Read))

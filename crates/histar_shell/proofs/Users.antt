@@ -103,31 +103,19 @@ more_scriptable : (calls : List CallLine) (c : CallLine) → AreScriptable calls
 more_scriptable [] c h k = (k, tt)
 more_scriptable (d ∷ calls) c h k = (h.0, more_scriptable calls c h.1 k)
 
--- a call that is spelled so
-spelled_scriptable : (text : List ℕ) (c : UnixCall) → IsCallText text c → IsCall c
-spelled_scriptable text (Create path mode) h = h.1
-spelled_scriptable text (Write path bytes) h = h.1
-spelled_scriptable text (Mkdir path mode) h = h.1
-spelled_scriptable text (Append path bytes) h = h.1
-spelled_scriptable text (Read path) h = h.1
-spelled_scriptable text (ListCall path) h = h.1
-spelled_scriptable text (Stat path) h = h.1
-spelled_scriptable text (Unlink path) h = h.1
-spelled_scriptable text (Rmdir path) h = h.1
-spelled_scriptable text (Rmtree path) h = h.1
-spelled_scriptable text (Rename path name) h = (h.1, h.2)
-spelled_scriptable text Spawn h = refl
-spelled_scriptable text (Exit status) h = h.1
-spelled_scriptable text (Status name) h = refl
-spelled_scriptable text (Kill name) h = refl
-spelled_scriptable text Whoami h = refl
-spelled_scriptable text (Login name password) h = refl
-spelled_scriptable text (Wrap path) h = h.1
+-- the call of each form is one that a line can make
+forms_are_right : AllByRecursion (IsRightForm IsCall) call_forms
+forms_are_right = (
+  refl, refl,
+  λ s path h. h.1, λ s path h. h.1, λ s path h. h.1, λ s path h. h.1, λ s path h. h.1, λ s path h. h.1, λ s path h. h.1,
+  λ s t path mode h k. h.1, λ s t path mode h k. h.1, λ s t path bytes h k. h.1, λ s t path bytes h k. h.1, λ s t path name h k. (h.1, k.1), λ s t name password h k. refl,
+  λ s n h. h.1, λ s name h. refl, λ s name h. refl, tt,
+)
 
 -- a call line says a call that a line can make
 said_scriptable : (line process : List ℕ) (c : UnixCall) → Says line (items.Call process c) → IsCall c
 said_scriptable line process c (inl h) = absurd cc
-said_scriptable line process c (inr h) = spelled_scriptable h.1.0 c h.1.3
+said_scriptable line process c (inr h) = spelled_is IsCall forms_are_right h.1.0 c h.1.3
 
 -- an item that is added
 item_scriptable : (s : Reading) (n : ℕ) (line : List ℕ) (i : Item) (t : Reading) → AreScriptable s.calls → Says line i → Adds s n i t → AreScriptable t.calls
