@@ -9,6 +9,7 @@ use Rattle.histar_flat.specs.declared.calls.UnixCall.{UnixCall}
 use Rattle.histar_flat.proofs.Options.{bind_some, either_chosen}
 use Rattle.histar_flat.proofs.SplitLemmas.{lacks, split_before, split_alone}
 use Rattle.histar_script.specs.Lines.{split_word, ◌space◌}
+use Rattle.histar_flat.specs.Calls.{IsCall}
 use Rattle.histar_script.specs.CallForms.{Argument, Value, Spells, CallForm, alone, one, two, path_calls, calls_of_two, process_calls, call_forms}
 use Rattle.histar_script.specs.Reading.{◌>>=◌, value_of, two_values_of, form_word, call_by, call_among}
 use Rattle.histar_script.specs.Grammar.{SpellsCall, IsCallText}
@@ -207,6 +208,14 @@ forms_make P text c (form ∷ forms) right h =
 -- what holds of the calls that each form makes holds of each call that a text spells
 pub spelled_is : (P : UnixCall → Type 0) → AllByRecursion (IsRightForm P) call_forms → (text : List ℕ) (c : UnixCall) → IsCallText text c → P c
 spelled_is P right text c h = forms_make P text c call_forms right h
+
+-- the call of each form is one that a script can have
+forms_are_right : AllByRecursion (IsRightForm IsCall) call_forms
+forms_are_right = assumption refl
+
+-- so is each call that a text spells
+pub spelled_is_call : (text : List ℕ) (c : UnixCall) → IsCallText text c → IsCall c
+spelled_is_call = spelled_is IsCall forms_are_right
 
 -- ---- words alone
 

@@ -10,7 +10,6 @@ use Rattle.std.proofs.lemmas.List.Folds.{Any-from_list_any}
 use Rattle.std.proofs.lemmas.Option.{get_or_from_slice_get, slice_get-get_or, slice_get_within}
 use Rattle.histar_flat.specs.declared.calls.User.{User}
 use Rattle.histar_flat.specs.declared.calls.UnixCall.{UnixCall}
-use Rattle.histar_flat.specs.declared.calls.UnixCall.TheVariants.{Create, Mkdir, Write, Append, Read, List as ListCall, Stat, Unlink, Rmdir, Rmtree, Rename, Spawn, Exit, Status, Kill, Whoami, Login, Wrap}
 use Rattle.histar_flat.specs.Words.{Name, is_name, is_user_name, begins_with_letter}
 use Rattle.histar_flat.specs.Sessions.{Group, Session, is_member, user_number}
 use Rattle.histar_flat.specs.PathOrder.{same}
@@ -22,8 +21,9 @@ use Rattle.histar_script.specs.declared.fault.Fault.{Fault}
 use Rattle.histar_script.specs.declared.fault.Fault.TheVariants.{TooLong}
 use Rattle.histar_script.specs.Lines.{lines_of, is_too_long}
 use Rattle.histar_script.specs.Script.{Reading, nothing_read, IsUserList, IsUserOf, IsMembership, AreGroups, IsDeclared}
-use Rattle.histar_script.specs.Grammar.{IsCallText, Says, Adds, TakesLines, IsScript}
+use Rattle.histar_script.specs.Grammar.{Says, Adds, TakesLines, IsScript}
 use Rattle.histar_script.specs.Reading.{reading, script_of}
+use Rattle.histar_script.proofs.FormsBack.{spelled_is_call}
 use Rattle.histar_script.proofs.ScriptsBack.{found_from}
 use Rattle.histar_script.proofs.Kept.{is_declared}
 use Rattle.histar_refinement.specs.Sessions.{IsSession}
@@ -103,19 +103,10 @@ more_scriptable : (calls : List CallLine) (c : CallLine) → AreScriptable calls
 more_scriptable [] c h k = (k, tt)
 more_scriptable (d ∷ calls) c h k = (h.0, more_scriptable calls c h.1 k)
 
--- the call of each form is one that a line can make
-forms_are_right : AllByRecursion (IsRightForm IsCall) call_forms
-forms_are_right = (
-  refl, refl,
-  λ s path h. h.1, λ s path h. h.1, λ s path h. h.1, λ s path h. h.1, λ s path h. h.1, λ s path h. h.1, λ s path h. h.1,
-  λ s t path mode h k. h.1, λ s t path mode h k. h.1, λ s t path bytes h k. h.1, λ s t path bytes h k. h.1, λ s t path name h k. (h.1, k.1), λ s t name password h k. refl,
-  λ s n h. h.1, λ s name h. refl, λ s name h. refl, tt,
-)
-
 -- a call line says a call that a line can make
 said_scriptable : (line process : List ℕ) (c : UnixCall) → Says line (items.Call process c) → IsCall c
 said_scriptable line process c (inl h) = absurd cc
-said_scriptable line process c (inr h) = spelled_is IsCall forms_are_right h.1.0 c h.1.3
+said_scriptable line process c (inr h) = spelled_is_call h.1.0 c h.1.3
 
 -- an item that is added
 item_scriptable : (s : Reading) (n : ℕ) (line : List ℕ) (i : Item) (t : Reading) → AreScriptable s.calls → Says line i → Adds s n i t → AreScriptable t.calls
