@@ -5,7 +5,7 @@ ghost use Rattle.histar_label.specs.Front.{after, earlier, first_category, level
 use crate::{Category, Level};
 
 /// The lowest category that has an exception in one of the three lists, which rise.
-pub(crate) fn lowest(
+pub fn lowest(
     first: &[(Category, Level)],
     second: &[(Category, Level)],
     third: &[(Category, Level)],
@@ -16,7 +16,7 @@ pub(crate) fn lowest(
 }
 
 /// The lowest category that has an exception in one of the two lists, which rise.
-pub(crate) fn lower(first: &[(Category, Level)], second: &[(Category, Level)]) -> Option<Category>
+pub fn lower(first: &[(Category, Level)], second: &[(Category, Level)]) -> Option<Category>
     ensures { result ≡ lower first.now second.now }
 {
     earlier(first_category(first), first_category(second))
@@ -44,7 +44,7 @@ fn earlier(first: Option<Category>, second: Option<Category>) -> Option<Category
 }
 
 /// The level of a category that no exception comes before.
-pub(crate) fn level_at(
+pub fn level_at(
     exceptions: &[(Category, Level)],
     category: Category,
     default: Level,
@@ -58,7 +58,7 @@ pub(crate) fn level_at(
 }
 
 /// The exceptions after a category that no exception comes before.
-pub(crate) fn after(exceptions: &[(Category, Level)], category: Category) -> &[(Category, Level)]
+pub fn after(exceptions: &[(Category, Level)], category: Category) -> &[(Category, Level)]
     ensures { result.now ≡ after exceptions.now category }
 {
     match exceptions {

@@ -1,4 +1,5 @@
 pub mod Finds
+pub mod Kinds
 pub mod Rights
 pub mod Rules
 pub mod Sound

@@ -4,16 +4,18 @@ ghost use Rattle.std.specs.Option.{option_copied};
 ghost use Rattle.std.specs.FinSet as set;
 ghost use Rattle.histar_label.specs.Levels.{Levels};
 ghost use Rattle.histar_label.specs.Store.{label_at, Keeps};
-ghost use Rattle.histar_object.specs.Objects.{objects_of, put, changed_at, with_new, holding, no_objects, thread_of, is_container, is_thread, links_in, bytes_there, bytes_in, label_there};
+ghost use Rattle.histar_object.specs.Objects.{objects_of, put, changed_at, with_new, holding, no_objects, thread_of, is_container, is_thread, links_in, bytes_there, bytes_in, label_there, clearance_there};
 ghost use Rattle.histar_object.specs.State.{with_object, with_next, with_next_category, with_own, with_segment_bytes};
 ghost use Rattle.histar_container.specs.Shown.{objects_shown, kind_by, AllStand, KindStands, IsKept};
 ghost use Rattle.histar_container.specs.ObjectsModel.{state_of, CutsOff};
 ghost use Rattle.histar_container.specs.Tree.{AreTree};
 ghost use Rattle.histar_rules.specs.Finds.{LendsThread};
+ghost use Rattle.histar_rules.specs.Kinds.{kind_there};
 ghost use Rattle.histar_rules.specs.Rights.{kind_with_clearance, with_changed, with_clearance, with_label};
 ghost use Rattle.histar_rules.specs.Rules.{check, greatest, no_new, no_new_owner, FailsAt, FailsAtUnlessExhausted, Decides, AreBytesOf, IsLabelOf, IsEntryOf};
 ghost use Rattle.histar_rules.specs.declared.raw.RawCall.TheVariants as calls;
 
+use crate::kinds::ObjectKind;
 use crate::limits::Next;
 use crate::linked::{enter_in, label_in, read_in, unlink_in, write_in};
 use crate::lookup::{new_in, new_owner_in, thread_in};
@@ -138,6 +140,30 @@ impl<S: LabelStore + Drop> LabelledObjects<S> {
         match self.table.get(object) {
             Some(object) => matches!(object.kind, Kind::Thread(_)),
             None => false,
+        }
+    }
+
+    /// The clearance of a thread or a gate.
+    pub fn clearance(&self, object: ObjId) -> Option<&Label>
+        ensures { option_copied result ≡ clearance_there (objects_of self.now.objects object) }
+    {
+        match self.table.get(object) {
+            Some(object) => match &object.kind {
+                Kind::Segment(_) | Kind::Container(_) => None,
+                Kind::Thread(clearance) => Some(self.store.get(*clearance).unwrap()),
+                Kind::Gate(clearance, _) => Some(self.store.get(*clearance).unwrap()),
+            },
+            None => None,
+        }
+    }
+
+    /// The kind of an object.
+    pub fn kind(&self, object: ObjId) -> Option<ObjectKind>
+        ensures { result ≡ kind_there (objects_of self.now.objects object) }
+    {
+        match self.table.get(object) {
+            Some(object) => Some(ObjectKind::of(&object.kind)),
+            None => None,
         }
     }
 

@@ -4,6 +4,7 @@
 
 mod checks;
 mod handed;
+mod kinds;
 mod labelled;
 mod limits;
 mod linked;
@@ -13,6 +14,7 @@ mod raw;
 
 pub use checks::require;
 pub use handed::HandedLabel;
+pub use kinds::ObjectKind;
 pub use labelled::LabelledObjects;
 pub use ranges::in_range;
 pub use raw::{Denied, RawCall, Refusal};

@@ -1,8 +1,9 @@
 //! The kernel and its raw calls.
 ghost use Rattle.std.specs.Prelude.{◌≡◌, [], Some, IfOk};
 ghost use Rattle.std.specs.Option.{option_copied};
-ghost use Rattle.histar_object.specs.Objects.{objects_of, bytes_in, is_container, is_thread, label_there};
+ghost use Rattle.histar_object.specs.Objects.{objects_of, bytes_in, clearance_there, is_container, is_thread, label_there};
 ghost use Rattle.histar_object.specs.State.{empty_state};
+ghost use Rattle.histar_rules.specs.Kinds.{kind_there};
 ghost use Rattle.histar_rules.specs.Rules.{IsNextNumber, AreBytesOf, AreLabelsOf, IsLabelOf, IsEntryOf};
 ghost use Rattle.histar_rules.specs.Sound.{IsSound};
 ghost use Rattle.histar_rules.specs.declared.raw.RawCall.TheVariants as calls;
@@ -16,7 +17,7 @@ use crate::trace::{TraceEntry, log};
 use histar_base::Bytes;
 use histar_label::{Category, Label, LabelStore, OutOfMemory};
 use histar_object::{Entry, ObjId};
-use histar_rules::{HandedLabel, LabelledObjects, RawCall, Refusal};
+use histar_rules::{HandedLabel, LabelledObjects, ObjectKind, RawCall, Refusal};
 use std::alloc::Global;
 use std::marker::Model;
 
@@ -273,6 +274,28 @@ impl<S: LabelStore + Drop> Kernel<S> {
         ensures { option_copied result ≡ label_there (objects_of self.now.kept.objects object) }
     {
         self.objects.label(object)
+    }
+
+    /// The clearance of an object, if it is a thread or a gate. This is no raw call either.
+    pub fn clearance(&self, object: ObjId) -> Option<&Label>
+        ensures { option_copied result ≡ clearance_there (objects_of self.now.kept.objects object) }
+    {
+        self.objects.clearance(object)
+    }
+
+    /// The kind of an object, if there is one. This is no raw call either.
+    pub fn kind(&self, object: ObjId) -> Option<ObjectKind>
+        ensures { result ≡ kind_there (objects_of self.now.kept.objects object) }
+    {
+        self.objects.kind(object)
+    }
+
+    /// The number that the next category gets: each category below it was made. This is no raw call
+    /// either.
+    pub fn next_category(&self) -> u64
+        ensures { result ≡ self.now.kept.next_category }
+    {
+        self.objects.next_category()
     }
 
     /// Checks whether there is a container of this number. This is no raw call either.

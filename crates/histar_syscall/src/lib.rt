@@ -12,7 +12,7 @@ mod segments;
 mod trace;
 
 pub use answers::Answer;
-pub use histar_rules::{Denied, HandedLabel, RawCall, Refusal};
+pub use histar_rules::{Denied, HandedLabel, ObjectKind, RawCall, Refusal};
 pub use kernel::Kernel;
 pub use raw_calls::run_raw;
 pub use trace::TraceEntry;

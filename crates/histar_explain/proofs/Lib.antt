@@ -1,0 +1,12 @@
+pub mod LeftExceptions
+pub mod Passes
+pub mod UnmadePasses
+pub mod Shown
+pub mod Keys
+pub mod KeyedLabels
+pub mod Refused
+pub mod FailingTests
+pub mod Opens
+pub mod Blame
+pub mod RangeGrounds
+pub mod Grounds

@@ -1,0 +1,5 @@
+use Rattle.histar_explain.proofs.Shown.{shows_exactly}
+use Rattle.histar_explain.proofs.laws.reasons_show_exactly.Goals as goal
+
+pub returns : goal.returns
+returns c = shows_exactly

@@ -1,0 +1,255 @@
+//! A reason for each test of a denial.
+ghost use Rattle.std.specs.Prelude.{◌≡◌, ◌∷◌, [], IfOk};
+ghost use Rattle.std.specs.List.{AllZip};
+ghost use Rattle.histar_explain.specs.Tests.{below, observing, modifying, letting, in_range, in_span, behind_gate, owning_nothing, clearing, IsReasonOf};
+
+use crate::compare::{Sides, compare};
+use crate::derived_labels::owning_high;
+use crate::reasons::{Party, Reason};
+use histar_label::{Label, Level, OutOfMemory};
+use std::alloc::Global;
+
+/// Finds where a label is above another.
+fn below(
+    alloc: Global,
+    lower_is: Party,
+    lower: &Label,
+    upper_is: Party,
+    upper: &Label,
+) -> Result<Reason, OutOfMemory>
+    ensures { IfOk result (IsReasonOf (below lower_is lower.now upper_is upper.now)) }
+{
+    let sides = Sides {
+        lower: lower_is,
+        upper: upper_is,
+        owner_passes: false,
+    };
+    compare(alloc, sides, lower, upper)
+}
+
+/// Finds where an object's label is above that of a thread that would observe it.
+fn observing(alloc: Global, own: &Label, label: &Label) -> Result<Reason, OutOfMemory>
+    ensures { IfOk result (IsReasonOf (observing own.now label.now)) }
+{
+    let sides = Sides {
+        lower: Party::Object,
+        upper: Party::Thread,
+        owner_passes: true,
+    };
+    compare(alloc, sides, label, own)
+}
+
+/// Finds where a label of what owns nothing has star.
+fn owning_nothing(alloc: Global, party: Party, label: &Label) -> Result<Reason, OutOfMemory>
+    ensures { IfOk result (IsReasonOf (owning_nothing party label.now)) }
+{
+    let lowest = Label::new(alloc, Level::L0);
+    below(alloc, party, &lowest, Party::LabelAsked, label)
+}
+
+/// Lists the reason of one test.
+fn one(alloc: Global, first: Reason) -> Result<Vec<Reason>, OutOfMemory>
+    ensures { IfOk result (λ reasons. reasons.items ≡ first ∷ []) }
+{
+    let mut reasons = Vec::new(alloc);
+    reasons.push(first)?;
+    Ok(reasons)
+}
+
+/// Lists the reasons of two tests.
+fn two(alloc: Global, first: Reason, second: Reason) -> Result<Vec<Reason>, OutOfMemory>
+    ensures { IfOk result (λ reasons. reasons.items ≡ first ∷ second ∷ []) }
+{
+    let mut reasons = one(alloc, first)?;
+    reasons.push(second)?;
+    Ok(reasons)
+}
+
+/// Lists the reasons of three tests.
+fn three(
+    alloc: Global,
+    first: Reason,
+    second: Reason,
+    third: Reason,
+) -> Result<Vec<Reason>, OutOfMemory>
+    ensures { IfOk result (λ reasons. reasons.items ≡ first ∷ second ∷ third ∷ []) }
+{
+    let mut reasons = two(alloc, first, second)?;
+    reasons.push(third)?;
+    Ok(reasons)
+}
+
+/// Lists the reasons why a thread may not observe an object.
+pub(crate) fn observe_reasons(
+    alloc: Global,
+    own: &Label,
+    label: &Label,
+) -> Result<Vec<Reason>, OutOfMemory>
+    ensures { IfOk result (λ reasons. AllZip IsReasonOf (observing own.now label.now ∷ []) reasons.items) }
+{
+    one(alloc, observing(alloc, own, label)?)
+}
+
+/// Lists the reasons why a thread may not modify an object.
+pub(crate) fn modify_reasons(
+    alloc: Global,
+    own: &Label,
+    label: &Label,
+) -> Result<Vec<Reason>, OutOfMemory>
+    ensures { IfOk result (λ reasons. AllZip IsReasonOf (modifying own.now label.now) reasons.items) }
+{
+    let first = below(alloc, Party::Thread, own, Party::Object, label)?;
+    let second = observing(alloc, own, label)?;
+    two(alloc, first, second)
+}
+
+/// Lists the reasons why a thread may not enter a gate.
+pub(crate) fn gate_reasons(
+    alloc: Global,
+    own: &Label,
+    gate_clearance: &Label,
+    shown: &Label,
+) -> Result<Vec<Reason>, OutOfMemory>
+    ensures { IfOk result (λ reasons. AllZip IsReasonOf (letting own.now gate_clearance.now shown.now) reasons.items) }
+{
+    let first = below(
+        alloc,
+        Party::Thread,
+        own,
+        Party::GateClearance,
+        gate_clearance,
+    )?;
+    let second = below(alloc, Party::Thread, own, Party::VerifyLabel, shown)?;
+    two(alloc, first, second)
+}
+
+/// Lists the reasons why a label is out of a thread's range.
+pub(crate) fn range_reasons(
+    alloc: Global,
+    own: &Label,
+    label: &Label,
+    own_clearance: &Label,
+) -> Result<Vec<Reason>, OutOfMemory>
+    ensures { IfOk result (λ reasons. AllZip IsReasonOf (in_range own.now label.now own_clearance.now) reasons.items) }
+{
+    let first = below(alloc, Party::Thread, own, Party::LabelAsked, label)?;
+    let second = below(
+        alloc,
+        Party::LabelAsked,
+        label,
+        Party::ThreadClearance,
+        own_clearance,
+    )?;
+    two(alloc, first, second)
+}
+
+/// Lists the reasons why a label is none of what owns nothing in a thread's range.
+pub(crate) fn unowning_reasons(
+    alloc: Global,
+    party: Party,
+    own: &Label,
+    label: &Label,
+    own_clearance: &Label,
+) -> Result<Vec<Reason>, OutOfMemory>
+    ensures { IfOk result (λ reasons. AllZip IsReasonOf
+        (owning_nothing party label.now ∷ in_range own.now label.now own_clearance.now) reasons.items) }
+{
+    let first = owning_nothing(alloc, party, label)?;
+    let second = below(alloc, Party::Thread, own, Party::LabelAsked, label)?;
+    let third = below(
+        alloc,
+        Party::LabelAsked,
+        label,
+        Party::ThreadClearance,
+        own_clearance,
+    )?;
+    three(alloc, first, second, third)
+}
+
+/// Lists the reasons why a clearance is out of a thread's range.
+pub(crate) fn clear_reasons(
+    alloc: Global,
+    own: &Label,
+    clearance: &Label,
+    own_clearance: &Label,
+) -> Result<Vec<Reason>, OutOfMemory>
+    ensures { IfOk result (λ reasons. AllZip IsReasonOf (clearing own.now clearance.now own_clearance.now) reasons.items) }
+{
+    let above = own_clearance.join(&owning_high(alloc, own)?)?;
+    let first = below(alloc, Party::Thread, own, Party::ClearanceAsked, clearance)?;
+    let second = below(
+        alloc,
+        Party::ClearanceAsked,
+        clearance,
+        Party::ThreadClearanceAndLabel,
+        &above,
+    )?;
+    two(alloc, first, second)
+}
+
+/// Lists the reasons why a label and a clearance are out of a thread's range.
+pub(crate) fn span_reasons(
+    alloc: Global,
+    own: &Label,
+    label: &Label,
+    clearance: &Label,
+    own_clearance: &Label,
+) -> Result<Vec<Reason>, OutOfMemory>
+    ensures { IfOk result (λ reasons. AllZip IsReasonOf (in_span own.now label.now clearance.now own_clearance.now) reasons.items) }
+{
+    let first = below(alloc, Party::Thread, own, Party::LabelAsked, label)?;
+    let second = below(
+        alloc,
+        Party::LabelAsked,
+        label,
+        Party::ClearanceAsked,
+        clearance,
+    )?;
+    let third = below(
+        alloc,
+        Party::ClearanceAsked,
+        clearance,
+        Party::ThreadClearance,
+        own_clearance,
+    )?;
+    three(alloc, first, second, third)
+}
+
+/// The labels of a thread and of a gate that it would enter.
+#[derive(Clone, Copy)]
+pub(crate) struct Opening<'l> {
+    pub(crate) own: &'l Label,
+    pub(crate) own_clearance: &'l Label,
+    pub(crate) gate_label: &'l Label,
+    pub(crate) gate_clearance: &'l Label,
+}
+
+/// Lists the reasons why a label and a clearance are out of the range that a thread has behind a gate.
+pub(crate) fn opening_reasons(
+    alloc: Global,
+    opening: Opening,
+    label: &Label,
+    clearance: &Label,
+) -> Result<Vec<Reason>, OutOfMemory>
+    ensures { IfOk result (λ reasons. AllZip IsReasonOf (behind_gate opening.entry.own.now opening.entry.gate_label.now
+        label.now clearance.now opening.entry.own_clearance.now opening.entry.gate_clearance.now) reasons.items) }
+{
+    let floor = opening.own.floor(opening.gate_label)?;
+    let clearances = opening.own_clearance.join(opening.gate_clearance)?;
+    let first = below(alloc, Party::Floor, &floor, Party::LabelAsked, label)?;
+    let second = below(
+        alloc,
+        Party::LabelAsked,
+        label,
+        Party::ClearanceAsked,
+        clearance,
+    )?;
+    let third = below(
+        alloc,
+        Party::ClearanceAsked,
+        clearance,
+        Party::Clearances,
+        &clearances,
+    )?;
+    three(alloc, first, second, third)
+}
