@@ -118,7 +118,7 @@ fn read_numbers(numbers: Option<&[u8]>) -> Option<ProcName>
     }
 }
 
-/// The exit status that the bytes are: 0 to 255 in decimal.
+/// Returns the exit status that the bytes are: 0 to 255 in decimal.
 pub fn read_status(text: &[u8]) -> Option<u8>
     ensures { result ≡ status_of text.now }
 {
@@ -126,7 +126,7 @@ pub fn read_status(text: &[u8]) -> Option<u8>
     Some(number as u8)
 }
 
-/// The number of a child that the bytes are: 1 to 64 in decimal.
+/// Returns the number of a child that the bytes are: 1 to 64 in decimal.
 #[tactic(auto, using(crate::proofs::Numbers::child_number_within))]
 fn read_child_number(text: &[u8]) -> Option<u8>
     ensures { result ≡ number_of child_number text.now }
@@ -138,7 +138,7 @@ fn read_child_number(text: &[u8]) -> Option<u8>
     Some(number as u8)
 }
 
-/// The number that the bytes are in decimal, without leading zeros, if it is up to the greatest.
+/// Returns the number that the bytes are in decimal, if it is up to the greatest. Zeros before other digits are no number.
 pub fn read_number(text: &[u8], greatest: u64) -> Option<u64>
     ensures value { result ≡ number_of (λ n. nat_le n greatest) text.now }
     ensures small { IfSome result (λ n. n ≤ greatest) }
@@ -150,7 +150,7 @@ pub fn read_number(text: &[u8], greatest: u64) -> Option<u64>
     Some(number)
 }
 
-/// The number of 64 bits that the bytes are in decimal, without leading zeros.
+/// Returns the number of 64 bits that the bytes are in decimal.
 fn read_digits(text: &[u8]) -> Option<u64>
     ensures { result ≡ number_of (λ n. nat_lt n (2 ^ 64)) text.now }
 {
@@ -163,7 +163,7 @@ fn read_digits(text: &[u8]) -> Option<u64>
     }
 }
 
-/// Whether neither a plus nor a zero before other digits, which `parse` takes, comes first.
+/// Checks that no plus comes first, nor a zero before other digits: `parse` takes both.
 fn begins_plainly(text: &[u8]) -> bool
     ensures { IsTrue result ↔ BeginsPlainly text.now }
 {

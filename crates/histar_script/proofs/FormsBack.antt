@@ -10,7 +10,7 @@ use Rattle.histar_flat.proofs.Options.{bind_some, either_chosen}
 use Rattle.histar_flat.proofs.SplitLemmas.{lacks, split_before, split_alone}
 use Rattle.histar_script.specs.Lines.{split_word, ◌space◌}
 use Rattle.histar_flat.specs.Calls.{IsCall}
-use Rattle.histar_script.specs.CallForms.{Argument, Value, Spells, CallForm, alone, one, two, path_calls, calls_of_two, process_calls, call_forms}
+use Rattle.histar_script.specs.CallForms.{Argument, Value, Spells, CallForm, alone, one, two, writing_calls, reading_calls, entry_calls, process_calls, call_forms}
 use Rattle.histar_script.specs.Reading.{◌>>=◌, value_of, two_values_of, form_word, call_by, call_among}
 use Rattle.histar_script.specs.Grammar.{SpellsCall, IsCallText}
 use Rattle.histar_script.proofs.Chains.{mapped}
@@ -243,5 +243,5 @@ forms_need (form ∷ forms) word h =
     both false x y e f = f
 
 -- a word alone makes no call that has an argument
-pub none_without_argument : (word : List ℕ) → call_among (path_calls ++ calls_of_two ++ process_calls) word None ≡ None
-none_without_argument word = forms_need (path_calls ++ calls_of_two ++ process_calls) word refl
+pub none_without_argument : (word : List ℕ) → call_among (writing_calls ++ reading_calls ++ entry_calls ++ process_calls) word None ≡ None
+none_without_argument word = forms_need (writing_calls ++ reading_calls ++ entry_calls ++ process_calls) word refl

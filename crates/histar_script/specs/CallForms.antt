@@ -42,38 +42,40 @@ pub data CallForm : Type 0 where
 
 -- the calls that have no argument
 abbrev pub lone_calls : List CallForm
-lone_calls =
-    alone (codes "spawn") Spawn
-    ∷ alone (codes "whoami") Whoami ∷ []
+lone_calls = alone (codes "spawn") Spawn ∷ alone (codes "whoami") Whoami ∷ []
 
--- those on a path and nothing else
-abbrev pub path_calls : List CallForm
-path_calls =
-    one (codes "read") a_path Read
-    ∷ one (codes "list") a_path ListCall
-    ∷ one (codes "stat") a_path Stat
-    ∷ one (codes "unlink") a_path Unlink
-    ∷ one (codes "rmdir") a_path Rmdir
-    ∷ one (codes "rmtree") a_path Rmtree
-    ∷ one (codes "wrap") a_path Wrap ∷ []
-
--- those that have two arguments
-abbrev pub calls_of_two : List CallForm
-calls_of_two =
+-- those that make a file or a directory, or write
+abbrev pub writing_calls : List CallForm
+writing_calls =
     two (codes "create") a_path a_mode Create
     ∷ two (codes "mkdir") a_path a_mode Mkdir
     ∷ two (codes "write") a_path any_bytes Write
-    ∷ two (codes "append") a_path any_bytes Append
-    ∷ two (codes "rename") a_path a_name Rename
-    ∷ two (codes "login") a_name a_password Login ∷ []
+    ∷ two (codes "append") a_path any_bytes Append ∷ []
 
--- those on a process, and the one with a status
+-- those that only read
+abbrev pub reading_calls : List CallForm
+reading_calls =
+    one (codes "read") a_path Read
+    ∷ one (codes "list") a_path ListCall
+    ∷ one (codes "stat") a_path Stat ∷ []
+
+-- those that take an entry away or give it another name, and the one that starts a job
+abbrev pub entry_calls : List CallForm
+entry_calls =
+    one (codes "unlink") a_path Unlink
+    ∷ one (codes "rmdir") a_path Rmdir
+    ∷ one (codes "rmtree") a_path Rmtree
+    ∷ two (codes "rename") a_path a_name Rename
+    ∷ one (codes "wrap") a_path Wrap ∷ []
+
+-- those of processes
 abbrev pub process_calls : List CallForm
 process_calls =
     one (codes "exit") (a_number greatest_status) Exit
     ∷ one (codes "status") a_process Status
-    ∷ one (codes "kill") a_process Kill ∷ []
+    ∷ one (codes "kill") a_process Kill
+    ∷ two (codes "login") a_name a_password Login ∷ []
 
 -- all calls
 abbrev pub call_forms : List CallForm
-call_forms = lone_calls ++ path_calls ++ calls_of_two ++ process_calls
+call_forms = lone_calls ++ writing_calls ++ reading_calls ++ entry_calls ++ process_calls

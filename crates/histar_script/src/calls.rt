@@ -3,7 +3,7 @@
 ghost use Rattle.std.specs.Prelude.{◌≡◌, ◌++◌, Some, IfOk};
 ghost use Rattle.std.specs.Option.{option_copied};
 ghost use Rattle.histar_flat.specs.Words.{path_of};
-ghost use Rattle.histar_script.specs.CallForms.{a_path, a_mode, any_bytes, a_name, a_password, calls_of_two, process_calls, path_calls};
+ghost use Rattle.histar_script.specs.CallForms.{a_path, a_mode, any_bytes, a_name, a_password, writing_calls, reading_calls, entry_calls, process_calls};
 ghost use Rattle.histar_script.specs.Reading.{user_of, two_values_of, lone_call_of, call_among, call_of, words_item, item_of};
 
 use crate::groups::read_group;
@@ -16,7 +16,7 @@ use histar_flat::{
 };
 use std::alloc::{AllocError, Global};
 
-/// `NAME PASSWORD`, the name being one that a user may have.
+/// Reads `NAME PASSWORD`, the name being one that a user may have.
 #[tactic(auto, unfolding(crate::specs::Reading::user_of))]
 fn read_user(text: &[u8]) -> Option<User>
     ensures { result ≡ user_of text.now }
@@ -27,7 +27,7 @@ fn read_user(text: &[u8]) -> Option<User>
     Some(User { name, password })
 }
 
-/// A path, as a call owns it.
+/// Reads a path, as a call owns it.
 fn read_owned_path(alloc: Global, text: &[u8]) -> Result<Option<OwnedPath>, AllocError>
     ensures { IfOk result (λ path. path ≡ path_of text.now) }
 {
@@ -38,7 +38,7 @@ fn read_owned_path(alloc: Global, text: &[u8]) -> Result<Option<OwnedPath>, Allo
     Ok(Some(path))
 }
 
-/// `PATH MODE`
+/// Reads `PATH MODE`.
 #[tactic(auto, unfolding(crate::specs::Reading::two_values_of))]
 fn read_path_and_mode(alloc: Global, text: &[u8]) -> Result<Option<(OwnedPath, Mode)>, AllocError>
     ensures { IfOk result (λ values. values ≡ two_values_of a_path a_mode text.now) }
@@ -53,7 +53,7 @@ fn read_path_and_mode(alloc: Global, text: &[u8]) -> Result<Option<(OwnedPath, M
     Ok(Some((path, mode)))
 }
 
-/// `PATH BYTES`
+/// Reads `PATH BYTES`.
 #[tactic(auto, unfolding(crate::specs::Reading::two_values_of))]
 fn read_path_and_bytes(alloc: Global, text: &[u8]) -> Result<Option<(OwnedPath, Bytes)>, AllocError>
     ensures { IfOk result (λ values. values ≡ two_values_of a_path any_bytes text.now) }
@@ -69,7 +69,7 @@ fn read_path_and_bytes(alloc: Global, text: &[u8]) -> Result<Option<(OwnedPath, 
     Ok(Some((path, bytes)))
 }
 
-/// `PATH NAME`
+/// Reads `PATH NAME`.
 #[tactic(auto, unfolding(crate::specs::Reading::two_values_of))]
 fn read_path_and_name(alloc: Global, text: &[u8]) -> Result<Option<(OwnedPath, Name)>, AllocError>
     ensures { IfOk result (λ values. values ≡ two_values_of a_path a_name text.now) }
@@ -84,7 +84,7 @@ fn read_path_and_name(alloc: Global, text: &[u8]) -> Result<Option<(OwnedPath, N
     Ok(Some((path, name)))
 }
 
-/// `NAME PASSWORD`, with any name.
+/// Reads `NAME PASSWORD`, with any name.
 #[tactic(auto, unfolding(crate::specs::Reading::two_values_of))]
 fn read_name_and_password(text: &[u8]) -> Option<(Name, Password)>
     ensures { result ≡ two_values_of a_name a_password text.now }
@@ -95,7 +95,7 @@ fn read_name_and_password(text: &[u8]) -> Option<(Name, Password)>
     Some((name, password))
 }
 
-/// A call: its word, and what follows it, if anything does.
+/// Reads a call: its word, and what follows it, if anything does.
 #[tactic(auto, unfolding(crate::specs::Reading::call_of), using(crate::proofs::FormsBack::none_without_argument))]
 fn read_call(alloc: Global, text: &[u8]) -> Result<Option<UnixCall>, AllocError>
     ensures { IfOk result (λ call. call ≡ call_of text.now) }
@@ -109,11 +109,11 @@ fn read_call(alloc: Global, text: &[u8]) -> Result<Option<UnixCall>, AllocError>
     }
     match rest {
         None => Ok(None),
-        Some(rest) => read_path_call(alloc, word, rest),
+        Some(rest) => writing_call(alloc, word, rest),
     }
 }
 
-/// The call that has no argument, unless something follows its word.
+/// Returns a call that has no argument, unless something follows its word.
 fn lone_call(call: UnixCall, rest: Option<&[u8]>) -> Option<UnixCall>
     ensures { result ≡ lone_call_of call (option_copied rest.entry) }
 {
@@ -123,32 +123,10 @@ fn lone_call(call: UnixCall, rest: Option<&[u8]>) -> Option<UnixCall>
     }
 }
 
-/// The call of this word, with the arguments that follow it.
-fn read_path_call(alloc: Global, word: &[u8], rest: &[u8]) -> Result<Option<UnixCall>, AllocError>
-    ensures { IfOk result (λ call. call ≡ call_among (path_calls ++ calls_of_two ++ process_calls) word.now (Some rest.now)) }
-{
-    if word == b"read".as_slice() {
-        Ok(read_owned_path(alloc, rest)?.map(UnixCall::Read))
-    } else if word == b"list".as_slice() {
-        Ok(read_owned_path(alloc, rest)?.map(UnixCall::List))
-    } else if word == b"stat".as_slice() {
-        Ok(read_owned_path(alloc, rest)?.map(UnixCall::Stat))
-    } else if word == b"unlink".as_slice() {
-        Ok(read_owned_path(alloc, rest)?.map(UnixCall::Unlink))
-    } else if word == b"rmdir".as_slice() {
-        Ok(read_owned_path(alloc, rest)?.map(UnixCall::Rmdir))
-    } else if word == b"rmtree".as_slice() {
-        Ok(read_owned_path(alloc, rest)?.map(UnixCall::Rmtree))
-    } else if word == b"wrap".as_slice() {
-        Ok(read_owned_path(alloc, rest)?.map(UnixCall::Wrap))
-    } else {
-        read_call_of_two(alloc, word, rest)
-    }
-}
-
-/// The call of this word, unless it is one on a path alone.
-fn read_call_of_two(alloc: Global, word: &[u8], rest: &[u8]) -> Result<Option<UnixCall>, AllocError>
-    ensures { IfOk result (λ call. call ≡ call_among (calls_of_two ++ process_calls) word.now (Some rest.now)) }
+/// Reads what follows the word of a call that has arguments, and of those that write first.
+fn writing_call(alloc: Global, word: &[u8], rest: &[u8]) -> Result<Option<UnixCall>, AllocError>
+    ensures { IfOk result (λ call.
+        call ≡ call_among (writing_calls ++ reading_calls ++ entry_calls ++ process_calls) word.now (Some rest.now)) }
 {
     if word == b"create".as_slice() {
         let values = read_path_and_mode(alloc, rest)?;
@@ -162,19 +140,50 @@ fn read_call_of_two(alloc: Global, word: &[u8], rest: &[u8]) -> Result<Option<Un
     } else if word == b"append".as_slice() {
         let values = read_path_and_bytes(alloc, rest)?;
         Ok(values.map(|(path, bytes)| UnixCall::Append(path, bytes)))
-    } else if word == b"rename".as_slice() {
-        let values = read_path_and_name(alloc, rest)?;
-        Ok(values.map(|(path, name)| UnixCall::Rename(path, name)))
-    } else if word == b"login".as_slice() {
-        let values = read_name_and_password(rest);
-        Ok(values.map(|(name, password)| UnixCall::Login(name, password)))
     } else {
-        Ok(read_process_call(word, rest))
+        reading_call(alloc, word, rest)
     }
 }
 
-/// The call of this word on a process or with a status.
-fn read_process_call(word: &[u8], rest: &[u8]) -> Option<UnixCall>
+/// Reads what follows the word of a call that doesn't write, and of those that read first.
+fn reading_call(alloc: Global, word: &[u8], rest: &[u8]) -> Result<Option<UnixCall>, AllocError>
+    ensures { IfOk result (λ call.
+        call ≡ call_among (reading_calls ++ entry_calls ++ process_calls) word.now (Some rest.now)) }
+{
+    if word == b"read".as_slice() {
+        Ok(read_owned_path(alloc, rest)?.map(UnixCall::Read))
+    } else if word == b"list".as_slice() {
+        Ok(read_owned_path(alloc, rest)?.map(UnixCall::List))
+    } else if word == b"stat".as_slice() {
+        Ok(read_owned_path(alloc, rest)?.map(UnixCall::Stat))
+    } else {
+        entry_call(alloc, word, rest)
+    }
+}
+
+/// Reads what follows the word of a call on an entry, or of a process.
+fn entry_call(alloc: Global, word: &[u8], rest: &[u8]) -> Result<Option<UnixCall>, AllocError>
+    ensures { IfOk result (λ call.
+        call ≡ call_among (entry_calls ++ process_calls) word.now (Some rest.now)) }
+{
+    if word == b"unlink".as_slice() {
+        Ok(read_owned_path(alloc, rest)?.map(UnixCall::Unlink))
+    } else if word == b"rmdir".as_slice() {
+        Ok(read_owned_path(alloc, rest)?.map(UnixCall::Rmdir))
+    } else if word == b"rmtree".as_slice() {
+        Ok(read_owned_path(alloc, rest)?.map(UnixCall::Rmtree))
+    } else if word == b"rename".as_slice() {
+        let values = read_path_and_name(alloc, rest)?;
+        Ok(values.map(|(path, name)| UnixCall::Rename(path, name)))
+    } else if word == b"wrap".as_slice() {
+        Ok(read_owned_path(alloc, rest)?.map(UnixCall::Wrap))
+    } else {
+        Ok(process_call(word, rest))
+    }
+}
+
+/// Reads what follows the word of a call of processes.
+fn process_call(word: &[u8], rest: &[u8]) -> Option<UnixCall>
     ensures { result ≡ call_among process_calls word.now (Some rest.now) }
 {
     if word == b"exit".as_slice() {
@@ -183,12 +192,15 @@ fn read_process_call(word: &[u8], rest: &[u8]) -> Option<UnixCall>
         read_process(rest).map(UnixCall::Status)
     } else if word == b"kill".as_slice() {
         read_process(rest).map(UnixCall::Kill)
+    } else if word == b"login".as_slice() {
+        let values = read_name_and_password(rest);
+        values.map(|(name, password)| UnixCall::Login(name, password))
     } else {
         None
     }
 }
 
-/// `user NAME PASSWORD`, `group NAME USER..` or `PROC CALL`
+/// Reads `user NAME PASSWORD`, `group NAME USER..` or `PROC CALL`.
 #[tactic(auto, unfolding(crate::specs::Reading::words_item))]
 fn read_words(alloc: Global, line: &[u8]) -> Result<Option<Item>, AllocError>
     ensures { IfOk result (λ item. item ≡ words_item line.now) }
@@ -212,7 +224,7 @@ fn read_words(alloc: Global, line: &[u8]) -> Result<Option<Item>, AllocError>
     Ok(Some(Item::Call(process, call)))
 }
 
-/// What a line says, unless it is bad.
+/// Returns what a line says, unless it is bad.
 #[tactic(auto, unfolding(crate::specs::Reading::item_of))]
 pub fn read_item(alloc: Global, line: &[u8]) -> Result<Option<Item>, AllocError>
     ensures { IfOk result (λ item. item ≡ item_of line.now) }
