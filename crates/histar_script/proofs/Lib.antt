@@ -7,7 +7,6 @@ pub mod PathsBack
 pub mod ProcessesBack
 pub mod ArgumentsBack
 pub mod FormsBack
-pub mod OldGrammar
 pub mod CallsBack
 pub mod Members
 pub mod GroupsBack
