@@ -1,11 +1,12 @@
 -- What a form of calls makes of a text is spelled by it, and a text that it spells makes the call.
-use Rattle.std.proofs.Common.{◌≡◌, ◌⊎◌, ℕ, zero, suc, ◌<◌, Bool, true, false, not, cond, ◌&&◌, List, [], ◌∷◌, ◌++◌, length, get_or, Option, Some, None, refl, sym, ap, subst, ◌∙◌, inl, inr, arith}
+use Rattle.std.proofs.Common.{rules, ◌≡◌, ◌⊎◌, ℕ, zero, suc, ◌<◌, Bool, true, false, not, cond, ◌&&◌, List, [], ◌∷◌, ◌++◌, length, get_or, Option, Some, None, refl, sym, ap, subst, ◌∙◌, inl, inr, arith}
 use Rattle.std.specs.List.{Any, AllByRecursion, list_all}
 use Rattle.std.specs.Option.{option_map}
 use Rattle.std.specs.Str.{bytes_eq}
 use Rattle.std.proofs.lemmas.Bool.{and_parts, not-true}
 use Rattle.std.proofs.lemmas.Slice.Eq.{bytes_eq-Decides}
 use Rattle.histar_flat.specs.declared.calls.UnixCall.{UnixCall}
+use Rattle.histar_flat.specs.declared.calls.UnixCall.TheVariants.{Spawn}
 use Rattle.histar_flat.proofs.Options.{bind_some, either_chosen}
 use Rattle.histar_flat.proofs.SplitLemmas.{lacks, split_before, split_alone}
 use Rattle.histar_script.specs.Lines.{split_word, ◌space◌}
@@ -13,6 +14,7 @@ use Rattle.histar_flat.specs.Calls.{IsCall}
 use Rattle.histar_script.specs.CallForms.{Argument, Value, Spells, CallForm, alone, one, two, writing_calls, reading_calls, entry_calls, process_calls, call_forms}
 use Rattle.histar_script.specs.Reading.{◌>>=◌, value_of, two_values_of, form_word, call_by, call_among}
 use Rattle.histar_script.specs.Grammar.{SpellsCall, IsCallText}
+use Rattle.histar_script.specs.Laws.{Makes, EachCallHasForm}
 use Rattle.histar_script.proofs.Chains.{mapped}
 use Rattle.histar_script.proofs.Parting.{parted, split_part}
 use Rattle.histar_script.proofs.WordsBack.{same_bytes}
@@ -216,6 +218,28 @@ forms_are_right = assumption refl
 -- so is each call that a text spells
 pub spelled_is_call : (text : List ℕ) (c : UnixCall) → IsCallText text c → IsCall c
 spelled_is_call = spelled_is IsCall forms_are_right
+
+-- ---- each call has a form
+
+-- one element after another may have it
+abbrev AnyByRecursion : {X : Type 0} → (X → Type 0) → List X → Type 0
+AnyByRecursion P [] = ⊥
+AnyByRecursion P (x ∷ xs) = P x ⊎ AnyByRecursion P xs
+
+-- then some element has it
+any_from_recursion : {X : Type 0} (P : X → Type 0) (xs : List X) → AnyByRecursion P xs → Any P xs
+any_from_recursion P [] h = absurd h
+any_from_recursion P (x ∷ xs) (inl h) = any_first P x xs h
+any_from_recursion P (x ∷ xs) (inr h) = any_other P x xs (any_from_recursion P xs h)
+
+-- each call has a form, which is found by a search; where the table lacks one, the search fails and names the call
+some_form : (call : UnixCall) → AnyByRecursion (Makes call) call_forms
+some_form Spawn = search rules
+some_form _ = search rules
+
+-- each call has a form
+pub each_call_has_form : EachCallHasForm
+each_call_has_form call = any_from_recursion (Makes call) call_forms (some_form call)
 
 -- ---- words alone
 

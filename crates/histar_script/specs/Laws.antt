@@ -1,14 +1,26 @@
 -- What reading comes to, whatever memory does: the grammar, and its first bad lines.
-use Rattle.std.specs.Prelude.{◌≡◌, ◌↔◌, ◌⊎◌, ℕ, Bool, false, List, map, codes, Option, None, Some, Ok, Err, if◌then◌else◌}
+use Rattle.std.specs.Prelude.{◌≡◌, ◌↔◌, ◌⊎◌, ℕ, Bool, false, Any, List, map, codes, Option, None, Some, Ok, Err, if◌then◌else◌}
+use Rattle.histar_flat.specs.declared.calls.UnixCall.{UnixCall}
 use Rattle.histar_flat.specs.Words.{ProcName}
 use Rattle.histar_flat.specs.PathOrder.{under_process}
 use Rattle.histar_script.specs.declared.items.Item.{Item}
 use Rattle.histar_script.specs.declared.items.Item.TheVariants as items
 use Rattle.histar_script.specs.declared.fault.Fault.TheVariants.{BadScript}
+use Rattle.histar_script.specs.CallForms.{Value, CallForm, alone, one, two, call_forms}
 use Rattle.histar_script.specs.Script.{Reading, without_job}
 use Rattle.histar_script.specs.Lines.{lines_of}
 use Rattle.histar_script.specs.Reading.{item_of, reading}
 use Rattle.histar_script.specs.Grammar.{IsScript, IsFirstBad}
+
+-- the form makes the call of some values of its arguments
+abbrev pub Makes : UnixCall → CallForm → Type 0
+Makes call (alone word made) = call ≡ made
+Makes call (one word a make) = (x : Value a) × (call ≡ make x)
+Makes call (two word a b make) = (x : Value a) × (y : Value b) × (call ≡ make x y)
+
+-- each call has a form
+abbrev pub EachCallHasForm : Type 0
+EachCallHasForm = (call : UnixCall) → Any (Makes call) call_forms
 
 -- a text is read as a script exactly where it is this script by the grammar
 abbrev pub ReadingIsGrammar : Type 0

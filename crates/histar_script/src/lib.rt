@@ -14,5 +14,6 @@ pub use fault::Fault;
 pub use lines::{is_plain, split_line};
 pub use script::{Script, is_too_long, read_script};
 pub use script_laws::{
-    bad_line_is_first, comments_leave_out, one_reading, reading_is_grammar, script_or_bad_line,
+    bad_line_is_first, comments_leave_out, each_call_has_a_form, one_reading, reading_is_grammar,
+    script_or_bad_line,
 };

@@ -1,5 +1,10 @@
 //! What reading comes to, whatever memory does. Each law is the contract of a function that does nothing.
-ghost use Rattle.histar_script.specs.Laws.{ReadingIsGrammar, BadLineIsFirst, ScriptOrBadLine, OneReading, CommentsLeaveOut};
+ghost use Rattle.histar_script.specs.Laws.{EachCallHasForm, ReadingIsGrammar, BadLineIsFirst, ScriptOrBadLine, OneReading, CommentsLeaveOut};
+
+/// Each call has a form in the table of calls.
+pub fn each_call_has_a_form()
+    ensures { EachCallHasForm }
+{}
 
 /// A text is read as a script exactly where it is that script by the grammar.
 pub fn reading_is_grammar()
