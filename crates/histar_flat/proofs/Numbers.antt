@@ -66,11 +66,13 @@ if_passes test None = None
 if_passes test (Some n) = cond (test n) (Some n) None
 
 -- a number that passes a narrower test is read by a wider one, and then tested
-pub narrowed : (narrow wide : ℕ → Bool) (text : List ℕ) → ((n : ℕ) → narrow n ≡ true → wide n ≡ true) → number_of narrow text ≡ if_passes narrow (number_of wide text)
+pub narrowed : (narrow wide : ℕ → Bool) (text : List ℕ) → ((n : ℕ) → narrow n ≡ true → wide n ≡ true)
+    → number_of narrow text ≡ if_passes narrow (number_of wide text)
 unfolding number_of
 narrowed narrow wide text wider = let m : ℕ = digits_value 10 text in by (narrow m) (wide m) (bytes_eq text (decimal m)) m refl (wider m)
   where
-    by : (n w same : Bool) (m : ℕ) → narrow m ≡ n → (n ≡ true → w ≡ true) → cond (n && same) (Some m) None ≡ if_passes narrow (cond (w && same) (Some m) None)
+    by : (n w same : Bool) (m : ℕ) → narrow m ≡ n → (n ≡ true → w ≡ true)
+        → cond (n && same) (Some m) None ≡ if_passes narrow (cond (w && same) (Some m) None)
     by true true true m is h = rw is refl
     by true true false m is h = refl
     by true false same m is h = let never : false ≡ true = h refl in absurd cc
@@ -80,20 +82,24 @@ narrowed narrow wide text wider = let m : ℕ = digits_value 10 text in by (narr
 
 -- ---- the numbers of 64 bits
 
+-- the number that the bytes are, if it has 64 bits
+abbrev pub number_of_64_bits : List ℕ → Option ℕ
+number_of_64_bits = number_of (λ n. ltb n (2 ^ 64))
+
 -- a text that is no number of 64 bits is read as none
-no_number : (text : List ℕ) → ((n : ℕ) → n < 2 ^ 64 → text ≡ decimal n → ⊥) → number_of (λ n. ltb n (2 ^ 64)) text ≡ None
-no_number text none = by (number_of (λ n. ltb n (2 ^ 64)) text) refl
+no_number : (text : List ℕ) → ((n : ℕ) → n < 2 ^ 64 → text ≡ decimal n → ⊥) → number_of_64_bits text ≡ None
+no_number text none = by (number_of_64_bits text) refl
   where
-    by : (o : Option ℕ) → number_of (λ n. ltb n (2 ^ 64)) text ≡ o → number_of (λ n. ltb n (2 ^ 64)) text ≡ None
+    by : (o : Option ℕ) → number_of_64_bits text ≡ o → number_of_64_bits text ≡ None
     by None e = e
     by (Some n) e = let is = number_takes (λ n. ltb n (2 ^ 64)) text n e in absurd (none n (ltb-true n (2 ^ 64) is.1) is.0)
 
 -- one that begins with a plus, or with a zero before other digits, is none
-pub none_unless_plain : (text : List ℕ) → (BeginsPlainly text → ⊥) → number_of (λ n. ltb n (2 ^ 64)) text ≡ None
+pub none_unless_plain : (text : List ℕ) → (BeginsPlainly text → ⊥) → number_of_64_bits text ≡ None
 none_unless_plain text h = no_number text (λ n small is. h (subst BeginsPlainly (sym is) (decimal_begins n small)))
 
 -- nor is one that is no text
-pub none_unless_text : (text : List ℕ) → (IsUtf8 text → ⊥) → number_of (λ n. ltb n (2 ^ 64)) text ≡ None
+pub none_unless_text : (text : List ℕ) → (IsUtf8 text → ⊥) → number_of_64_bits text ≡ None
 none_unless_text text h = no_number text (λ n small is. h (subst IsUtf8 (sym is) (IsUtf8-from_ascii (decimal n) (IsAscii-decimal n small))))
 
 -- digits have their value
@@ -101,24 +107,28 @@ digits_model : IsNumeralModel (AllDigits 10) (digits_value 10)
 digits_model = record { to = λ ds h. h; from = λ ds h. h; same = λ ds h. refl }
 
 -- on others `parse` answers the number
-pub parsed : {E : Type 0} (text : List ℕ) (r : Result ℕ E) → BeginsPlainly text → ParsesUnsigned 64 10 text r → result_ok r ≡ number_of (λ n. ltb n (2 ^ 64)) text
+pub parsed : {E : Type 0} (text : List ℕ) (r : Result ℕ E) → BeginsPlainly text → ParsesUnsigned 64 10 text r
+    → result_ok r ≡ number_of_64_bits text
 parsed {E} text (Ok x) plain h =
     let read = parse_plain digits_model {E = E} 64 text (Ok x) h plain.0 in
     let n : ℕ = digits_value 10 text in
     let written : decimal n ≡ text = decimal-digits_value digits_model text read.0.0 read.0.1 plain.1 read.0.2 in
     ap (λ (m : ℕ). Some m) read.1
     ∙ sym (number_again (λ m. ltb m (2 ^ 64)) n read.0.2 (lt-ltb n (2 ^ 64) read.0.2))
-    ∙ ap (number_of (λ m. ltb m (2 ^ 64))) written
+    ∙ ap number_of_64_bits written
 parsed {E} text (Err e) plain h = sym (no_number text (λ n small is. let read = parse-decimal 64 n text (Err e) small small is h in absurd cc))
 
 -- ---- numbers up to a greatest one, statuses and numbers of children
 
 -- a number up to one of 64 bits is read among those of 64 bits
-pub number_within : (greatest : ℕ) (text : List ℕ) → greatest < 2 ^ 64 → number_of (λ n. leb n greatest) text ≡ if_passes (λ n. leb n greatest) (number_of (λ n. ltb n (2 ^ 64)) text)
-number_within greatest text fits = narrowed (λ n. leb n greatest) (λ n. ltb n (2 ^ 64)) text (λ n h. lt-ltb n (2 ^ 64) (omega (arith, leb-true n greatest h)))
+pub number_within : (greatest : ℕ) (text : List ℕ) → greatest < 2 ^ 64
+    → number_of (λ n. leb n greatest) text ≡ if_passes (λ n. leb n greatest) (number_of_64_bits text)
+number_within greatest text fits =
+    narrowed (λ n. leb n greatest) (λ n. ltb n (2 ^ 64)) text (λ n h. lt-ltb n (2 ^ 64) (omega (arith, leb-true n greatest h)))
 
 -- a child's number is read among those up to the greatest
-pub child_number_within : (text : List ℕ) → number_of is_child_number text ≡ if_passes is_child_number (number_of (λ n. leb n most_children) text)
+pub child_number_within : (text : List ℕ)
+    → number_of is_child_number text ≡ if_passes is_child_number (number_of (λ n. leb n most_children) text)
 child_number_within text = narrowed is_child_number (λ n. leb n most_children) text (λ n h. (and_parts (leb 1 n) (leb n most_children) h).1)
 
 -- a child's number is small

@@ -1,7 +1,7 @@
-use Rattle.std.proofs.Common.{◌^◌, ltb, sym, ap, subst, ◌∙◌}
+use Rattle.std.proofs.Common.{sym, ap, subst, ◌∙◌}
 use Rattle.std.proofs.lemmas.Bool.{false≢true}
-use Rattle.histar_flat.specs.Words.{BeginsPlainly, number_of}
-use Rattle.histar_flat.proofs.Numbers.{parsed, none_unless_plain, none_unless_text}
+use Rattle.histar_flat.specs.Words.{BeginsPlainly}
+use Rattle.histar_flat.proofs.Numbers.{number_of_64_bits, parsed, none_unless_plain, none_unless_text}
 use Rattle.histar_flat.proofs.readers.read_digits.Goals as goal
 
 pub returns-then-not-begins_plainly : goal.returns-then-not-begins_plainly
@@ -17,4 +17,4 @@ returns-in-Ok c =
     let plain = c.begins_plainly.ensures.0 c.if-not-begins_plainly.false in
     c.ok.ensures.value
     ∙ parsed c.in-Ok.digits.now c.parse.result (subst BeginsPlainly (sym same) plain) c.parse.ensures.value.0
-    ∙ ap (number_of (λ n. ltb n (2 ^ 64))) same
+    ∙ ap number_of_64_bits same
