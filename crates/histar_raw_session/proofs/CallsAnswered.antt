@@ -37,7 +37,7 @@ made_on_line old begun new asked d (Err e) same called = tt
 -- ---- calls one after another
 
 -- a whole text, and then a beginning of the next one
-front_after : (a b c : Option (List ℕ)) (text next : List ℕ) → Appends a b text → AppendsFront b c next → AppendsFront a c (text ++ next)
+pub front_after : (a b c : Option (List ℕ)) (text next : List ℕ) → Appends a b text → AppendsFront b c next → AppendsFront a c (text ++ next)
 front_after a b c text next whole begun = (
   begun.0,
   record {
