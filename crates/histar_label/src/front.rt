@@ -44,11 +44,7 @@ fn earlier(first: Option<Category>, second: Option<Category>) -> Option<Category
 }
 
 /// The level of a category that no exception comes before.
-pub fn level_at(
-    exceptions: &[(Category, Level)],
-    category: Category,
-    default: Level,
-) -> Level
+pub fn level_at(exceptions: &[(Category, Level)], category: Category, default: Level) -> Level
     ensures { result ≡ level_at exceptions.now category default }
 {
     match exceptions {

@@ -1,6 +1,6 @@
 -- Answering the calls of a session one by one.
 use Rattle.std.proofs.Common.{◌≡◌, ℕ, ◌+◌, ◌<◌, List, [], ◌∷◌, ◌++◌, length, take, drop, get_or, Option, Some, None, Result, Ok, Err, refl, sym, ap, ap₂, subst, ◌∙◌, inl, inr, append-nil, append_assoc, take-append-drop}
-use Rattle.std.specs.Prelude.{IfOk}
+use Rattle.std.specs.Prelude.{IfOk, OnOk}
 use Rattle.std.proofs.lemmas.List.{drop_more}
 use Rattle.std.proofs.KnownBytes.{Appends-nil, Appends-kept, Appends-trans}
 use Rattle.std.specs.Io.KnownBytes.{Appends}
@@ -12,7 +12,7 @@ use Rattle.histar_syscall.specs.declared.answers.Answer.{Answer}
 use Rattle.histar_syscall.specs.Answers.{raw_answer}
 use Rattle.histar_syscall.specs.KernelModel.{KernelModel, state, Called}
 use Rattle.histar_raw_session.specs.declared.read_session.RawLine.{RawLine}
-use Rattle.histar_raw_session.specs.Answers.{line_text, PrintsCall, PrintsCalls, AnswersCall, BeginsAnswer, AnswersCalls, BeginsAnswers}
+use Rattle.histar_raw_session.specs.Answers.{line_text, PrintsCall, PrintsCalls, AnswersCall, IsMadeOnLine, BeginsAnswer, AnswersCalls, BeginsAnswers}
 
 -- ---- one call
 
@@ -29,10 +29,15 @@ denied first old new asked d items (Ok line) same called text =
     subst (λ (s : State). PrintsCall s (state new) asked (items line)) same (record { outcome = Err d; has = (called.outcome, called.state); prints = text })
 denied first old new asked d items (Err e) same called text = tt
 
+-- the call was made on its line
+pub made_on_line : {X E : Type 0} (old begun new : KernelModel) (asked : RawLine) (d : Option Denied) (result : Result X E) → begun ≡ record old { line = asked.line } → Called begun new asked.thread asked.call d → OnOk result (IsMadeOnLine old asked new)
+made_on_line old begun new asked d (Ok x) same called = (d, subst (λ (k : KernelModel). Called k new asked.thread asked.call d) same called)
+made_on_line old begun new asked d (Err e) same called = tt
+
 -- ---- calls one after another
 
 -- a whole text, and then a beginning of the next one
-front_after : (a b c : Option (List ℕ)) (text next : List ℕ) → Appends a b text → AppendsFront b c next → AppendsFront a c (text ++ next)
+pub front_after : (a b c : Option (List ℕ)) (text next : List ℕ) → Appends a b text → AppendsFront b c next → AppendsFront a c (text ++ next)
 front_after a b c text next whole begun = (
   begun.0,
   record {

@@ -8,6 +8,8 @@ use Rattle.histar_rules.specs.declared.raw.RawCall.{RawCall}
 use Rattle.histar_rules.specs.Rules.{check, Changes}
 use Rattle.histar_syscall.specs.declared.answers.Answer.{Answer}
 use Rattle.histar_syscall.specs.Answers.{raw_answer}
+use Rattle.histar_syscall.specs.KernelModel.{KernelModel}
+use Rattle.histar_syscall.specs.Runs.{IsMade}
 use Rattle.histar_rawtext.specs.RawText.{answer_text, denied_text}
 use Rattle.histar_raw_session.specs.declared.read_session.RawLine.{RawLine}
 
@@ -40,6 +42,10 @@ pub record AnswersCall (before after : State) (old new : Option (List ℕ)) (ask
   pub line : List ℕ
   pub prints : PrintsCall before after asked line
   pub written : Appends old new line
+
+-- the kernel made the call on its line, granted or denied
+abbrev pub IsMadeOnLine : KernelModel → RawLine → KernelModel → Type 0
+IsMadeOnLine old asked new = IsMade (record old { line = asked.line }) asked.thread asked.call new
 
 -- nothing was written, or the call has an outcome by the rules and a beginning of the line that prints it was written
 abbrev pub BeginsAnswer : State → State → Option (List ℕ) → Option (List ℕ) → RawLine → Type 0

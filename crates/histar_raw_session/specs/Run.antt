@@ -21,12 +21,20 @@ pub record BeginsSession (text : List ℕ) (old new : Option (List ℕ)) : Type 
   pub is : IsSession text calls
   pub begun : BeginsAnswers empty_state old new calls
 
--- The text was run as a raw session: its calls were answered, or its fault is answered and nothing was written, or writing failed after a
--- beginning, or memory ran out before it or after a beginning.
+-- what a run of a text has written of it
+abbrev pub WritesOf : Type 1
+WritesOf = List ℕ → Option (List ℕ) → Option (List ℕ) → Type 0
+
+-- A text was run as a raw session: all was written that is due to it, or its fault is answered and nothing was written, or writing
+-- failed after a beginning, or memory ran out before it or after a beginning.
+abbrev pub RunsText : WritesOf → WritesOf → List ℕ → Option (List ℕ) → Option (List ℕ) → Result (Unit {0}) Fault → Type 0
+RunsText Whole Begun text old new (Ok done) = Whole text old new
+RunsText Whole Begun text old new (Err (BadScript n)) = IsFaultOf text (BadScript n) × Keeps old new
+RunsText Whole Begun text old new (Err TooLong) = IsFaultOf text TooLong × Keeps old new
+RunsText Whole Begun text old new (Err OutOfMemory) = Keeps old new ⊎ Begun text old new
+RunsText Whole Begun text old new (Err ReadFailed) = Keeps old new
+RunsText Whole Begun text old new (Err WriteFailed) = Begun text old new
+
+-- The text was run as a raw session, and its calls were answered as far as the result says.
 abbrev pub RunsSession : List ℕ → Option (List ℕ) → Option (List ℕ) → Result (Unit {0}) Fault → Type 0
-RunsSession text old new (Ok done) = AnswersSession text old new
-RunsSession text old new (Err (BadScript n)) = IsFaultOf text (BadScript n) × Keeps old new
-RunsSession text old new (Err TooLong) = IsFaultOf text TooLong × Keeps old new
-RunsSession text old new (Err OutOfMemory) = Keeps old new ⊎ BeginsSession text old new
-RunsSession text old new (Err ReadFailed) = Keeps old new
-RunsSession text old new (Err WriteFailed) = BeginsSession text old new
+RunsSession = RunsText AnswersSession BeginsSession

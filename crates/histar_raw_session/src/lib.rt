@@ -3,8 +3,8 @@
 #![tactic(auto)]
 
 mod lines;
-mod read_session;
+pub mod read_session;
 mod session;
 
 pub use read_session::RawLine;
-pub use session::run_raw_script;
+pub use session::{answer_call, run_raw_script};

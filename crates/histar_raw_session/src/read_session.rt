@@ -65,7 +65,7 @@ fn read_lines(alloc: Global, text: &[u8]) -> Result<Vec<RawLine>, Fault>
 }
 
 /// The calls of the raw session that the bytes are. The whole text is read before a call is made.
-pub(crate) fn read_session(alloc: Global, text: &[u8]) -> Result<Vec<RawLine>, Fault>
+pub fn read_session(alloc: Global, text: &[u8]) -> Result<Vec<RawLine>, Fault>
     ensures ok { IfOk result (λ calls. IsSession text.now calls.items) }
     ensures err { IfErr result (IsFaultOf text.now) }
 {

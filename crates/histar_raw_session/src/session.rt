@@ -3,7 +3,7 @@ ghost use Rattle.std.specs.Prelude.{◌≡◌, false, IfErr, IfOk, IfSome, OnOk,
 ghost use Rattle.histar_devices.specs.Device.{CountsFailure};
 ghost use Rattle.histar_script.specs.Runs.{IsOutputFault, LeavesSink, RunsInput, is_read_failed, is_write_failed};
 ghost use Rattle.histar_syscall.specs.KernelModel.{state};
-ghost use Rattle.histar_raw_session.specs.Answers.{AnswersCall, AnswersCalls, BeginsAnswer, BeginsAnswers, PrintsCall};
+ghost use Rattle.histar_raw_session.specs.Answers.{AnswersCall, AnswersCalls, BeginsAnswer, BeginsAnswers, IsMadeOnLine, PrintsCall};
 ghost use Rattle.histar_raw_session.specs.Run.{RunsSession};
 
 use crate::lines::{answer_line, denial_line};
@@ -73,13 +73,14 @@ fn answer_calls<S: LabelStore + Drop, W: Sink>(
 }
 
 /// Has the kernel make one call, and writes its line.
-fn answer_call<S: LabelStore + Drop, W: Sink>(
+pub fn answer_call<S: LabelStore + Drop, W: Sink>(
     alloc: Global,
     kernel: &mut Kernel<S>,
     asked: RawLine,
     writer: &mut W,
 ) -> Result<(), Fault>
     ensures ok { OnOk result (AnswersCall (state kernel.old) (state kernel.new) (W.written writer.old) (W.written writer.new) asked) }
+    ensures made { OnOk result (IsMadeOnLine kernel.old asked kernel.new) }
     ensures err { OnErr result (BeginsAnswer (state kernel.old) (state kernel.new) (W.written writer.old) (W.written writer.new) asked) }
     ensures faults { IfErr result IsOutputFault }
     ensures count { CountsFailure (W.failures writer.old) (W.failures writer.new) (is_write_failed result) }
@@ -95,7 +96,8 @@ fn make_call<S: LabelStore + Drop>(
     kernel: &mut Kernel<S>,
     asked: RawLine,
 ) -> Result<Vec<u8>, OutOfMemory>
-    ensures { IfOk result (λ line. PrintsCall (state kernel.old) (state kernel.new) asked line.items) }
+    ensures prints { IfOk result (λ line. PrintsCall (state kernel.old) (state kernel.new) asked line.items) }
+    ensures made { OnOk result (IsMadeOnLine kernel.old asked kernel.new) }
 {
     let RawLine {
         line: number,

@@ -8,7 +8,7 @@ use histar_label::{Category, Label, Level};
 use std::alloc::AllocError;
 
 /// Adds a level.
-fn push_level(line: &mut Vec<u8>, level: Level) -> Result<(), AllocError>
+pub fn push_level(line: &mut Vec<u8>, level: Level) -> Result<(), AllocError>
     ensures { OnOk result (line.new.items ≡ line.old.items ++ level_text level) }
 {
     match level {

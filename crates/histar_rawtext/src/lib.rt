@@ -16,5 +16,7 @@ mod words;
 
 pub use answers::write_answer;
 pub use entries::{denial_name, trace_line};
+pub use labels::push_level;
 pub use raw_calls::write_call;
 pub use read_calls::read_raw;
+pub use words::push_number;

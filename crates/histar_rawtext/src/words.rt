@@ -10,7 +10,7 @@ use itoa::Buffer;
 use std::alloc::AllocError;
 
 /// Adds a number, in decimal digits.
-pub(crate) fn push_number(line: &mut Vec<u8>, number: u64) -> Result<(), AllocError>
+pub fn push_number(line: &mut Vec<u8>, number: u64) -> Result<(), AllocError>
     ensures { OnOk result (line.new.items ≡ line.old.items ++ decimal number) }
 {
     let mut digits = Buffer::new();

@@ -1,7 +1,8 @@
 use Rattle.std.proofs.lemmas.Result.{err_from_is_err_and}
 use Rattle.histar_script.specs.Outcome.{input_fault}
 use Rattle.histar_script.proofs.Sinks.{sink_left}
-use Rattle.histar_raw_session.proofs.SessionRuns.{stops_reading, runs_taken, input_known}
+use Rattle.histar_raw_session.specs.Run.{AnswersSession, BeginsSession}
+use Rattle.histar_raw_session.proofs.SessionRuns.{stops_reading, runs_taken, input_known, short_answered, short_begun}
 use Rattle.histar_raw_session.proofs.session.run_raw_script.Goals as goal
 
 pub returns-in_err-input-clause-nothing : goal.returns-in_err-input-clause-nothing
@@ -12,13 +13,13 @@ returns-in_err-input-clause-nothing g c =
 pub returns-in_err-input-clause-runs : goal.returns-in_err-input-clause-runs
 returns-in_err-input-clause-runs g c =
     let p = err_from_is_err_and c.from_residual.result c.from_residual.ensures.1 in
-    rw (p.1, p.2) (stops_reading c.in_err-input.field-0.0 _ _ _ c.in_err-input.ensures.err)
+    rw (p.1, p.2) (stops_reading AnswersSession BeginsSession c.in_err-input.field-0.0 _ _ _ c.in_err-input.ensures.err)
 
 pub returns-in_err-input-clause-known : goal.returns-in_err-input-clause-known
-returns-in_err-input-clause-known g c = input_known _ _ _ _ _ (returns-in_err-input-clause-runs g c)
+returns-in_err-input-clause-known g c = input_known AnswersSession BeginsSession short_answered short_begun _ _ _ _ _ (returns-in_err-input-clause-runs g c)
 
 pub returns-clause-runs : goal.returns-clause-runs
-returns-clause-runs g c = runs_taken _ _ _ _ c.in_ok-input.input.items c.as_slice.result.now _ c.in_ok-input.ensures.ok c.as_slice.ensures.value c.run_text.ensures.runs c.run_text.ensures.reads
+returns-clause-runs g c = runs_taken AnswersSession BeginsSession _ _ _ _ c.in_ok-input.input.items c.as_slice.result.now _ c.in_ok-input.ensures.ok c.as_slice.ensures.value c.run_text.ensures.runs c.run_text.ensures.reads
 
 pub returns-clause-known : goal.returns-clause-known
-returns-clause-known g c = input_known _ _ _ _ _ (returns-clause-runs g c)
+returns-clause-known g c = input_known AnswersSession BeginsSession short_answered short_begun _ _ _ _ _ (returns-clause-runs g c)

@@ -1,0 +1,4 @@
+pub mod Errors
+pub mod Pieces
+pub mod CallsExplained
+pub mod SessionExplained

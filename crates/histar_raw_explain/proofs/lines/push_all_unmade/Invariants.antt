@@ -1,0 +1,7 @@
+use Rattle.std.proofs.Common.{◌≡◌, ◌++◌, take}
+use Rattle.std.specs.List.{flat_map}
+use Rattle.histar_raw_explain.specs.Texts.{unmade_line}
+use Rattle.histar_raw_explain.proofs.lines.push_all_unmade.Given as goal
+
+abbrev pub invariant-loop-category : goal.invariant-loop-category
+invariant-loop-category l = l.text.items ≡ l.fn.text.items ++ flat_map (unmade_line l.opening) (take l.category-index l.unmade)

@@ -1,0 +1,7 @@
+use Rattle.std.proofs.Common.{◌≡◌, ◌++◌, take}
+use Rattle.std.specs.List.{flat_map}
+use Rattle.histar_raw_explain.specs.Texts.{reason_lines}
+use Rattle.histar_raw_explain.proofs.lines.push_reasons.Given as goal
+
+abbrev pub invariant-loop-reason : goal.invariant-loop-reason
+invariant-loop-reason l = l.text.items ≡ l.fn.text.items ++ flat_map (reason_lines l.opening) (take l.reason-index l.reasons)

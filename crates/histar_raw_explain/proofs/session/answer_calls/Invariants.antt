@@ -1,0 +1,12 @@
+use Rattle.std.proofs.Common.{◌≡◌}
+use Rattle.histar_syscall.specs.KernelModel.{state}
+use Rattle.histar_raw_session.specs.Answers.{AnswersCalls}
+use Rattle.histar_raw_explain.specs.Explained.{ExplainsCalls}
+use Rattle.histar_raw_explain.proofs.session.answer_calls.Given as goal
+
+abbrev pub invariant-calls : goal.invariant-calls
+invariant-calls g l = record {
+  answered : AnswersCalls (state l.fn.kernel) (state l.kernel) (g.W.Sink.written l.fn.writer) (g.W.Sink.written l.writer) l.yielded;
+  explained : ExplainsCalls (state l.fn.kernel) l.yielded l.explanations.items (state l.kernel);
+  count : g.W.Sink.failures l.writer ≡ g.W.Sink.failures l.fn.writer;
+}

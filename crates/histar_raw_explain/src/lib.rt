@@ -1,0 +1,11 @@
+//! Raw sessions with explanations: what `run_raw_script` of `histar_raw_session` writes, and behind it why
+//! each denied call was denied.
+#![tactic(auto)]
+
+mod act_texts;
+mod lines;
+mod party_texts;
+mod session;
+
+pub use lines::write_explanation;
+pub use session::explain_raw_script;

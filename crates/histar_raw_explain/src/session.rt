@@ -1,0 +1,133 @@
+//! A raw session with explanations, from bytes to bytes.
+ghost use Rattle.std.specs.Prelude.{◌≡◌, ◌++◌, false, IfErr, IfOk, IfSome, OnOk, OnErr};
+ghost use Rattle.histar_devices.specs.Device.{CountsFailure};
+ghost use Rattle.histar_script.specs.Runs.{IsOutputFault, LeavesSink, RunsInput, is_read_failed, is_write_failed};
+ghost use Rattle.histar_syscall.specs.KernelModel.{state};
+ghost use Rattle.histar_raw_session.specs.Answers.{AnswersCall, AnswersCalls, BeginsAnswer, BeginsAnswers};
+ghost use Rattle.histar_raw_explain.specs.Explained.{ExplainsLast, ExplainsOne, ExplainsCalls, ExplainsAnswered, BeginsExplaining, RunsExplained};
+
+use crate::lines::write_explanation;
+use histar_devices::{Sink, Source, read_input, write_bytes};
+use histar_explain::explain;
+use histar_label::{LabelStore, OutOfMemory, PlainStore};
+use histar_raw_session::read_session::read_session;
+use histar_raw_session::{RawLine, answer_call};
+use histar_script::Fault;
+use histar_syscall::Kernel;
+use std::alloc::Global;
+
+/// Runs a raw session as `run_raw_script` does, and writes behind its answers why each denied call was
+/// denied.
+///
+/// A denied call leaves the state of the kernel as it was, so it is explained as soon as it is answered.
+/// The explanations are kept until all calls are answered. It doesn't flush the sink.
+pub fn explain_raw_script<R: Source, W: Sink>(
+    alloc: Global,
+    reader: &mut R,
+    writer: &mut W,
+) -> Result<(), Fault>
+    // After a bad session, one that is too long and a failed read the sink is as it was.
+    ensures nothing { IfErr result (LeavesSink writer.old writer.new) }
+
+    // A device has failed exactly where its fault is the answer.
+    ensures reads { CountsFailure (R.failures reader.old) (R.failures reader.new) (is_read_failed result) }
+    ensures writes { CountsFailure (W.failures writer.old) (W.failures writer.new) (is_write_failed result) }
+
+    // Whatever the source says, the run took bytes of it, to its end but never more than 1,048,577, and ran the session that
+    // these are: their fault is answered, or exactly the lines of the outcomes that the rules give are written, and then
+    // exactly the explanations of the denied calls, each at the state before its call.
+    ensures runs { RunsInput RunsExplained (R.left reader.old) (R.left reader.new) (W.written writer.old) (W.written writer.new) result }
+
+    // So where the input is known, the session of the whole input was run.
+    ensures known { IfSome (R.left reader.old) (λ input. RunsExplained input (W.written writer.old) (W.written writer.new) result) }
+{
+    let input = read_input(alloc, reader)?;
+    explain_text(alloc, input.as_slice(), writer)
+}
+
+/// Runs and explains the raw session that a text is.
+fn explain_text<W: Sink>(alloc: Global, text: &[u8], writer: &mut W) -> Result<(), Fault>
+    ensures nothing { IfErr result (LeavesSink writer.old writer.new) }
+    ensures reads { is_read_failed result ≡ false }
+    ensures writes { CountsFailure (W.failures writer.old) (W.failures writer.new) (is_write_failed result) }
+    ensures runs { RunsExplained text.now (W.written writer.old) (W.written writer.new) result }
+{
+    let calls = read_session(alloc, text)?;
+    let mut kernel = Kernel::new(alloc, PlainStore::new(alloc))?;
+    explain_calls(alloc, &mut kernel, calls, writer)
+}
+
+/// Has the kernel make the calls in their order, writes a line for each, and then the explanations of
+/// those that were denied.
+fn explain_calls<S: LabelStore + Drop, W: Sink>(
+    alloc: Global,
+    kernel: &mut Kernel<S>,
+    calls: Vec<RawLine>,
+    writer: &mut W,
+) -> Result<(), Fault>
+    ensures ok { OnOk result (ExplainsAnswered (state kernel.old) (state kernel.new) (W.written writer.old) (W.written writer.new) calls.items) }
+    ensures err { OnErr result (BeginsExplaining (state kernel.old) (W.written writer.old) (W.written writer.new) calls.items) }
+    ensures faults { IfErr result IsOutputFault }
+    ensures count { CountsFailure (W.failures writer.old) (W.failures writer.new) (is_write_failed result) }
+{
+    let explanations = answer_calls(alloc, kernel, calls, writer)?;
+    write_bytes(writer, explanations.as_slice())?;
+    Ok(())
+}
+
+/// Has the kernel make the calls in their order, writes a line for each, and returns the explanations of
+/// those that were denied.
+fn answer_calls<S: LabelStore + Drop, W: Sink>(
+    alloc: Global,
+    kernel: &mut Kernel<S>,
+    calls: Vec<RawLine>,
+    writer: &mut W,
+) -> Result<Vec<u8>, Fault>
+    ensures answered { OnOk result (AnswersCalls (state kernel.old) (state kernel.new) (W.written writer.old) (W.written writer.new) calls.items) }
+    ensures explained { IfOk result (λ text. ExplainsCalls (state kernel.old) calls.items text.items (state kernel.new)) }
+    ensures err { OnErr result (BeginsAnswers (state kernel.old) (W.written writer.old) (W.written writer.new) calls.items) }
+    ensures faults { IfErr result IsOutputFault }
+    ensures count { CountsFailure (W.failures writer.old) (W.failures writer.new) (is_write_failed result) }
+{
+    let mut explanations = Vec::new(alloc);
+    'calls: for asked in calls {
+        let lines = answer_and_explain(alloc, kernel, asked, writer)?;
+        explanations.extend_from_slice(lines.as_slice())?;
+    }
+    Ok(explanations)
+}
+
+/// Has the kernel make one call, writes its line, and returns the lines that explain why it was denied,
+/// if it was.
+fn answer_and_explain<S: LabelStore + Drop, W: Sink>(
+    alloc: Global,
+    kernel: &mut Kernel<S>,
+    asked: RawLine,
+    writer: &mut W,
+) -> Result<Vec<u8>, Fault>
+    ensures answered { OnOk result (AnswersCall (state kernel.old) (state kernel.new) (W.written writer.old) (W.written writer.new) asked) }
+    ensures explained { IfOk result (λ lines. ExplainsOne (state kernel.old) (state kernel.new) asked lines.items) }
+    ensures err { OnErr result (BeginsAnswer (state kernel.old) (state kernel.new) (W.written writer.old) (W.written writer.new) asked) }
+    ensures faults { IfErr result IsOutputFault }
+    ensures count { CountsFailure (W.failures writer.old) (W.failures writer.new) (is_write_failed result) }
+{
+    answer_call(alloc, kernel, asked, writer)?;
+    Ok(explain_last(alloc, kernel)?)
+}
+
+/// Returns the lines that explain why the last call of a kernel was denied, if it was.
+fn explain_last<S: LabelStore + Drop>(
+    alloc: Global,
+    kernel: &Kernel<S>,
+) -> Result<Vec<u8>, OutOfMemory>
+    ensures { IfOk result (λ lines. ExplainsLast kernel.now lines.items) }
+{
+    let Some(entry) = kernel.trace().last() else {
+        return Ok(Vec::new(alloc));
+    };
+    let Some(denied) = entry.denied else {
+        return Ok(Vec::new(alloc));
+    };
+    let explanation = explain(alloc, kernel, entry.thread, &entry.call, denied)?;
+    write_explanation(alloc, entry.line, entry.thread, &explanation)
+}
