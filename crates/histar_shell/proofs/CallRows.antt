@@ -44,10 +44,10 @@ lines_are_rows session ok (Unlink path) can me caller old new f result ready at 
 lines_are_rows session ok (Rmdir path) can me caller old new f result ready at = rmdirs_are_rows session ok path me old new f caller.thread result ready
 lines_are_rows session ok (Rmtree path) can me caller old new f result ready at = rmtrees_are_rows session ok path me old new f caller.thread result ready
 lines_are_rows session ok (Rename path name) can me caller old new f result ready at = renames_are_rows session ok path name can.1 me old new f caller.thread result ready
-lines_are_rows session ok Spawn can = spawns_are_rows session ok
-lines_are_rows session ok (Exit number) can = exits_are_rows session ok number can
+lines_are_rows session ok Spawn can me caller old new f result ready at = spawns_are_rows session ok me caller old new f result ready at
+lines_are_rows session ok (Exit number) can me caller old new f result ready at = exits_are_rows session ok number can me caller old new f result ready at
 lines_are_rows session ok (Status name) can me caller old new f result ready at = statuses_are_rows session ok name me old new f caller.thread result ready
 lines_are_rows session ok (Kill name) can me caller old new f result ready at = kills_are_rows session ok name me old new f caller.thread result ready
 lines_are_rows session ok Whoami can me caller old new f result ready at = whoamis_are_rows session ok me old new f caller.thread result ready
-lines_are_rows session ok (Login name password) can = logins_are_rows session ok name password
-lines_are_rows session ok (Wrap path) can = wraps_are_rows session ok path can
+lines_are_rows session ok (Login name password) can me caller old new f result ready at = logins_are_rows session ok name password me caller old new f result ready at
+lines_are_rows session ok (Wrap path) can me caller old new f result ready at = wraps_are_rows session ok path can me caller old new f result ready at
