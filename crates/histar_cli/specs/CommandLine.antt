@@ -18,9 +18,9 @@ word_rule name = record (new_rule name) { required = true }
 abbrev pub run_app : App
 run_app = with_rule (with_rule (with_rule (new_app (codes "run")) (flag_rule (codes "tree"))) (flag_rule (codes "trace"))) (word_rule (codes "FILE"))
 
--- `raw FILE`
+-- `raw [--explain] FILE`
 abbrev pub raw_app : App
-raw_app = with_rule (new_app (codes "raw")) (word_rule (codes "FILE"))
+raw_app = with_rule (with_rule (new_app (codes "raw")) (flag_rule (codes "explain"))) (word_rule (codes "FILE"))
 
 -- `check JOB FILE`
 abbrev pub check_app : App
@@ -30,7 +30,7 @@ check_app = with_rule (with_rule (new_app (codes "check")) (word_rule (codes "JO
 abbrev pub named_app : App
 named_app = let app = new_app (codes "histar") in record app { top = record app.top { has_version = true } }
 
--- `histar run [--tree] [--trace] FILE`, `histar raw FILE` or `histar check JOB FILE`
+-- `histar run [--tree] [--trace] FILE`, `histar raw [--explain] FILE` or `histar check JOB FILE`
 abbrev pub histar_app : App
 histar_app = with_subcommand (with_subcommand (with_subcommand named_app run_app.top) raw_app.top) check_app.top
 
@@ -51,10 +51,11 @@ IsTaskOf (Run file options) matches =
     × (first_of (codes "FILE") rows ≡ Some file.now)
     × (options.tree ≡ is_set (codes "tree") rows)
     × (options.trace ≡ is_set (codes "trace") rows)
-IsTaskOf (Raw file) matches =
+IsTaskOf (Raw file explain) matches =
     (rows : List Row)
     × (matches ≡ Some (codes "raw", rows))
     × (first_of (codes "FILE") rows ≡ Some file.now)
+    × (explain ≡ is_set (codes "explain") rows)
 IsTaskOf (Check job file) matches =
     (rows : List Row)
     × (matches ≡ Some (codes "check", rows))

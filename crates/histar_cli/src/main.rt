@@ -1,5 +1,5 @@
 //! The program: `histar run FILE` runs a script and prints the replies, and on request the tree and the trace;
-//! `histar raw FILE` runs a session of raw calls; `histar check JOB FILE` compares runs with and without a job.
+//! `histar raw FILE` runs a session of raw calls, and on request explains its denials; `histar check JOB FILE` compares runs with and without a job.
 #![tactic(auto)]
 
 mod status;
@@ -10,6 +10,7 @@ use crate::task::{Task, read_words};
 use histar_comparison::compare;
 use histar_devices::read_input;
 use histar_flat::{ProcName, read_process};
+use histar_raw_explain::explain_raw_script;
 use histar_raw_session::run_raw_script;
 use histar_script::Fault;
 use histar_shell::{Counted, Options, run};
@@ -54,13 +55,22 @@ fn run_file<R: Files + Print>(
     finish(ran.map(|_trace| ()), writer.into_inner())
 }
 
-/// Runs the raw session in a file, and prints what its calls are answered.
-fn run_raw_file<R: Files + Print>(rt: &R, alloc: Global, path: &str) -> Result<(), Fault> {
+/// Runs the raw session in a file, and prints what its calls are answered, and if it is asked for why some were denied.
+fn run_raw_file<R: Files + Print>(
+    rt: &R,
+    alloc: Global,
+    path: &str,
+    explain: bool,
+) -> Result<(), Fault> {
     let file = fs::open(rt, path).map_err(|_| Fault::ReadFailed)?;
     let output = BufWriter::new(alloc, io::writer(rt)).map_err(|_| Fault::OutOfMemory)?;
     let mut reader = Counted::new(file);
     let mut writer = Counted::new(output);
-    let ran = run_raw_script(alloc, &mut reader, &mut writer);
+    let ran = if explain {
+        explain_raw_script(alloc, &mut reader, &mut writer)
+    } else {
+        run_raw_script(alloc, &mut reader, &mut writer)
+    };
     finish(ran, writer.into_inner())
 }
 
@@ -100,7 +110,7 @@ fn command_line<R: Env + AllocGlobal>(rt: &R) -> io::Result<Vec<String>> {
 fn perform<R: Files + Print>(rt: &R, alloc: Global, task: Task<'_>) -> Option<Result<(), Fault>> {
     match task {
         Task::Run(path, options) => Some(run_file(rt, alloc, path, options)),
-        Task::Raw(path) => Some(run_raw_file(rt, alloc, path)),
+        Task::Raw(path, explain) => Some(run_raw_file(rt, alloc, path, explain)),
         Task::Check(job, path) => {
             let job = read_process(job.as_bytes())?;
             Some(check_file(rt, alloc, &job, path))

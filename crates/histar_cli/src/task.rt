@@ -27,13 +27,17 @@ Exit status:
   3  out of memory
   4  FILE can't be read, or the output can't be written";
 
+/// What stands at the end of the help for raw sessions.
+const AFTER_RAW_HELP: &str = "Example:
+  histar raw --explain examples/missing_keys.raw";
+
 /// What the program is to do: the subcommand with its words and its flags.
 #[derive(Clone, Copy)]
 pub enum Task<'a> {
     /// Run the script in this file, and print what is asked for beside the replies.
     Run(&'a str, Options),
-    /// Run the session of raw calls in this file.
-    Raw(&'a str),
+    /// Run the session of raw calls in this file, and explain why calls were denied, if that is asked for.
+    Raw(&'a str, bool),
     /// Compare the script in a file with the one without a job: first the job, then the file.
     Check(&'a str, &'a str),
 }
@@ -65,12 +69,17 @@ fn raw_command<'a>(alloc: Global) -> Result<Command<'a>, AllocError>
     ensures app { IfOk result (λ c. app_of c ≡ raw_app) }
     ensures local { IfOk result (λ c. (out-Command c).has_globals ≡ false) }
 {
+    let explain = Arg::new(alloc, "explain")
+        .long("explain")
+        .action(ArgAction::SetTrue)
+        .help("Print why each denied call was denied");
     let file = Arg::new(alloc, "FILE")
         .required(true)
         .help("The session: raw calls, each of a thread");
-    let raw = Command::new(alloc, "raw").about(
-        "Run a session of raw kernel calls and print an answer or a denial for each",
-    );
+    let raw = Command::new(alloc, "raw")
+        .about("Run a session of raw kernel calls and print an answer or a denial for each")
+        .after_help(AFTER_RAW_HELP);
+    let raw = raw.arg(explain)?;
     raw.arg(file)
 }
 
@@ -131,7 +140,8 @@ fn task_of<'a>(matches: &ArgMatches<'a>) -> Option<Task<'a>>
     }
     if let Some(raw) = matches.subcommand_matches("raw") {
         let file = raw.get_str("FILE")?;
-        return Some(Task::Raw(file));
+        let explain = is_set(raw, "explain");
+        return Some(Task::Raw(file, explain));
     }
     let check = matches.subcommand_matches("check")?;
     let job = check.get_str("JOB")?;

@@ -23,7 +23,7 @@ returns-in-Some-subcommand_matches c =
     let matched = c.in-Some-subcommand_matches in
     let found = found_of matched.raw.now in
     let parts : subcommand_rows_of m ≡ Some (codes "raw", rows_of found) = both_parts (subcommand_rows_of m) (codes "raw") (rows_of found) (name_is m ∙ matched.ensures.found.0 refl) matched.ensures.rows in
-    (rows_of found, parts, sym (c.in_ok-file-2.ensures ∙ first_value-rows found (codes "FILE")))
+    (rows_of found, parts, sym (c.in_ok-file-2.ensures ∙ first_value-rows found (codes "FILE")), c.is_set-explain.ensures ∙ ap is_given (first_value-rows found (codes "explain")))
 
 pub returns : goal.returns
 returns c =
