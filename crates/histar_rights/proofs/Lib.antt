@@ -1,0 +1,3 @@
+pub mod Passing
+pub mod Giving
+pub mod Answered
