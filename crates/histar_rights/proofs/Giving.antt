@@ -1,20 +1,18 @@
 -- The rights at a path are those that its directory gives, and that its class allows the process.
-use Rattle.std.specs.Prelude.{◌≡◌, ℕ, ◌≤◌, Bool, true, false, not, ◌&&◌, nat_le, List, [], ◌∷◌, ◌++◌, length, Option, None, Some, is_some, refl}
+use Rattle.std.specs.Prelude.{◌≡◌, ℕ, Bool, true, false, not, ◌&&◌, nat_le, List, [], ◌∷◌, ◌++◌, length, Option, None, Some, refl}
 use Rattle.std.specs.List.{list_all}
-use Rattle.std.proofs.Common.{sym, ap, ◌∙◌, append-nil, arith}
+use Rattle.std.proofs.Common.{sym, ap, ◌∙◌, append-nil}
 use Rattle.std.proofs.lemmas.Bool.{true≢false, le-leb}
-use Rattle.histar_base.specs.Refusals.{◌orelse◌, unless}
-use Rattle.histar_flat.specs.declared.replies.Errno.{Errno}
-use Rattle.histar_flat.specs.declared.replies.Errno.TheVariants.{ENOENT, ENOTDIR, EISDIR, EACCES, EBUSY, EFBIG}
+use Rattle.histar_base.specs.Refusals.{unless}
+use Rattle.histar_flat.specs.declared.replies.Errno.TheVariants.{ENOENT, ENOTDIR, EISDIR, EACCES, EFBIG}
 use Rattle.histar_flat.specs.Words.{Name, Path, ProcName}
 use Rattle.histar_flat.specs.PathOrder.{same}
 use Rattle.histar_flat.specs.Sessions.{Session, has, is_member}
 use Rattle.histar_flat.specs.Files.{get}
 use Rattle.histar_flat.specs.Classes.{Class, Process, is_free, knows, may_read, may_write}
 use Rattle.histar_flat.specs.Classes.Class.{Private, Readable, Open, Scratch, Grouped}
-use Rattle.histar_flat.specs.FlatState.{Flat, Node, IsTree, is_some_and, is_dir, is_there, is_dir_at, is_file_at, reads, writes, bytes_at, walk, into}
+use Rattle.histar_flat.specs.FlatState.{Flat, Node, IsTree, is_some_and, is_dir, is_there, is_dir_at, is_file_at, reads, writes, bytes_at, into}
 use Rattle.histar_flat.specs.FlatCalls.{most_bytes}
-use Rattle.histar_rights.specs.declared.rights.Rights.{Rights}
 use Rattle.histar_rights.specs.Rights.{rights_at, rights_below, reading_call, may_write_at, is_passed}
 use Rattle.histar_rights.specs.Laws.{AreFilesSmall, DirectoriesGiveRights, rights_above, rights_or}
 use Rattle.histar_rights.proofs.Passing.{passes, passes_one, passes_same, passes_third, passes_then, passes_then_more, passes_second}

@@ -1,19 +1,19 @@
 -- What rights come to: where they come from, which lines would be answered, and which processes a table has.
-use Rattle.std.specs.Prelude.{◌≡◌, ℕ, ◌≤◌, ◌↔◌, Bool, true, false, not, nat_lt, List, [], ◌∷◌, ◌++◌, length, Option, None, Some, is_some}
+use Rattle.std.specs.Prelude.{◌≡◌, ℕ, ◌≤◌, ◌↔◌, Bool, true, false, nat_lt, List, [], ◌∷◌, ◌++◌, length, Option, None, Some, is_some}
 use Rattle.histar_flat.specs.declared.calls.CallLine.{CallLine}
 use Rattle.histar_flat.specs.declared.calls.Mode.{Mode}
-use Rattle.histar_flat.specs.declared.calls.UnixCall.{UnixCall}
-use Rattle.histar_flat.specs.declared.calls.UnixCall.TheVariants.{Append, Create, Read, List as ListCall, Stat, Rmtree}
+use Rattle.histar_flat.specs.declared.calls.UnixCall.TheVariants.{Append, Create, Stat, Rmtree}
 use Rattle.histar_flat.specs.declared.replies.Reply.{Reply}
 use Rattle.histar_flat.specs.declared.replies.Reply.TheVariants.{Refused, Gone}
 use Rattle.histar_flat.specs.Words.{Name, Path, ProcName}
 use Rattle.histar_flat.specs.Sessions.{Session}
 use Rattle.histar_flat.specs.Files.{get}
 use Rattle.histar_flat.specs.Classes.{Process, may_read, may_write, class_made}
-use Rattle.histar_flat.specs.FlatState.{Flat, Node, IsTree, is_dir, is_there, is_dir_at, bytes_at, entries_in, is_given}
+use Rattle.histar_flat.specs.FlatState.{Flat, Node, IsTree, is_dir, is_there, bytes_at, entries_in}
 use Rattle.histar_flat.specs.FlatCalls.{most_bytes, most_entries, refused, running}
-use Rattle.histar_flat.specs.Meaning.{Answered, boot, flat_end, meaning}
+use Rattle.histar_flat.specs.Meaning.{boot, flat_end, meaning}
 use Rattle.histar_rights.specs.declared.rights.Rights.{Rights}
+use Rattle.histar_rights.specs.Running.{AreNamed, AreRunning, running_in}
 use Rattle.histar_rights.specs.Rights.{reading_call, may_make_in, above_root, rights_at, rights_below}
 
 -- no file has more bytes than a file may have
@@ -73,3 +73,11 @@ WritersMakeEntries =
     (session : Session) (f : Flat) (me : ProcName) (p : Process) (n : Name) (d : Path) (mode : Mode)
     → is_there f (n ∷ d) ≡ false → nat_lt (length (entries_in f d)) most_entries ≡ true → is_some (class_made session p mode) ≡ true
     → (refused session f me p (Create (n ∷ d) mode) ≡ None) ↔ (may_make_in session f p d ≡ true)
+
+-- after the calls of a script the processes of the table are exactly those that run, in the order of their names
+abbrev pub RunningAreListed : Type 0
+RunningAreListed = (session : Session) (calls : List CallLine) → AreRunning (flat_end session (boot session) calls) (running_in (flat_end session (boot session) calls))
+
+-- after the calls of a script each process that is there has a name that can be shown
+abbrev pub ProcessesAreNamed : Type 0
+ProcessesAreNamed = (session : Session) (calls : List CallLine) → AreNamed (flat_end session (boot session) calls)
