@@ -14,7 +14,7 @@ use Rattle.histar_flat.specs.Classes.Class.{Private, Readable, Open, Scratch, Gr
 use Rattle.histar_flat.specs.FlatState.{Flat, Node, IsTree, is_some_and, is_dir, is_there, is_dir_at, is_file_at, reads, writes, bytes_at, into}
 use Rattle.histar_flat.specs.FlatCalls.{most_bytes}
 use Rattle.histar_rights.specs.Rights.{rights_at, rights_below, reading_call, may_write_at, is_passed}
-use Rattle.histar_rights.specs.Laws.{AreFilesSmall, DirectoriesGiveRights, rights_above, rights_or}
+use Rattle.histar_rights.specs.Laws.{HaveFewBytes, DirectoriesGiveRights, rights_above, rights_or}
 use Rattle.histar_rights.proofs.Passing.{passes, passes_one, passes_same, passes_third, passes_then, passes_then_more, passes_second}
 
 -- what a process may write it may read
@@ -43,7 +43,7 @@ walked_written : (w r x : Bool) → (r && x) ≡ x → ((w && r) && x) ≡ (w &&
 walked_written true r x h = h
 walked_written false r x h = refl
 
-module _ (session : Session) (f : Flat) (tree : IsTree f) (small : AreFilesSmall f) (me : ProcName) (p : Process) where
+module _ (session : Session) (f : Flat) (tree : IsTree f) (small : HaveFewBytes f) (me : ProcName) (p : Process) where
   -- what stands at a path, as tests see it
   module _ (q : Path) (node : Node) (at : get f.files q ≡ Some node) where
     pub there : is_there f q ≡ true

@@ -21,7 +21,7 @@ use Rattle.histar_flat.specs.Meaning.{boot, flat_end}
 use Rattle.histar_flat.proofs.GivenNames.{names_are_given_once}
 use Rattle.histar_flat.proofs.Changes.{runs_is_there}
 use Rattle.histar_flat.proofs.Finding.{first, second, both, equal, find_first, find_later, ends_decide}
-use Rattle.histar_rights.specs.Running.{AreNamed, AreRunning, Named, and_children, itself, process_cmp, running_from, running_in}
+use Rattle.histar_rights.specs.Running.{HaveShownNames, AreRunning, Named, and_children, itself, process_cmp, running_from, running_in}
 use Rattle.histar_rights.specs.Laws.{RunningAreListed}
 use Rattle.histar_rights.proofs.Named.{AreJoined, calls_place}
 
@@ -262,7 +262,7 @@ module _ (f : Flat) where
   as_long ws [] = omega arith
   as_long ws (n ∷ me) = as_long (n ∷ ws) me ∙ omega arith
 
-module _ (f : Flat) (named : AreNamed f) (joined : AreJoined f) (given : AreGiven f) where
+module _ (f : Flat) (named : HaveShownNames f) (joined : AreJoined f) (given : AreGiven f) where
   abbrev levels : ℕ
   levels = suc most_numbers
 

@@ -21,18 +21,18 @@ use Rattle.histar_flat.specs.Meaning.{boot, first_process, flat_end}
 use Rattle.histar_flat.proofs.FileLemmas.{same_name_found, same_itself}
 use Rattle.histar_flat.proofs.Refusals.{passes_first, one_passes}
 use Rattle.histar_flat.proofs.Changes.{runs_is_there}
-use Rattle.histar_rights.specs.Running.{AreNamed}
-use Rattle.histar_rights.specs.Laws.{ProcessesAreNamed}
+use Rattle.histar_rights.specs.Running.{HaveShownNames}
+use Rattle.histar_rights.specs.Laws.{ProcessesHaveShownNames}
 
 -- a process that is put under a short name
-named_with : (f : Flat) (me : ProcName) (p : Process) → AreNamed f → length me ≤ most_numbers → AreNamed (with_process f me p)
+named_with : (f : Flat) (me : ProcName) (p : Process) → HaveShownNames f → length me ≤ most_numbers → HaveShownNames (with_process f me p)
 named_with f me p named short q at = elim (same_name_found me q) [
   | inl t ↦ subst (λ (r : ProcName). length r ≤ most_numbers) t.1 short
   | inr t ↦ named q (sym (ap (λ b. is_some (cond b (Some p) (f.processes q))) t.0) ∙ at)
 ]
 
 -- processes that are taken away
-named_without : (f : Flat) (name : ProcName) → AreNamed f → AreNamed (without_process f name)
+named_without : (f : Flat) (name : ProcName) → HaveShownNames f → HaveShownNames (without_process f name)
 named_without f name named q at = by (under_process name q) at
   where
     by : (b : Bool) → is_some (cond b None (f.processes q)) ≡ true → length q ≤ most_numbers
@@ -83,7 +83,7 @@ room_for_child me p h = less (nat_lt (length me) most_numbers) refl (one_passes 
     less true e h = grind (arith, nat_tests, e)
     less false e h = absurd (true≢false (sym h))
 
-named_child : (f : Flat) (me : ProcName) (p : Process) (chain : List ProcName) → AreNamed f → length me + 1 ≤ most_numbers → AreNamed (with_child f me p chain)
+named_child : (f : Flat) (me : ProcName) (p : Process) (chain : List ProcName) → HaveShownNames f → length me + 1 ≤ most_numbers → HaveShownNames (with_child f me p chain)
 named_child f me p chain named room =
     named_with (with_process f me (record p { born = p.born + 1 })) ((p.born + 1) ∷ me) (record { user = p.user; chain = chain; held = []; exited = None; born = 0 })
     (named_with f me (record p { born = p.born + 1 }) named (omega arith)) (omega arith)
@@ -99,7 +99,7 @@ joined_child f me p chain joined over =
 
 -- names that can be shown, of processes each of which is the child of one that is there
 pub record AreInPlace (f : Flat) : Type 0 where
-  pub named : AreNamed f
+  pub named : HaveShownNames f
   pub joined : AreJoined f
 
 module _ (session : Session) (f : Flat) (placed : AreInPlace f) (me : ProcName) where
@@ -157,5 +157,5 @@ pub calls_place : (session : Session) (calls : List CallLine) → AreInPlace (fl
 calls_place session calls = placed_at_end session (boot session) (placed_at_start session) calls
 
 -- after the calls of a script each process that is there has a name that can be shown
-pub processes_are_named : ProcessesAreNamed
+pub processes_are_named : ProcessesHaveShownNames
 processes_are_named session calls = (calls_place session calls).named

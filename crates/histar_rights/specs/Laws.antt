@@ -13,12 +13,12 @@ use Rattle.histar_flat.specs.FlatState.{Flat, Node, IsTree, is_dir, is_there, by
 use Rattle.histar_flat.specs.FlatCalls.{most_bytes, most_entries, refused, running}
 use Rattle.histar_flat.specs.Meaning.{boot, flat_end, meaning}
 use Rattle.histar_rights.specs.declared.rights.Rights.{Rights}
-use Rattle.histar_rights.specs.Running.{AreNamed, AreRunning, running_in}
+use Rattle.histar_rights.specs.Running.{HaveShownNames, AreRunning, running_in}
 use Rattle.histar_rights.specs.Rights.{reading_call, may_make_in, above_root, rights_at, rights_below}
 
 -- no file has more bytes than a file may have
-abbrev pub AreFilesSmall : Flat → Type 0
-AreFilesSmall f = (q : Path) → length (bytes_at f q) ≤ most_bytes
+abbrev pub HaveFewBytes : Flat → Type 0
+HaveFewBytes f = (q : Path) → length (bytes_at f q) ≤ most_bytes
 
 -- the rights at what may stand somewhere; where nothing stands, those above `/`
 abbrev pub rights_or : Session → Flat → ProcName → Process → Path → Option Node → Rights
@@ -33,7 +33,7 @@ rights_above session f me p (n ∷ d) = rights_or session f me p d (get f.files 
 -- the rights at a path are those that its directory gives, and that its class allows the process
 abbrev pub DirectoriesGiveRights : Type 0
 DirectoriesGiveRights =
-    (session : Session) (f : Flat) → IsTree f → AreFilesSmall f → (me : ProcName) (p : Process) (q : Path) (node : Node) → get f.files q ≡ Some node
+    (session : Session) (f : Flat) → IsTree f → HaveFewBytes f → (me : ProcName) (p : Process) (q : Path) (node : Node) → get f.files q ≡ Some node
     → rights_at session f me p q node ≡ rights_below (rights_above session f me p q) (may_read session p node.class) (may_write session p node.class)
 
 -- a reply that is neither a refusal nor `gone`
@@ -79,5 +79,5 @@ abbrev pub RunningAreListed : Type 0
 RunningAreListed = (session : Session) (calls : List CallLine) → AreRunning (flat_end session (boot session) calls) (running_in (flat_end session (boot session) calls))
 
 -- after the calls of a script each process that is there has a name that can be shown
-abbrev pub ProcessesAreNamed : Type 0
-ProcessesAreNamed = (session : Session) (calls : List CallLine) → AreNamed (flat_end session (boot session) calls)
+abbrev pub ProcessesHaveShownNames : Type 0
+ProcessesHaveShownNames = (session : Session) (calls : List CallLine) → HaveShownNames (flat_end session (boot session) calls)

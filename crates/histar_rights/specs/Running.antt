@@ -35,8 +35,8 @@ unfoldable pub running_in : Flat → List Named
 running_in f = running_from (suc most_numbers) f []
 
 -- no process has more numbers in its name than can be shown
-abbrev pub AreNamed : Flat → Type 0
-AreNamed f = (me : ProcName) → is_some (f.processes me) ≡ true → length me ≤ most_numbers
+abbrev pub HaveShownNames : Flat → Type 0
+HaveShownNames f = (me : ProcName) → is_some (f.processes me) ≡ true → length me ≤ most_numbers
 
 -- names are ordered as lists of numbers from process 0 on
 abbrev pub process_cmp : ProcName → ProcName → Ordering

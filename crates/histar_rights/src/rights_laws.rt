@@ -1,5 +1,5 @@
 //! What rights come to. Each law is the contract of a function that does nothing.
-ghost use Rattle.histar_rights.specs.Laws.{DirectoriesGiveRights, LettersAreReplies, ProcessesAreNamed, RunningAreListed, WritersMakeEntries};
+ghost use Rattle.histar_rights.specs.Laws.{DirectoriesGiveRights, LettersAreReplies, ProcessesHaveShownNames, RunningAreListed, WritersMakeEntries};
 
 /// The rights at a path are those that its directory gives, and that its class allows the process.
 pub fn directories_give_rights()
@@ -25,5 +25,5 @@ pub fn running_are_listed()
 
 /// After the calls of a script each process has a name that can be shown.
 pub fn processes_are_named()
-    ensures { ProcessesAreNamed }
+    ensures { ProcessesHaveShownNames }
 {}
