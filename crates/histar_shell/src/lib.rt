@@ -8,5 +8,5 @@ mod session;
 
 pub use histar_devices::{Counted, Sink, Source};
 pub use machine::{Machine, Trace};
-pub use output::{node_text, push_path, reply_text};
+pub use output::{node_text, push_path, push_process, push_stat, reply_text};
 pub use session::{Options, run, run_with};

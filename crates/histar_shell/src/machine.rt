@@ -149,6 +149,27 @@ impl<S: LabelStore + Drop> Machine<S> {
         bytes_of(&self.kernel, node)
     }
 
+    /// Lends the kernel, to look at its table with no raw call.
+    pub fn kernel(&self) -> &Kernel<S>
+        ensures { result.now ≡ self.now.kernel }
+    {
+        &self.kernel
+    }
+
+    /// Returns where `/` and process 0 are.
+    pub fn places(&self) -> &Places
+        ensures { result.now ≡ self.now.places }
+    {
+        &self.places
+    }
+
+    /// Lends the users and the groups, with no passwords.
+    pub fn users(&self) -> &UserTable
+        ensures { result.now ≡ self.now.users }
+    {
+        &self.users
+    }
+
     /// The raw calls so far, moved out: a run of the kernel from its empty state to the machine's.
     pub fn into_trace(self) -> Trace
         ensures trace { result ≡ self.kernel.trace }

@@ -22,7 +22,7 @@ fn push_number(line: &mut Vec<u8>, number: u32) -> Result<(), AllocError>
 }
 
 /// Adds a process's name: 0, and a dot before each further number.
-fn push_process(line: &mut Vec<u8>, process: &ProcName) -> Result<(), AllocError>
+pub fn push_process(line: &mut Vec<u8>, process: &ProcName) -> Result<(), AllocError>
     ensures { OnOk result (line.new.items ≡ line.old.items ++ process_text process.now) }
 {
     let numbers = process.numbers();
@@ -83,7 +83,7 @@ fn push_mode(line: &mut Vec<u8>, mode: FileMode) -> Result<(), AllocError>
 }
 
 /// Adds the kind of what stands at a path, its owner and its mode.
-fn push_stat(line: &mut Vec<u8>, stat: Stat) -> Result<(), AllocError>
+pub fn push_stat(line: &mut Vec<u8>, stat: Stat) -> Result<(), AllocError>
     ensures { OnOk result (line.new.items ≡ line.old.items ++ stat_text stat) }
 {
     let kind = if stat.is_directory { "dir " } else { "file " };

@@ -1,6 +1,7 @@
 //! Reading the tree.
 ghost use Rattle.std.specs.Prelude.{◌≡◌, ◌≤◌, length, IfOk};
 ghost use Rattle.histar_flat.specs.Words.{most_names};
+ghost use Rattle.histar_layout.specs.Listing.{object_of};
 ghost use Rattle.histar_syscall.specs.KernelModel.{state};
 ghost use Rattle.histar_tree.specs.TreeEntries.{node_bytes};
 ghost use Rattle.histar_tree.specs.TreeLines.{node_stat};
@@ -33,6 +34,13 @@ impl TreeNode {
         ensures { result ≡ node_stat self.now }
     {
         self.class.stat(self.target.is_directory())
+    }
+
+    /// Returns the object that stands there: a file's segment, or a directory's container.
+    pub fn object(&self) -> ObjId
+        ensures { result ≡ object_of self.now.target }
+    {
+        self.target.object()
     }
 }
 

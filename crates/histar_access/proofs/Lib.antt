@@ -1,0 +1,11 @@
+pub mod Descent
+pub mod Visiting
+pub mod SameProcesses
+pub mod Matching
+pub mod Tables
+pub mod Writing
+pub mod ShownTables
+pub mod Calling
+pub mod TableLemmas
+pub mod RowLemmas
+pub mod Runs

@@ -1,0 +1,161 @@
+-- What `access` says, put together from what its parts say.
+use Rattle.std.proofs.Common.{◌≡◌, ℕ, ◌<◌, true, false, ltb, List, [], ◌++◌, length, Option, Some, None, Result, Ok, Err, refl, sym, ap, subst, ◌∙◌, arith, rules, tests, append-nil, inl, inr}
+use Rattle.std.specs.Prelude.{Bool, IfSome, IsOk, MatchResult, is_ok}
+use Rattle.std.specs.Io.KnownBytes.{Appends, Keeps}
+use Rattle.std.proofs.lemmas.Bool.{cases_lt, false≢true}
+use Rattle.std.proofs.lemmas.List.{length-append}
+use Rattle.std.proofs.KnownBytes.{Keeps-refl}
+use Rattle.histar_devices.specs.declared.input.InputError.{InputError}
+use Rattle.histar_devices.specs.declared.input.InputError.TheVariants as input
+use Rattle.histar_devices.specs.Input.{most_taken, TakesAll, TakesSome}
+use Rattle.histar_devices.specs.Writing.{AppendsFront}
+use Rattle.histar_flat.specs.declared.calls.CallLine.{CallLine}
+use Rattle.histar_flat.specs.Sessions.{Session}
+use Rattle.histar_flat.specs.FlatState.{Flat}
+use Rattle.histar_flat.specs.Meaning.{boot, flat_end}
+use Rattle.histar_script.specs.declared.fault.Fault.{Fault}
+use Rattle.histar_script.specs.declared.fault.Fault.TheVariants.{BadScript, TooLong, OutOfMemory, ReadFailed, WriteFailed}
+use Rattle.histar_script.specs.Script.{Reading}
+use Rattle.histar_script.specs.Outcome.{Gives, input_fault}
+use Rattle.histar_script.specs.Lines.{most_script_bytes}
+use Rattle.histar_script.specs.Reading.{script_of}
+use Rattle.histar_script.specs.Runs.{IsOutputFault, StopsReading, is_read_failed, RunsTaken, RunsInput}
+use Rattle.histar_rights.proofs.Named.{processes_are_named}
+use Rattle.histar_shell.specs.Machine.{MachineModel}
+use Rattle.histar_shell.specs.Meaning.{Shows, ShowsStart}
+use Rattle.histar_shell.specs.Outcome.{AgreesWith, IsFaultAt}
+use Rattle.histar_access.specs.Session.{AccessText, BeginsToWrite, ShowsAfter, WritesAtFault, WritesTable, calls_before, state_before}
+use Rattle.histar_access.specs.Shown.{AppendsTable, BeginsTable, IsShown}
+
+-- what it answers
+abbrev Answer : Type 0
+Answer = Result (Unit {0}) Fault
+
+-- no read failed where the fault is one of the output
+pub no_read_failed : (f : Fault) → IsOutputFault f → is_read_failed {A = Unit {0}} (Err f) ≡ false
+no_read_failed (BadScript n) fault = refl
+no_read_failed TooLong fault = refl
+no_read_failed OutOfMemory fault = refl
+no_read_failed ReadFailed fault = absurd fault
+no_read_failed WriteFailed fault = refl
+
+module _ (at : Option ℕ) where
+  -- ---- a text that is a script or none
+
+  -- what reading the script answers is the fault in it, or out of memory
+  script_fault_agrees : (f : Fault) (read : Result Reading Fault) → Gives (Err f) read → IsFaultAt read f
+  script_fault_agrees (BadScript n) read given = given
+  script_fault_agrees TooLong read given = given
+  script_fault_agrees OutOfMemory read given = tt
+  script_fault_agrees ReadFailed read given = absurd given
+  script_fault_agrees WriteFailed read given = absurd given
+
+  -- and nothing was written then
+  script_fault_writes : (f : Fault) (w : Option (List ℕ)) (read : Result Reading Fault) → Gives (Err f) read → WritesAtFault at w w read f
+  script_fault_writes (BadScript n) w read given = Keeps-refl w
+  script_fault_writes TooLong w read given = Keeps-refl w
+  script_fault_writes OutOfMemory w read given = inl (Keeps-refl w)
+  script_fault_writes ReadFailed w read given = absurd given
+  script_fault_writes WriteFailed w read given = absurd given
+
+  -- a text in which reading finds a fault
+  pub faulty_text : (text : List ℕ) (w : Option (List ℕ)) (f : Fault) → Gives (Err f) (script_of text) → AccessText at text w w (Err f)
+  faulty_text text w f given = record { faults = script_fault_agrees f (script_of text) given; writes = script_fault_writes f w (script_of text) given }
+
+  -- a text for which memory ran out before anything was written
+  pub unwritten_text : (text : List ℕ) (w : Option (List ℕ)) → AccessText at text w w (Err OutOfMemory)
+  unwritten_text text w = record { faults = tt; writes = inl (Keeps-refl w) }
+
+  -- ---- a machine after the calls
+
+  module _ (script : Reading) (start end : MachineModel) (session : Session) (calls : List CallLine) (session_is : session ≡ script.session) (calls_are : calls ≡ script.calls)
+      (starts : ShowsStart session start) (after : ShowsAfter start end (calls_before at calls)) where
+    -- it lays out the flat state after the calls
+    pub shows_after : Shows script.session end (state_before at script)
+    shows_after =
+        let told = after session (boot session) starts in
+        let by_calls = subst (λ (cs : List CallLine). Shows session end (flat_end session (boot session) (calls_before at cs))) calls_are told in
+        subst (λ (declared : Session). Shows declared end (flat_end declared (boot declared) (calls_before at script.calls))) session_is by_calls
+
+    -- so it lays out some flat state
+    pub is_shown : IsShown end
+    is_shown = (script.session, state_before at script, shows_after, processes_are_named script.session (calls_before at script.calls))
+
+    module _ (text : List ℕ) (given : script_of text ≡ Ok script) (old new : Option (List ℕ)) where
+      -- the text of its table was written
+      pub written_text : AppendsTable end old new → AccessText at text old new (Ok tt)
+      written_text h = record {
+        faults = ap is_ok given;
+        writes = record { script = script; is_read = given; written = h script.session (state_before at script) shows_after (processes_are_named script.session (calls_before at script.calls)) };
+      }
+
+      begins : BeginsTable end old new → BeginsToWrite at old new (script_of text)
+      begins h = record { script = script; is_read = given; written = h script.session (state_before at script) shows_after (processes_are_named script.session (calls_before at script.calls)) }
+
+      -- or a beginning of it
+      pub begun_text : (f : Fault) → IsOutputFault f → BeginsTable end old new → AccessText at text old new (Err f)
+      begun_text (BadScript n) h b = absurd h
+      begun_text TooLong h b = absurd h
+      begun_text OutOfMemory h b = record { faults = tt; writes = inr (begins b) }
+      begun_text ReadFailed h b = absurd h
+      begun_text WriteFailed h b = record { faults = ap is_ok given; writes = begins b }
+
+  -- ---- an input that is taken
+
+  -- an error of the input stops the reading
+  pub stops_reading : (e : InputError) (left rest w : Option (List ℕ)) → TakesSome left rest → RunsInput (AccessText at) left rest w w (Err (input_fault e))
+  stops_reading input.OutOfMemory left rest w takes = inl (record { takes = takes; keeps = Keeps-refl w })
+  stops_reading input.ReadFailed left rest w takes = record { takes = takes; keeps = Keeps-refl w }
+
+  -- what was taken is run
+  pub runs_taken : (left rest old new : Option (List ℕ)) (taken text : List ℕ) (result : Answer) → TakesAll left rest taken → text ≡ taken → AccessText at text old new result → is_read_failed result ≡ false → RunsInput (AccessText at) left rest old new result
+  runs_taken left rest old new taken text result takes same runs no_read_failed =
+      at_result result (record { taken = taken; takes = takes; runs = subst (λ (t : List ℕ). AccessText at t old new result) same runs }) no_read_failed
+    where
+      at_result : (r : Answer) → RunsTaken (AccessText at) left rest old new r → is_read_failed r ≡ false → RunsInput (AccessText at) left rest old new r
+      at_result (Ok done) h none = h
+      at_result (Err (BadScript n)) h none = h
+      at_result (Err TooLong) h none = h
+      at_result (Err OutOfMemory) h none = inr h
+      at_result (Err ReadFailed) h none = absurd (false≢true (sym none))
+      at_result (Err WriteFailed) h none = h
+
+  -- a text of more bytes than a script may have is too long
+  long_is : (text : List ℕ) → most_script_bytes < length text → script_of text ≡ Err TooLong
+  long_is text lt = let e : ltb most_script_bytes (length text) ≡ true = search (rules, tests) in rw e refl
+
+  -- what was taken says what the whole input says
+  same_script : (input : List ℕ) (rest : Option (List ℕ)) (taken : List ℕ) → TakesAll (Some input) rest taken → script_of taken ≡ script_of input
+  same_script input None taken takes = absurd takes.consumed
+  same_script input (Some rest) taken takes =
+      elim (cases_lt (length taken) most_taken) [
+        | inl lt ↦ sym (ap script_of (takes.consumed ∙ ap (λ (l : List ℕ). taken ++ l) (takes.ended lt) ∙ append-nil taken))
+        | inr le ↦ long_is taken (omega arith) ∙ sym (long_is input (omega (arith, ap length takes.consumed, length-append taken rest)))
+      ]
+
+  -- what was run is the script of the whole input
+  same_run : (input taken : List ℕ) (old new : Option (List ℕ)) (result : Answer) → script_of taken ≡ script_of input → AccessText at taken old new result → AccessText at input old new result
+  same_run input taken old new result same runs = record {
+    faults = subst (λ (read : Result Reading Fault). AgreesWith read result) same runs.faults;
+    writes = subst (λ (read : Result Reading Fault). MatchResult result (λ _. WritesTable at old new read) (WritesAtFault at old new read)) same runs.writes;
+  }
+
+  -- a known input that was taken was run
+  taken_known : (left rest old new : Option (List ℕ)) (result : Answer) → RunsTaken (AccessText at) left rest old new result → IfSome left (λ input. AccessText at input old new result)
+  taken_known None rest old new result h = tt
+  taken_known (Some input) rest old new result h = same_run input h.taken old new result (same_script input rest h.taken h.takes) h.runs
+
+  -- a known input of which some was taken was run as far as that
+  stopped_known : (left rest old new : Option (List ℕ)) (result : Answer) → ((input : List ℕ) → Keeps old new → AccessText at input old new result) → StopsReading left rest old new → IfSome left (λ input. AccessText at input old new result)
+  stopped_known None rest old new result runs h = tt
+  stopped_known (Some input) rest old new result runs h = runs input h.keeps
+
+  -- a known input was run
+  pub input_known : (left rest old new : Option (List ℕ)) (result : Answer) → RunsInput (AccessText at) left rest old new result → IfSome left (λ input. AccessText at input old new result)
+  input_known left rest old new (Ok done) h = taken_known left rest old new (Ok done) h
+  input_known left rest old new (Err (BadScript n)) h = taken_known left rest old new (Err (BadScript n)) h
+  input_known left rest old new (Err TooLong) h = taken_known left rest old new (Err TooLong) h
+  input_known left rest old new (Err OutOfMemory) (inl h) = stopped_known left rest old new (Err OutOfMemory) (λ text keeps. record { faults = tt; writes = inl keeps }) h
+  input_known left rest old new (Err OutOfMemory) (inr h) = taken_known left rest old new (Err OutOfMemory) h
+  input_known left rest old new (Err ReadFailed) h = stopped_known left rest old new (Err ReadFailed) (λ text keeps. record { faults = tt; writes = keeps }) h
+  input_known left rest old new (Err WriteFailed) h = taken_known left rest old new (Err WriteFailed) h

@@ -1,0 +1,139 @@
+-- The processes that are found to run are those of the flat state, each with its thread.
+use Rattle.std.specs.Prelude.{◌≡◌, ℕ, zero, suc, Bool, true, false, List, [], ◌∷◌, ◌++◌, length, map, Option, None, Some, is_some, option_map, refl}
+use Rattle.std.specs.List.{cons_option, filter_map, flat_map, range_with_len}
+use Rattle.std.proofs.Common.{ap, sym, ◌∙◌}
+use Rattle.std.proofs.lemmas.Bool.{true≢false}
+use Rattle.std.proofs.lemmas.List.Elements.{filter_map-append}
+use Rattle.histar_flat.specs.Words.{ProcName}
+use Rattle.histar_flat.specs.Sessions.{Session}
+use Rattle.histar_flat.specs.Classes.{Process}
+use Rattle.histar_flat.specs.FlatState.{Flat}
+use Rattle.histar_flat.specs.FlatCalls.{if_running, running}
+use Rattle.histar_object.specs.State.{State}
+use Rattle.histar_calls.specs.declared.places.Home.{Home}
+use Rattle.histar_process.specs.declared.caller.Caller.{Caller}
+use Rattle.histar_process.specs.Caller.{caller_at}
+use Rattle.histar_login.specs.Start.{places_of}
+use Rattle.histar_refinement.specs.Categories.{Categories}
+use Rattle.histar_refinement.specs.LaysOut.{Laid}
+use Rattle.histar_refinement.specs.Laws.{RunsAs}
+use Rattle.histar_refinement.proofs.CallerFound.{callers_are_found, callers_are_there}
+use Rattle.histar_rights.specs.Rights.{above_root}
+use Rattle.histar_rights.specs.Running.{Named, and_children, itself, running_from}
+use Rattle.histar_tree.specs.declared.process.ProcessNode.{ProcessNode}
+use Rattle.histar_tree.specs.ProcessLines.{ProcessLine, flat_processes, process_line, with_children}
+use Rattle.histar_access.specs.declared.cells.Cell.{Cell}
+use Rattle.histar_access.specs.Cells.{visitor_of}
+
+-- what a function makes of what another makes
+pub filter_map_map : {A B C : Type 0} (g : B → Option C) (h : A → B) (xs : List A) → filter_map g (map h xs) ≡ filter_map (λ x. g (h x)) xs
+filter_map_map g h [] = refl
+filter_map_map g h (x ∷ xs) = ap (cons_option (g (h x))) (filter_map_map g h xs)
+
+module _ (session : Session) (s : State) (f : Flat) (l : Laid session s f) where
+  -- a process that runs, with its thread
+  pub record Visitor : Type 0 where
+    pub name : ProcName
+    pub process : Process
+    pub thread : ℕ
+    pub runs : RunsAs session s f l name process thread
+
+  -- where process 0 is
+  abbrev pub first : Home
+  first = (places_of (length session.users)).home
+
+  -- a process as it starts
+  abbrev pub start_cell : Visitor → Cell
+  start_cell v = record { process = v.name; thread = v.thread; rights = above_root }
+
+  -- its name and what it is
+  abbrev pub named_of : Visitor → Named
+  named_of v = (v.name, v.process)
+
+  -- the process of a name, as it is found
+  visitor_by : (me : ProcName) (o : Option Caller) → caller_at s first me ≡ o → Option Visitor
+  visitor_by me None e = None
+  visitor_by me (Some caller) e =
+      let found = (callers_are_found session s f l me caller).0 e in
+      Some (record { name = me; process = found.0; thread = caller.thread; runs = found.1.runs })
+
+  -- the processes of these names that run
+  pub visitors : List ProcName → List Visitor
+  visitors [] = []
+  visitors (me ∷ names) = cons_option (visitor_by me (caller_at s first me) refl) (visitors names)
+
+  -- a process of a name, where it runs
+  abbrev pub named_by : ProcName → Option Named
+  named_by me = option_map (λ p. (me, p)) (running f me)
+
+  -- a process of a name as a cell
+  abbrev pub cell_by : ProcName → Option Cell
+  cell_by me = option_map (λ (caller : Caller). record { process = me; thread = caller.thread; rights = above_root }) (caller_at s first me)
+
+  -- the cells are those of the visitors
+  one_cell : (me : ProcName) (o : Option Caller) (e : caller_at s first me ≡ o) (names : List ProcName) (rest : List Visitor) (cells : List Cell) → cells ≡ map start_cell rest
+      → cons_option (option_map (λ (caller : Caller). record { process = me; thread = caller.thread; rights = above_root }) o) cells ≡ map start_cell (cons_option (visitor_by me o e) rest)
+  unfolding visitor_by
+  one_cell me None e names rest cells same = same
+  one_cell me (Some caller) e names rest cells same = ap (λ (cs : List Cell). record { process = me; thread = caller.thread; rights = above_root } ∷ cs) same
+
+  pub cells_are : (names : List ProcName) → filter_map cell_by names ≡ map start_cell (visitors names)
+  unfolding visitors
+  cells_are [] = refl
+  cells_are (me ∷ names) = one_cell me (caller_at s first me) refl names (visitors names) (filter_map cell_by names) (cells_are names)
+
+  -- and so are the processes that run
+  none_runs : (o : Option Process) → is_some o ≡ false → o ≡ None
+  none_runs None e = refl
+  none_runs (Some p) e = absurd (true≢false e)
+
+  one_named : (me : ProcName) (o : Option Caller) (e : caller_at s first me ≡ o) (rest : List Visitor) (ps : List Named) → ps ≡ map named_of rest
+      → cons_option (named_by me) ps ≡ map named_of (cons_option (visitor_by me o e) rest)
+  unfolding visitor_by
+  one_named me None e rest ps same =
+      ap (λ (o : Option Process). cons_option (option_map (λ p. (me, p)) o) ps) (none_runs (running f me) (sym (callers_are_there session s f l me) ∙ ap is_some e)) ∙ same
+  one_named me (Some caller) e rest ps same =
+      let found = (callers_are_found session s f l me caller).0 e in
+      let runs : running f me ≡ Some found.0 = ap if_running found.1.runs.0 ∙ still found.0 found.0.exited refl found.1.runs.1 in
+      (λ i. cons_option (option_map (λ p. (me, p)) (runs i)) (same i))
+    where
+      still : (p : Process) (x : Option ℕ) → p.exited ≡ x → p.exited ≡ None → if_running (Some p) ≡ Some p
+      still p x e none = ap (λ (o : Option ℕ). elim o [ None ↦ Some p | Some n ↦ None ]) none
+
+  pub named_are : (names : List ProcName) → filter_map named_by names ≡ map named_of (visitors names)
+  unfolding visitors
+  named_are [] = refl
+  named_are (me ∷ names) = one_named me (caller_at s first me) refl (visitors names) (filter_map named_by names) (named_are names)
+
+-- ---- the processes of a flat state
+
+module _ (f : Flat) (category : Categories) where
+  -- a shown process, where it runs
+  abbrev pub named_line : ProcessLine → Option Named
+  named_line line = option_map (λ p. (line.name, p)) (running f line.name)
+
+  abbrev pub IsListed : ℕ → Type 0
+  IsListed levels = (me : ProcName) → filter_map named_line (flat_processes category levels f me) ≡ running_from levels f me
+
+  children_listed : (levels : ℕ) → IsListed levels → (me : ProcName) (ns : List ℕ)
+      → filter_map named_line (flat_map (λ n. flat_processes category levels f (n ∷ me)) ns) ≡ flat_map (λ n. running_from levels f (n ∷ me)) ns
+  children_listed levels each me [] = refl
+  children_listed levels each me (n ∷ ns) =
+      filter_map-append named_line (flat_processes category levels f (n ∷ me)) (flat_map (λ k. flat_processes category levels f (k ∷ me)) ns)
+      ∙ (λ i. each (n ∷ me) i ++ children_listed levels each me ns i)
+
+  put_before : (me : ProcName) (o : Option Process) (rest : List Named) → cons_option (option_map (λ p. (me, p)) o) rest ≡ itself me o ++ rest
+  put_before me None rest = refl
+  put_before me (Some p) rest = refl
+
+  -- those of the shown processes that run are those that run
+  pub running_listed : (levels : ℕ) → IsListed levels
+  running_listed zero me = refl
+  running_listed (suc levels) me = by (f.processes me) refl (running_listed levels)
+    where
+      by : (o : Option Process) → f.processes me ≡ o → IsListed levels
+          → filter_map named_line (with_children category (λ n. flat_processes category levels f (n ∷ me)) me o) ≡ and_children (λ n. running_from levels f (n ∷ me)) me o
+      by None e each = refl
+      by (Some p) e each =
+          (λ i. cons_option (option_map (λ r. (me, r)) (if_running (e i))) (children_listed levels each me (range_with_len 1 p.born) i))
+          ∙ put_before me (if_running (Some p)) (flat_map (λ n. running_from levels f (n ∷ me)) (range_with_len 1 p.born))

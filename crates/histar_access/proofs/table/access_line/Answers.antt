@@ -1,0 +1,7 @@
+use Rattle.std.proofs.Common.{arith, ◌++◌, append_assoc}
+use Rattle.std.proofs.lemmas.Grind.{common_steps}
+use Rattle.histar_access.proofs.Writing.{texts_shown}
+use Rattle.histar_access.proofs.table.access_line.Goals as goal
+
+pub returns : goal.returns
+returns c = grind (arith, common_steps, texts_shown c.args.row.now)

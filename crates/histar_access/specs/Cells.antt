@@ -1,0 +1,58 @@
+-- The rights of threads at the paths of a state, by the labels of its objects.
+use Rattle.std.specs.Prelude.{ℕ, List, [], ◌∷◌, ◌++◌, length, map, take, Option, None, Some, option_map}
+use Rattle.std.specs.List.{filter_map}
+use Rattle.histar_object.specs.State.{State, observes, modifies}
+use Rattle.histar_layout.specs.Listing.{object_of}
+use Rattle.histar_calls.specs.declared.places.Places.{Places}
+use Rattle.histar_process.specs.declared.caller.Caller.{Caller}
+use Rattle.histar_process.specs.Caller.{caller_at}
+use Rattle.histar_rights.specs.Rights.{above_root, rights_below}
+use Rattle.histar_rights.specs.Table.{AccessLine, Cell as NamedRights, cell_text}
+use Rattle.histar_tree.specs.declared.process.ProcessNode.{ProcessNode}
+use Rattle.histar_tree.specs.declared.tree.TreeNode.{TreeNode}
+use Rattle.histar_tree.specs.TreeLines.{node_stat}
+use Rattle.histar_access.specs.declared.cells.Cell.{Cell}
+use Rattle.histar_access.specs.Rows.{last_or}
+
+-- a process that runs, with the rights that each one has above `/`
+abbrev pub visitor : ProcessNode → Caller → Cell
+visitor node caller = record { process = node.name; thread = caller.thread; rights = above_root }
+
+-- a process, where it is found to run
+abbrev pub visitor_of : State → Places → ProcessNode → Option Cell
+visitor_of s places node = option_map (visitor node) (caller_at s places.home node.name)
+
+-- those of these processes that run
+abbrev pub visitors_among : State → Places → List ProcessNode → List Cell
+visitors_among s places processes = filter_map (visitor_of s places) processes
+
+-- the rights at what lies in the directory of a cell, by what the labels of the thread and of this object allow
+abbrev pub cell_below : State → ℕ → Cell → Cell
+cell_below s object c = record c {
+  rights = rights_below c.rights (observes (s.objects c.thread) (s.objects object)) (modifies (s.objects c.thread) (s.objects object));
+}
+
+-- the same of each process
+abbrev pub row_below : State → ℕ → List Cell → List Cell
+row_below s object above = map (cell_below s object) above
+
+-- the process and its rights, which are shown
+abbrev pub shown : Cell → NamedRights
+shown c = record { process = c.process; rights = c.rights }
+
+-- the text of a process and its rights
+abbrev pub shown_text : Cell → List ℕ
+shown_text c = cell_text (shown c)
+
+-- what is shown of a file or a directory, and the rights there
+abbrev pub line_of_node : TreeNode → List Cell → AccessLine
+line_of_node node row = record { path = node.path; stat = node_stat node; cells = map shown row }
+
+-- The lines of files and directories, each after that of its directory: from the rights on the way to the one before them, of which
+-- those at the directories above are kept.
+abbrev pub lines_from : State → List Cell → List (List Cell) → List TreeNode → List AccessLine
+lines_from s visitors way [] = []
+lines_from s visitors way (node ∷ tree) =
+    let above = take (length node.path) way in
+    let row = row_below s (object_of node.target) (last_or visitors above) in
+    line_of_node node row ∷ lines_from s visitors (above ++ row ∷ []) tree

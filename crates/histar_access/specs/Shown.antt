@@ -1,0 +1,39 @@
+-- The table of a machine that lays out a flat state.
+use Rattle.std.specs.Prelude.{◌≡◌, ℕ, List, Option}
+use Rattle.std.specs.Io.KnownBytes.{Appends}
+use Rattle.histar_devices.specs.Writing.{AppendsFront}
+use Rattle.histar_flat.specs.Sessions.{Session}
+use Rattle.histar_flat.specs.FlatState.{Flat}
+use Rattle.histar_syscall.specs.KernelModel.{state}
+use Rattle.histar_rights.specs.Running.{HaveShownNames}
+use Rattle.histar_rights.specs.Table.{access_table, access_text}
+use Rattle.histar_tree.specs.declared.process.ProcessNode.{ProcessNode}
+use Rattle.histar_tree.specs.Processes.{AreProcessesOf}
+use Rattle.histar_shell.specs.Machine.{MachineModel}
+use Rattle.histar_shell.specs.Meaning.{Shows}
+use Rattle.histar_access.specs.declared.cells.Cell.{Cell}
+use Rattle.histar_access.specs.Cells.{visitors_among}
+
+-- a machine lays out some flat state, whose processes have names that can be shown
+abbrev pub IsShown : MachineModel → Type 0
+IsShown m = (session : Session) × (f : Flat) × Shows session m f × HaveShownNames f
+
+-- the objects of a machine's kernel list these processes from process 0 on
+abbrev pub AreProcessesIn : MachineModel → List ProcessNode → Type 0
+AreProcessesIn m processes = AreProcessesOf m.users (state m.kernel) m.places processes
+
+-- they list processes
+abbrev pub HasProcesses : MachineModel → Type 0
+HasProcesses m = (processes : List ProcessNode) × AreProcessesIn m processes
+
+-- those of the processes of a machine that run
+abbrev pub AreVisitors : MachineModel → List Cell → Type 0
+AreVisitors m visitors = (processes : List ProcessNode) × AreProcessesIn m processes × (visitors ≡ visitors_among (state m.kernel) m.places processes)
+
+-- Whatever flat state the machine lays out, the text of its table was written.
+abbrev pub AppendsTable : MachineModel → Option (List ℕ) → Option (List ℕ) → Type 0
+AppendsTable m old new = (session : Session) (f : Flat) → Shows session m f → HaveShownNames f → Appends old new (access_text (access_table session f))
+
+-- a beginning of it was written
+abbrev pub BeginsTable : MachineModel → Option (List ℕ) → Option (List ℕ) → Type 0
+BeginsTable m old new = (session : Session) (f : Flat) → Shows session m f → HaveShownNames f → AppendsFront old new (access_text (access_table session f))

@@ -1,0 +1,114 @@
+//! The rights after the calls of a script, from bytes to bytes.
+ghost use Rattle.std.specs.Prelude.{◌≡◌, false, IfErr, IfSome, OnOk, [], ◌∷◌};
+ghost use Rattle.histar_devices.specs.Device.{CountsFailure};
+ghost use Rattle.histar_script.specs.Runs.{LeavesSink, is_read_failed, is_write_failed, RunsInput};
+ghost use Rattle.histar_access.specs.Session.{AccessText, calls_before, is_before, ShowsAfter};
+
+use crate::table::write_table;
+use histar_calls::Stopped;
+use histar_devices::{Sink, Source, read_input};
+use histar_flat::CallLine;
+use histar_label::{InternStore, LabelStore};
+use histar_script::{Fault, read_script};
+use histar_shell::Machine;
+use std::alloc::Global;
+
+/// How many answers of label comparisons are remembered.
+const REMEMBERED_ANSWERS: usize = 256;
+
+/// Reads a script, runs it on a machine of its own, and writes who may do what then: a line for each file and
+/// directory, with the rights of each process that runs. With a line number the calls on lines before that
+/// one are run, and else all.
+///
+/// The whole script is read and checked before the first call. It doesn't flush the sink.
+pub fn access<R: Source, W: Sink>(
+    alloc: Global,
+    reader: &mut R,
+    writer: &mut W,
+    at: Option<u32>,
+) -> Result<(), Fault>
+    // After a bad script, one that is too long and a failed read the sink is as it was.
+    ensures nothing { IfErr result (LeavesSink writer.old writer.new) }
+
+    // A device has failed exactly where its fault is the answer.
+    ensures reads { CountsFailure (R.failures reader.old) (R.failures reader.new) (is_read_failed result) }
+    ensures writes { CountsFailure (W.failures writer.old) (W.failures writer.new) (is_write_failed result) }
+
+    // Whatever the source tells, bytes of it were taken, to its end but never more than 1,048,577: the fault of the script that
+    // they are is answered, or exactly the text of the table of the flat state after its calls is written.
+    ensures runs { RunsInput (AccessText at) (R.left reader.old) (R.left reader.new) (W.written writer.old) (W.written writer.new) result }
+
+    // So where the input is known, this is the table of the script of the whole input.
+    ensures known { IfSome (R.left reader.old) (λ input. AccessText at input (W.written writer.old) (W.written writer.new) result) }
+{
+    let input = read_input(alloc, reader)?;
+    access_text(alloc, input.as_slice(), writer, at)
+}
+
+/// Writes who may do what after the calls of the script that a text is.
+fn access_text<W: Sink>(
+    alloc: Global,
+    text: &[u8],
+    writer: &mut W,
+    at: Option<u32>,
+) -> Result<(), Fault>
+    ensures nothing { IfErr result (LeavesSink writer.old writer.new) }
+    ensures reads { is_read_failed result ≡ false }
+    ensures writes { CountsFailure (W.failures writer.old) (W.failures writer.new) (is_write_failed result) }
+    ensures runs { AccessText at text.now (W.written writer.old) (W.written writer.new) result }
+{
+    let store = InternStore::new(alloc, REMEMBERED_ANSWERS)?;
+    let script = read_script(alloc, text)?;
+    let (session, calls) = script.into_parts();
+    let Ok(mut machine) = Machine::boot(alloc, store, session) else {
+        return Err(Fault::OutOfMemory);
+    };
+    let Ok(()) = make_calls(alloc, &mut machine, calls, at) else {
+        return Err(Fault::OutOfMemory);
+    };
+    write_table(alloc, &machine, writer)
+}
+
+/// Has the machine do the calls on the lines before one, in their order, or all.
+fn make_calls<S: LabelStore + Drop>(
+    alloc: Global,
+    machine: &mut Machine<S>,
+    calls: Vec<CallLine>,
+    at: Option<u32>,
+) -> Result<(), Stopped>
+    ensures { OnOk result (ShowsAfter machine.old machine.new (calls_before at calls.items)) }
+{
+    'calls: for call in calls {
+        if is_before(at, call.line) {
+            make_call(alloc, machine, call)?;
+        }
+    }
+    Ok(())
+}
+
+/// Has the machine do one call.
+fn make_call<S: LabelStore + Drop>(
+    alloc: Global,
+    machine: &mut Machine<S>,
+    call: CallLine,
+) -> Result<(), Stopped>
+    ensures { OnOk result (ShowsAfter machine.old machine.new (call ∷ [])) }
+{
+    let CallLine {
+        line: number,
+        process,
+        call,
+    } = call;
+    let _reply = machine.step(alloc, number, &process, call)?;
+    Ok(())
+}
+
+/// Checks whether a line comes before one, where it is given.
+fn is_before(at: Option<u32>, line: u32) -> bool
+    ensures { result ≡ is_before at line }
+{
+    match at {
+        None => true,
+        Some(first) => line < first,
+    }
+}

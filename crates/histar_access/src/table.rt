@@ -1,0 +1,136 @@
+//! Writing the table of a machine.
+ghost use Rattle.std.specs.Prelude.{◌≡◌, IfErr, IfOk, OnErr, OnOk, [], map};
+ghost use Rattle.std.specs.Io.KnownBytes.{Appends};
+ghost use Rattle.histar_devices.specs.Device.{CountsFailure};
+ghost use Rattle.histar_devices.specs.Writing.{AppendsFront};
+ghost use Rattle.histar_rights.specs.Table.{access_line_text, access_text};
+ghost use Rattle.histar_script.specs.Runs.{IsOutputFault, is_write_failed};
+ghost use Rattle.histar_syscall.specs.KernelModel.{state};
+ghost use Rattle.histar_access.specs.Cells.{line_of_node, lines_from, visitor_of, visitors_among};
+ghost use Rattle.histar_access.specs.Rows.{last_or};
+ghost use Rattle.histar_access.specs.Shown.{AppendsTable, AreProcessesIn, BeginsTable, HasProcesses, IsShown};
+
+use crate::cells::{Cell, push_cells, row_below};
+use histar_devices::{Sink, write_bytes};
+use histar_label::LabelStore;
+use histar_process::find_caller;
+use histar_rights::Rights;
+use histar_script::Fault;
+use histar_shell::{Machine, push_path, push_stat};
+use histar_tree::{ProcessNode, TreeNode, procs_of};
+use std::alloc::{AllocError, Global};
+
+/// Writes a line for each file and directory of a machine, by rising paths, with the rights of each process
+/// that runs.
+///
+/// The tree is gone down once: the rights at a path are those that its directory gives, narrowed by one test of
+/// each label, so that there are at most two comparisons for each path and process.
+pub fn write_table<S: LabelStore + Drop, W: Sink>(
+    alloc: Global,
+    machine: &Machine<S>,
+    writer: &mut W,
+) -> Result<(), Fault>
+    requires { IsShown machine.now }
+    ensures ok { OnOk result (AppendsTable machine.now (W.written writer.old) (W.written writer.new)) }
+    ensures err { OnErr result (BeginsTable machine.now (W.written writer.old) (W.written writer.new)) }
+    ensures faults { IfErr result IsOutputFault }
+    ensures count { CountsFailure (W.failures writer.old) (W.failures writer.new) (is_write_failed result) }
+{
+    let tree = machine.tree(alloc)?;
+    let processes = processes(alloc, machine)?;
+    let visitors = visitors_among(alloc, machine, processes.as_slice())?;
+    write_lines(alloc, machine, visitors.as_slice(), tree.as_slice(), writer)
+}
+
+/// Returns the processes of a machine, in the order of their names.
+fn processes<S: LabelStore + Drop>(
+    alloc: Global,
+    machine: &Machine<S>,
+) -> Result<Vec<ProcessNode>, AllocError>
+    requires { HasProcesses machine.now }
+    ensures { IfOk result (λ processes. AreProcessesIn machine.now processes.items) }
+{
+    match procs_of(alloc, machine.kernel(), machine.places(), machine.users())? {
+        Some(processes) => Ok(processes),
+        None => unreachable!(),
+    }
+}
+
+/// Returns those of these processes that run, each with its thread.
+fn visitors_among<S: LabelStore + Drop>(
+    alloc: Global,
+    machine: &Machine<S>,
+    processes: &[ProcessNode],
+) -> Result<Vec<Cell>, AllocError>
+    ensures { IfOk result (λ visitors. visitors.items ≡ visitors_among (state machine.now.kernel) machine.now.places processes.now) }
+{
+    let mut visitors = Vec::new(alloc);
+    for process in processes {
+        if let Some(visitor) = visitor_of(machine, process) {
+            visitors.push(visitor)?;
+        }
+    }
+    Ok(visitors)
+}
+
+/// Returns a process with its thread, where it runs.
+fn visitor_of<S: LabelStore + Drop>(machine: &Machine<S>, process: &ProcessNode) -> Option<Cell>
+    ensures { result ≡ visitor_of (state machine.now.kernel) machine.now.places process.now }
+{
+    let caller = find_caller(machine.kernel(), machine.places().home, &process.name)?;
+    Some(Cell {
+        process: process.name,
+        thread: caller.thread,
+        rights: Rights::ABOVE_ROOT,
+    })
+}
+
+/// Writes the lines of files and directories of a machine, each after that of its directory.
+fn write_lines<S: LabelStore + Drop, W: Sink>(
+    alloc: Global,
+    machine: &Machine<S>,
+    visitors: &[Cell],
+    tree: &[TreeNode],
+    writer: &mut W,
+) -> Result<(), Fault>
+    ensures ok { OnOk result (Appends (W.written writer.old) (W.written writer.new)
+        (access_text (lines_from (state machine.now.kernel) visitors.now [] tree.now))) }
+    ensures err { OnErr result (AppendsFront (W.written writer.old) (W.written writer.new)
+        (access_text (lines_from (state machine.now.kernel) visitors.now [] tree.now))) }
+    ensures faults { IfErr result IsOutputFault }
+    ensures count { CountsFailure (W.failures writer.old) (W.failures writer.new) (is_write_failed result) }
+{
+    let mut way: Vec<Vec<Cell>> = Vec::new(alloc);
+    'lines: for node in tree {
+        way.truncate(node.path.depth());
+        let above = last_row(way.as_slice(), visitors);
+        let row = row_below(alloc, machine.kernel(), node.object(), above)?;
+        let line = access_line(alloc, node, row.as_slice())?;
+        write_bytes(writer, line.as_slice())?;
+        way.push(row)?;
+    }
+    Ok(())
+}
+
+/// Returns the last of these rows; where there is none, the processes as they are above `/`.
+fn last_row<'a>(way: &'a [Vec<Cell>], visitors: &'a [Cell]) -> &'a [Cell]
+    ensures { result.now ≡ last_or visitors.now (map (λ row. row.items) way.now) }
+{
+    match way.last() {
+        Some(row) => row.as_slice(),
+        None => visitors,
+    }
+}
+
+/// Returns the line of a file or a directory, with the rights of processes there.
+fn access_line(alloc: Global, node: &TreeNode, row: &[Cell]) -> Result<Vec<u8>, AllocError>
+    ensures { IfOk result (λ line. line.items ≡ access_line_text (line_of_node node.now row.now)) }
+{
+    let mut line = Vec::new(alloc);
+    push_path(&mut line, &node.path)?;
+    line.extend_from_slice(b" ")?;
+    push_stat(&mut line, node.stat())?;
+    push_cells(&mut line, row)?;
+    line.extend_from_slice(b"\n")?;
+    Ok(line)
+}

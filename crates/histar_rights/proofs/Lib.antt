@@ -1,0 +1,5 @@
+pub mod Passing
+pub mod Giving
+pub mod Answered
+pub mod Named
+pub mod Listed

@@ -1,0 +1,161 @@
+-- After the calls of a script each process that is there has a name that can be shown.
+use Rattle.std.specs.Prelude.{◌≡◌, ◌+◌, ◌≤◌, Bool, true, false, cond, ◌||◌, not, nat_lt, List, [], ◌∷◌, ◌++◌, length, Option, None, Some, is_some, refl}
+use Rattle.std.proofs.Common.{arith, ap, inl, inr, sym, ◌∙◌, subst}
+use Rattle.std.proofs.lemmas.Bool.{true≢false}
+use Rattle.std.proofs.lemmas.Bool.Decides.{nat_tests}
+use Rattle.histar_base.specs.Refusals.{◌orelse◌, unless}
+use Rattle.histar_flat.specs.declared.calls.CallLine.{CallLine}
+use Rattle.histar_flat.specs.declared.calls.UnixCall.{UnixCall}
+use Rattle.histar_flat.specs.declared.calls.UnixCall.TheVariants.{Create, Mkdir, Write, Append, Read, List as ListCall, Stat, Unlink, Rmdir, Rmtree, Rename, Spawn, Exit, Status, Kill, Whoami, Login, Wrap}
+use Rattle.histar_flat.specs.declared.replies.Errno.{Errno}
+use Rattle.histar_flat.specs.declared.replies.Errno.TheVariants.{EAGAIN, EPERM}
+use Rattle.histar_flat.specs.Words.{ProcName, most_children, most_numbers}
+use Rattle.histar_flat.specs.PathOrder.{same, under_process}
+use Rattle.histar_flat.specs.Sessions.{Session}
+use Rattle.histar_flat.specs.Classes.{Process, nobody}
+use Rattle.histar_flat.specs.Classes.Class.{Scratch}
+use Rattle.histar_flat.specs.FlatState.Content.{Dir}
+use Rattle.histar_flat.specs.FlatState.{Flat, with_node, with_process, with_child, without_process}
+use Rattle.histar_flat.specs.FlatCalls.{next_child, inner_chain, no_room, no_child, running, refused, changed, flat_or, flat_by, flat_after}
+use Rattle.histar_flat.specs.Meaning.{boot, first_process, flat_end}
+use Rattle.histar_flat.proofs.FileLemmas.{same_name_found, same_itself}
+use Rattle.histar_flat.proofs.Refusals.{passes_first, one_passes}
+use Rattle.histar_flat.proofs.Changes.{runs_is_there}
+use Rattle.histar_rights.specs.Running.{HaveShownNames}
+use Rattle.histar_rights.specs.Laws.{ProcessesHaveShownNames}
+
+-- a process that is put under a short name
+named_with : (f : Flat) (me : ProcName) (p : Process) → HaveShownNames f → length me ≤ most_numbers → HaveShownNames (with_process f me p)
+named_with f me p named short q at = elim (same_name_found me q) [
+  | inl t ↦ subst (λ (r : ProcName). length r ≤ most_numbers) t.1 short
+  | inr t ↦ named q (sym (ap (λ b. is_some (cond b (Some p) (f.processes q))) t.0) ∙ at)
+]
+
+-- processes that are taken away
+named_without : (f : Flat) (name : ProcName) → HaveShownNames f → HaveShownNames (without_process f name)
+named_without f name named q at = by (under_process name q) at
+  where
+    by : (b : Bool) → is_some (cond b None (f.processes q)) ≡ true → length q ≤ most_numbers
+    by true h = absurd (true≢false (sym h))
+    by false h = named q h
+
+-- the process that a process is a child of is there; process 0 is no child
+abbrev pub IsOver : Flat → ProcName → Type 0
+IsOver f [] = Unit {0}
+IsOver f (n ∷ me) = is_some (f.processes me) ≡ true
+
+-- each process that is there is the child of one that is there
+abbrev pub AreJoined : Flat → Type 0
+AreJoined f = (me : ProcName) → is_some (f.processes me) ≡ true → IsOver f me
+
+-- what is there stays there
+stays_with : (f : Flat) (me : ProcName) (p : Process) (q : ProcName) → is_some (f.processes q) ≡ true → is_some ((with_process f me p).processes q) ≡ true
+stays_with f me p q at = by (same me q)
+  where
+    by : (b : Bool) → is_some (cond b (Some p) (f.processes q)) ≡ true
+    by true = refl
+    by false = at
+
+over_with : (f : Flat) (me : ProcName) (p : Process) (q : ProcName) → IsOver f q → IsOver (with_process f me p) q
+over_with f me p [] over = tt
+over_with f me p (n ∷ q) over = stays_with f me p q over
+
+joined_with : (f : Flat) (me : ProcName) (p : Process) → AreJoined f → IsOver f me → AreJoined (with_process f me p)
+joined_with f me p joined over q at = elim (same_name_found me q) [
+  | inl t ↦ subst (IsOver (with_process f me p)) t.1 (over_with f me p me over)
+  | inr t ↦ over_with f me p q (joined q (sym (ap (λ b. is_some (cond b (Some p) (f.processes q))) t.0) ∙ at))
+]
+
+joined_without : (f : Flat) (name : ProcName) → AreJoined f → AreJoined (without_process f name)
+joined_without f name joined [] at = tt
+joined_without f name joined (n ∷ q) at = by (same name (n ∷ q)) (under_process name q) at
+  where
+    by : (a b : Bool) → is_some (cond (a || b) None (f.processes (n ∷ q))) ≡ true → is_some (cond b None (f.processes q)) ≡ true
+    by true b h = absurd (true≢false (sym h))
+    by false true h = absurd (true≢false (sym h))
+    by false false h = joined (n ∷ q) h
+
+-- a child may be born below a name that has room
+room_for_child : (me : ProcName) (p : Process) → no_child me p ≡ None → length me + 1 ≤ most_numbers
+room_for_child me p h = less (nat_lt (length me) most_numbers) refl (one_passes (unless (nat_lt p.born most_children) EAGAIN) (nat_lt (length me) most_numbers) EAGAIN h).1
+  where
+    less : (b : Bool) → nat_lt (length me) most_numbers ≡ b → b ≡ true → length me + 1 ≤ most_numbers
+    less true e h = grind (arith, nat_tests, e)
+    less false e h = absurd (true≢false (sym h))
+
+named_child : (f : Flat) (me : ProcName) (p : Process) (chain : List ProcName) → HaveShownNames f → length me + 1 ≤ most_numbers → HaveShownNames (with_child f me p chain)
+named_child f me p chain named room =
+    named_with (with_process f me (record p { born = p.born + 1 })) ((p.born + 1) ∷ me) (record { user = p.user; chain = chain; held = []; exited = None; born = 0 })
+    (named_with f me (record p { born = p.born + 1 }) named (omega arith)) (omega arith)
+
+joined_child : (f : Flat) (me : ProcName) (p : Process) (chain : List ProcName) → AreJoined f → IsOver f me → AreJoined (with_child f me p chain)
+joined_child f me p chain joined over =
+    joined_with (with_process f me (record p { born = p.born + 1 })) ((p.born + 1) ∷ me) (record { user = p.user; chain = chain; held = []; exited = None; born = 0 })
+    (joined_with f me (record p { born = p.born + 1 }) joined over) (itself_there (same me me) (same_itself me))
+  where
+    itself_there : (b : Bool) → b ≡ true → is_some (cond b (Some (record p { born = p.born + 1 })) (f.processes me)) ≡ true
+    itself_there true e = refl
+    itself_there false e = absurd (true≢false (sym e))
+
+-- names that can be shown, of processes each of which is the child of one that is there
+pub record AreInPlace (f : Flat) : Type 0 where
+  pub named : HaveShownNames f
+  pub joined : AreJoined f
+
+module _ (session : Session) (f : Flat) (placed : AreInPlace f) (me : ProcName) where
+  -- the change of a call that is not refused
+  after_change : (p : Process) → length me ≤ most_numbers → IsOver f me → (call : UnixCall) → refused session f me p call ≡ None → AreInPlace (changed session f me p call)
+  after_change p short over (Create q mode) passes = record { named = placed.named; joined = placed.joined }
+  after_change p short over (Mkdir q mode) passes = record { named = placed.named; joined = placed.joined }
+  after_change p short over (Write q bytes) passes = record { named = placed.named; joined = placed.joined }
+  after_change p short over (Append q bytes) passes = record { named = placed.named; joined = placed.joined }
+  after_change p short over (Read q) passes = record { named = placed.named; joined = placed.joined }
+  after_change p short over (ListCall q) passes = record { named = placed.named; joined = placed.joined }
+  after_change p short over (Stat q) passes = record { named = placed.named; joined = placed.joined }
+  after_change p short over (Unlink q) passes = record { named = placed.named; joined = placed.joined }
+  after_change p short over (Rmdir q) passes = record { named = placed.named; joined = placed.joined }
+  after_change p short over (Rmtree q) passes = record { named = placed.named; joined = placed.joined }
+  after_change p short over (Rename q k) passes = record { named = placed.named; joined = placed.joined }
+  after_change p short over Spawn passes = record { named = named_child f me p p.chain placed.named (room_for_child me p passes); joined = joined_child f me p p.chain placed.joined over }
+  after_change p short over (Exit n) passes = record { named = named_with f me (record p { exited = Some n }) placed.named short; joined = joined_with f me (record p { exited = Some n }) placed.joined over }
+  after_change p short over (Status name) passes = record { named = placed.named; joined = placed.joined }
+  after_change p short over (Kill name) passes = record { named = named_without f name placed.named; joined = joined_without f name placed.joined }
+  after_change p short over Whoami passes = record { named = placed.named; joined = placed.joined }
+  after_change p short over (Login name password) passes = record { named = named_with f me (record p { user = name; held = [] }) placed.named short; joined = joined_with f me (record p { user = name; held = [] }) placed.joined over }
+  after_change p short over (Wrap q) passes =
+      let g = with_node f q (Scratch p.user (inner_chain me p)) Dir in
+      let r = record p { held = p.held ++ next_child me p ∷ [] } in
+      record {
+        named = named_child g me r (inner_chain me p) placed.named (room_for_child me p (passes_first (no_child me p) (no_room session f p q orelse unless (not (same p.user nobody)) EPERM) passes));
+        joined = joined_child g me r (inner_chain me p) placed.joined over;
+      }
+
+  by_refusal : (p : Process) → length me ≤ most_numbers → IsOver f me → (call : UnixCall) → (refusal : Option Errno) → refused session f me p call ≡ refusal → AreInPlace (flat_or refusal f (changed session f me p call))
+  by_refusal p short over call None is = after_change p short over call is
+  by_refusal p short over call (Some e) is = placed
+
+  -- and so after each call
+  pub placed_after : (call : UnixCall) → AreInPlace (flat_after session f me call)
+  placed_after call = by (running f me) refl
+    where
+      by : (o : Option Process) → running f me ≡ o → AreInPlace (flat_by session f me o call)
+      by None e = placed
+      by (Some p) e = by_refusal p (placed.named me (ap is_some (runs_is_there (f.processes me) p e))) (placed.joined me (ap is_some (runs_is_there (f.processes me) p e))) call (refused session f me p call) refl
+
+-- at the start there is process 0 alone
+placed_at_start : (session : Session) → AreInPlace (boot session)
+placed_at_start session =
+    let none : Flat = record { files = (boot session).files; processes = λ q. None } in
+    record { named = named_with none [] first_process (λ q at. absurd (true≢false (sym at))) (omega arith); joined = joined_with none [] first_process (λ q at. absurd (true≢false (sym at))) tt }
+
+placed_at_end : (session : Session) (f : Flat) → AreInPlace f → (calls : List CallLine) → AreInPlace (flat_end session f calls)
+placed_at_end session f placed [] = placed
+placed_at_end session f placed (c ∷ calls) = placed_at_end session (flat_after session f c.process c.call) (placed_after session f placed c.process c.call) calls
+
+-- after the calls of a script processes are in their places
+pub calls_place : (session : Session) (calls : List CallLine) → AreInPlace (flat_end session (boot session) calls)
+calls_place session calls = placed_at_end session (boot session) (placed_at_start session) calls
+
+-- after the calls of a script each process that is there has a name that can be shown
+pub processes_are_named : ProcessesHaveShownNames
+processes_are_named session calls = (calls_place session calls).named

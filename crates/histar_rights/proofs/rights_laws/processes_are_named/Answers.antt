@@ -1,0 +1,5 @@
+use Rattle.histar_rights.proofs.Named.{processes_are_named}
+use Rattle.histar_rights.proofs.rights_laws.processes_are_named.Goals as goal
+
+pub returns : goal.returns
+returns c = processes_are_named

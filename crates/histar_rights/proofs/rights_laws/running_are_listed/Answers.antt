@@ -1,0 +1,5 @@
+use Rattle.histar_rights.proofs.Listed.{running_are_listed}
+use Rattle.histar_rights.proofs.rights_laws.running_are_listed.Goals as goal
+
+pub returns : goal.returns
+returns c = running_are_listed

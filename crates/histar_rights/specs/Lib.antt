@@ -1,0 +1,4 @@
+pub mod Rights
+pub mod Running
+pub mod Table
+pub mod Laws

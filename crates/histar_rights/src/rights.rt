@@ -1,0 +1,50 @@
+//! Rights.
+ghost use Rattle.std.specs.Prelude.{◌≡◌, ◌++◌, OnOk};
+ghost use Rattle.histar_rights.specs.Rights.{rights_below, rights_text};
+
+use std::alloc::AllocError;
+
+/// What a process may do with what stands at a path.
+#[derive(Clone, Copy, Debug, PartialEq, Eq)]
+pub struct Rights {
+    /// It may ask for its owner and its mode.
+    pub stat: bool,
+    /// It may read it, or list it where it is a directory.
+    pub read: bool,
+    /// It may write it, or make something in it where it is a directory.
+    pub write: bool,
+    /// It may take it away.
+    pub remove: bool,
+}
+
+impl Rights {
+    /// As if `/` lay in a directory to which each process may walk, and that no process may write.
+    pub const ABOVE_ROOT: Rights = Rights {
+        stat: true,
+        read: true,
+        write: false,
+        remove: false,
+    };
+
+    /// Returns the rights at what lies in this directory, by what labels allow.
+    pub fn below(self, observes: bool, modifies: bool) -> Rights
+        ensures { result ≡ rights_below self observes modifies }
+    {
+        Rights {
+            stat: self.read,
+            read: self.read && observes,
+            write: self.read && modifies,
+            remove: self.write,
+        }
+    }
+
+    /// Adds the letters of the rights, and a hyphen for each one that is not there.
+    pub fn push_letters(self, line: &mut Vec<u8>) -> Result<(), AllocError>
+        ensures { OnOk result (line.new.items ≡ line.old.items ++ rights_text self) }
+    {
+        line.extend_from_slice(if self.stat { b"s" } else { b"-" })?;
+        line.extend_from_slice(if self.read { b"r" } else { b"-" })?;
+        line.extend_from_slice(if self.write { b"w" } else { b"-" })?;
+        line.extend_from_slice(if self.remove { b"d" } else { b"-" })
+    }
+}

@@ -1,0 +1,29 @@
+//! What rights come to. Each law is the contract of a function that does nothing.
+ghost use Rattle.histar_rights.specs.Laws.{DirectoriesGiveRights, LettersAreReplies, ProcessesHaveShownNames, RunningAreListed, WritersMakeEntries};
+
+/// The rights at a path are those that its directory gives, and that its class allows the process.
+pub fn directories_give_rights()
+    ensures { DirectoriesGiveRights }
+{}
+
+/// A process has a right exactly where a script with one more line, by which the process uses it, has
+/// that line answered and not refused.
+pub fn letters_are_replies()
+    ensures { LettersAreReplies }
+{}
+
+/// A process has the right to write a directory exactly where it is not refused to make a new entry
+/// in it, while the directory has room.
+pub fn writers_make_entries()
+    ensures { WritersMakeEntries }
+{}
+
+/// The processes of a table are exactly those that run, in the order of their names.
+pub fn running_are_listed()
+    ensures { RunningAreListed }
+{}
+
+/// After the calls of a script each process has a name that can be shown.
+pub fn processes_are_named()
+    ensures { ProcessesHaveShownNames }
+{}
