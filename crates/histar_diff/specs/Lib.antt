@@ -1,0 +1,7 @@
+pub mod Joining
+pub mod Tables
+pub mod Columns
+pub mod Lines
+pub mod Differences
+pub mod Texts
+pub mod Laws
