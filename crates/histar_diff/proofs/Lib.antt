@@ -1,3 +1,4 @@
 pub mod Steps
 pub mod Joins
 pub mod Listing
+pub mod ShownTables

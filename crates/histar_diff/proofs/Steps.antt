@@ -23,7 +23,7 @@ use Rattle.histar_diff.specs.Columns.{column, columns_from, leading, past_proces
 use Rattle.histar_diff.specs.Lines.{joined_differences, line_differences, lines_differences}
 
 -- things are ordered as what a function makes of them
-by_image : {A B : Type 0} (h : A → B) (R : B → B → Ordering) → IsTotalOrder R → IsTotalOrder (λ x y. R (h x) (h y))
+pub by_image : {A B : Type 0} (h : A → B) (R : B → B → Ordering) → IsTotalOrder R → IsTotalOrder (λ x y. R (h x) (h y))
 by_image h R o = record { antisymm = λ x y. o.antisymm (h x) (h y); trans = λ x y z. o.trans (h x) (h y) (h z); congr = λ x y z. o.congr (h x) (h y) (h z) }
 
 -- the order of processes is total

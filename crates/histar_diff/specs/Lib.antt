@@ -4,4 +4,5 @@ pub mod Columns
 pub mod Lines
 pub mod Differences
 pub mod Texts
+pub mod Shown
 pub mod Laws

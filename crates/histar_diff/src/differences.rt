@@ -123,3 +123,58 @@ fn rights_at_place(rights: &[Rights], place: Option<usize>) -> Rights
     };
     rights.get(place).copied().unwrap_or(NO_RIGHTS)
 }
+
+#[cfg(test)]
+mod tests {
+    use super::*;
+    use crate::table::Runner;
+    use crate::texts::push_difference;
+    use histar_flat::read_name;
+    use std::test::Fail;
+
+    const READER: Rights = Rights {
+        stat: true,
+        read: true,
+        write: false,
+        remove: true,
+    };
+
+    fn runner(process: ProcName, user: &[u8]) -> Option<Runner> {
+        let user = read_name(user)?;
+        Some(Runner { process, user })
+    }
+
+    fn line(alloc: Global, path: Path, rights: &[Rights]) -> Result<TableLine, AllocError> {
+        Ok(TableLine {
+            path,
+            rights: Vec::from_slice(alloc, rights)?,
+        })
+    }
+
+    /// In the new table bob is gone, who read the notes, and a process of carol reads a letter.
+    #[test]
+    fn lists_what_changed(rt: HostRuntime) -> Result<(), Fail> {
+        let alloc = rt.alloc();
+        let notes = Path::root().entry(read_name(b"notes".as_slice()).expect(&rt, "a name"));
+        let letter = Path::root().entry(read_name(b"letter".as_slice()).expect(&rt, "a name"));
+        let zero = ProcName::zero();
+        let root = runner(zero, b"root".as_slice()).expect(&rt, "a user");
+        let bob = runner(zero.child(2), b"bob".as_slice()).expect(&rt, "a user");
+        let carol = runner(zero.child(10), b"carol".as_slice()).expect(&rt, "a user");
+        let columns = columns_of(alloc, [root, bob].as_slice(), [root, carol].as_slice())?;
+        let old = [line(alloc, notes, [NO_RIGHTS, READER].as_slice())?];
+        let new = [
+            line(alloc, letter, [NO_RIGHTS, READER].as_slice())?,
+            line(alloc, notes, [READER, NO_RIGHTS].as_slice())?,
+        ];
+        let listed = lines_differences(alloc, columns.as_slice(), old.as_slice(), new.as_slice())?;
+        let mut text = Vec::new(alloc);
+        for difference in listed.as_slice() {
+            push_difference(&mut text, difference)?;
+        }
+        let expected =
+            b"/letter 0.10 carol ---- sr-d\n/notes 0 root ---- sr-d\n/notes 0.2 bob sr-d ----\n";
+        assert_eq!(rt; text.as_slice(), expected.as_slice());
+        Ok(())
+    }
+}
