@@ -1,0 +1,4 @@
+pub mod Steps
+pub mod Joins
+pub mod Listing
+pub mod ShownTables

@@ -1,0 +1,5 @@
+use Rattle.histar_diff.proofs.ShownTables.{differences_are_one_list}
+use Rattle.histar_diff.proofs.diff_laws.differences_are_one_list.Goals as goal
+
+pub returns : goal.returns
+returns c = differences_are_one_list

@@ -1,0 +1,5 @@
+use Rattle.histar_diff.proofs.ShownTables.{none_is_the_same}
+use Rattle.histar_diff.proofs.diff_laws.no_difference_is_the_same.Goals as goal
+
+pub returns : goal.returns
+returns c = none_is_the_same

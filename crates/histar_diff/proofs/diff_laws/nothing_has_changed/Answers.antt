@@ -1,0 +1,5 @@
+use Rattle.histar_diff.proofs.ShownTables.{nothing_has_changed}
+use Rattle.histar_diff.proofs.diff_laws.nothing_has_changed.Goals as goal
+
+pub returns : goal.returns
+returns c = nothing_has_changed

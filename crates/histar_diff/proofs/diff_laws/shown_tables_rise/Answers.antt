@@ -1,0 +1,5 @@
+use Rattle.histar_diff.proofs.ShownTables.{shown_tables_rise}
+use Rattle.histar_diff.proofs.diff_laws.shown_tables_rise.Goals as goal
+
+pub returns : goal.returns
+returns c = shown_tables_rise

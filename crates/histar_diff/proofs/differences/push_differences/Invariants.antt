@@ -1,0 +1,6 @@
+use Rattle.std.proofs.Common.{◌≡◌, ◌++◌, take}
+use Rattle.histar_diff.specs.Lines.{line_differences}
+use Rattle.histar_diff.proofs.differences.push_differences.Given as goal
+
+abbrev pub invariant-loop-column : goal.invariant-loop-column
+invariant-loop-column l = l.differences.items ≡ l.fn.differences.items ++ line_differences (take l.column-index l.columns) l.path l.before l.after

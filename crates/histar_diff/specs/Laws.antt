@@ -1,0 +1,43 @@
+-- What differences come to.
+use Rattle.std.specs.Prelude.{◌≡◌, ◌≢◌, ◌↔◌, true, is_some, List, []}
+use Rattle.std.specs.FinMap.{find}
+use Rattle.histar_flat.specs.declared.calls.CallLine.{CallLine}
+use Rattle.histar_flat.specs.Words.{Path, ProcName}
+use Rattle.histar_flat.specs.Sessions.{Session}
+use Rattle.histar_flat.specs.Meaning.{boot, flat_end}
+use Rattle.histar_diff.specs.declared.table.Table.{Table}
+use Rattle.histar_diff.specs.declared.differences.Difference.{Difference}
+use Rattle.histar_diff.specs.Differences.{AreDifferences, by_pair, pair_cmp}
+use Rattle.histar_diff.specs.Shown.{ShowsRights, rights_of}
+use Rattle.histar_diff.specs.Tables.{IsTable, rights_in}
+
+-- a pair of a path and a process is listed exactly where its rights differ
+abbrev pub DifferencesAreListed : Type 0
+DifferencesAreListed =
+    (old new : Table) (ds : List Difference) → AreDifferences old new ds
+    → (q : Path) (p : ProcName) → (is_some (find pair_cmp (q, p) (by_pair ds)) ≡ true) ↔ (rights_in old q p ≢ rights_in new q p)
+
+-- where no difference is listed, each process has the same rights at each path in both tables
+abbrev pub NoneIsTheSame : Type 0
+NoneIsTheSame = (old new : Table) → AreDifferences old new [] → (q : Path) (p : ProcName) → rights_in old q p ≡ rights_in new q p
+
+-- two lists of exactly the differences of two tables are the same list
+abbrev pub DifferencesAreOneList : Type 0
+DifferencesAreOneList = (old new : Table) (ds es : List Difference) → AreDifferences old new ds → AreDifferences old new es → ds ≡ es
+
+-- a table that shows the rights after the calls of a script is in order
+abbrev pub ShownTablesRise : Type 0
+ShownTablesRise = (session : Session) (calls : List CallLine) (t : Table) → ShowsRights session (flat_end session (boot session) calls) t → IsTable t
+
+-- the rights in such a table are those of the state
+abbrev pub TablesShowRights : Type 0
+TablesShowRights =
+    (session : Session) (calls : List CallLine) (t : Table) → ShowsRights session (flat_end session (boot session) calls) t
+    → (q : Path) (p : ProcName) → rights_in t q p ≡ rights_of session (flat_end session (boot session) calls) q p
+
+-- where no difference is listed of two tables that show the rights after the calls of scripts, nobody's rights have changed
+abbrev pub NothingHasChanged : Type 0
+NothingHasChanged =
+    (session later : Session) (calls more : List CallLine) (old new : Table)
+    → ShowsRights session (flat_end session (boot session) calls) old → ShowsRights later (flat_end later (boot later) more) new → AreDifferences old new []
+    → (q : Path) (p : ProcName) → rights_of session (flat_end session (boot session) calls) q p ≡ rights_of later (flat_end later (boot later) more) q p

@@ -1,0 +1,8 @@
+pub mod Joining
+pub mod Tables
+pub mod Columns
+pub mod Lines
+pub mod Differences
+pub mod Texts
+pub mod Shown
+pub mod Laws

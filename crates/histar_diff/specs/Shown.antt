@@ -1,0 +1,37 @@
+-- Tables that show the rights of a flat state.
+use Rattle.std.specs.Prelude.{◌≡◌, List, map, Option, Some}
+use Rattle.histar_flat.specs.Words.{Path, ProcName}
+use Rattle.histar_flat.specs.Sessions.{Session}
+use Rattle.histar_flat.specs.Files.{get}
+use Rattle.histar_flat.specs.Classes.{Process}
+use Rattle.histar_flat.specs.FlatState.{Flat, Node}
+use Rattle.histar_flat.specs.FlatCalls.{running}
+use Rattle.histar_rights.specs.declared.rights.Rights.{Rights}
+use Rattle.histar_rights.specs.Rights.{rights_at}
+use Rattle.histar_rights.specs.Running.{Named, running_in}
+use Rattle.histar_rights.specs.Table.{AccessLine, Cell, access_table}
+use Rattle.histar_diff.specs.declared.table.Runner.{Runner}
+use Rattle.histar_diff.specs.declared.table.Table.{Table}
+use Rattle.histar_diff.specs.Tables.{by_path, no_rights}
+
+-- a process that runs, and its user
+abbrev pub runner : Named → Runner
+runner c = record { process = c.0; user = c.1.user }
+
+-- a path, and the rights of processes there
+abbrev pub rights_line : AccessLine → Path × List Rights
+rights_line l = (l.path, map (λ (c : Cell). c.rights) l.cells)
+
+-- the table has the processes that run and their users, and the paths and rights that are printed of the state
+pub record ShowsRights (session : Session) (f : Flat) (t : Table) : Type 0 where
+  pub processes : t.processes.items ≡ map runner (running_in f)
+  pub lines : by_path t.lines.items ≡ map rights_line (access_table session f)
+
+-- the rights of a process, if it runs, at a path, if something stands there; else none
+abbrev pub rights_if : Session → Flat → Path → ProcName → Option Node → Option Process → Rights
+rights_if session f q p (Some node) (Some process) = rights_at session f p process q node
+rights_if session f q p _ _ = no_rights
+
+-- the rights of a process at a path in a flat state
+abbrev pub rights_of : Session → Flat → Path → ProcName → Rights
+rights_of session f q p = rights_if session f q p (get f.files q) (running f p)

@@ -1,0 +1,86 @@
+//! The processes of two tables.
+ghost use Rattle.std.specs.Prelude.{◌≡◌, ◌-◌, ◌≤◌, IfOk, length};
+ghost use Rattle.histar_rights.specs.Running.{process_cmp};
+ghost use Rattle.histar_diff.specs.Columns.{columns_from, leading as leading_process, past_process, place_at};
+
+use crate::table::Runner;
+use histar_flat::{Name, ProcName};
+use std::alloc::{AllocError, Global};
+use std::cmp::Ordering;
+
+/// A process of two tables, its user, and its place among the processes of each table that has it.
+#[derive(Clone, Copy)]
+pub(crate) struct Column {
+    pub(crate) process: ProcName,
+    pub(crate) user: Name,
+    pub(crate) before: Option<usize>,
+    pub(crate) after: Option<usize>,
+}
+
+/// Returns the processes of two tables, by rising names. One pass goes over both.
+pub(crate) fn columns_of(
+    alloc: Global,
+    old: &[Runner],
+    new: &[Runner],
+) -> Result<Vec<Column>, AllocError>
+    ensures { IfOk result (λ columns. columns.items ≡ columns_from 0 old.now 0 new.now) }
+{
+    let mut columns = Vec::new(alloc);
+    let (mut old_rest, mut new_rest) = (old, new);
+    'processes: while let Some(runner) = leading(old_rest, new_rest) {
+        columns.push(Column {
+            process: runner.process,
+            user: runner.user,
+            before: place(old.len() - old_rest.len(), old_rest, &runner.process),
+            after: place(new.len() - new_rest.len(), new_rest, &runner.process),
+        })?;
+        old_rest = after(old_rest, &runner.process);
+        new_rest = after(new_rest, &runner.process);
+    }
+    Ok(columns)
+}
+
+/// Compares the names of processes as lists of numbers, from process 0 on.
+fn compare(a: &ProcName, b: &ProcName) -> Ordering
+    ensures { result ≡ process_cmp a.now b.now }
+{
+    a.numbers().iter().rev().cmp(b.numbers().iter().rev())
+}
+
+/// Returns the process that comes first in two lists, as the new one has it.
+fn leading(old: &[Runner], new: &[Runner]) -> Option<Runner>
+    ensures { result ≡ leading_process old.now new.now }
+{
+    match (old, new) {
+        ([], []) => None,
+        ([], [other, ..]) => Some(*other),
+        ([own, ..], []) => Some(*own),
+        ([own, ..], [other, ..]) => {
+            if compare(&own.process, &other.process) == Ordering::Less {
+                Some(*own)
+            } else {
+                Some(*other)
+            }
+        }
+    }
+}
+
+/// Returns the place of a process, if the list begins with it.
+fn place(place: usize, rest: &[Runner], process: &ProcName) -> Option<usize>
+    ensures { result ≡ place_at place process.now rest.now }
+{
+    match rest {
+        [runner, ..] if compare(process, &runner.process) == Ordering::Equal => Some(place),
+        _ => None,
+    }
+}
+
+/// Returns the list behind a process, if it begins with it.
+fn after<'a>(rest: &'a [Runner], process: &ProcName) -> &'a [Runner]
+    ensures { result.now ≡ past_process process.now rest.now }
+{
+    match rest {
+        [runner, more @ ..] if compare(process, &runner.process) == Ordering::Equal => more,
+        _ => rest,
+    }
+}
