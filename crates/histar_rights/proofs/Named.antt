@@ -16,7 +16,8 @@ use Rattle.histar_flat.specs.Classes.{Process, nobody}
 use Rattle.histar_flat.specs.Classes.Class.{Scratch}
 use Rattle.histar_flat.specs.FlatState.Content.{Dir}
 use Rattle.histar_flat.specs.FlatState.{Flat, with_node, with_process, with_child, without_process}
-use Rattle.histar_flat.specs.FlatCalls.{next_child, inner_chain, no_room, no_child, running, refused, changed, flat_or, flat_by, flat_after}
+use Rattle.histar_flat.specs.FlatCalls.{next_child, inner_chain, running, refused, changed, flat_or, flat_by, flat_after}
+use Rattle.histar_flat.proofs.CommonNeeds.{no_room, no_child}
 use Rattle.histar_flat.specs.Meaning.{boot, first_process, flat_end}
 use Rattle.histar_flat.proofs.FileLemmas.{same_name_found, same_itself}
 use Rattle.histar_flat.proofs.Refusals.{passes_first, one_passes}
