@@ -1,5 +1,6 @@
 //! The program: `histar run FILE` runs a script and prints the replies, and on request the tree and the trace;
-//! `histar raw FILE` runs a session of raw calls; `histar check JOB FILE` compares runs with and without a job.
+//! `histar raw FILE` runs a session of raw calls; `histar check JOB FILE` compares runs with and without a job;
+//! `histar access FILE` prints what each process may do at each path.
 #![tactic(auto)]
 
 mod status;
@@ -7,6 +8,7 @@ mod task;
 
 use crate::status::status;
 use crate::task::{Task, read_words};
+use histar_access::access;
 use histar_comparison::compare;
 use histar_devices::read_input;
 use histar_flat::{ProcName, read_process};
@@ -83,6 +85,21 @@ fn check_file<R: Files + Print>(
     output.flush().map_err(|_| Fault::WriteFailed)
 }
 
+/// Prints who may do what after the calls of the script in a file, or before a line.
+fn access_file<R: Files + Print>(
+    rt: &R,
+    alloc: Global,
+    path: &str,
+    at: Option<u32>,
+) -> Result<(), Fault> {
+    let file = fs::open(rt, path).map_err(|_| Fault::ReadFailed)?;
+    let output = BufWriter::new(alloc, io::writer(rt)).map_err(|_| Fault::OutOfMemory)?;
+    let mut reader = Counted::new(file);
+    let mut writer = Counted::new(output);
+    let ran = access(alloc, &mut reader, &mut writer, at);
+    finish(ran, writer.into_inner())
+}
+
 /// Writes a fault to standard error, and returns its status.
 fn report<R: Eprint>(rt: &R, fault: &Fault) -> u8 {
     let _ = eprintln!(rt; "histar: {fault}");
@@ -96,21 +113,43 @@ fn command_line<R: Env + AllocGlobal>(rt: &R) -> io::Result<Vec<String>> {
     Ok(words)
 }
 
-/// Does a task. It does nothing, and opens no file, where a job is no name of a process.
-fn perform<R: Files + Print>(rt: &R, alloc: Global, task: Task<'_>) -> Option<Result<(), Fault>> {
+/// A word of the command line that can't be read.
+#[derive(Drop)]
+enum BadWord {
+    /// The job is no name of a process.
+    Job,
+    /// The line is no number of a line.
+    Line,
+}
+
+/// Does a task. It does nothing, and opens no file, where a word of it can't be read.
+fn perform<R: Files + Print>(
+    rt: &R,
+    alloc: Global,
+    task: Task<'_>,
+) -> Result<Result<(), Fault>, BadWord> {
     match task {
-        Task::Run(path, options) => Some(run_file(rt, alloc, path, options)),
-        Task::Raw(path) => Some(run_raw_file(rt, alloc, path)),
+        Task::Run(path, options) => Ok(run_file(rt, alloc, path, options)),
+        Task::Raw(path) => Ok(run_raw_file(rt, alloc, path)),
         Task::Check(job, path) => {
-            let job = read_process(job.as_bytes())?;
-            Some(check_file(rt, alloc, &job, path))
+            let job = read_process(job.as_bytes()).ok_or(BadWord::Job)?;
+            Ok(check_file(rt, alloc, &job, path))
+        }
+        Task::Access(path, None) => Ok(access_file(rt, alloc, path, None)),
+        Task::Access(path, Some(line)) => {
+            let line = line.parse::<u32>().map_err(|_| BadWord::Line)?;
+            Ok(access_file(rt, alloc, path, Some(line)))
         }
     }
 }
 
-/// Reports that a job is no name of a process, and returns the status.
-fn refuse_job<R: Eprint>(rt: &R) -> u8 {
-    let _ = eprintln!(rt; "histar: bad job");
+/// Reports a word that can't be read, and returns the status.
+fn refuse_word<R: Eprint>(rt: &R, word: &BadWord) -> u8 {
+    let which = match word {
+        BadWord::Job => "job",
+        BadWord::Line => "line",
+    };
+    let _ = eprintln!(rt; "histar: bad {which}");
     REFUSED
 }
 
@@ -130,9 +169,9 @@ fn obey<R: Files + Print + Eprint>(rt: &R, alloc: Global, words: &[&str]) -> u8 
     match read_words(alloc, words) {
         Err(error) => explain(rt, &error),
         Ok(task) => match perform(rt, alloc, task) {
-            None => refuse_job(rt),
-            Some(Ok(())) => 0,
-            Some(Err(fault)) => report(rt, &fault),
+            Err(word) => refuse_word(rt, &word),
+            Ok(Ok(())) => 0,
+            Ok(Err(fault)) => report(rt, &fault),
         },
     }
 }

@@ -2,7 +2,7 @@
 ghost use Rattle.std.specs.Prelude.{◌≡◌, IfOk, IfSome, false, map};
 ghost use Rattle.clap.specs.declared.builder.command.Command.TheViews.{out-Command};
 ghost use Rattle.clap.specs.Words.{app_of, first_value, found_of, subcommand_of, subcommand_rows_of};
-ghost use Rattle.histar_cli.specs.CommandLine.{check_app, histar_app, IsTaskOf, is_given, raw_app, run_app};
+ghost use Rattle.histar_cli.specs.CommandLine.{access_app, check_app, histar_app, IsTaskOf, is_given, raw_app, run_app};
 
 use clap::error::ErrorKind;
 use clap::{Arg, ArgAction, ArgMatches, Command, Error};
@@ -23,9 +23,22 @@ const AFTER_HELP: &str = "Example:
 Exit status:
   0  it was done, or help was asked for
   1  the script or the session is bad or too long
-  2  the command line is refused, or JOB is no process
+  2  the command line is refused, JOB is no process, or LINE is no number
   3  out of memory
   4  FILE can't be read, or the output can't be written";
+
+/// What stands at the end of the help of `access`.
+const ACCESS_HELP: &str =
+    "Each line is a path, what stands there, its owner and its mode, and for each running process its rights:
+  s  it may ask for owner and mode
+  r  it may read the file, or list the directory
+  w  it may write the file, or make something in the directory
+  d  it may take it away
+  -  it may not
+
+Example:
+  $ histar access examples/scanner.histar
+  /home dir - open 0:srwd 0.1:srw-";
 
 /// What the program is to do: the subcommand with its words and its flags.
 #[derive(Clone, Copy)]
@@ -36,6 +49,8 @@ pub enum Task<'a> {
     Raw(&'a str),
     /// Compare the script in a file with the one without a job: first the job, then the file.
     Check(&'a str, &'a str),
+    /// Print who may do what after the script in this file, or before the line of this number.
+    Access(&'a str, Option<&'a str>),
 }
 
 /// The subcommand that runs a script.
@@ -92,6 +107,25 @@ fn check_command<'a>(alloc: Global) -> Result<Command<'a>, AllocError>
     check.arg(file)
 }
 
+/// The subcommand that prints who may do what.
+fn access_command<'a>(alloc: Global) -> Result<Command<'a>, AllocError>
+    ensures app { IfOk result (λ c. app_of c ≡ access_app) }
+    ensures local { IfOk result (λ c. (out-Command c).has_globals ≡ false) }
+{
+    let at = Arg::new(alloc, "LINE")
+        .long("at")
+        .action(ArgAction::Set)
+        .help("Stop before the call on this line");
+    let file = Arg::new(alloc, "FILE")
+        .required(true)
+        .help("The script: users, groups, and calls of processes");
+    let access = Command::new(alloc, "access")
+        .about("Run a script and print for each path what each process may do there")
+        .after_help(ACCESS_HELP);
+    let access = access.arg(at)?;
+    access.arg(file)
+}
+
 /// The command line, as `clap` reads and explains it.
 fn command<'a>(alloc: Global) -> Result<Command<'a>, AllocError>
     ensures { IfOk result (λ c. app_of c ≡ histar_app) }
@@ -99,6 +133,7 @@ fn command<'a>(alloc: Global) -> Result<Command<'a>, AllocError>
     let run = run_command(alloc)?;
     let raw = raw_command(alloc)?;
     let check = check_command(alloc)?;
+    let access = access_command(alloc)?;
     let histar = Command::new(alloc, "histar")
         .version(VERSION)
         .about(ABOUT)
@@ -106,7 +141,8 @@ fn command<'a>(alloc: Global) -> Result<Command<'a>, AllocError>
     let histar = histar.bin_name("histar")?;
     let histar = histar.subcommand(run)?;
     let histar = histar.subcommand(raw)?;
-    histar.subcommand(check)
+    let histar = histar.subcommand(check)?;
+    histar.subcommand(access)
 }
 
 /// Whether a flag was given: its value is `true` then.
@@ -133,10 +169,15 @@ fn task_of<'a>(matches: &ArgMatches<'a>) -> Option<Task<'a>>
         let file = raw.get_str("FILE")?;
         return Some(Task::Raw(file));
     }
-    let check = matches.subcommand_matches("check")?;
-    let job = check.get_str("JOB")?;
-    let file = check.get_str("FILE")?;
-    Some(Task::Check(job, file))
+    if let Some(check) = matches.subcommand_matches("check") {
+        let job = check.get_str("JOB")?;
+        let file = check.get_str("FILE")?;
+        return Some(Task::Check(job, file));
+    }
+    let access = matches.subcommand_matches("access")?;
+    let file = access.get_str("FILE")?;
+    let at = access.get_str("LINE");
+    Some(Task::Access(file, at))
 }
 
 /// The task that the words name, the program's own name first.
