@@ -1,6 +1,6 @@
 -- What `access` says, put together from what its parts say.
 use Rattle.std.proofs.Common.{◌≡◌, ℕ, ◌<◌, true, false, ltb, List, [], ◌++◌, length, Option, Some, None, Result, Ok, Err, refl, sym, ap, subst, ◌∙◌, arith, rules, tests, append-nil, inl, inr}
-use Rattle.std.specs.Prelude.{Bool, IfSome, IsOk, MatchResult, is_ok}
+use Rattle.std.specs.Prelude.{Bool, IfErr, IfSome, IsOk, MatchResult, OnErr, OnOk, is_ok}
 use Rattle.std.specs.Io.KnownBytes.{Appends, Keeps}
 use Rattle.std.proofs.lemmas.Bool.{cases_lt, false≢true}
 use Rattle.std.proofs.lemmas.List.{length-append}
@@ -19,7 +19,8 @@ use Rattle.histar_script.specs.Script.{Reading}
 use Rattle.histar_script.specs.Outcome.{Gives, input_fault}
 use Rattle.histar_script.specs.Lines.{most_script_bytes}
 use Rattle.histar_script.specs.Reading.{script_of}
-use Rattle.histar_script.specs.Runs.{IsOutputFault, StopsReading, is_read_failed, RunsTaken, RunsInput}
+use Rattle.histar_script.specs.Runs.{IsOutputFault, LeavesSink, StopsReading, is_read_failed, RunsTaken, RunsInput}
+use Rattle.histar_shell.proofs.RunLemmas.{sink_called}
 use Rattle.histar_rights.proofs.Named.{processes_are_named}
 use Rattle.histar_shell.specs.Machine.{MachineModel}
 use Rattle.histar_shell.specs.Meaning.{Shows, ShowsStart}
@@ -38,6 +39,16 @@ no_read_failed TooLong fault = refl
 no_read_failed OutOfMemory fault = refl
 no_read_failed ReadFailed fault = absurd fault
 no_read_failed WriteFailed fault = refl
+
+-- what writing answers says that no read failed
+pub no_read_fails : (r : Answer) → IfErr r IsOutputFault → is_read_failed r ≡ false
+no_read_fails (Ok done) h = refl
+no_read_fails (Err f) h = no_read_failed f h
+
+-- and of the sink
+pub sink_after : {W : Type 0} (old new : W) (r : Answer) → IfErr r IsOutputFault → IfErr r (LeavesSink old new)
+sink_after old new (Ok done) h = tt
+sink_after old new (Err f) h = sink_called old new f h
 
 module _ (at : Option ℕ) where
   -- ---- a text that is a script or none
@@ -99,6 +110,11 @@ module _ (at : Option ℕ) where
       begun_text OutOfMemory h b = record { faults = tt; writes = inr (begins b) }
       begun_text ReadFailed h b = absurd h
       begun_text WriteFailed h b = record { faults = ap is_ok given; writes = begins b }
+
+      -- so it is, whatever writing answers
+      pub text_run : (r : Answer) → OnOk r (AppendsTable end old new) → OnErr r (BeginsTable end old new) → IfErr r IsOutputFault → AccessText at text old new r
+      text_run (Ok done) a b h = written_text a
+      text_run (Err f) a b h = begun_text f h b
 
   -- ---- an input that is taken
 

@@ -1,9 +1,17 @@
-use Rattle.std.proofs.Common.{Ok, Err, sym, ◌∙◌, subst}
-use Rattle.std.proofs.lemmas.Result.{err_from_is_err_and}
-use Rattle.histar_script.proofs.Sinks.{sink_left}
-use Rattle.histar_access.proofs.Runs.{begun_text, faulty_text, is_shown, unwritten_text, written_text}
+use Rattle.histar_access.proofs.Runs.{is_shown, no_read_fails, sink_after, text_run}
 use Rattle.histar_access.proofs.session.access_text.Goals as goal
 
 pub write_table-requires : goal.write_table-requires
 write_table-requires g c =
-    is_shown c.args.at c.in_ok-script.script c.in-Ok.machine c.make_calls.new.machine c.into_parts-session.result.0 _ c.into_parts-session.ensures.session c.into_parts-session.ensures.calls c.in-Ok.ensures.shows c.in-Ok-make_calls.ensures
+    is_shown c.args.at c.in_ok-script.script c.in-Ok.machine c.make_calls.new.machine _ _ c.into_parts-session.ensures.session c.into_parts-session.ensures.calls c.in-Ok.ensures.shows c.in-Ok-make_calls.ensures
+
+pub returns-clause-nothing : goal.returns-clause-nothing
+returns-clause-nothing g c = sink_after c.args.writer.now c.write_table.new.writer c.write_table.result c.write_table.ensures.faults
+
+pub returns-clause-reads : goal.returns-clause-reads
+returns-clause-reads g c = no_read_fails c.write_table.result c.write_table.ensures.faults
+
+pub returns-clause-runs : goal.returns-clause-runs
+returns-clause-runs g c =
+    text_run c.args.at c.in_ok-script.script c.in-Ok.machine c.make_calls.new.machine _ _ c.into_parts-session.ensures.session c.into_parts-session.ensures.calls c.in-Ok.ensures.shows c.in-Ok-make_calls.ensures
+    c.args.text.now c.in_ok-script.ensures.exact _ _ c.write_table.result c.write_table.ensures.ok c.write_table.ensures.err c.write_table.ensures.faults

@@ -25,9 +25,17 @@ returns-in-Some-subcommand_matches c =
     let parts : subcommand_rows_of m ≡ Some (codes "raw", rows_of found) = both_parts (subcommand_rows_of m) (codes "raw") (rows_of found) (name_is m ∙ matched.ensures.found.0 refl) matched.ensures.rows in
     (rows_of found, parts, sym (c.in_ok-file-2.ensures ∙ first_value-rows found (codes "FILE")), c.is_set-explain.ensures ∙ ap is_given (first_value-rows found (codes "explain")))
 
+pub returns-in-Some-subcommand_matches-2 : goal.returns-in-Some-subcommand_matches-2
+returns-in-Some-subcommand_matches-2 c =
+    let m = c.args.matches.now in
+    let matched = c.in-Some-subcommand_matches-2 in
+    let found = found_of matched.check.now in
+    let parts : subcommand_rows_of m ≡ Some (codes "check", rows_of found) = both_parts (subcommand_rows_of m) (codes "check") (rows_of found) (name_is m ∙ matched.ensures.found.0 refl) matched.ensures.rows in
+    (rows_of found, parts, sym (c.in_ok-job.ensures ∙ first_value-rows found (codes "JOB")), sym (c.in_ok-file-3.ensures ∙ first_value-rows found (codes "FILE")))
+
 pub returns : goal.returns
 returns c =
     let m = c.args.matches.now in
-    let found = found_of c.in_ok-check.check.now in
-    let parts : subcommand_rows_of m ≡ Some (codes "check", rows_of found) = both_parts (subcommand_rows_of m) (codes "check") (rows_of found) (name_is m ∙ c.in_ok-check.ensures.found.0 refl) c.in_ok-check.ensures.rows in
-    (rows_of found, parts, sym (c.in_ok-job.ensures ∙ first_value-rows found (codes "JOB")), sym (c.in_ok-file-3.ensures ∙ first_value-rows found (codes "FILE")))
+    let found = found_of c.in_ok-access.access.now in
+    let parts : subcommand_rows_of m ≡ Some (codes "access", rows_of found) = both_parts (subcommand_rows_of m) (codes "access") (rows_of found) (name_is m ∙ c.in_ok-access.ensures.found.0 refl) c.in_ok-access.ensures.rows in
+    (rows_of found, parts, sym (c.in_ok-file-4.ensures ∙ first_value-rows found (codes "FILE")), c.get_str-at.ensures ∙ first_value-rows found (codes "LINE"))
