@@ -50,7 +50,8 @@ module _ {K : Type 0} (R : K → K → Ordering) (total : IsTotalOrder R) (exact
   module _ (A B : Type 0) where
     below_new : (z : K) (ys : List (K × B)) → IsBelow z ys → IsBelow z (joined R {A = A} [] ys)
     below_new z [] h = tt
-    below_new z (y ∷ ys) h = both (is_lt (R z y.0)) _ (first (is_lt (R z y.0)) (below_all R z ys) h) (below_new z ys (second (is_lt (R z y.0)) (below_all R z ys) h))
+    below_new z (y ∷ ys) h = both (is_lt (R z y.0)) _ (first (is_lt (R z y.0)) (below_all R z ys) h)
+        (below_new z ys (second (is_lt (R z y.0)) (below_all R z ys) h))
 
     below_from : (z : K) (x : K × A) (xs : List (K × A)) → T (is_lt (R z x.0)) → ((ys : List (K × B)) → IsBelow z ys → IsBelow z (joined R xs ys))
         → (ys : List (K × B)) → IsBelow z ys → IsBelow z (joined_from R x.0 x.1 (joined R xs) ys)
@@ -58,7 +59,8 @@ module _ {K : Type 0} (R : K → K → Ordering) (total : IsTotalOrder R) (exact
     below_from z x xs low rest (y ∷ ys) k = by (R x.0 y.0) (below_from z x xs low rest ys (second (is_lt (R z y.0)) (below_all R z ys) k))
       where
         by : (o : Ordering) → IsBelow z (joined_from R x.0 x.1 (joined R xs) ys)
-            → IsBelow z (by_order o ((x.0, OnlyOld x.1) ∷ joined R xs (y ∷ ys)) ((x.0, InBoth x.1 y.1) ∷ joined R xs ys) ((y.0, OnlyNew y.1) ∷ joined_from R x.0 x.1 (joined R xs) ys))
+            → IsBelow z (by_order o ((x.0, OnlyOld x.1) ∷ joined R xs (y ∷ ys)) ((x.0, InBoth x.1 y.1) ∷ joined R xs ys)
+            ((y.0, OnlyNew y.1) ∷ joined_from R x.0 x.1 (joined R xs) ys))
         by Less later = both (is_lt (R z x.0)) _ low (rest (y ∷ ys) k)
         by Equal later = both (is_lt (R z x.0)) _ low (rest ys (second (is_lt (R z y.0)) (below_all R z ys) k))
         by Greater later = both (is_lt (R z y.0)) _ (first (is_lt (R z y.0)) (below_all R z ys) k) later
@@ -67,28 +69,35 @@ module _ {K : Type 0} (R : K → K → Ordering) (total : IsTotalOrder R) (exact
     below_joined : (z : K) (xs : List (K × A)) (ys : List (K × B)) → IsBelow z xs → IsBelow z ys → IsBelow z (joined R xs ys)
     below_joined z [] ys h k = below_new z ys k
     below_joined z (x ∷ xs) ys h k =
-        below_from z x xs (first (is_lt (R z x.0)) (below_all R z xs) h) (λ ys k. below_joined z xs ys (second (is_lt (R z x.0)) (below_all R z xs) h) k) ys k
+        below_from z x xs (first (is_lt (R z x.0)) (below_all R z xs) h)
+        (λ ys k. below_joined z xs ys (second (is_lt (R z x.0)) (below_all R z xs) h) k) ys k
 
     sorted_new : (ys : List (K × B)) → T (is_sorted R ys) → T (is_sorted R (joined R {A = A} [] ys))
     sorted_new [] s = tt
     sorted_new (y ∷ ys) s = both (below_all R y.0 (joined R {A = A} [] ys)) _ (below_new y.0 ys (behind y ys s)) (sorted_new ys (rest_of y ys s))
 
-    sorted_from : (x : K × A) (xs : List (K × A)) → T (is_sorted R (x ∷ xs)) → ((ys : List (K × B)) → T (is_sorted R ys) → T (is_sorted R (joined R xs ys)))
+    sorted_from : (x : K × A) (xs : List (K × A)) → T (is_sorted R (x ∷ xs))
+        → ((ys : List (K × B)) → T (is_sorted R ys) → T (is_sorted R (joined R xs ys)))
         → (ys : List (K × B)) → T (is_sorted R ys) → T (is_sorted R (joined_from R x.0 x.1 (joined R xs) ys))
     sorted_from x xs s rest [] t = both (below_all R x.0 (joined R {B = B} xs [])) _ (below_joined x.0 xs [] (behind x xs s) tt) (rest [] tt)
     sorted_from x xs s rest (y ∷ ys) t = by (R x.0 y.0) refl (sorted_from x xs s rest ys (rest_of y ys t))
       where
         by : (o : Ordering) → R x.0 y.0 ≡ o → T (is_sorted R (joined_from R x.0 x.1 (joined R xs) ys))
-            → T (is_sorted R (by_order o ((x.0, OnlyOld x.1) ∷ joined R xs (y ∷ ys)) ((x.0, InBoth x.1 y.1) ∷ joined R xs ys) ((y.0, OnlyNew y.1) ∷ joined_from R x.0 x.1 (joined R xs) ys)))
+            → T (is_sorted R (by_order o ((x.0, OnlyOld x.1) ∷ joined R xs (y ∷ ys)) ((x.0, InBoth x.1 y.1) ∷ joined R xs ys)
+            ((y.0, OnlyNew y.1) ∷ joined_from R x.0 x.1 (joined R xs) ys)))
         by Less e later =
             both (below_all R x.0 (joined R xs (y ∷ ys))) _
-            (below_joined x.0 xs (y ∷ ys) (behind x xs s) (both (is_lt (R x.0 y.0)) _ (is_less x.0 y.0 e) (below_less x.0 y.0 ys e (behind y ys t)))) (rest (y ∷ ys) t)
+            (below_joined x.0 xs (y ∷ ys) (behind x xs s)
+            (both (is_lt (R x.0 y.0)) _ (is_less x.0 y.0 e) (below_less x.0 y.0 ys e (behind y ys t)))) (rest (y ∷ ys) t)
         by Equal e later =
-            both (below_all R x.0 (joined R xs ys)) _ (below_joined x.0 xs ys (behind x xs s) (subst (λ k. IsBelow k ys) (sym (exact x.0 y.0 e)) (behind y ys t))) (rest ys (rest_of y ys t))
+            both (below_all R x.0 (joined R xs ys)) _
+            (below_joined x.0 xs ys (behind x xs s) (subst (λ k. IsBelow k ys) (sym (exact x.0 y.0 e)) (behind y ys t)))
+            (rest ys (rest_of y ys t))
         by Greater e later =
             let back = turned x.0 y.0 e in
             both (below_all R y.0 (joined_from R x.0 x.1 (joined R xs) ys)) _
-            (below_joined y.0 (x ∷ xs) ys (both (is_lt (R y.0 x.0)) _ (is_less y.0 x.0 back) (below_less y.0 x.0 xs back (behind x xs s))) (behind y ys t)) later
+            (below_joined y.0 (x ∷ xs) ys (both (is_lt (R y.0 x.0)) _ (is_less y.0 x.0 back) (below_less y.0 x.0 xs back (behind x xs s)))
+            (behind y ys t)) later
 
     -- two sorted lists joined are sorted
     pub sorted_joined : (xs : List (K × A)) (ys : List (K × B)) → T (is_sorted R xs) → T (is_sorted R ys) → T (is_sorted R (joined R xs ys))
@@ -99,7 +108,8 @@ module _ {K : Type 0} (R : K → K → Ordering) (total : IsTotalOrder R) (exact
     find_new q [] = refl
     find_new q (y ∷ ys) = by (eq_by_cmp R q y.0) (find_new q ys)
       where
-        by : (t : Bool) → find R q (joined R {A = A} [] ys) ≡ found None (find R q ys) → cond t (Some (OnlyNew y.1)) (find R q (joined R {A = A} [] ys)) ≡ found None (cond t (Some y.1) (find R q ys))
+        by : (t : Bool) → find R q (joined R {A = A} [] ys) ≡ found None (find R q ys)
+            → cond t (Some (OnlyNew y.1)) (find R q (joined R {A = A} [] ys)) ≡ found None (cond t (Some y.1) (find R q ys))
         by true later = refl
         by false later = later
 
@@ -120,7 +130,8 @@ module _ {K : Type 0} (R : K → K → Ordering) (total : IsTotalOrder R) (exact
 
       found_last : (t : Bool) (y : K × B) (ys : List (K × B)) → eq_by_cmp R q y.0 ≡ t → IsBelow y.0 (x ∷ xs)
           → find R q (joined_from R x.0 x.1 (joined R xs) ys) ≡ found (find R q (x ∷ xs)) (find R q ys)
-          → cond t (Some (OnlyNew y.1)) (find R q (joined_from R x.0 x.1 (joined R xs) ys)) ≡ found (find R q (x ∷ xs)) (cond t (Some y.1) (find R q ys))
+          → cond t (Some (OnlyNew y.1)) (find R q (joined_from R x.0 x.1 (joined R xs) ys))
+          ≡ found (find R q (x ∷ xs)) (cond t (Some y.1) (find R q ys))
       found_last true y ys e h later = ap (λ o. found o (Some y.1)) (sym (missed q y.0 (x ∷ xs) e h))
       found_last false y ys e h later = later
 
@@ -130,18 +141,22 @@ module _ {K : Type 0} (R : K → K → Ordering) (total : IsTotalOrder R) (exact
       find_from rest (y ∷ ys) t = by (R x.0 y.0) refl (find_from rest ys (rest_of y ys t))
         where
           by : (o : Ordering) → R x.0 y.0 ≡ o → find R q (joined_from R x.0 x.1 (joined R xs) ys) ≡ found (find R q (x ∷ xs)) (find R q ys)
-              → find R q (by_order o ((x.0, OnlyOld x.1) ∷ joined R xs (y ∷ ys)) ((x.0, InBoth x.1 y.1) ∷ joined R xs ys) ((y.0, OnlyNew y.1) ∷ joined_from R x.0 x.1 (joined R xs) ys))
+              → find R q (by_order o ((x.0, OnlyOld x.1) ∷ joined R xs (y ∷ ys)) ((x.0, InBoth x.1 y.1) ∷ joined R xs ys)
+              ((y.0, OnlyNew y.1) ∷ joined_from R x.0 x.1 (joined R xs) ys))
               ≡ found (find R q (x ∷ xs)) (find R q (y ∷ ys))
           by Less e later =
-              found_first (eq_by_cmp R q x.0) refl (y ∷ ys) (both (is_lt (R x.0 y.0)) _ (is_less x.0 y.0 e) (below_less x.0 y.0 ys e (behind y ys t))) (rest (y ∷ ys) t)
+              found_first (eq_by_cmp R q x.0) refl (y ∷ ys)
+              (both (is_lt (R x.0 y.0)) _ (is_less x.0 y.0 e) (below_less x.0 y.0 ys e (behind y ys t))) (rest (y ∷ ys) t)
           by Equal e later =
               found_both (eq_by_cmp R q x.0) y.1 ys (rest ys (rest_of y ys t))
               ∙ ap (λ k. found (find R q (x ∷ xs)) (cond (eq_by_cmp R q k) (Some y.1) (find R q ys))) (exact x.0 y.0 e)
           by Greater e later =
               let back = turned x.0 y.0 e in
-              found_last (eq_by_cmp R q y.0) y ys refl (both (is_lt (R y.0 x.0)) _ (is_less y.0 x.0 back) (below_less y.0 x.0 xs back (behind x xs s))) later
+              found_last (eq_by_cmp R q y.0) y ys refl
+              (both (is_lt (R y.0 x.0)) _ (is_less y.0 x.0 back) (below_less y.0 x.0 xs back (behind x xs s))) later
 
     -- what is found in two sorted lists joined is what is found in each
-    pub find_joined : (q : K) (xs : List (K × A)) (ys : List (K × B)) → T (is_sorted R xs) → T (is_sorted R ys) → find R q (joined R xs ys) ≡ found (find R q xs) (find R q ys)
+    pub find_joined : (q : K) (xs : List (K × A)) (ys : List (K × B)) → T (is_sorted R xs) → T (is_sorted R ys) → find R q (joined R xs ys)
+        ≡ found (find R q xs) (find R q ys)
     find_joined q [] ys s t = find_new q ys
     find_joined q (x ∷ xs) ys s t = find_from q x xs s (λ ys t. find_joined q xs ys (rest_of x xs s) t) ys t

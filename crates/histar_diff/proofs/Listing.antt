@@ -62,7 +62,8 @@ module _ (q : Path) (a b : List Rights) where
   tied_path : path_cmp q q ≡ Equal
   tied_path = tied_itself path_cmp_total q
 
-  below_entries : (p : ProcName) (js : Processes) → T (below_all process_cmp p js) → (rest : List (Pair × Difference)) → T (below_all pair_cmp (q, p) rest)
+  below_entries : (p : ProcName) (js : Processes) → T (below_all process_cmp p js) → (rest : List (Pair × Difference))
+      → T (below_all pair_cmp (q, p) rest)
       → T (below_all pair_cmp (q, p) (entries js ++ rest))
   below_entries p [] h rest k = k
   below_entries p (e ∷ js) h rest k = by (same_at e) (below_entries p js (second (is_lt (process_cmp p e.0)) (below_all process_cmp p js) h) rest k)
@@ -71,19 +72,23 @@ module _ (q : Path) (a b : List Rights) where
       by true later = later
       by false later =
           both (is_lt (pair_cmp (q, p) (q, e.0))) _
-          (subst (λ o. T (is_lt (ordering_then o (process_cmp p e.0)))) (sym tied_path) (first (is_lt (process_cmp p e.0)) (below_all process_cmp p js) h)) later
+          (subst (λ o. T (is_lt (ordering_then o (process_cmp p e.0)))) (sym tied_path)
+          (first (is_lt (process_cmp p e.0)) (below_all process_cmp p js) h)) later
 
-  entries_rise : (js : Processes) → T (is_sorted process_cmp js) → (rest : List (Pair × Difference)) → T (is_sorted pair_cmp rest) → ((p : ProcName) → T (below_all pair_cmp (q, p) rest))
+  entries_rise : (js : Processes) → T (is_sorted process_cmp js) → (rest : List (Pair × Difference)) → T (is_sorted pair_cmp rest)
+      → ((p : ProcName) → T (below_all pair_cmp (q, p) rest))
       → T (is_sorted pair_cmp (entries js ++ rest))
   entries_rise [] s rest r h = r
   entries_rise (e ∷ js) s rest r h = by (same_at e) (entries_rise js (rest_of process_cmp process_cmp_total process_cmp_exact e js s) rest r h)
     where
       by : (same : Bool) → T (is_sorted pair_cmp (entries js ++ rest)) → T (is_sorted pair_cmp (more same e js ++ rest))
       by true later = later
-      by false later = both (below_all pair_cmp (q, e.0) (entries js ++ rest)) _ (below_entries e.0 js (behind process_cmp process_cmp_total process_cmp_exact e js s) rest (h e.0)) later
+      by false later = both (below_all pair_cmp (q, e.0) (entries js ++ rest)) _
+          (below_entries e.0 js (behind process_cmp process_cmp_total process_cmp_exact e js s) rest (h e.0)) later
 
   -- what is less than the path is less than all entries
-  above_entries : (z : Path) (p : ProcName) → path_cmp z q ≡ Less → (js : Processes) (rest : List (Pair × Difference)) → T (below_all pair_cmp (z, p) rest)
+  above_entries : (z : Path) (p : ProcName) → path_cmp z q ≡ Less → (js : Processes) (rest : List (Pair × Difference))
+      → T (below_all pair_cmp (z, p) rest)
       → T (below_all pair_cmp (z, p) (entries js ++ rest))
   above_entries z p e [] rest h = h
   above_entries z p e (d ∷ js) rest h = by (same_at d) (above_entries z p e js rest h)
@@ -93,13 +98,16 @@ module _ (q : Path) (a b : List Rights) where
       by false later = both (is_lt (pair_cmp (z, p) (q, d.0))) _ (subst (λ o. T (is_lt (ordering_then o (process_cmp p d.0)))) (sym e) tt) later
 
   -- another path is found behind
-  find_other : (z : Path) (p : ProcName) → eq_by_cmp path_cmp z q ≡ false → (js : Processes) (rest : List (Pair × Difference)) → find pair_cmp (z, p) (entries js ++ rest) ≡ find pair_cmp (z, p) rest
+  find_other : (z : Path) (p : ProcName) → eq_by_cmp path_cmp z q ≡ false → (js : Processes) (rest : List (Pair × Difference))
+      → find pair_cmp (z, p) (entries js ++ rest) ≡ find pair_cmp (z, p) rest
   find_other z p e [] rest = refl
   find_other z p e (d ∷ js) rest = by (same_at d) (find_other z p e js rest)
     where
-      by : (same : Bool) → find pair_cmp (z, p) (entries js ++ rest) ≡ find pair_cmp (z, p) rest → find pair_cmp (z, p) (more same d js ++ rest) ≡ find pair_cmp (z, p) rest
+      by : (same : Bool) → find pair_cmp (z, p) (entries js ++ rest) ≡ find pair_cmp (z, p) rest → find pair_cmp (z, p) (more same d js ++ rest)
+          ≡ find pair_cmp (z, p) rest
       by true later = later
-      by false later = ap (λ t. cond t (Some (there d)) (find pair_cmp (z, p) (entries js ++ rest))) (apart (path_cmp z q) (process_cmp p d.0) e) ∙ later
+      by false later = ap (λ t. cond t (Some (there d)) (find pair_cmp (z, p) (entries js ++ rest))) (apart (path_cmp z q) (process_cmp p d.0) e)
+          ∙ later
 
   -- the difference of a process, where it is found
   abbrev at_found : ProcName → Option (Joined Placed Placed) → Option Difference
@@ -111,7 +119,8 @@ module _ (q : Path) (a b : List Rights) where
       → find pair_cmp (q, p) (entries js ++ rest) ≡ at_found p (find process_cmp p js)
   find_entries p [] s rest none = none
   find_entries p (e ∷ js) s rest none =
-      by (same_at e) refl (eq_by_cmp process_cmp p e.0) refl (find_entries p js (rest_of process_cmp process_cmp_total process_cmp_exact e js s) rest none)
+      by (same_at e) refl (eq_by_cmp process_cmp p e.0) refl
+      (find_entries p js (rest_of process_cmp process_cmp_total process_cmp_exact e js s) rest none)
     where
       -- the process is this one
       same_process : eq_by_cmp process_cmp p e.0 ≡ true → p ≡ e.0
@@ -127,7 +136,8 @@ module _ (q : Path) (a b : List Rights) where
       first_test : is_eq (pair_cmp (q, p) (q, e.0)) ≡ eq_by_cmp process_cmp p e.0
       first_test = ap (λ o. is_eq (ordering_then o (process_cmp p e.0))) tied_path
 
-      by : (same : Bool) → same_at e ≡ same → (t : Bool) → eq_by_cmp process_cmp p e.0 ≡ t → find pair_cmp (q, p) (entries js ++ rest) ≡ at_found p (find process_cmp p js)
+      by : (same : Bool) → same_at e ≡ same → (t : Bool) → eq_by_cmp process_cmp p e.0 ≡ t → find pair_cmp (q, p) (entries js ++ rest)
+          ≡ at_found p (find process_cmp p js)
           → find pair_cmp (q, p) (more same e js ++ rest) ≡ at_found p (cond t (Some e.1) (find process_cmp p js))
       by true m true t later = later ∙ ap (at_found p) (lost t) ∙ sym (ap (λ k. at (k, e.1)) (same_process t) ∙ it true m)
       by true m false t later = later
@@ -169,20 +179,24 @@ module _ (js : Processes) (rising : T (is_sorted process_cmp js)) where
   rows_above z p [] h = tt
   rows_above z p (l ∷ ls) h =
       subst (λ es. T (below_all pair_cmp (z, p) es)) (sym (one_row l ls))
-      (above_entries l.0 (unwrap_or (old_of l.1) []) (unwrap_or (new_of l.1) []) z p (less (path_cmp z l.0) (first (is_lt (path_cmp z l.0)) (below_all path_cmp z ls) h)) js (rows ls)
+      (above_entries l.0 (unwrap_or (old_of l.1) []) (unwrap_or (new_of l.1) []) z p
+      (less (path_cmp z l.0) (first (is_lt (path_cmp z l.0)) (below_all path_cmp z ls) h)) js (rows ls)
       (rows_above z p ls (second (is_lt (path_cmp z l.0)) (below_all path_cmp z ls) h)))
 
   rows_rise : (ls : Lines) → T (is_sorted path_cmp ls) → T (is_sorted pair_cmp (rows ls))
   rows_rise [] s = tt
   rows_rise (l ∷ ls) s =
       subst (λ es. T (is_sorted pair_cmp es)) (sym (one_row l ls))
-      (entries_rise l.0 (unwrap_or (old_of l.1) []) (unwrap_or (new_of l.1) []) js rising (rows ls) (rows_rise ls (rest_of path_cmp path_cmp_total path_cmp_exact l ls s))
+      (entries_rise l.0 (unwrap_or (old_of l.1) []) (unwrap_or (new_of l.1) []) js rising (rows ls)
+      (rows_rise ls (rest_of path_cmp path_cmp_total path_cmp_exact l ls s))
       (λ p. rows_above l.0 p ls (behind path_cmp path_cmp_total path_cmp_exact l ls s)))
 
-  find_rows : (q : Path) (p : ProcName) (ls : Lines) → T (is_sorted path_cmp ls) → find pair_cmp (q, p) (rows ls) ≡ reached q p (find path_cmp q ls) (find process_cmp p js)
+  find_rows : (q : Path) (p : ProcName) (ls : Lines) → T (is_sorted path_cmp ls) → find pair_cmp (q, p) (rows ls)
+      ≡ reached q p (find path_cmp q ls) (find process_cmp p js)
   find_rows q p [] s = refl
   find_rows q p (l ∷ ls) s =
-      ap (find pair_cmp (q, p)) (one_row l ls) ∙ by (eq_by_cmp path_cmp q l.0) refl (find_rows q p ls (rest_of path_cmp path_cmp_total path_cmp_exact l ls s))
+      ap (find pair_cmp (q, p)) (one_row l ls)
+      ∙ by (eq_by_cmp path_cmp q l.0) refl (find_rows q p ls (rest_of path_cmp path_cmp_total path_cmp_exact l ls s))
     where
       by : (t : Bool) → eq_by_cmp path_cmp q l.0 ≡ t → find pair_cmp (q, p) (rows ls) ≡ reached q p (find path_cmp q ls) (find process_cmp p js)
           → find pair_cmp (q, p) (row l ++ rows ls) ≡ reached q p (cond t (Some l.1) (find path_cmp q ls)) (find process_cmp p js)
@@ -191,7 +205,8 @@ module _ (js : Processes) (rising : T (is_sorted process_cmp js)) where
           let a = unwrap_or (old_of l.1) [] in
           let b = unwrap_or (new_of l.1) [] in
           ap (λ k. find pair_cmp (k, p) (row l ++ rows ls)) here
-          ∙ find_entries l.0 a b p js rising (rows ls) (no_pair (l.0, p) (rows ls) (rows_above l.0 p ls (behind path_cmp path_cmp_total path_cmp_exact l ls s)))
+          ∙ find_entries l.0 a b p js rising (rows ls)
+          (no_pair (l.0, p) (rows ls) (rows_above l.0 p ls (behind path_cmp path_cmp_total path_cmp_exact l ls s)))
           ∙ ap (λ k. at_found k a b p (find process_cmp p js)) (sym here)
       by false t later = find_other l.0 (unwrap_or (old_of l.1) []) (unwrap_or (new_of l.1) []) q p t js (rows ls) ∙ later
 
@@ -206,13 +221,15 @@ module _ (q : Path) (p : ProcName) where
   expected a b c d =
       let before = rights_at (unwrap_or a []) (option_map (λ (at : Placed). at.place) c) in
       let after = rights_at (unwrap_or b []) (option_map (λ (at : Placed). at.place) d) in
-      if same_rights before after then None else option_map (λ user. record { path = q; process = p; user = user; before = before; after = after }) (newer_user c d)
+      if same_rights before after then None else option_map
+      (λ user. record { path = q; process = p; user = user; before = before; after = after }) (newer_user c d)
 
   nowhere : (c d : Option Placed) → None ≡ expected None None c d
   nowhere c d =
       let before = no_line (option_map (λ (at : Placed). at.place) c) in
       let after = no_line (option_map (λ (at : Placed). at.place) d) in
-      λ i. if same_rights (sym before i) (sym after i) then None else option_map (λ user. record { path = q; process = p; user = user; before = sym before i; after = sym after i }) (newer_user c d)
+      λ i. if same_rights (sym before i) (sym after i) then None else option_map
+      (λ user. record { path = q; process = p; user = user; before = sym before i; after = sym after i }) (newer_user c d)
 
   as_expected : (a b : Option (List Rights)) (c d : Option Placed) → reached q p (found a b) (found c d) ≡ expected a b c d
   as_expected None None c d = nowhere c d
@@ -238,11 +255,14 @@ are_differences old new o n =
     let js = joined process_cmp xs ys in
     let ls = joined path_cmp (by_path old.lines.items) (by_path new.lines.items) in
     let rising = sorted_joined process_cmp process_cmp_total process_cmp_exact Placed Placed xs ys o.processes n.processes in
-    let paths_rise = sorted_joined path_cmp path_cmp_total path_cmp_exact (List Rights) (List Rights) (by_path old.lines.items) (by_path new.lines.items) o.paths n.paths in
+    let paths_rise = sorted_joined path_cmp path_cmp_total path_cmp_exact (List Rights) (List Rights) (by_path old.lines.items)
+    (by_path new.lines.items) o.paths n.paths in
     record {
       rising = rows_rise js rising ls paths_rise;
       each = λ q p. find_rows js rising q p ls paths_rise
-          ∙ (λ i. reached q p (find_joined path_cmp path_cmp_total path_cmp_exact (List Rights) (List Rights) q (by_path old.lines.items) (by_path new.lines.items) o.paths n.paths i)
+          ∙ (λ i. reached q p (find_joined path_cmp path_cmp_total path_cmp_exact (List Rights) (List Rights) q (by_path old.lines.items)
+          (by_path new.lines.items) o.paths n.paths i)
           (find_joined process_cmp process_cmp_total process_cmp_exact Placed Placed p xs ys o.processes n.processes i))
-          ∙ as_expected q p (find path_cmp q (by_path old.lines.items)) (find path_cmp q (by_path new.lines.items)) (process_in old p) (process_in new p);
+          ∙ as_expected q p (find path_cmp q (by_path old.lines.items)) (find path_cmp q (by_path new.lines.items)) (process_in old p)
+          (process_in new p);
     }

@@ -48,7 +48,8 @@ placed_rise : (i : ℕ) (ns : List Named) → T (is_sorted process_cmp ns) → T
 placed_rise i [] h = tt
 placed_rise i (n ∷ ns) h =
     both (below_all process_cmp n.0 (by_process (i + 1) (map runner ns))) _
-    (below_placed n.0 (i + 1) ns (first (below_all process_cmp n.0 ns) (is_sorted process_cmp ns) h)) (placed_rise (i + 1) ns (second (below_all process_cmp n.0 ns) (is_sorted process_cmp ns) h))
+    (below_placed n.0 (i + 1) ns (first (below_all process_cmp n.0 ns) (is_sorted process_cmp ns) h))
+    (placed_rise (i + 1) ns (second (below_all process_cmp n.0 ns) (is_sorted process_cmp ns) h))
 
 -- the place that is found
 abbrev place_of : Option Placed → Option ℕ
@@ -70,10 +71,13 @@ module _ (F : Named → Rights) (p : ProcName) where
       ∙ at_place (front ++ F n ∷ []) (i + 1) ns (length-append front (F n ∷ []) ∙ ap (λ k. k + 1) e))
     where
       by : (t : Bool) → eq_by_cmp process_cmp p n.0 ≡ t
-          → rights_at (front ++ F n ∷ map F ns) (place_of (find process_cmp p (by_process (i + 1) (map runner ns)))) ≡ of_found (find process_cmp p ns)
-          → rights_at (front ++ F n ∷ map F ns) (place_of (cond t (Some (record { place = i; user = n.1.user })) (find process_cmp p (by_process (i + 1) (map runner ns)))))
+          → rights_at (front ++ F n ∷ map F ns) (place_of (find process_cmp p (by_process (i + 1) (map runner ns))))
+          ≡ of_found (find process_cmp p ns)
+          → rights_at (front ++ F n ∷ map F ns)
+          (place_of (cond t (Some (record { place = i; user = n.1.user })) (find process_cmp p (by_process (i + 1) (map runner ns)))))
           ≡ of_found (cond t (Some n.1) (find process_cmp p ns))
-      by true t later = get_or_at front (F n) (map F ns) no_rights i e ∙ ap (λ k. F (k, n.1)) (sym (process_cmp_exact p n.0 (equal (process_cmp p n.0) t)))
+      by true t later = get_or_at front (F n) (map F ns) no_rights i e
+          ∙ ap (λ k. F (k, n.1)) (sym (process_cmp_exact p n.0 (equal (process_cmp p n.0) t)))
       by false t later = later
 
 -- ---- paths
@@ -86,7 +90,8 @@ module _ (session : Session) (f : Flat) (ns : List Named) where
   abbrev there : Path × Node → Path × List Rights
   there e = (e.0, rights_there e.0 e.1)
 
-  rights_of_cells : (e : Path × Node) (cs : List Named) → map (λ (c : Cell). c.rights) (map (cell_at session f e) cs) ≡ map (λ (n : Named). rights_by_calls session f n.0 n.1 e.0 e.1) cs
+  rights_of_cells : (e : Path × Node) (cs : List Named) → map (λ (c : Cell). c.rights) (map (cell_at session f e) cs)
+      ≡ map (λ (n : Named). rights_by_calls session f n.0 n.1 e.0 e.1) cs
   rights_of_cells e [] = refl
   rights_of_cells e (n ∷ cs) = ap (λ rs. rights_by_calls session f n.0 n.1 e.0 e.1 ∷ rs) (rights_of_cells e cs)
 
@@ -97,7 +102,8 @@ module _ (session : Session) (f : Flat) (ns : List Named) where
   below_there : (z : Path) (es : List (Path × Node)) → T (below_all path_cmp z es) → T (below_all path_cmp z (map there es))
   below_there z [] h = tt
   below_there z (e ∷ es) h =
-      both (is_lt (path_cmp z e.0)) _ (first (is_lt (path_cmp z e.0)) (below_all path_cmp z es) h) (below_there z es (second (is_lt (path_cmp z e.0)) (below_all path_cmp z es) h))
+      both (is_lt (path_cmp z e.0)) _ (first (is_lt (path_cmp z e.0)) (below_all path_cmp z es) h)
+      (below_there z es (second (is_lt (path_cmp z e.0)) (below_all path_cmp z es) h))
 
   there_rise : (es : List (Path × Node)) → T (is_sorted path_cmp es) → T (is_sorted path_cmp (map there es))
   there_rise [] h = tt
@@ -111,7 +117,8 @@ module _ (session : Session) (f : Flat) (ns : List Named) where
   find_there q (e ∷ es) = by (eq_by_cmp path_cmp q e.0) refl (find_there q es)
     where
       by : (t : Bool) → eq_by_cmp path_cmp q e.0 ≡ t → find path_cmp q (map there es) ≡ option_map (rights_there q) (find path_cmp q es)
-          → cond t (Some (rights_there e.0 e.1)) (find path_cmp q (map there es)) ≡ option_map (rights_there q) (cond t (Some e.1) (find path_cmp q es))
+          → cond t (Some (rights_there e.0 e.1)) (find path_cmp q (map there es))
+          ≡ option_map (rights_there q) (cond t (Some e.1) (find path_cmp q es))
       by true t later = ap (λ k. Some (rights_there k e.1)) (sym (path_cmp_exact q e.0 (equal (path_cmp q e.0) t)))
       by false t later = later
 
@@ -121,8 +128,10 @@ shown_tables_rise session calls t shows =
     let f = flat_end session (boot session) calls in
     let ns = running_in f in
     record {
-      paths = subst (λ es. T (is_sorted path_cmp es)) (sym (shows.lines ∙ rights_lines session f ns f.files.entries)) (there_rise session f ns f.files.entries f.files.sorted);
-      processes = subst (λ rs. T (is_sorted process_cmp (by_process 0 rs))) (sym shows.processes) (placed_rise 0 ns (running_are_listed session calls).rising);
+      paths = subst (λ es. T (is_sorted path_cmp es)) (sym (shows.lines
+          ∙ rights_lines session f ns f.files.entries)) (there_rise session f ns f.files.entries f.files.sorted);
+      processes = subst (λ rs. T (is_sorted process_cmp (by_process 0 rs))) (sym shows.processes)
+          (placed_rise 0 ns (running_are_listed session calls).rising);
     }
 
 module _ (session : Session) (f : Flat) (q : Path) (p : ProcName) where
@@ -173,7 +182,8 @@ without_pairs (d ∷ ds) = ap (λ es. d ∷ es) (without_pairs ds)
 pub differences_are_one_list : DifferencesAreOneList
 differences_are_one_list old new ds es a b =
     sym (without_pairs ds)
-    ∙ ap (map (λ (e : Pair × Difference). e.1)) (same_entries pair_cmp pair_cmp_total pair_cmp_exact (by_pair ds) (by_pair es) a.rising b.rising (λ k. a.each k.0 k.1 ∙ sym (b.each k.0 k.1)))
+    ∙ ap (map (λ (e : Pair × Difference). e.1))
+    (same_entries pair_cmp pair_cmp_total pair_cmp_exact (by_pair ds) (by_pair es) a.rising b.rising (λ k. a.each k.0 k.1 ∙ sym (b.each k.0 k.1)))
     ∙ without_pairs es
 
 -- equal tests are of equal things
@@ -197,7 +207,8 @@ same_rights_are a b e =
     }
 
 -- rights that aren't listed as different are the same
-unlisted : (old new : Table) (q : Path) (p : ProcName) (c d : Option Placed) (a b : Rights) → a ≡ rights_at (line_in old q) (place_of c) → b ≡ rights_at (line_in new q) (place_of d)
+unlisted : (old new : Table) (q : Path) (p : ProcName) (c d : Option Placed) (a b : Rights) → a ≡ rights_at (line_in old q) (place_of c) → b
+    ≡ rights_at (line_in new q) (place_of d)
     → (same : Bool) → same_rights a b ≡ same → None ≡ (if same then None else option_map (difference old new q p) (newer_user c d)) → a ≡ b
 unlisted old new q p c d a b m n true e none = same_rights_are a b e
 unlisted old new q p None None a b m n false e none = m ∙ sym n
@@ -208,7 +219,8 @@ unlisted old new q p (Some c) (Some d) a b m n false e none = absurd (none-some 
 -- where no difference is listed, each process has the same rights at each path in both tables
 pub none_is_the_same : NoneIsTheSame
 none_is_the_same old new none q p =
-    unlisted old new q p (process_in old p) (process_in new p) (rights_in old q p) (rights_in new q p) refl refl (same_rights (rights_in old q p) (rights_in new q p)) refl (none.each q p)
+    unlisted old new q p (process_in old p) (process_in new p) (rights_in old q p) (rights_in new q p) refl refl
+    (same_rights (rights_in old q p) (rights_in new q p)) refl (none.each q p)
 
 -- where no difference is listed, nobody's rights have changed
 pub nothing_has_changed : NothingHasChanged

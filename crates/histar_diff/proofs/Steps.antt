@@ -24,7 +24,8 @@ use Rattle.histar_diff.specs.Lines.{joined_differences, line_differences, lines_
 
 -- things are ordered as what a function makes of them
 pub by_image : {A B : Type 0} (h : A → B) (R : B → B → Ordering) → IsTotalOrder R → IsTotalOrder (λ x y. R (h x) (h y))
-by_image h R o = record { antisymm = λ x y. o.antisymm (h x) (h y); trans = λ x y z. o.trans (h x) (h y) (h z); congr = λ x y z. o.congr (h x) (h y) (h z) }
+by_image h R o = record
+    { antisymm = λ x y. o.antisymm (h x) (h y); trans = λ x y z. o.trans (h x) (h y) (h z); congr = λ x y z. o.congr (h x) (h y) (h z) }
 
 -- the order of processes is total
 pub process_cmp_total : IsTotalOrder process_cmp
@@ -32,7 +33,8 @@ process_cmp_total = by_image from_root (slice_cmp nat_cmp) (lists_total nat_cmp_
 
 -- two names tie only where they are equal
 pub process_cmp_exact : IsAntisymmetric process_cmp
-process_cmp_exact a b e = sym (from_root_twice a) ∙ ap from_root (slice_cmp-IsAntisymmetric nat_cmp-IsAntisymmetric (from_root a) (from_root b) e) ∙ from_root_twice b
+process_cmp_exact a b e = sym (from_root_twice a) ∙ ap from_root (slice_cmp-IsAntisymmetric nat_cmp-IsAntisymmetric (from_root a) (from_root b) e)
+    ∙ from_root_twice b
 
 module _ {K A B : Type 0} (R : K → K → Ordering) (total : IsTotalOrder R) where
   -- two lists joined begin with their least key, and what stands there in each
@@ -69,7 +71,8 @@ module _ {K A B : Type 0} (R : K → K → Ordering) (total : IsTotalOrder R) wh
         shorter = omega (arith, less);
       }
 
-  of_both : (x : K × A) (xs : List (K × A)) (y : K × B) (ys : List (K × B)) (o : Ordering) → R x.0 y.0 ≡ o → IsStep (by_order o x.0 x.0 y.0) (x ∷ xs) (y ∷ ys)
+  of_both : (x : K × A) (xs : List (K × A)) (y : K × B) (ys : List (K × B)) (o : Ordering) → R x.0 y.0 ≡ o
+      → IsStep (by_order o x.0 x.0 y.0) (x ∷ xs) (y ∷ ys)
   of_both x xs y ys Less e =
       let t = tied_itself total x.0 in
       let past : past_key R x.0 (x ∷ xs) ≡ xs = λ i. cond (is_eq (t i)) xs (x ∷ xs) in
@@ -78,7 +81,8 @@ module _ {K A B : Type 0} (R : K → K → Ordering) (total : IsTotalOrder R) wh
       let same = ap length stays in
       record {
         value = OnlyOld x.1;
-        is = (λ i. by_order (e i) ((x.0, OnlyOld x.1) ∷ joined R xs (y ∷ ys)) ((x.0, InBoth x.1 y.1) ∷ joined R xs ys) ((y.0, OnlyNew y.1) ∷ joined R (x ∷ xs) ys))
+        is = (λ i. by_order (e i) ((x.0, OnlyOld x.1) ∷ joined R xs (y ∷ ys)) ((x.0, InBoth x.1 y.1) ∷ joined R xs ys)
+            ((y.0, OnlyNew y.1) ∷ joined R (x ∷ xs) ys))
             ∙ (λ i. (x.0, OnlyOld x.1) ∷ joined R (sym past i) (sym stays i));
         old = λ i. cond (is_eq (sym t i)) (Some x.1) None;
         new = λ i. cond (is_eq (sym e i)) (Some y.1) None;
@@ -92,7 +96,8 @@ module _ {K A B : Type 0} (R : K → K → Ordering) (total : IsTotalOrder R) wh
       let same = ap length other in
       record {
         value = InBoth x.1 y.1;
-        is = (λ i. by_order (e i) ((x.0, OnlyOld x.1) ∷ joined R xs (y ∷ ys)) ((x.0, InBoth x.1 y.1) ∷ joined R xs ys) ((y.0, OnlyNew y.1) ∷ joined R (x ∷ xs) ys))
+        is = (λ i. by_order (e i) ((x.0, OnlyOld x.1) ∷ joined R xs (y ∷ ys)) ((x.0, InBoth x.1 y.1) ∷ joined R xs ys)
+            ((y.0, OnlyNew y.1) ∷ joined R (x ∷ xs) ys))
             ∙ (λ i. (x.0, InBoth x.1 y.1) ∷ joined R (sym past i) (sym other i));
         old = λ i. cond (is_eq (sym t i)) (Some x.1) None;
         new = λ i. cond (is_eq (sym e i)) (Some y.1) None;
@@ -107,7 +112,8 @@ module _ {K A B : Type 0} (R : K → K → Ordering) (total : IsTotalOrder R) wh
       let same = ap length stays in
       record {
         value = OnlyNew y.1;
-        is = (λ i. by_order (e i) ((x.0, OnlyOld x.1) ∷ joined R xs (y ∷ ys)) ((x.0, InBoth x.1 y.1) ∷ joined R xs ys) ((y.0, OnlyNew y.1) ∷ joined R (x ∷ xs) ys))
+        is = (λ i. by_order (e i) ((x.0, OnlyOld x.1) ∷ joined R xs (y ∷ ys)) ((x.0, InBoth x.1 y.1) ∷ joined R xs ys)
+            ((y.0, OnlyNew y.1) ∷ joined R (x ∷ xs) ys))
             ∙ (λ i. (y.0, OnlyNew y.1) ∷ joined R (sym stays i) (sym past i));
         old = λ i. cond (is_eq (sym back i)) (Some x.1) None;
         new = λ i. cond (is_eq (sym t i)) (Some y.1) None;
@@ -118,7 +124,8 @@ module _ {K A B : Type 0} (R : K → K → Ordering) (total : IsTotalOrder R) wh
   step k [] [] e = absurd (none-some k e)
   step k [] (y ∷ ys) e = subst (λ k. IsStep k [] (y ∷ ys)) (same_Some y.0 k e) (only_new y ys)
   step k (x ∷ xs) [] e = subst (λ k. IsStep k (x ∷ xs) []) (same_Some x.0 k e) (only_old x xs)
-  step k (x ∷ xs) (y ∷ ys) e = subst (λ k. IsStep k (x ∷ xs) (y ∷ ys)) (same_Some (by_order (R x.0 y.0) x.0 x.0 y.0) k e) (of_both x xs y ys (R x.0 y.0) refl)
+  step k (x ∷ xs) (y ∷ ys) e = subst (λ k. IsStep k (x ∷ xs) (y ∷ ys)) (same_Some (by_order (R x.0 y.0) x.0 x.0 y.0) k e)
+      (of_both x xs y ys (R x.0 y.0) refl)
 
   -- where no key is the least, nothing is joined
   pub joined_nothing : (xs : List (K × A)) (ys : List (K × B)) → lower R xs ys ≡ None → joined R xs ys ≡ []
@@ -133,14 +140,17 @@ module _ {K A B : Type 0} (R : K → K → Ordering) (total : IsTotalOrder R) wh
 pub lines_step : (columns : List Column) (q : Path) (old new old_rest new_rest : List TableLine) → lower path_cmp (by_path old) (by_path new) ≡ Some q
     → by_path old_rest ≡ past_key path_cmp q (by_path old) → by_path new_rest ≡ past_key path_cmp q (by_path new)
     → lines_differences columns old new
-    ≡ line_differences columns q (unwrap_or (at_key path_cmp q (by_path old)) []) (unwrap_or (at_key path_cmp q (by_path new)) []) ++ lines_differences columns old_rest new_rest
+    ≡ line_differences columns q (unwrap_or (at_key path_cmp q (by_path old)) []) (unwrap_or (at_key path_cmp q (by_path new)) []) ++
+    lines_differences columns old_rest new_rest
 lines_step columns q old new old_rest new_rest e o n =
     let s = step path_cmp path_cmp_total q (by_path old) (by_path new) e in
     ap (flat_map (joined_differences columns)) s.is
-    ∙ (λ i. line_differences columns q (unwrap_or (s.old i) []) (unwrap_or (s.new i) []) ++ flat_map (joined_differences columns) (joined path_cmp (sym o i) (sym n i)))
+    ∙ (λ i. line_differences columns q (unwrap_or (s.old i) []) (unwrap_or (s.new i) []) ++ flat_map (joined_differences columns)
+    (joined path_cmp (sym o i) (sym n i)))
 
 -- nothing is left where no path is the first
-pub lines_end : (columns : List Column) (old new : List TableLine) → lower path_cmp (by_path old) (by_path new) ≡ None → lines_differences columns old new ≡ []
+pub lines_end : (columns : List Column) (old new : List TableLine) → lower path_cmp (by_path old) (by_path new) ≡ None
+    → lines_differences columns old new ≡ []
 lines_end columns old new e = ap (flat_map (joined_differences columns)) (joined_nothing path_cmp path_cmp_total (by_path old) (by_path new) e)
 
 as_many : (lines : List TableLine) → length (by_path lines) ≡ length lines
@@ -149,7 +159,8 @@ as_many (l ∷ lines) = ap suc (as_many lines)
 
 -- there are fewer lines behind the first path
 pub fewer_lines : (q : Path) (old new old_rest new_rest : List TableLine) → lower path_cmp (by_path old) (by_path new) ≡ Some q
-    → by_path old_rest ≡ past_key path_cmp q (by_path old) → by_path new_rest ≡ past_key path_cmp q (by_path new) → length old_rest + length new_rest < length old + length new
+    → by_path old_rest ≡ past_key path_cmp q (by_path old) → by_path new_rest ≡ past_key path_cmp q (by_path new)
+    → length old_rest + length new_rest < length old + length new
 fewer_lines q old new old_rest new_rest e o n =
     let s = step path_cmp path_cmp_total q (by_path old) (by_path new) e in
     let shorter = s.shorter in
@@ -167,7 +178,8 @@ column_of r before after = record { process = r.process; user = r.user; before =
 pub record IsColumnStep (r : Runner) (n m : ℕ) (xs ys : List Runner) : Type 0 where
   pub is : columns_from (n - length xs) xs (m - length ys) ys
       ≡ column_of r (place_at (n - length xs) r.process xs) (place_at (m - length ys) r.process ys)
-      ∷ columns_from (n - length (past_process r.process xs)) (past_process r.process xs) (m - length (past_process r.process ys)) (past_process r.process ys)
+      ∷ columns_from (n - length (past_process r.process xs)) (past_process r.process xs) (m - length (past_process r.process ys))
+      (past_process r.process ys)
   pub old_shorter : length (past_process r.process xs) ≤ length xs
   pub new_shorter : length (past_process r.process ys) ≤ length ys
   pub shorter : length (past_process r.process xs) + length (past_process r.process ys) < length xs + length ys
@@ -210,7 +222,8 @@ only_old_column n m x xs h =
       shorter = omega (arith, less);
     }
 
-module _ (n m : ℕ) (x : Runner) (xs : List Runner) (y : Runner) (ys : List Runner) (old_within : length (x ∷ xs) ≤ n) (new_within : length (y ∷ ys) ≤ m) where
+module _ (n m : ℕ) (x : Runner) (xs : List Runner) (y : Runner) (ys : List Runner) (old_within : length (x ∷ xs) ≤ n)
+    (new_within : length (y ∷ ys) ≤ m) where
   abbrev i0 : ℕ
   i0 = n - length (x ∷ xs)
 
@@ -221,7 +234,8 @@ module _ (n m : ℕ) (x : Runner) (xs : List Runner) (y : Runner) (ys : List Run
   left = (x.process, OnlyOld (record { place = i0; user = x.user })) ∷ joined process_cmp (by_process (i0 + 1) xs) (by_process j0 (y ∷ ys))
 
   abbrev tied : List (ProcName × Joined Placed Placed)
-  tied = (x.process, InBoth (record { place = i0; user = x.user }) (record { place = j0; user = y.user })) ∷ joined process_cmp (by_process (i0 + 1) xs) (by_process (j0 + 1) ys)
+  tied = (x.process, InBoth (record { place = i0; user = x.user }) (record { place = j0; user = y.user })) ∷ joined process_cmp
+      (by_process (i0 + 1) xs) (by_process (j0 + 1) ys)
 
   abbrev right : List (ProcName × Joined Placed Placed)
   right = (y.process, OnlyNew (record { place = j0; user = y.user })) ∷ joined process_cmp (by_process i0 (x ∷ xs)) (by_process (j0 + 1) ys)
@@ -234,7 +248,8 @@ module _ (n m : ℕ) (x : Runner) (xs : List Runner) (y : Runner) (ys : List Run
   ordered Less e = ap (map column) (λ k. by_order (e k) left tied right)
   ordered Equal e =
       ap (map column) (λ k. by_order (e k) left tied right)
-      ∙ (λ k. record { process = process_cmp_exact x.process y.process e k; user = y.user; before = Some i0; after = Some j0 } ∷ columns_from (i0 + 1) xs (j0 + 1) ys)
+      ∙ (λ k. record { process = process_cmp_exact x.process y.process e k; user = y.user; before = Some i0; after = Some j0 } ∷ columns_from
+      (i0 + 1) xs (j0 + 1) ys)
   ordered Greater e = ap (map column) (λ k. by_order (e k) left tied right)
 
   both_columns : (o : Ordering) → process_cmp x.process y.process ≡ o → IsColumnStep (by_order o x y y) n m (x ∷ xs) (y ∷ ys)
@@ -246,7 +261,8 @@ module _ (n m : ℕ) (x : Runner) (xs : List Runner) (y : Runner) (ys : List Run
       record {
         is = ordered Less e
             ∙ (λ k. column_of x (sym (placed i0 x xs) k) (sym absent k) ∷ columns_from (next_place n (length xs) old_within k) xs j0 (y ∷ ys))
-            ∙ (λ k. column_of x (place_at i0 x.process (x ∷ xs)) (place_at j0 x.process (y ∷ ys)) ∷ columns_at n m (sym (passed x xs) k) (sym stays k));
+            ∙ (λ k. column_of x (place_at i0 x.process (x ∷ xs)) (place_at j0 x.process (y ∷ ys)) ∷ columns_at n m (sym (passed x xs) k)
+            (sym stays k));
         old_shorter = omega (arith, less);
         new_shorter = omega (arith, same);
         shorter = omega (arith, less, same);
@@ -259,8 +275,10 @@ module _ (n m : ℕ) (x : Runner) (xs : List Runner) (y : Runner) (ys : List Run
       let other = ap length past in
       record {
         is = ordered Equal e
-            ∙ (λ k. column_of y (sym here k) (sym (placed j0 y ys) k) ∷ columns_from (next_place n (length xs) old_within k) xs (next_place m (length ys) new_within k) ys)
-            ∙ (λ k. column_of y (place_at i0 y.process (x ∷ xs)) (place_at j0 y.process (y ∷ ys)) ∷ columns_at n m (sym past k) (sym (passed y ys) k));
+            ∙ (λ k. column_of y (sym here k) (sym (placed j0 y ys) k) ∷ columns_from (next_place n (length xs) old_within k) xs
+            (next_place m (length ys) new_within k) ys)
+            ∙ (λ k. column_of y (place_at i0 y.process (x ∷ xs)) (place_at j0 y.process (y ∷ ys)) ∷ columns_at n m (sym past k)
+            (sym (passed y ys) k));
         old_shorter = omega (arith, other);
         new_shorter = omega (arith, less);
         shorter = omega (arith, less, other);
@@ -274,7 +292,8 @@ module _ (n m : ℕ) (x : Runner) (xs : List Runner) (y : Runner) (ys : List Run
       record {
         is = ordered Greater e
             ∙ (λ k. column_of y (sym absent k) (sym (placed j0 y ys) k) ∷ columns_from i0 (x ∷ xs) (next_place m (length ys) new_within k) ys)
-            ∙ (λ k. column_of y (place_at i0 y.process (x ∷ xs)) (place_at j0 y.process (y ∷ ys)) ∷ columns_at n m (sym stays k) (sym (passed y ys) k));
+            ∙ (λ k. column_of y (place_at i0 y.process (x ∷ xs)) (place_at j0 y.process (y ∷ ys)) ∷ columns_at n m (sym stays k)
+            (sym (passed y ys) k));
         old_shorter = omega (arith, same);
         new_shorter = omega (arith, less);
         shorter = omega (arith, less, same);

@@ -34,7 +34,8 @@ difference old new q p user = record { path = q; process = p; user = user; befor
 
 -- the rights of a process at a path in two tables, where they differ
 abbrev pub difference_in : Table → Table → Path → ProcName → Option Difference
-difference_in old new q p = if same_rights (rights_in old q p) (rights_in new q p) then None else option_map (difference old new q p) (user_in old new p)
+difference_in old new q p = if same_rights (rights_in old q p) (rights_in new q p) then None else option_map (difference old new q p)
+    (user_in old new p)
 
 -- differences by their paths and processes
 abbrev pub by_pair : List Difference → List (Pair × Difference)

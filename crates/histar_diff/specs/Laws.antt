@@ -39,5 +39,7 @@ TablesShowRights =
 abbrev pub NothingHasChanged : Type 0
 NothingHasChanged =
     (session later : Session) (calls more : List CallLine) (old new : Table)
-    → ShowsRights session (flat_end session (boot session) calls) old → ShowsRights later (flat_end later (boot later) more) new → AreDifferences old new []
-    → (q : Path) (p : ProcName) → rights_of session (flat_end session (boot session) calls) q p ≡ rights_of later (flat_end later (boot later) more) q p
+    → ShowsRights session (flat_end session (boot session) calls) old → ShowsRights later (flat_end later (boot later) more) new
+    → AreDifferences old new []
+    → (q : Path) (p : ProcName) → rights_of session (flat_end session (boot session) calls) q p
+    ≡ rights_of later (flat_end later (boot later) more) q p

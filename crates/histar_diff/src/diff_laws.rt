@@ -1,5 +1,7 @@
 //! What differences come to. Each law is the contract of a function that does nothing.
-ghost use Rattle.histar_diff.specs.Laws.{DifferencesAreListed, DifferencesAreOneList, NoneIsTheSame, NothingHasChanged, ShownTablesRise, TablesShowRights};
+ghost use Rattle.histar_diff.specs.Laws.{DifferencesAreListed, DifferencesAreOneList};
+ghost use Rattle.histar_diff.specs.Laws.{NoneIsTheSame, NothingHasChanged};
+ghost use Rattle.histar_diff.specs.Laws.{ShownTablesRise, TablesShowRights};
 
 /// A pair of a path and a process is listed exactly where its rights differ.
 pub fn differences_are_listed()
@@ -16,7 +18,8 @@ pub fn differences_are_one_list()
     ensures { DifferencesAreOneList }
 {}
 
-/// A table that shows the rights after the calls of a script is in order, as `differences_between` requires.
+/// A table that shows the rights after the calls of a script is in order, as `differences_between`
+/// requires.
 pub fn shown_tables_rise()
     ensures { ShownTablesRise }
 {}
@@ -26,8 +29,8 @@ pub fn tables_show_rights()
     ensures { TablesShowRights }
 {}
 
-/// Where no difference is listed of two tables that show the rights after the calls of scripts, nobody's
-/// rights have changed.
+/// Where no difference is listed of two tables that show the rights after the calls of scripts,
+/// nobody's rights have changed.
 pub fn nothing_has_changed()
     ensures { NothingHasChanged }
 {}

@@ -32,8 +32,8 @@ pub struct Difference {
     pub after: Rights,
 }
 
-/// Returns the paths and processes whose rights differ between two tables, by rising paths, and at each
-/// path by rising processes. One pass goes over the lines of both.
+/// Returns the paths and processes whose rights differ between two tables, by rising paths, and at
+/// each path by rising processes. One pass goes over the lines of both.
 pub fn differences_between(
     alloc: Global,
     old: &Table,
@@ -59,7 +59,8 @@ fn lines_differences(
     old: &[TableLine],
     new: &[TableLine],
 ) -> Result<Vec<Difference>, AllocError>
-    ensures { IfOk result (λ differences. differences.items ≡ lines_differences columns.now old.now new.now) }
+    ensures { IfOk result (λ differences.
+        differences.items ≡ lines_differences columns.now old.now new.now) }
 {
     let mut differences = Vec::new(alloc);
     let (mut old_rest, mut new_rest) = (old, new);

@@ -17,8 +17,8 @@ pub struct TableLine {
     pub rights: Vec<Rights>,
 }
 
-/// Who may do what: the processes that run, by rising names, and a line for each file and directory,
-/// by rising paths.
+/// Who may do what: the processes that run, by rising names, and a line for each file and
+/// directory, by rising paths.
 #[derive(Drop)]
 pub struct Table {
     pub processes: Vec<Runner>,

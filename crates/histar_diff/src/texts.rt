@@ -10,8 +10,8 @@ use histar_rights::Rights;
 use itoa::Buffer;
 use std::alloc::AllocError;
 
-/// Adds the line of a difference: the path, the process, its user, and its rights in the old and in the new
-/// table.
+/// Adds the line of a difference: the path, the process, its user, and its rights in the old and in
+/// the new table.
 pub fn push_difference(line: &mut Vec<u8>, difference: &Difference) -> Result<(), AllocError>
     ensures { OnOk result (line.new.items ≡ line.old.items ++ difference_text difference.now) }
 {

@@ -29,7 +29,8 @@ processes-preserved c =
       joined = ap (λ cs. cs ++ rest) c.in_ok-push.ensures.items
           ∙ append_assoc c.processes.columns.items (here ∷ []) rest
           ∙ ap (λ cs. c.processes.columns.items ++ cs)
-          ((λ i. column_of c.in-Some.runner (c.place.ensures i) (c.place-in-Some.ensures i) ∷ columns_from (n - length (c.after-old_rest.ensures i)) (c.after-old_rest.ensures i)
+          ((λ i. column_of c.in-Some.runner (c.place.ensures i) (c.place-in-Some.ensures i) ∷ columns_from
+          (n - length (c.after-old_rest.ensures i)) (c.after-old_rest.ensures i)
           (m - length (c.after-new_rest.ensures i)) (c.after-new_rest.ensures i)) ∙ sym one.is)
           ∙ c.processes.invariant.joined;
       old_within = omega (arith, old_shorter, old_within, ap length c.after-old_rest.ensures);

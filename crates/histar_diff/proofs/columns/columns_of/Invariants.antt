@@ -4,7 +4,8 @@ use Rattle.histar_diff.proofs.columns.columns_of.Given as goal
 
 abbrev pub invariant-processes : goal.invariant-processes
 invariant-processes l = record {
-  joined : l.columns.items ++ columns_from (length l.old - length l.old_rest) l.old_rest (length l.new - length l.new_rest) l.new_rest ≡ columns_from 0 l.old 0 l.new;
+  joined : l.columns.items ++ columns_from (length l.old - length l.old_rest) l.old_rest (length l.new - length l.new_rest) l.new_rest
+      ≡ columns_from 0 l.old 0 l.new;
   old_within : length l.old_rest ≤ length l.old;
   new_within : length l.new_rest ≤ length l.new;
 }

@@ -10,9 +10,13 @@ pub returns : goal.returns
 returns c =
     let old = c.args.old.now in
     let new = c.args.new.now in
-    let columns = c.as_slice-3.ensures.value ∙ c.in_ok-columns.ensures ∙ (λ i. columns_from 0 (c.as_slice.ensures.value i) 0 (c.as_slice-2.ensures.value i)) in
+    let columns = c.as_slice-3.ensures.value ∙ c.in_ok-columns.ensures
+    ∙ (λ i. columns_from 0 (c.as_slice.ensures.value i) 0 (c.as_slice-2.ensures.value i)) in
     let listed : lines_differences c.as_slice-3.result.now c.as_slice-4.result.now c.as_slice-5.result.now
-    ≡ lines_differences (columns_from 0 old.processes.items 0 new.processes.items) old.lines.items new.lines.items = λ i. lines_differences (columns i) (c.as_slice-4.ensures.value i) (c.as_slice-5.ensures.value i) in
-    IfOk-weaker c.lines_differences.result (λ ds. ds.items ≡ lines_differences c.as_slice-3.result.now c.as_slice-4.result.now c.as_slice-5.result.now)
+    ≡ lines_differences (columns_from 0 old.processes.items 0 new.processes.items) old.lines.items new.lines.items = λ i. lines_differences
+    (columns i) (c.as_slice-4.ensures.value i) (c.as_slice-5.ensures.value i) in
+    IfOk-weaker c.lines_differences.result (λ ds. ds.items
+    ≡ lines_differences c.as_slice-3.result.now c.as_slice-4.result.now c.as_slice-5.result.now)
     (λ ds. AreDifferences old new ds.items)
-    (λ ds is. subst (AreDifferences old new) (sym (is ∙ listed)) (are_differences old new c.requires.old_rises c.requires.new_rises)) c.lines_differences.ensures
+    (λ ds is. subst (AreDifferences old new) (sym (is
+    ∙ listed)) (are_differences old new c.requires.old_rises c.requires.new_rises)) c.lines_differences.ensures
