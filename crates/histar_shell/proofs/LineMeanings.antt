@@ -74,7 +74,7 @@ module _ (rows : LinesAreRows) (session : Session) (old new : MachineModel) (f :
     made_row k same call result can made =
         let there : IsReady session (state k) f me caller.thread = subst (λ (s : State). IsReady session s f me caller.thread) (sym same) ready in
         let at : caller_at (state k) (places_of (length session.users)).home me ≡ Some caller =
-            ap (λ (s : State). caller_at s (places_of (length session.users)).home me) same ∙ found in
+        ap (λ (s : State). caller_at s (places_of (length session.users)).home me) same ∙ found in
         rows session ok call can me caller k new.kernel f result there at made
 
     -- its program reads no password
