@@ -78,7 +78,7 @@ level_of-owning_high L c =
 
 -- a level that is above another one where star in this is raised is so where star counts as 3
 raised_or_high : (l f s : Level) → nat_le (rank l) (max (rank f) (raised s)) ≡ false → nat_le (rank l) (max (rank f) (rank (high s))) ≡ false
-raised_or_high l f Star h = let most = rank-at_most l in grind (arith, nat_tests, h, most)
+raised_or_high l f Star h = let bound = rank-at_most l in grind (arith, nat_tests, h, bound)
 raised_or_high l f L0 h = h
 raised_or_high l f L1 h = h
 raised_or_high l f L2 h = h

@@ -92,7 +92,7 @@ shows_exactly t r e c = elim (fails_at t c) as (λ b. fails_at t c ≡ b → is_
   | false ↦ shown_passing t r e c
 ] refl
 
--- the reasons of some tests tell of exactly the categories at which one of them fails
+-- the reasons of some tests show exactly the categories at which one of them fails
 pub all_shown : (some : List Test) (reasons : List Reason) → AllZip IsReasonOf some reasons → (c : ℕ) → some_shown reasons c ≡ some_fails_at some c
 all_shown [] [] zipped c = refl
 all_shown [] (r ∷ reasons) zipped c = absurd zipped
