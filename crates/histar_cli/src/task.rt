@@ -41,8 +41,9 @@ const ACCESS_HELP: &str =
   -  it may not
 
 Example:
-  $ histar access examples/access/scanner.histar
-  /home dir - open 0:srwd 0.1:srw-";
+  histar access examples/access/tenants.histar
+prints, among others, the line
+  /srv/drop/bolt/orders file - group:bolt 0:---- 0.1:---- 0.2:srwd 0.3:---- 0.4:---- 0.4.1:srwd";
 
 /// What the program is to do: the subcommand with its words and its flags.
 #[derive(Clone, Copy)]
