@@ -69,7 +69,8 @@ another_name f n k d there free e = true≢false (sym there ∙ ap (λ x. is_the
 pub record EachChange (session : Session) (f : Flat) (me : ProcName) (p : Process) (call : UnixCall) (P : Flat → Type 0) : Type 0 where
   pub stays : P f
   pub makes : (n : Name) (d : Path) (x : Node) → into session f p d ≡ None → get f.files (n ∷ d) ≡ None → writes session f p d ≡ true
-      → ((job : ProcName) → carries job x.class ≡ true → has p.chain job ≡ true) → P (with_node f (n ∷ d) x.class x.content)
+      → ((job : ProcName) → carries job x.class ≡ true → has p.chain job ≡ true)
+      → (mode : Mode) → x.class ≡ class_or_open (class_made session p mode) → P (with_node f (n ∷ d) x.class x.content)
   pub overwrites : (n : Name) (d : Path) (bytes : List ℕ) → is_file_at f (n ∷ d) ≡ true → writes session f p (n ∷ d) ≡ true → P (with_bytes f (n ∷ d) bytes)
   pub cuts : (n : Name) (d : Path) → ((q : Path) → takes_away call q ≡ under_path (n ∷ d) q) → writes session f p d ≡ true → P (without_below f (n ∷ d))
   pub renames : (n k : Name) (d : Path) → ((q : Path) → takes_away call q ≡ under_path (n ∷ d) q) → n ≢ k → get f.files (k ∷ d) ≡ None → writes session f p d ≡ true → P (with_renamed f (n ∷ d) (k ∷ d))
@@ -96,7 +97,7 @@ module _ (session : Session) (f : Flat) (me : ProcName) (p : Process) (P : Flat 
   by_effect q named Nothing is may = each.stays
   by_effect [] named (Makes content mode) is may = absurd (true≢false (sym may.0))
   by_effect (n ∷ d) named (Makes content mode) is may =
-      each.makes n d (record { class = class_or_open (class_made session p mode); content = content }) may.1 may.2 may.3 (made_in_job session p mode)
+      each.makes n d (record { class = class_or_open (class_made session p mode); content = content }) may.1 may.2 may.3 (made_in_job session p mode) mode refl
   by_effect [] named (Stores new) is may = absurd (true≢false (sym may.0))
   by_effect (n ∷ d) named (Stores new) is may = each.overwrites n d (new (bytes_at f (n ∷ d))) may.2 may.3
   by_effect [] named Removes is may = absurd (true≢false (sym may.0))

@@ -97,7 +97,7 @@ writers_take_private_files f tree q owner bytes at session me p call runs other 
     changes_of : EachChange session f me p call (λ g. get g.files q ≡ Some (private_file owner bytes))
     changes_of = record {
       stays = at;
-      makes = λ n d x walked free w own. get_other f.files (n ∷ d) x q (elsewhere f q owner bytes at (n ∷ d) free) ∙ at;
+      makes = λ n d x walked free w own mode made_is. get_other f.files (n ∷ d) x q (elsewhere f q owner bytes at (n ∷ d) free) ∙ at;
       overwrites = λ n d new file w. get_other f.files (n ∷ d) _ q (written_elsewhere f q owner bytes at session p (n ∷ d) other w) ∙ at;
       cuts = λ n d away w. left_without f (n ∷ d) q ∙ ap (λ b. cond b None (get f.files q)) (not_above n d w) ∙ at;
       renames = λ n k d away apart free w.

@@ -67,7 +67,7 @@ module _ (session : Session) where
   alone_changes : (f : Flat) → IsAlone f → (p : Process) (call : UnixCall) → IsPlain p → keeps_processes call ≡ true → EachChange session f [] p call IsAlone
   alone_changes f h p call plain keeping = record {
     stays = h;
-    makes = λ n d x walked free w own. record { first = h.first; is_first = h.is_first; plain = h.plain; others = h.others };
+    makes = λ n d x walked free w own mode made_is. record { first = h.first; is_first = h.is_first; plain = h.plain; others = h.others };
     overwrites = λ n d bytes file w. record { first = h.first; is_first = h.is_first; plain = h.plain; others = h.others };
     cuts = λ n d takes w. record { first = h.first; is_first = h.is_first; plain = h.plain; others = h.others };
     renames = λ n k d takes apart free w. record { first = h.first; is_first = h.is_first; plain = h.plain; others = h.others };

@@ -97,7 +97,7 @@ module _ (f : Flat) (me : ProcName) (p : Process) (here : f.processes me ≡ Som
   still_changes : (session : Session) (call : UnixCall) → EachChange session f me p call (λ g. StillGiven f.processes g.processes)
   still_changes session call = record {
     stays = λ name h. h;
-    makes = λ n d x walked free w own name h. h;
+    makes = λ n d x walked free w own mode made_is name h. h;
     overwrites = λ n d bytes file w name h. h;
     cuts = λ n d takes w name h. h;
     renames = λ n k d takes apart free w name h. h;
@@ -130,7 +130,7 @@ longer_has (first ∷ jobs) last job h = elim (cases_Bool (same job first)) [
 
 module _ (f : Flat) (given : NamesAreGiven f) where
   -- something new, or written
-  given_put : (q : Path) (x : Node) → ((job : ProcName) → carries job x.class ≡ true → is_given f.processes job ≡ true) → NamesAreGiven (with_node f q x.class x.content)
+  pub given_put : (q : Path) (x : Node) → ((job : ProcName) → carries job x.class ≡ true → is_given f.processes job ≡ true) → NamesAreGiven (with_node f q x.class x.content)
   given_put q x own = record {
     of_processes = given.of_processes;
     of_known_jobs = given.of_known_jobs;
@@ -228,7 +228,7 @@ module _ (f : Flat) (given : NamesAreGiven f) (tree : IsTree f) (me : ProcName) 
   given_changes : (session : Session) (call : UnixCall) → EachChange session f me p call NamesAreGiven
   given_changes session call = record {
     stays = given;
-    makes = λ n d x walked free w own. given_put f given (n ∷ d) x (λ job c. given.of_known_jobs me p job here (known_in_chain job (own job c)));
+    makes = λ n d x walked free w own mode made_is. given_put f given (n ∷ d) x (λ job c. given.of_known_jobs me p job here (known_in_chain job (own job c)));
     overwrites = λ n d bytes file w.
         given_put f given (n ∷ d) (record { class = class_of (get f.files (n ∷ d)); content = File bytes }) (λ job c. old_class (n ∷ d) job (get f.files (n ∷ d)) refl c);
     cuts = λ n d takes w. record {

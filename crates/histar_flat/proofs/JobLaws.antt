@@ -110,7 +110,7 @@ module _ (session : Session) (f : Flat) (tree : IsTree f) (job : ProcName) (q : 
     inside_changes : (call : UnixCall) → EachChange session f me p call IsKept
     inside_changes call = record {
       stays = refl;
-      makes = λ n d x walked free w own. get_other f.files (n ∷ d) x q (apart n d w);
+      makes = λ n d x walked free w own mode made_is. get_other f.files (n ∷ d) x q (apart n d w);
       overwrites = λ n d bytes file w. get_other f.files (n ∷ d) _ q (not_there n d w);
       cuts = λ n d away w. get-keep f.files (λ t. not (under_path (n ∷ d) t)) q ∙ ap (λ b. cond (not b) (get f.files q) None) (not_below n d w);
       renames = λ n k d away other free w.
@@ -202,7 +202,7 @@ module _ (f : Flat) (me : ProcName) (p : Process) (other : ProcName) (apart : un
   other_changes : (session : Session) (call : UnixCall) → EachChange session f me p call (λ g. g.processes other ≡ f.processes other)
   other_changes session call = record {
     stays = refl;
-    makes = λ n d x walked free w own. refl;
+    makes = λ n d x walked free w own mode made_is. refl;
     overwrites = λ n d bytes file w. refl;
     cuts = λ n d away w. refl;
     renames = λ n k d away differs free w. refl;

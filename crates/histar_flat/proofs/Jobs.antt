@@ -49,7 +49,7 @@ module _ (session : Session) where
   placed_changes : (f : Flat) (me : ProcName) (p : Process) (call : UnixCall) → ArePlaced session f → IsPlaced session p → EachChange session f me p call (ArePlaced session)
   placed_changes f me p call placed here = record {
     stays = placed;
-    makes = λ n d x walked free w own. placed;
+    makes = λ n d x walked free w own mode made_is. placed;
     overwrites = λ n d bytes file w. placed;
     cuts = λ n d takes w. placed;
     renames = λ n k d takes apart free w. placed;

@@ -45,7 +45,7 @@ module _ (f : Flat) (q : Path) (owner : Name) (bytes : List ℕ) (h : get f.file
         → EachChange session f me p call (λ g. get g.files q ≡ Some (private_file owner bytes))
     private_changes tree me p call other kept = record {
       stays = h;
-      makes = λ n d x walked free w own. get_other f.files (n ∷ d) x q (elsewhere (n ∷ d) free) ∙ h;
+      makes = λ n d x walked free w own mode made_is. get_other f.files (n ∷ d) x q (elsewhere (n ∷ d) free) ∙ h;
       overwrites = λ n d new file w. get_other f.files (n ∷ d) _ q (written_elsewhere p (n ∷ d) other w) ∙ h;
       cuts = λ n d away w. get-keep f.files (λ t. not (under_path (n ∷ d) t)) q ∙ ap (λ b. cond (not b) (get f.files q) None) (sym (away q) ∙ kept) ∙ h;
       renames = λ n k d away apart free w.

@@ -104,7 +104,7 @@ module _ (session : Session) (f : Flat) (me : ProcName) (given : is_given f.proc
     gone_changes : (call : UnixCall) → EachChange session f caller p call IsGone
     gone_changes call = record {
       stays = gone;
-      makes = λ n d x walked free w own. gone;
+      makes = λ n d x walked free w own mode made_is. gone;
       overwrites = λ n d bytes file w. gone;
       cuts = λ n d takes w. gone;
       renames = λ n k d takes apart free w. gone;

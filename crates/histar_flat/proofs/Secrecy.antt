@@ -30,24 +30,24 @@ use Rattle.histar_flat.proofs.LooksAlike.{LooksAlike, refused_alike, reply_alike
 use Rattle.histar_flat.proofs.Alike.{ShowAlike, looks_alike}
 
 -- a file or a directory without the bytes that are secret
-abbrev veiled_content : Bool → Content → Content
+abbrev pub veiled_content : Bool → Content → Content
 veiled_content hides Dir = Dir
 veiled_content hides (File bytes) = File (cond hides [] bytes)
 
-abbrev veiled : (Class → Bool) → Node → Node
+abbrev pub veiled : (Class → Bool) → Node → Node
 veiled secret n = record { class = n.class; content = veiled_content (secret n.class) n.content }
 
 -- two states that differ in secret bytes alone
-record IsAlikeBut (secret : Class → Bool) (f g : Flat) : Type 0 where
-  files : (r : Path) → option_map (veiled secret) (get f.files r) ≡ option_map (veiled secret) (get g.files r)
-  processes : f.processes ≡ g.processes
+pub record IsAlikeBut (secret : Class → Bool) (f g : Flat) : Type 0 where
+  pub files : (r : Path) → option_map (veiled secret) (get f.files r) ≡ option_map (veiled secret) (get g.files r)
+  pub processes : f.processes ≡ g.processes
 
--- who is none of these users may read nothing that is secret, and write nothing
-record AreKept (session : Session) (secret : Class → Bool) (users : Name → Bool) : Type 0 where
-  unread : (p : Process) (class : Class) → users p.user ≡ false → may_read session p class ≡ true → not (secret class) ≡ true
-  unwritten : (p : Process) (class : Class) → users p.user ≡ false → may_write session p class ≡ true → not (secret class) ≡ true
+-- who is none of these readers may read nothing that is secret, and write nothing
+pub record AreKept (session : Session) (secret : Class → Bool) (readers : Process → Bool) : Type 0 where
+  pub unread : (p : Process) (class : Class) → readers p ≡ false → may_read session p class ≡ true → not (secret class) ≡ true
+  pub unwritten : (p : Process) (class : Class) → readers p ≡ false → may_write session p class ≡ true → not (secret class) ≡ true
 
-module _ (session : Session) (secret : Class → Bool) (users : Name → Bool) (kept : AreKept session secret users) where
+module _ (session : Session) (secret : Class → Bool) (readers : Process → Bool) (kept : AreKept session secret readers) where
   -- the veil leaves the class and the kind
   shown_through : (n : Node) → shown (veiled secret n) ≡ shown n
   shown_through n = by n.content
@@ -131,7 +131,7 @@ module _ (session : Session) (secret : Class → Bool) (users : Name → Bool) (
             ap (option_map (veiled secret)) (get-from_list (map (λ e. (moved old new e.0, e.1)) es) q)
             ∙ sym (find_told (veiled secret) q (map (λ e. (moved old new e.0, e.1)) es)) ∙ ap (find path_cmp q) (both es)
 
-    module _ (me : ProcName) (p : Process) (other : users p.user ≡ false) where
+    module _ (me : ProcName) (p : Process) (other : readers p ≡ false) where
       read_alike : (r : Path) → reads session f p r ≡ true → bytes_at f r ≡ bytes_at g r
       read_alike r h = unveiled_alike r (test_follows (λ n. may_read session p n.class) (λ n. not (secret n.class)) (λ n. kept.unread p n.class other) (get f.files r) h)
 
@@ -164,23 +164,25 @@ module _ (session : Session) (secret : Class → Bool) (users : Name → Bool) (
       states_alike call (Some x) None h k = absurd (cc)
       states_alike call (Some x) (Some y) h k = alike
 
-    module _ (me : ProcName) (call : UnixCall) (other : is_some_and (running f me) (λ p. users p.user) ≡ false) where
+    module _ (me : ProcName) (call : UnixCall) (other : is_some_and (running f me) readers ≡ false) where
       -- One call of another user's process has the same reply in both.
-      reply_to_alike : reply_to session f me call ≡ reply_to session g me call
+      pub reply_to_alike : reply_to session f me call ≡ reply_to session g me call
       reply_to_alike = by (running f me) other ∙ ap (λ o. reply_by session g me (if_running (o me)) call) alike.processes
         where
-          by : (r : Option Process) → is_some_and r (λ p. users p.user) ≡ false → reply_by session f me r call ≡ reply_by session g me r call
+          by : (r : Option Process) → is_some_and r readers ≡ false → reply_by session f me r call ≡ reply_by session g me r call
           by None i = refl
           by (Some p) i = reply_alike session f g me p call (both_look_alike me p i (path_of call))
 
       -- It leaves states that differ in these bytes alone.
-      flat_after_alike : IsAlikeBut secret (flat_after session f me call) (flat_after session g me call)
+      pub flat_after_alike : IsAlikeBut secret (flat_after session f me call) (flat_after session g me call)
       flat_after_alike = subst (λ o. IsAlikeBut secret (flat_after session f me call) (flat_by session g me (if_running (o me)) call)) alike.processes (by (running f me) other)
         where
-          by : (r : Option Process) → is_some_and r (λ p. users p.user) ≡ false → IsAlikeBut secret (flat_by session f me r call) (flat_by session g me r call)
+          by : (r : Option Process) → is_some_and r readers ≡ false → IsAlikeBut secret (flat_by session f me r call) (flat_by session g me r call)
           by None i = alike
           by (Some p) i = states_alike me p i call (refused session f me p call) (refused session g me p call) refl (refused_alike session f g me p call (both_look_alike me p i (path_of call)))
 
+-- while none of these users is there
+module _ (session : Session) (secret : Class → Bool) (users : Name → Bool) (kept : AreKept session secret (λ p. users p.user)) where
   -- a process of another user is of none of these, whether it runs or not
   other_is_away : (p : Process) → users p.user ≡ false → is_some_and (if_running (Some p)) (λ r. users r.user) ≡ false
   other_is_away p h = by p.exited
@@ -208,7 +210,7 @@ module _ (session : Session) (secret : Class → Bool) (users : Name → Bool) (
   away_changes : (f : Flat) (me : ProcName) (p : Process) (call : UnixCall) → AreAway users f → users p.user ≡ false → is_login_of users call ≡ false → EachChange session f me p call (AreAway users)
   away_changes f me p call away other quiet = record {
     stays = away;
-    makes = λ n d x walked free w own. away;
+    makes = λ n d x walked free w own mode made_is. away;
     overwrites = λ n d bytes file w. away;
     cuts = λ n d takes w. away;
     renames = λ n k d takes apart free w. away;
@@ -229,13 +231,13 @@ module _ (session : Session) (secret : Class → Bool) (users : Name → Bool) (
   all_replies_alike f g alike away (c ∷ calls) h =
       let parts = and_parts (not (is_login_of users c.call)) (has_no_login_of users calls) h in
       let quiet = not-true (is_login_of users c.call) parts.0 in
-      let here = reply_to_alike f g alike c.process c.call (away c.process) in
+      let here = reply_to_alike session secret (λ p. users p.user) kept f g alike c.process c.call (away c.process) in
       let rest = all_replies_alike (flat_after session f c.process c.call) (flat_after session g c.process c.call)
-      (flat_after_alike f g alike c.process c.call (away c.process)) (stays_away f c.process c.call away quiet) calls parts.1 in
+      (flat_after_alike session secret (λ p. users p.user) kept f g alike c.process c.call (away c.process)) (stays_away f c.process c.call away quiet) calls parts.1 in
       λ i. record { call = c; reply = here i } ∷ rest i
 
 -- whatever bytes stand in a file that is secret, the states differ in secret bytes alone
-other_bytes_alike : (secret : Class → Bool) (f : Flat) (q : Path) (class : Class) (bytes other : List ℕ) → secret class ≡ true → get f.files q ≡ Some (record { class = class; content = File bytes })
+pub other_bytes_alike : (secret : Class → Bool) (f : Flat) (q : Path) (class : Class) (bytes other : List ℕ) → secret class ≡ true → get f.files q ≡ Some (record { class = class; content = File bytes })
     → IsAlikeBut secret f (with_bytes f q other)
 other_bytes_alike secret f q class bytes other hides h = record {
   files = λ r. elim (same_path_found r q) [
@@ -265,7 +267,7 @@ is_private_of owner (Private o) = same o owner
 is_private_of owner _ = false
 
 -- what is for its owner alone is kept from others
-private_is_kept : (session : Session) (owner : Name) → AreKept session (is_private_of owner) (λ name. same name owner)
+private_is_kept : (session : Session) (owner : Name) → AreKept session (is_private_of owner) (λ p. same p.user owner)
 private_is_kept session owner = record { unread = unread; unwritten = unwritten }
   where
     unread : (p : Process) (class : Class) → same p.user owner ≡ false → may_read session p class ≡ true → not (is_private_of owner class) ≡ true
@@ -291,7 +293,7 @@ is_class_of_group group (Grouped g) = same g group
 is_class_of_group group _ = false
 
 -- what is a group's is kept from who is no member
-group_is_kept : (session : Session) (group : Name) → AreKept session (is_class_of_group group) (λ name. is_member session name group)
+group_is_kept : (session : Session) (group : Name) → AreKept session (is_class_of_group group) (λ p. is_member session p.user group)
 group_is_kept session group = record { unread = unread; unwritten = unwritten }
   where
     unread : (p : Process) (class : Class) → is_member session p.user group ≡ false → may_read session p class ≡ true → not (is_class_of_group group class) ≡ true
@@ -320,7 +322,7 @@ private_bytes_are_hidden owner session f q bytes other calls h away quiet =
 -- no reply tells who is no member what a file of a group holds
 pub group_bytes_are_hidden : GroupBytesAreHidden
 group_bytes_are_hidden group session f q bytes other me call h outside =
-    reply_to_alike session (is_class_of_group group) (λ name. is_member session name group) (group_is_kept session group) f (with_bytes f q other)
+    reply_to_alike session (is_class_of_group group) (λ p. is_member session p.user group) (group_is_kept session group) f (with_bytes f q other)
     (other_bytes_alike (is_class_of_group group) f q (Grouped group) bytes other (same_self group) h) me call outside
 
 -- and none does until a member logs in

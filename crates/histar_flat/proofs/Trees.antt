@@ -64,7 +64,7 @@ module _ (f : Flat) (tree : IsTree f) where
   ]
 
   -- an entry that is put into a directory, where no directory is lost by it
-  put_into : (n : Name) (d : Path) (x : Node) → is_dir_at f d ≡ true → (is_dir_at f (n ∷ d) ≡ true → is_dir x ≡ true) → IsTree (with_node f (n ∷ d) x.class x.content)
+  pub put_into : (n : Name) (d : Path) (x : Node) → is_dir_at f d ≡ true → (is_dir_at f (n ∷ d) ≡ true → is_dir x ≡ true) → IsTree (with_node f (n ∷ d) x.class x.content)
   put_into n d x into_directory no_loss = record {
     root = kept [] tree.root;
     below = λ m e there. elim (same_path_found (m ∷ e) (n ∷ d)) [
@@ -126,7 +126,7 @@ module _ (f : Flat) (tree : IsTree f) where
   tree_changes : (session : Session) (me : ProcName) (p : Process) (call : UnixCall) → EachChange session f me p call IsTree
   tree_changes session me p call = record {
     stays = tree;
-    makes = λ n d x walked free w own. made n d x (walked_into_directory session f p tree.root d walked) free;
+    makes = λ n d x walked free w own mode made_is. made n d x (walked_into_directory session f p tree.root d walked) free;
     overwrites = λ n d bytes file w.
         let here = file_is_there (get f.files (n ∷ d)) file in
         put_into n d (record { class = class_of (get f.files (n ∷ d)); content = File bytes }) (tree.below n d here.0) (λ h. absurd (true≢false (sym h ∙ here.1)));

@@ -96,7 +96,7 @@ module _ (job : ProcName) where
     in_changes : (session : Session) (call : UnixCall) → EachChange session f me p call (AreInJob job)
     in_changes session call = record {
       stays = all;
-      makes = λ n d x walked free w own. all;
+      makes = λ n d x walked free w own mode made_is. all;
       overwrites = λ n d bytes file w. all;
       cuts = λ n d takes w. all;
       renames = λ n k d takes apart free w. all;

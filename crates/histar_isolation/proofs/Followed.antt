@@ -75,7 +75,7 @@ module _ (job : ProcName) (session : Session) (f : Flat) (tree : IsTree f) (name
       → (p : Process) → EachChange session f me p call (λ g. IsFollowed job g directory)
   plain_changes call takes_none no_wrap p = record {
     stays = h;
-    makes = λ n d x walked free w own. put_followed job f directory h (n ∷ d) x (ap (is_dir_of job) free)
+    makes = λ n d x walked free w own mode made_is. put_followed job f directory h (n ∷ d) x (ap (is_dir_of job) free)
         (λ is. made_inside p n d walked w (own job (and_parts (is_dir x) (carries job x.class) is).1));
     overwrites = λ n d bytes file w. put_followed job f directory h (n ∷ d)
         (record { class = class_of (get f.files (n ∷ d)); content = File bytes })

@@ -100,7 +100,7 @@ module _ (job : ProcName) (session : Session) (f g : Flat) (r : SameOutside job 
   unfolding birth own at file_inside renamed
   job_changes call = record {
     stays = r;
-    makes = λ n d x walked free w own. aside job f g r (with_node f (n ∷ d) x.class x.content) d (at d w)
+    makes = λ n d x walked free w own mode made_is. aside job f g r (with_node f (n ∷ d) x.class x.content) d (at d w)
         (record { files = insert_below job f.files n d x; processes = refl });
     overwrites = λ n d bytes file w. aside job f g r (with_bytes f (n ∷ d) bytes) d (file_inside (n ∷ d) (at (n ∷ d) w) file)
         (record {

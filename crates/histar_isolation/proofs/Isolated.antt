@@ -83,10 +83,10 @@ never_again session job (c ∷ calls) f given =
 -- the state right after the line of the wrap
 module _ (session : Session) (f : Flat) (names : NamesAreGiven f) (me : ProcName) (p : Process) (here : f.processes me ≡ Some p) (n : Name)
     (d : Path) where
-  abbrev new_job : ProcName
+  abbrev pub new_job : ProcName
   new_job = next_child me p
 
-  abbrev wrapped : Flat
+  abbrev pub wrapped : Flat
   wrapped = changed session f me p (Wrap (n ∷ d))
 
   abbrev wrapper : Process
@@ -146,7 +146,7 @@ module _ (session : Session) (f : Flat) (names : NamesAreGiven f) (me : ProcName
       scratch : Node
       scratch = record { class = Scratch p.user (inner_chain me p); content = Dir }
 
-same_outside_itself : (job : ProcName) (f : Flat) → SameOutside job f f
+pub same_outside_itself : (job : ProcName) (f : Flat) → SameOutside job f f
 same_outside_itself job f = record { files = same_files_itself job f.files; processes = λ q u. refl; chain = refl }
 
 -- up to the line of the wrap the two runs are in the same state

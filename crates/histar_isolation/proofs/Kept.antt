@@ -56,11 +56,11 @@ not_next job f given me p here =
 
 module _ (job : ProcName) (f : Flat) (h : IsStarted job f) where
   -- kept in another state, which is a tree, and where the name of the job was given
-  abbrev IsKept : Flat → Type 0
+  abbrev pub IsKept : Flat → Type 0
   IsKept g = IsTree g → is_given g.processes job ≡ true → IsStarted job g
 
   -- something new is made, or a file is written; a file of the job lies in the job
-  kept_put : (q : Path) (x : Node) → is_dir_of job (get f.files q) ≡ false
+  pub kept_put : (q : Path) (x : Node) → is_dir_of job (get f.files q) ≡ false
       → (carries job x.class ≡ true → is_dir x ≡ false → lies_in_job job f.files q ≡ true) → IsKept (with_node f q x.class x.content)
   kept_put q x plain own tree given = record {
     tree = tree;
@@ -189,7 +189,7 @@ module _ (job : ProcName) (session : Session) (f : Flat) (h : IsStarted job f) (
   unfolding own_file kept_birth
   started_changes call = record {
     stays = λ tree given. h;
-    makes = λ n d x walked free w own. kept_put job f h (n ∷ d) x (ap (is_dir_of job) free) (λ c file. place (own job c) d w);
+    makes = λ n d x walked free w own mode made_is. kept_put job f h (n ∷ d) x (ap (is_dir_of job) free) (λ c file. place (own job c) d w);
     overwrites = λ n d bytes file w. kept_put job f h (n ∷ d) (record { class = class_of (get f.files (n ∷ d)); content = File bytes })
         (file_is_no_dir job (get f.files (n ∷ d)) file) (λ c k. own_file (n ∷ d) (get f.files (n ∷ d)) refl file c);
     cuts = λ n d takes w. kept_cut job f h n d;

@@ -34,12 +34,12 @@ module _ (m : ℕ) (w : ProcName) (session : Session) (f g : Flat) (r : SameOuts
   writes_outside q (Stores new) may h = outside m w session f g r hf p o q may.1
   writes_outside q _ may h = absurd (true≢false (sym h))
 
-  outsider_state : (call : UnixCall) → SameOutside (m ∷ w) (flat_by session f me (Some p) call) (flat_by session g me (Some p) call)
+  pub outsider_state : (call : UnixCall) → SameOutside (m ∷ w) (flat_by session f me (Some p) call) (flat_by session g me (Some p) call)
   outsider_state call = both m w session f g r hf hg me p call
       (refused_alike session f g me p call (outsider_looks m w session f g r hf p o (path_of call)))
       (λ v. writes_outside (path_of call) (rule call).effect (warranted session f me p call v))
 
-  outsider_reply : (call : UnixCall) → reply_by session f me (Some p) call ≡ reply_by session g me (Some p) call
+  pub outsider_reply : (call : UnixCall) → reply_by session f me (Some p) call ≡ reply_by session g me (Some p) call
   outsider_reply call = reply_alike session f g me p call (outsider_looks m w session f g r hf p o (path_of call))
 
 -- a line of a process outside the job
