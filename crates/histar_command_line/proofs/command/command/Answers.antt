@@ -1,0 +1,18 @@
+use Rattle.std.proofs.Common.{◌≡◌, true, ap, ap₂, ◌∙◌}
+use Rattle.std.proofs.lemmas.Result.{IfOk-weaker}
+use Rattle.clap.specs.Simple.{app_of_fields}
+use Rattle.clap.specs.Words.{App, app_of, with_subcommand}
+use Rattle.histar_command_line.specs.Forms.{named_app}
+use Rattle.histar_command_line.proofs.command.command.Goals as goal
+
+pub returns : goal.returns
+returns c =
+    let top = λ (app : App). app.top in
+    let named : app_of c.in_ok-histar.histar ≡ named_app =
+    ap app_of_fields c.in_ok-histar.ensures.0 ∙ ap app_of_fields c.after_help-histar.ensures ∙ ap app_of_fields c.about.ensures ∙ ap app_of_fields c.version.ensures
+    ∙ ap (λ (app : App). record app { top = record app.top { has_version = true } }) c.new.ensures.app in
+    let with_run = c.in_ok-histar-2.ensures ∙ ap₂ with_subcommand named (ap top c.run.ensures) in
+    let with_raw = c.in_ok-histar-3.ensures ∙ ap₂ with_subcommand with_run (ap top c.raw.ensures) in
+    let with_check = c.in_ok-histar-4.ensures ∙ ap₂ with_subcommand with_raw (ap top c.check.ensures) in
+    let with_access = c.in_ok-histar-5.ensures ∙ ap₂ with_subcommand with_check (ap top c.access.ensures) in
+    IfOk-weaker c.add-5.result _ _ (λ r added. added ∙ ap₂ with_subcommand with_access (ap top c.diff.ensures)) c.add-5.ensures

@@ -1,0 +1,43 @@
+use Rattle.std.proofs.Common.{refl, sym, ap, ◌∙◌, codes}
+use Rattle.clap.specs.Words.{rows_of, found_of}
+use Rattle.clap.proofs.WalkLemmas.{first_value-rows}
+use Rattle.histar_command_line.specs.Tasks.{is_given}
+use Rattle.histar_command_line.proofs.Matches.{matched}
+use Rattle.histar_command_line.proofs.task.task_of.Goals as goal
+
+pub returns-in-Some : goal.returns-in-Some
+returns-in-Some c =
+    let m = c.in-Some in
+    let found = found_of m.run'.now in (
+      rows_of found,
+      matched c.args.matches.now (codes "run") (rows_of found) (m.ensures.found.0 refl) m.ensures.rows,
+      (
+        sym (c.in_ok-file.ensures ∙ first_value-rows found (codes "FILE")),
+        c.is_set-tree.ensures ∙ ap is_given (first_value-rows found (codes "tree")),
+        c.is_set-trace.ensures ∙ ap is_given (first_value-rows found (codes "trace")),
+      ),
+    )
+
+pub returns-in-Some-subcommand_matches : goal.returns-in-Some-subcommand_matches
+returns-in-Some-subcommand_matches c =
+    let m = c.in-Some-subcommand_matches in
+    let found = found_of m.raw.now in (
+      rows_of found,
+      matched c.args.matches.now (codes "raw") (rows_of found) (m.ensures.found.0 refl) m.ensures.rows,
+      (
+        sym (c.in_ok-file-2.ensures ∙ first_value-rows found (codes "FILE")),
+        c.is_set-explain.ensures ∙ ap is_given (first_value-rows found (codes "explain")),
+      ),
+    )
+
+pub returns-in-Some-subcommand_matches-2 : goal.returns-in-Some-subcommand_matches-2
+returns-in-Some-subcommand_matches-2 c =
+    let m = c.in-Some-subcommand_matches-2 in
+    let found = found_of m.check.now in (
+      rows_of found,
+      matched c.args.matches.now (codes "check") (rows_of found) (m.ensures.found.0 refl) m.ensures.rows,
+      (
+        sym (c.in_ok-job.ensures ∙ first_value-rows found (codes "JOB")),
+        sym (c.in_ok-file-3.ensures ∙ first_value-rows found (codes "FILE")),
+      ),
+    )

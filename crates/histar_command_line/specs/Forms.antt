@@ -1,0 +1,61 @@
+-- The command line as `clap` reads it, by the forms of the subcommands.
+use Rattle.std.specs.Prelude.{true, List, [], ◌∷◌, Some, codes, fold, map}
+use Rattle.clap.specs.Words.{App, Rule, Text, new_app, new_rule, with_rule, with_subcommand}
+use Rattle.clap.specs.declared.builder.action.ArgAction.TheVariants.{Set, SetTrue}
+use Rattle.histar_command_line.specs.declared.forms.Argument.{Argument}
+use Rattle.histar_command_line.specs.declared.forms.Argument.TheVariants.{Flag, Word, Valued}
+use Rattle.histar_command_line.specs.declared.forms.Form.{Form}
+
+-- a flag of this name
+abbrev pub flag_rule : Text → Rule
+flag_rule name = record (new_rule name) { long = Some name; action = Some SetTrue }
+
+-- a word of this name, which has to be there
+abbrev pub word_rule : Text → Rule
+word_rule name = record (new_rule name) { required = true }
+
+-- a word of this name behind a flag
+abbrev pub option_rule : Text → Text → Rule
+option_rule name flag = record (new_rule name) { long = Some flag; action = Some Set }
+
+-- an argument of a form
+abbrev pub argument_rule : Argument → Rule
+argument_rule (Flag name help) = flag_rule name.now
+argument_rule (Word name help) = word_rule name.now
+argument_rule (Valued name flag help) = option_rule name.now flag.now
+
+-- a subcommand of a form
+abbrev pub form_app : Form → App
+form_app form = fold with_rule (new_app form.name.now) (map argument_rule form.arguments.now)
+
+-- the program, which has a version
+abbrev pub named_app : App
+named_app = let app = new_app (codes "histar") in record app { top = record app.top { has_version = true } }
+
+-- a subcommand of this name, with these arguments
+abbrev pub subcommand_app : Text → List Rule → App
+subcommand_app name arguments = fold with_rule (new_app name) arguments
+
+-- `run [--tree] [--trace] FILE`
+abbrev pub run_app : App
+run_app = subcommand_app (codes "run") (flag_rule (codes "tree") ∷ flag_rule (codes "trace") ∷ word_rule (codes "FILE") ∷ [])
+
+-- `raw [--explain] FILE`
+abbrev pub raw_app : App
+raw_app = subcommand_app (codes "raw") (flag_rule (codes "explain") ∷ word_rule (codes "FILE") ∷ [])
+
+-- `check JOB FILE`
+abbrev pub check_app : App
+check_app = subcommand_app (codes "check") (word_rule (codes "JOB") ∷ word_rule (codes "FILE") ∷ [])
+
+-- `access [--at LINE] FILE`
+abbrev pub access_app : App
+access_app = subcommand_app (codes "access") (option_rule (codes "LINE") (codes "at") ∷ word_rule (codes "FILE") ∷ [])
+
+-- `diff [--at LINE] OLD NEW`
+abbrev pub diff_app : App
+diff_app = subcommand_app (codes "diff") (option_rule (codes "LINE") (codes "at") ∷ word_rule (codes "OLD") ∷ word_rule (codes "NEW") ∷ [])
+
+-- the program with its subcommands
+abbrev pub histar_app : App
+histar_app = fold with_subcommand named_app (run_app.top ∷ raw_app.top ∷ check_app.top ∷ access_app.top ∷ diff_app.top ∷ [])

@@ -1,0 +1,88 @@
+//! The command line as `clap` reads and explains it.
+ghost use Rattle.std.specs.Prelude.{◌≡◌, false, IfOk};
+ghost use Rattle.clap.specs.declared.builder.command.Command.TheViews.{out-Command};
+ghost use Rattle.clap.specs.Words.{app_of, rule_of, with_subcommand};
+ghost use Rattle.histar_command_line.specs.Forms.{argument_rule, form_app, histar_app};
+
+use crate::forms::{self, Argument, Form};
+use clap::{Arg, ArgAction, Command};
+use std::alloc::{AllocError, Global};
+
+/// The version of the program.
+const VERSION: &str = "0.1.0";
+
+/// What the program is for.
+const ABOUT: &str =
+    "Runs sessions of Unix calls on a labelled kernel, which grants and refuses by comparing labels alone";
+
+/// What is at the end of the program's help.
+const AFTER_HELP: &str = "Example:
+  histar run --tree --trace examples/first.histar
+
+Exit status:
+  0  it was done, or help was asked for
+  1  the script or the session is bad or too long
+  2  the command line is refused, JOB is no process, or LINE is no number
+  3  out of memory
+  4  FILE can't be read, or the output can't be written
+  5  what was asked is not so: diff found a difference";
+
+/// Returns an argument, as `clap` reads it.
+fn arg_of<'a>(alloc: Global, argument: Argument<'a>) -> Arg<'a>
+    ensures rule { rule_of result ≡ argument_rule argument.entry }
+    ensures local { result.global ≡ false }
+{
+    match argument {
+        Argument::Flag(name, help) => Arg::new(alloc, name)
+            .long(name)
+            .action(ArgAction::SetTrue)
+            .help(help),
+        Argument::Word(name, help) => Arg::new(alloc, name).required(true).help(help),
+        Argument::Valued(name, flag, help) => Arg::new(alloc, name)
+            .long(flag)
+            .action(ArgAction::Set)
+            .help(help),
+    }
+}
+
+/// Returns a subcommand, as `clap` reads and explains it.
+fn subcommand_of<'a>(alloc: Global, form: &Form<'a>) -> Result<Command<'a>, AllocError>
+    ensures app { IfOk result (λ c. app_of c ≡ form_app form.now) }
+    ensures local { IfOk result (λ c. (out-Command c).has_globals ≡ false) }
+{
+    let mut command = Command::new(alloc, form.name)
+        .about(form.about)
+        .after_help(form.after_help);
+    'arguments: for argument in form.arguments {
+        command = command.arg(arg_of(alloc, *argument))?;
+    }
+    Ok(command)
+}
+
+/// Adds a subcommand to the program.
+fn add<'a>(
+    alloc: Global,
+    histar: Command<'a>,
+    form: &Form<'a>,
+) -> Result<Command<'a>, AllocError>
+    ensures { IfOk result (λ c. app_of c ≡ with_subcommand (app_of histar.entry) (form_app form.now).top) }
+{
+    let subcommand = subcommand_of(alloc, form)?;
+    histar.subcommand(subcommand)
+}
+
+/// Returns the program, as `clap` reads and explains it.
+pub(crate) fn command<'a>(alloc: Global) -> Result<Command<'a>, AllocError>
+    ensures { IfOk result (λ c. app_of c ≡ histar_app) }
+{
+    let histar = Command::new(alloc, "histar")
+        .version(VERSION)
+        .about(ABOUT)
+        .after_help(AFTER_HELP);
+    let histar = histar.bin_name("histar")?;
+    let histar = add(alloc, histar, &forms::run())?;
+    let histar = add(alloc, histar, &forms::raw())?;
+    let histar = add(alloc, histar, &forms::check())?;
+    let histar = add(alloc, histar, &forms::access())?;
+    add(alloc, histar, &forms::diff())
+}

@@ -1,0 +1,125 @@
+//! The forms of the subcommands: their names, their arguments and their help.
+ghost use Rattle.std.specs.Prelude.{◌≡◌};
+ghost use Rattle.histar_command_line.specs.Forms.{form_app, run_app, raw_app, check_app, access_app, diff_app};
+
+/// An argument of a subcommand.
+#[derive(Clone, Copy)]
+pub enum Argument<'a> {
+    /// A flag `--NAME`: its name, and what it asks for.
+    Flag(&'a str, &'a str),
+    /// A word that has to be there: its name, and what it is.
+    Word(&'a str, &'a str),
+    /// A word behind a flag: its name, the name of the flag, and what it is.
+    Valued(&'a str, &'a str, &'a str),
+}
+
+/// A subcommand.
+#[derive(Clone, Copy)]
+pub struct Form<'a> {
+    pub name: &'a str,
+    /// What it does, in one line.
+    pub about: &'a str,
+    /// What is at the end of its help: what its output means, and an example.
+    pub after_help: &'a str,
+    pub arguments: &'a [Argument<'a>],
+}
+
+/// What the FILE of most subcommands is.
+const SCRIPT: &str = "The script: users, groups, and calls of processes";
+
+/// Where the calls end, for subcommands that look at a state in the midst of a script.
+const AT: &str = "Stop before the call on this line";
+
+/// Returns `run [--tree] [--trace] FILE`.
+pub(crate) fn run<'a>() -> Form<'a>
+    ensures { form_app result ≡ run_app }
+{
+    Form {
+    name: "run",
+    about: "Run a script and print a reply for each call",
+    after_help: "Example:
+  histar run --tree --trace examples/first.histar",
+    arguments: &[
+        Argument::Flag("tree", "Print each file and directory after the last call"),
+        Argument::Flag(
+            "trace",
+            "Print each raw call of the kernel, and why it was denied",
+        ),
+        Argument::Word("FILE", SCRIPT),
+    ],}
+}
+
+/// Returns `raw [--explain] FILE`.
+pub(crate) fn raw<'a>() -> Form<'a>
+    ensures { form_app result ≡ raw_app }
+{
+    Form {
+    name: "raw",
+    about: "Run a session of raw kernel calls and print an answer or a denial for each",
+    after_help: "Example:
+  histar raw --explain examples/missing_keys.raw",
+    arguments: &[
+        Argument::Flag("explain", "Print why each denied call was denied"),
+        Argument::Word("FILE", "The session: raw calls, each of a thread"),
+    ],}
+}
+
+/// Returns `check JOB FILE`.
+pub(crate) fn check<'a>() -> Form<'a>
+    ensures { form_app result ≡ check_app }
+{
+    Form {
+    name: "check",
+    about: "Run a script with and without a job and print what differs for outsiders",
+    after_help: "Example:
+  histar check 0.1.1 examples/scan.histar
+prints
+  same",
+    arguments: &[
+        Argument::Word("JOB", "The job: the name of its first process"),
+        Argument::Word("FILE", SCRIPT),
+    ],}
+}
+
+/// Returns `access [--at LINE] FILE`.
+pub(crate) fn access<'a>() -> Form<'a>
+    ensures { form_app result ≡ access_app }
+{
+    Form {
+    name: "access",
+    about: "Run a script and print for each path what each process may do there",
+    after_help: "Each line is a path, what is there, its owner and its mode, and for each running process its rights:
+  s  it may ask for owner and mode
+  r  it may read the file, or list the directory
+  w  it may write the file, or make something in the directory
+  d  it may take it away
+  -  it may not
+
+Example:
+  histar access examples/access/tenants.histar
+prints, among others, the line
+  /srv/drop/bolt/orders file - group:bolt 0:---- 0.1:---- 0.2:srwd 0.3:---- 0.4:---- 0.4.1:srwd",
+    arguments: &[Argument::Valued("LINE", "at", AT), Argument::Word("FILE", SCRIPT)],}
+}
+
+/// Returns `diff [--at LINE] OLD NEW`.
+pub(crate) fn diff<'a>() -> Form<'a>
+    ensures { form_app result ≡ diff_app }
+{
+    Form {
+    name: "diff",
+    about: "Run two scripts and print whose rights differ at which path",
+    after_help: "Each line is a path, a process, its user, and its rights after the old script and after the new one.
+
+Exit status: 0 where nobody's rights differ, 5 where somebody's do
+
+Example:
+  histar diff examples/policy_before.histar examples/policy_after.histar
+prints, among others, the line
+  /home 0.1 alice srw- sr--",
+    arguments: &[
+        Argument::Valued("LINE", "at", AT),
+        Argument::Word("OLD", "The old script"),
+        Argument::Word("NEW", "The new script"),
+    ],}
+}

@@ -1,0 +1,96 @@
+//! What the command line asks for.
+ghost use Rattle.std.specs.Prelude.{◌≡◌, IfOk, IfSome, map};
+ghost use Rattle.clap.specs.Words.{first_value, found_of, subcommand_of, subcommand_rows_of};
+ghost use Rattle.histar_command_line.specs.Forms.{histar_app};
+ghost use Rattle.histar_command_line.specs.Tasks.{IsTaskOf, is_given};
+
+use crate::command::command;
+use clap::error::ErrorKind;
+use clap::{ArgMatches, Error};
+use std::alloc::Global;
+
+/// What a run is asked for beside the replies.
+#[derive(Clone, Copy)]
+pub struct RunFlags {
+    pub tree: bool,
+    pub trace: bool,
+}
+
+/// What the program is to do: the subcommand with its words and its flags.
+#[derive(Clone, Copy)]
+pub enum Task<'a> {
+    /// Run the script in this file, and print what is asked for beside the replies.
+    Run(&'a str, RunFlags),
+    /// Run the session of raw calls in this file, and explain why calls were denied, if that is asked for.
+    Raw(&'a str, bool),
+    /// Compare the script in a file with the one without a job: first the job, then the file.
+    Check(&'a str, &'a str),
+    /// Print who may do what after the script in this file, or before the line of this number.
+    Access(&'a str, Option<&'a str>),
+    /// Print whose rights differ after an old script and a new one, or before the line of this number in both.
+    Diff(&'a str, &'a str, Option<&'a str>),
+}
+
+/// Checks whether a flag was given: its value is `true` then.
+fn is_set(matches: &ArgMatches, name: &str) -> bool
+    ensures { result ≡ is_given (first_value (found_of matches.now) name.now) }
+{
+    match matches.get_str(name) {
+        None => false,
+        Some(value) => value == "true",
+    }
+}
+
+/// Returns the task of the subcommand that was matched.
+fn task_of<'a>(matches: &ArgMatches<'a>) -> Option<Task<'a>>
+    ensures { IfSome result (λ task. IsTaskOf task (subcommand_rows_of matches.now)) }
+{
+    if let Some(run) = matches.subcommand_matches("run") {
+        let file = run.get_str("FILE")?;
+        let tree = is_set(run, "tree");
+        let trace = is_set(run, "trace");
+        return Some(Task::Run(file, RunFlags { tree, trace }));
+    }
+    if let Some(raw) = matches.subcommand_matches("raw") {
+        let file = raw.get_str("FILE")?;
+        let explain = is_set(raw, "explain");
+        return Some(Task::Raw(file, explain));
+    }
+    if let Some(check) = matches.subcommand_matches("check") {
+        let job = check.get_str("JOB")?;
+        let file = check.get_str("FILE")?;
+        return Some(Task::Check(job, file));
+    }
+    rights_task_of(matches)
+}
+
+/// Returns the task of a subcommand on rights that was matched.
+fn rights_task_of<'a>(matches: &ArgMatches<'a>) -> Option<Task<'a>>
+    ensures { IfSome result (λ task. IsTaskOf task (subcommand_rows_of matches.now)) }
+{
+    if let Some(access) = matches.subcommand_matches("access") {
+        let file = access.get_str("FILE")?;
+        let at = access.get_str("LINE");
+        return Some(Task::Access(file, at));
+    }
+    let diff = matches.subcommand_matches("diff")?;
+    let old = diff.get_str("OLD")?;
+    let new = diff.get_str("NEW")?;
+    let at = diff.get_str("LINE");
+    Some(Task::Diff(old, new, at))
+}
+
+/// Returns the task that the words name, the program's own name first.
+///
+/// An error is `clap`'s own: a wish for help or for the version, a refused command line, or want of
+/// memory.
+pub fn read_words<'a>(alloc: Global, words: &'a [&'a str]) -> Result<Task<'a>, Error>
+    ensures { IfOk result (λ task. IsTaskOf task (subcommand_of histar_app (map (λ word. word.now) words.entry.now))) }
+{
+    let mut command = command(alloc)?;
+    let matches = command.try_get_matches_from_mut(words)?;
+    let Some(task) = task_of(&matches) else {
+        return Err(command.error(ErrorKind::MissingSubcommand, "no subcommand")?);
+    };
+    Ok(task)
+}
