@@ -65,7 +65,7 @@ taken_are_lines s k [] t h = tt
 taken_are_lines s k (line ∷ lines) t h = (said_is_one_line line h.1.0 h.1.1, taken_are_lines h.0 (k + 1) lines t h.2)
 
 -- one more line is taken after the others
-takes_on : (s : Reading) (k n : ℕ) (lines : List (List ℕ)) (t : Reading) (line : List ℕ) (u : Reading) → TakesLines s k lines t → n ≡ k + length lines + 1 → Takes t n line u → TakesLines s k (lines ++ line ∷ []) u
+pub takes_on : (s : Reading) (k n : ℕ) (lines : List (List ℕ)) (t : Reading) (line : List ℕ) (u : Reading) → TakesLines s k lines t → n ≡ k + length lines + 1 → Takes t n line u → TakesLines s k (lines ++ line ∷ []) u
 takes_on s k n [] t line u h is next = let number : n ≡ k + 1 = omega arith in (u, subst (λ (x : ℕ). Takes s x line u) number (subst (λ (x : Reading). Takes x n line u) h next), refl)
 takes_on s k n (first ∷ lines) t line u h is next = (h.0, h.1, takes_on h.0 (k + 1) n lines t line u h.2 (omega arith) next)
 

@@ -12,11 +12,11 @@ use Rattle.histar_script.proofs.ScriptsBack.{line_takes, after, taken, lines_aga
 use Rattle.histar_script.proofs.Beginnings.{begun}
 
 -- what reading lines answers
-abbrev Answer : Type 0
+abbrev pub Answer : Type 0
 Answer = Result Reading Fault
 
 -- line n is bad
-abbrev failed : ℕ → Answer
+abbrev pub failed : ℕ → Answer
 failed n = Err (BadScript n)
 
 -- one answer has one bad line
@@ -29,7 +29,7 @@ bad_step s k n lines None e later = let same : k + 1 ≡ n = same_line (k + 1) n
 bad_step s k n lines (Some m) e later = omega (arith, later m e)
 
 -- a bad line is after the lines before it
-later_bad : (s : Reading) (k : ℕ) (lines : List (List ℕ)) (n : ℕ) → with_lines s k lines ≡ failed n → k < n
+pub later_bad : (s : Reading) (k : ℕ) (lines : List (List ℕ)) (n : ℕ) → with_lines s k lines ≡ failed n → k < n
 unfolding with_lines
 later_bad s k [] n e =
     elim (either_chosen (eqb (length s.session.users) 0) (failed (k + 1)) (Ok s) (failed n) e) [ inl h ↦ let same : k + 1 ≡ n = same_line (k + 1) n h.1 in omega arith | inr h ↦ absurd cc ]

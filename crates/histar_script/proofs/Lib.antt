@@ -20,3 +20,4 @@ pub mod Answered
 pub mod BadLines
 pub mod LeftOut
 pub mod Sinks
+pub mod Inputs

@@ -97,7 +97,7 @@ fn read_name_and_password(text: &[u8]) -> Option<(Name, Password)>
 
 /// Reads a call: its word, and what follows it, if anything does.
 #[tactic(auto, unfolding(crate::specs::Reading::call_of), using(crate::proofs::FormsBack::none_without_argument))]
-fn read_call(alloc: Global, text: &[u8]) -> Result<Option<UnixCall>, AllocError>
+pub fn read_call(alloc: Global, text: &[u8]) -> Result<Option<UnixCall>, AllocError>
     ensures { IfOk result (λ call. call ≡ call_of text.now) }
 {
     let (word, rest) = split_word(text);

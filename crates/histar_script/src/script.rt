@@ -67,7 +67,8 @@ impl Script {
         Script { session, calls }
     }
 
-    fn new(alloc: Global) -> Script
+    /// Returns what is read before the first line: nothing.
+    pub fn new(alloc: Global) -> Script
         ensures { result ≡ nothing_read }
     {
         Script {
@@ -78,7 +79,7 @@ impl Script {
 
     /// Takes line `line`, which says `item`.
     #[tactic(auto, unfolding(crate::specs::Reading::with_item))]
-    fn add(&mut self, line: u32, item: Item) -> Result<(), Fault>
+    pub fn add(&mut self, line: u32, item: Item) -> Result<(), Fault>
         ensures { GivesNext line result self.new (with_item self.old line item) }
     {
         match item {

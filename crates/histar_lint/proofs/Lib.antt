@@ -1,0 +1,6 @@
+mod Rules
+mod BrokenRules
+mod LinesBefore
+mod Steps
+mod KnownInputs
+mod Sayings

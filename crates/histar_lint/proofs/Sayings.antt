@@ -1,0 +1,36 @@
+-- What the parts of a line say, one after another.
+use Rattle.std.proofs.Common.{◌≡◌, ℕ, true, false, List, ◌∷◌, ◌++◌, Option, Some, None, Result, Ok, Err, refl, sym, ap, subst, ◌∙◌}
+use Rattle.std.specs.Prelude.{IfOk, is_some, option_map}
+use Rattle.std.proofs.lemmas.Result.{IfOk-weaker}
+use Rattle.histar_flat.specs.declared.calls.CallLine.{CallLine}
+use Rattle.histar_flat.specs.Sessions.{Session}
+use Rattle.histar_script.specs.Script.{Reading}
+use Rattle.histar_lint.specs.Lines.{Rule, first_sentence}
+use Rattle.histar_lint.specs.Rules.{read_so_far, sentence}
+use Rattle.histar_lint.specs.Session.{said_of}
+use Rattle.histar_lint.proofs.Rules.{said_behind, said_in_front}
+
+module _ {V : Type 0} (items : V → List ℕ) (rules others : List Rule) (o : Option V) (said : option_map items o ≡ first_sentence rules) where
+  -- what the rules in front say
+  pub front_says : (v : V) → o ≡ Some v → Some (items v) ≡ first_sentence (rules ++ others)
+  front_says v is = sym (said_in_front rules others (items v) (sym said ∙ ap (option_map items) is))
+
+  -- or those behind
+  pub behind_says : {E : Type 0} (r : Result (Option V) E) → o ≡ None → IfOk r (λ more. option_map items more ≡ first_sentence others) → IfOk r (λ more. option_map items more ≡ first_sentence (rules ++ others))
+  behind_says r none more = IfOk-weaker r _ _ (λ given is. is ∙ sym (said_behind rules others (sym said ∙ ap (option_map items) none))) more
+
+-- a sentence that is there
+pub unpacked : {V : Type 0} (items : V → List ℕ) (o : Option V) (v : V) (x : Option (List ℕ)) → x ≡ option_map items o → o ≡ Some v → x ≡ Some (items v)
+unpacked items o v x same is = same ∙ ap (option_map items) is
+
+-- a sentence that isn't
+pub none_unpacked : {V : Type 0} (items : V → List ℕ) (o : Option V) (x : Option (List ℕ)) → x ≡ option_map items o → o ≡ None → is_some x ≡ true → ⊥
+none_unpacked items o x same is some = let wrong : is_some x ≡ false = ap is_some (same ∙ ap (option_map items) is) in absurd cc
+
+-- what is said of the first of the lines that are left
+pub said_is : (all rest after : List (List ℕ)) (s : Reading) (session : Session) (calls : List CallLine) (line : List ℕ) (o : Option (List ℕ))
+    → session ≡ s.session → calls ≡ s.calls → rest ≡ line ∷ after → o ≡ sentence all (read_so_far session calls) line → said_of all s rest ≡ o
+said_is all rest after s session calls line o same_session same_calls parts is =
+    let one : read_so_far session calls ≡ read_so_far s.session calls = ap (λ (x : Session). read_so_far x calls) same_session in
+    let two : read_so_far s.session calls ≡ s = ap (read_so_far s.session) same_calls in
+    ap (said_of all s) parts ∙ sym (is ∙ ap (λ (x : Reading). sentence all x line) (one ∙ two))

@@ -1,0 +1,9 @@
+use Rattle.std.proofs.Common.{◌-◌}
+use Rattle.histar_lint.proofs.LinesBefore.{IsAt}
+use Rattle.histar_lint.proofs.session.said_at.Given as goal
+
+abbrev pub decreases-right : goal.decreases-right
+decreases-right l = l.bad - l.count
+
+abbrev pub invariant-right : goal.invariant-right
+invariant-right l = IsAt l.text l.rest l.script l.count l.bad

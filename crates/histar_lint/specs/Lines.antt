@@ -1,0 +1,76 @@
+-- The parts of a line, and the rules for its bytes.
+use Rattle.std.specs.Prelude.{ℕ, ◌+◌, ◌-◌, ◌%◌, ◌/◌, Bool, false, ◌&&◌, ◌||◌, ◌==◌, nat_lt, List, [], ◌∷◌, ◌++◌, length, codes, decimal, Option, None, Some, is_none, is_some, unwrap_or, if◌then◌else◌}
+use Rattle.std.specs.List.{slice_get}
+use Rattle.std.specs.Option.{option_map_or}
+use Rattle.histar_script.specs.Lines.{is_plain_byte, most_line_bytes, split_word}
+
+-- a rule: whether a line breaks it, and the sentence that is then written
+abbrev pub Rule : Type 0
+Rule = Bool × List ℕ
+
+-- the sentence of the first of these rules that is broken
+abbrev pub first_sentence : List Rule → Option (List ℕ)
+first_sentence [] = None
+first_sentence (rule ∷ rules) = if rule.0 then Some rule.1 else first_sentence rules
+
+-- the first word of a text
+abbrev pub word_of : List ℕ → List ℕ
+word_of text = (split_word text).0
+
+-- what follows the first word of a text, if anything does
+abbrev pub after_word : List ℕ → Option (List ℕ)
+after_word text = (split_word text).1
+
+-- what follows the first word of a text
+abbrev pub rest_of : List ℕ → List ℕ
+rest_of text = unwrap_or (after_word text) []
+
+-- the text begins with this byte
+abbrev pub begins_with : ℕ → List ℕ → Bool
+begins_with b [] = false
+begins_with b (c ∷ text) = c == b
+
+-- the text ends with this byte
+abbrev pub ends_with : ℕ → List ℕ → Bool
+ends_with b text = option_map_or (λ c. c == b) (slice_get text (length text - 1)) false
+
+-- a space and a number sign are in the text, one behind the other
+abbrev pub has_comment : List ℕ → Bool
+has_comment [] = false
+has_comment (b ∷ text) = (b == 32 && begins_with 35 text) || has_comment text
+
+-- a digit of a number to the base 16
+abbrev pub hex_digit : ℕ → ℕ
+hex_digit n = if nat_lt n 10 then 48 + n else 87 + n
+
+-- a byte to the base 16
+abbrev pub hex_text : ℕ → List ℕ
+hex_text b = codes "0x" ++ hex_digit (b / 16) ∷ hex_digit (b % 16) ∷ []
+
+-- the column and the value of the first byte that is not printable, where columns are numbered from this one on
+abbrev pub unprintable_from : ℕ → List ℕ → Option (ℕ × ℕ)
+unprintable_from n [] = None
+unprintable_from n (b ∷ line) = if is_plain_byte b then unprintable_from (n + 1) line else Some (n, b)
+
+-- which byte is not printable, and in which column
+abbrev pub unprintable_text : ℕ × ℕ → List ℕ
+unprintable_text found = codes "byte " ++ hex_text found.1 ++ codes " at column " ++ decimal found.0 ++ codes " is not printable"
+
+-- how many bytes a line has that has too many
+abbrev pub long_text : List ℕ → List ℕ
+long_text line = codes "the line has " ++ decimal (length line) ++ codes " bytes, and 1024 is the most"
+
+-- The rules for the bytes of a line.
+abbrev pub byte_rules : List ℕ → List Rule
+byte_rules line =
+    (nat_lt most_line_bytes (length line), long_text line)
+    ∷ (ends_with 13 line, codes "the line ends with a carriage return (0x0d)")
+    ∷ (is_some (unprintable_from 1 line), option_map_or unprintable_text (unprintable_from 1 line) []) ∷ []
+
+-- The rules for the words of any line.
+abbrev pub word_rules : List ℕ → List Rule
+word_rules line =
+    (begins_with 32 line, codes "a space stands at the beginning of the line")
+    ∷ (ends_with 32 line, codes "a space stands at the end of the line")
+    ∷ (has_comment line, codes "a comment has a line of its own")
+    ∷ (is_none (after_word line), codes "a line is `user NAME PASSWORD`, `group NAME USER..` or `PROC CALL`") ∷ []

@@ -1,0 +1,192 @@
+//! The rules for call lines.
+ghost use Rattle.std.specs.Prelude.{◌≡◌, ◌++◌, [], IfOk, OnOk, map, option_map};
+ghost use Rattle.std.specs.Option.{option_copied, option_map_or};
+ghost use Rattle.histar_lint.specs.Lines.{first_sentence, rest_of};
+ghost use Rattle.histar_lint.specs.Calls.{argument_rules, bad_argument, call_word_rules, first_near, has_too_little, has_too_much, is_near, nearest, suggestion, unknown_text};
+ghost use Rattle.histar_lint.specs.Rules.{call_place_rules, is_undeclared, read_so_far};
+
+use crate::shapes::{Kind, Shape, is_value, kind_text, shape_named, usage_text};
+use histar_flat::{CallLine, Session, UnixCall, read_process};
+use histar_script::{is_declared_call, read_call, split_word};
+use std::alloc::{AllocError, Global};
+use strsim::generic_levenshtein;
+
+/// Checks whether something follows the word of a call behind which nothing may be.
+fn has_too_much(text: &[u8], shape: Shape) -> bool
+    ensures { result ≡ has_too_much text.now shape }
+{
+    match shape {
+        Shape::Alone => split_word(text).1.is_some(),
+        Shape::One(_) | Shape::Two(_, _) => false,
+    }
+}
+
+/// Returns what follows the first word of a text.
+pub(crate) fn rest_of(text: &[u8]) -> &[u8]
+    ensures { result.now ≡ rest_of text.now }
+{
+    split_word(text).1.unwrap_or(&[])
+}
+
+/// Checks whether an argument of a call isn't there.
+fn has_too_little(text: &[u8], shape: Shape) -> bool
+    ensures { result ≡ has_too_little text.now shape }
+{
+    match shape {
+        Shape::Alone => false,
+        Shape::One(_) => split_word(text).1.is_none(),
+        Shape::Two(_, _) => split_word(rest_of(text)).1.is_none(),
+    }
+}
+
+/// Returns what the first argument of a call has to be that is not so.
+fn bad_argument(text: &[u8], shape: Shape) -> &'static str
+    ensures { result.now ≡ bad_argument text.now shape }
+{
+    match shape {
+        Shape::Alone => "",
+        Shape::One(kind) => kind_text(kind),
+        Shape::Two(first, second) => {
+            if is_value(first, split_word(rest_of(text)).0) {
+                kind_text(second)
+            } else {
+                kind_text(first)
+            }
+        }
+    }
+}
+
+/// Checks whether one insertion, deletion or substitution leads from one word to another.
+fn is_near(alloc: Global, word: &[u8], other: &[u8]) -> Result<bool, AllocError>
+    ensures { IfOk result (λ near. near ≡ is_near word.now other.now) }
+{
+    let edits = generic_levenshtein(alloc, word, other)?;
+    Ok(edits == 1)
+}
+
+/// Returns the first of these calls whose word is near.
+#[tactic(auto, unfolding(crate::specs::Calls::first_near))]
+fn first_near<'a>(
+    alloc: Global,
+    word: &[u8],
+    calls: &[&'a str],
+) -> Result<Option<&'a str>, AllocError>
+    ensures { IfOk result (λ call. option_copied call ≡ first_near word.now (map (λ call. call.now) calls.now)) }
+{
+    'calls: for call in calls {
+        if is_near(alloc, word, call.as_bytes())? {
+            return Ok(Some(*call));
+        }
+    }
+    Ok(None)
+}
+
+/// Returns the first call whose word is near.
+fn nearest(alloc: Global, word: &[u8]) -> Result<Option<&'static str>, AllocError>
+    ensures { IfOk result (λ call. option_copied call ≡ nearest word.now) }
+{
+    let calls = [
+        "spawn", "whoami", "create", "mkdir", "write", "append", "read", "list", "stat", "unlink",
+        "rmdir", "rmtree", "rename", "wrap", "exit", "status", "kill", "login",
+    ];
+    first_near(alloc, word, calls.as_slice())
+}
+
+/// Adds a call that may be meant.
+fn push_call(said: &mut Vec<u8>, call: &str) -> Result<(), AllocError>
+    ensures { OnOk result (said.new.items ≡ said.old.items ++ suggestion call.now) }
+{
+    said.extend_from_slice(b" (did you mean ")?;
+    said.extend_from_slice(call.as_bytes())?;
+    said.extend_from_slice(b"?)")?;
+    Ok(())
+}
+
+/// Adds which call may be meant, if one is near.
+fn push_suggestion(said: &mut Vec<u8>, near: Option<&str>) -> Result<(), AllocError>
+    ensures { OnOk result (said.new.items ≡ said.old.items ++ option_map_or suggestion (option_copied near.entry) []) }
+{
+    match near {
+        None => Ok(()),
+        Some(call) => push_call(said, call),
+    }
+}
+
+/// Says that there is no such call, and which one may be meant.
+fn unknown_text(alloc: Global, word: &[u8]) -> Result<Vec<u8>, AllocError>
+    ensures { IfOk result (λ said. said.items ≡ unknown_text word.now) }
+{
+    let near = nearest(alloc, word)?;
+    let mut said = Vec::from_slice(alloc, b"there is no call ".as_slice())?;
+    said.extend_from_slice(word)?;
+    push_suggestion(&mut said, near)?;
+    Ok(said)
+}
+
+/// Returns the sentence of the first rule that the arguments of a call break.
+fn argument_sentence(
+    alloc: Global,
+    text: &[u8],
+    shape: Shape,
+) -> Result<Option<Vec<u8>>, AllocError>
+    ensures { IfOk result (λ said. option_map (λ text. text.items) said ≡ first_sentence (argument_rules text.now shape)) }
+{
+    if has_too_much(text, shape) || has_too_little(text, shape) {
+        let said = usage_text(alloc, split_word(text).0, shape)?;
+        return Ok(Some(said));
+    }
+    if read_call(alloc, text)?.is_some() {
+        return Ok(None);
+    }
+    let said = Vec::from_slice(alloc, bad_argument(text, shape).as_bytes())?;
+    Ok(Some(said))
+}
+
+/// Returns the sentence of the first rule that the words of a call line break: its process, and what follows that.
+pub(crate) fn call_word_sentence(
+    alloc: Global,
+    process: &[u8],
+    text: &[u8],
+) -> Result<Option<Vec<u8>>, AllocError>
+    ensures { IfOk result (λ said. option_map (λ text. text.items) said ≡ first_sentence (call_word_rules process.now text.now)) }
+{
+    if read_process(process).is_none() {
+        let said = Vec::from_slice(alloc, kind_text(Kind::Process).as_bytes())?;
+        return Ok(Some(said));
+    }
+    let word = split_word(text).0;
+    match shape_named(word) {
+        None => Ok(Some(unknown_text(alloc, word)?)),
+        Some(shape) => argument_sentence(alloc, text, shape),
+    }
+}
+
+/// Checks whether a call names a group that is not declared.
+fn is_undeclared(session: &Session, call: Option<&UnixCall>) -> bool
+    ensures { result ≡ is_undeclared session.now (option_copied call.entry) }
+{
+    match call {
+        Some(call) => !is_declared_call(session, call),
+        None => false,
+    }
+}
+
+/// Returns the sentence of the first rule by which a call line may not be where it is.
+pub(crate) fn call_place_sentence(
+    alloc: Global,
+    session: &Session,
+    calls: &[CallLine],
+    text: &[u8],
+) -> Result<Option<&'static str>, AllocError>
+    ensures { IfOk result (λ said. option_copied said
+        ≡ first_sentence (call_place_rules (read_so_far session.now calls.now) text.now)) }
+{
+    if session.users().is_empty() {
+        return Ok(Some("a call line before any user line"));
+    }
+    let call = read_call(alloc, text)?;
+    if is_undeclared(session, call.as_ref()) {
+        return Ok(Some(kind_text(Kind::Mode)));
+    }
+    Ok(None)
+}

@@ -1,0 +1,126 @@
+//! Linting a script, from bytes to bytes.
+ghost use Rattle.std.specs.Prelude.{◌≡◌, ◌≤◌, false, true, length, is_some, IfOk, IfErr, IfSome, OnOk};
+ghost use Rattle.histar_devices.specs.Device.{CountsFailure};
+ghost use Rattle.histar_script.specs.Lines.{lines_of, most_script_bytes};
+ghost use Rattle.histar_script.specs.Reading.{reading, with_line};
+ghost use Rattle.histar_script.specs.Runs.{LeavesSink, RunsInput, is_read_failed, is_write_failed};
+ghost use Rattle.histar_lint.specs.Session.{IsFinding, IsMemory, Lints, finding_text, said_of};
+
+use crate::findings::sentence;
+use crate::texts::push_number;
+use histar_devices::{Sink, Source, read_input, write_bytes};
+use histar_script::{Fault, Script, read_item, read_script, split_line};
+use std::alloc::{AllocError, Global};
+
+/// Reads a script, and answers whether it is right. Of a bad one it writes a line: the name of the file, the number of the
+/// first bad line, and the sentence of the first rule that this line breaks.
+///
+/// It doesn't flush the sink.
+pub fn lint<R: Source, W: Sink>(
+    alloc: Global,
+    file: &[u8],
+    reader: &mut R,
+    writer: &mut W,
+) -> Result<bool, Fault>
+    // After a script that is too long and a failed read the sink is as it was.
+    ensures nothing { IfErr result (LeavesSink writer.old writer.new) }
+
+    // A device has failed exactly where its fault is the answer.
+    ensures reads { CountsFailure (R.failures reader.old) (R.failures reader.new) (is_read_failed result) }
+    ensures writes { CountsFailure (W.failures writer.old) (W.failures writer.new) (is_write_failed result) }
+
+    // Whatever the source gives, bytes of it were taken, to its end but never more than 1,048,577, and linted.
+    ensures runs { RunsInput (Lints file.now) (R.left reader.old) (R.left reader.new) (W.written writer.old) (W.written writer.new) result }
+
+    // So where the input is known, the whole input was linted.
+    ensures known { IfSome (R.left reader.old) (λ input. Lints file.now input (W.written writer.old) (W.written writer.new) result) }
+{
+    let input = read_input(alloc, reader)?;
+    lint_text(alloc, file, input.as_slice(), writer)
+}
+
+/// Lints the script that a text is.
+fn lint_text<W: Sink>(
+    alloc: Global,
+    file: &[u8],
+    text: &[u8],
+    writer: &mut W,
+) -> Result<bool, Fault>
+    ensures nothing { IfErr result (LeavesSink writer.old writer.new) }
+    ensures reads { is_read_failed result ≡ false }
+    ensures writes { CountsFailure (W.failures writer.old) (W.failures writer.new) (is_write_failed result) }
+    ensures runs { Lints file.now text.now (W.written writer.old) (W.written writer.new) result }
+{
+    match read_script(alloc, text) {
+        Ok(_script) => Ok(true),
+        Err(Fault::BadScript(line)) => {
+            let said = said_at(alloc, text, line)?;
+            let found = finding(alloc, file, line, said.as_slice())?;
+            write_bytes(writer, found.as_slice())?;
+            Ok(false)
+        }
+        Err(fault) => Err(fault),
+    }
+}
+
+/// Returns the line that is written of a bad script.
+fn finding(alloc: Global, file: &[u8], line: u32, said: &[u8]) -> Result<Vec<u8>, Fault>
+    ensures ok { IfOk result (λ text. text.items ≡ finding_text file.now line said.now) }
+    ensures err { IfErr result IsMemory }
+{
+    let mut text = Vec::from_slice(alloc, file)?;
+    text.extend_from_slice(b":")?;
+    push_number(&mut text, line as usize)?;
+    text.extend_from_slice(b": ")?;
+    text.extend_from_slice(said)?;
+    text.extend_from_slice(b"\n")?;
+    Ok(text)
+}
+
+/// Takes a line that is right.
+fn take_line(alloc: Global, script: &mut Script, number: u32, line: &[u8]) -> Result<(), Fault>
+    requires { is_some (with_line script.old number line.now) ≡ true }
+    ensures ok { OnOk result (with_line script.old number line.now ≡ Some script.new) }
+    ensures err { IfErr result IsMemory }
+{
+    match read_item(alloc, line)? {
+        Some(item) => script.add(number, item),
+        None => unreachable!(),
+    }
+}
+
+/// Returns what is said of the first of the lines that are left of a text, where this was read of those above.
+fn said_of(alloc: Global, text: &[u8], script: Script, rest: &[u8]) -> Result<Vec<u8>, AllocError>
+    requires { is_some (said_of (lines_of text.now) script (lines_of rest.now)) ≡ true }
+    ensures { IfOk result (λ said. said_of (lines_of text.now) script (lines_of rest.now) ≡ Some said.items) }
+{
+    if rest.is_empty() {
+        return Vec::from_slice(alloc, b"there is no user line".as_slice());
+    }
+    let (line, _after) = split_line(rest);
+    let (session, calls) = script.into_parts();
+    match sentence(alloc, text, &session, calls.as_slice(), line)? {
+        Some(said) => Ok(said),
+        None => unreachable!(),
+    }
+}
+
+/// Returns what is said of the first bad line of a text. The lines before it are read once more.
+fn said_at(alloc: Global, text: &[u8], bad: u32) -> Result<Vec<u8>, Fault>
+    requires short { length text.now ≤ most_script_bytes }
+    requires bad { reading text.now ≡ Err (Fault.BadScript bad) }
+    ensures ok { IfOk result (λ said. IsFinding text.now bad said.items) }
+    ensures err { IfErr result IsMemory }
+{
+    let mut script = Script::new(alloc);
+    let mut rest = text;
+    let mut count = 0u32;
+    'right: while count + 1 < bad {
+        let (line, after) = split_line(rest);
+        count += 1;
+        take_line(alloc, &mut script, count, line)?;
+        rest = after;
+    }
+    let said = said_of(alloc, text, script, rest)?;
+    Ok(said)
+}

@@ -1,0 +1,177 @@
+//! The shapes of calls: which arguments follow the word of each.
+ghost use Rattle.std.specs.Prelude.{◌≡◌, ◌++◌, IfOk, OnOk, codes};
+ghost use Rattle.histar_script.specs.CallForms.{call_forms, entry_calls, process_calls, reading_calls};
+ghost use Rattle.histar_lint.specs.Calls.{arguments_text, is_value, kind_name, kind_text, shape_among, shape_named, usage_text};
+
+use histar_flat::{read_mode, read_name, read_password, read_path, read_process, read_status};
+use std::alloc::{AllocError, Global};
+
+/// What an argument of a call is.
+#[derive(Clone, Copy)]
+pub enum Kind {
+    Path,
+    Mode,
+    Bytes,
+    Name,
+    Password,
+    Process,
+    Status,
+}
+
+/// The arguments that follow the word of a call.
+#[derive(Clone, Copy)]
+pub enum Shape {
+    Alone,
+    One(Kind),
+    Two(Kind, Kind),
+}
+
+/// Returns the shape of the call that a word names, if it names one.
+pub(crate) fn shape_named(word: &[u8]) -> Option<Shape>
+    ensures { result ≡ shape_named word.now }
+{
+    if word == b"spawn".as_slice() {
+        Some(Shape::Alone)
+    } else if word == b"whoami".as_slice() {
+        Some(Shape::Alone)
+    } else if word == b"create".as_slice() {
+        Some(Shape::Two(Kind::Path, Kind::Mode))
+    } else if word == b"mkdir".as_slice() {
+        Some(Shape::Two(Kind::Path, Kind::Mode))
+    } else if word == b"write".as_slice() {
+        Some(Shape::Two(Kind::Path, Kind::Bytes))
+    } else if word == b"append".as_slice() {
+        Some(Shape::Two(Kind::Path, Kind::Bytes))
+    } else {
+        reading_shape(word)
+    }
+}
+
+/// Returns the shape of a call that only reads, or of one of those behind.
+fn reading_shape(word: &[u8]) -> Option<Shape>
+    ensures { result ≡ shape_among (reading_calls ++ entry_calls ++ process_calls) word.now }
+{
+    if word == b"read".as_slice() {
+        Some(Shape::One(Kind::Path))
+    } else if word == b"list".as_slice() {
+        Some(Shape::One(Kind::Path))
+    } else if word == b"stat".as_slice() {
+        Some(Shape::One(Kind::Path))
+    } else {
+        entry_shape(word)
+    }
+}
+
+/// Returns the shape of a call on an entry, or of one of those behind.
+fn entry_shape(word: &[u8]) -> Option<Shape>
+    ensures { result ≡ shape_among (entry_calls ++ process_calls) word.now }
+{
+    if word == b"unlink".as_slice() {
+        Some(Shape::One(Kind::Path))
+    } else if word == b"rmdir".as_slice() {
+        Some(Shape::One(Kind::Path))
+    } else if word == b"rmtree".as_slice() {
+        Some(Shape::One(Kind::Path))
+    } else if word == b"rename".as_slice() {
+        Some(Shape::Two(Kind::Path, Kind::Name))
+    } else if word == b"wrap".as_slice() {
+        Some(Shape::One(Kind::Path))
+    } else {
+        process_shape(word)
+    }
+}
+
+/// Returns the shape of a call of processes.
+fn process_shape(word: &[u8]) -> Option<Shape>
+    ensures { result ≡ shape_among process_calls word.now }
+{
+    if word == b"exit".as_slice() {
+        Some(Shape::One(Kind::Status))
+    } else if word == b"status".as_slice() {
+        Some(Shape::One(Kind::Process))
+    } else if word == b"kill".as_slice() {
+        Some(Shape::One(Kind::Process))
+    } else if word == b"login".as_slice() {
+        Some(Shape::Two(Kind::Name, Kind::Password))
+    } else {
+        None
+    }
+}
+
+/// Returns how an argument is named where the form of a call is shown.
+fn kind_name(kind: Kind) -> &'static str
+    ensures { result.now ≡ kind_name kind }
+{
+    match kind {
+        Kind::Path => "PATH",
+        Kind::Mode => "MODE",
+        Kind::Bytes => "BYTES",
+        Kind::Name => "NAME",
+        Kind::Password => "PASSWORD",
+        Kind::Process => "PROC",
+        Kind::Status => "STATUS",
+    }
+}
+
+/// Returns what an argument has to be.
+pub(crate) fn kind_text(kind: Kind) -> &'static str
+    ensures { result.now ≡ kind_text kind }
+{
+    match kind {
+        Kind::Path => "a path is / or up to 8 names, each behind a slash and of 1 to 32 of a-z, 0-9, dot, underscore and hyphen",
+        Kind::Mode => "a mode is private, readable, open or group:NAME of a declared group",
+        Kind::Bytes => "bytes follow a space",
+        Kind::Name => "a name has 1 to 32 of a-z, 0-9, dot, underscore and hyphen",
+        Kind::Password => "a password has 1 to 32 printable bytes and no space",
+        Kind::Process => "a process is 0, or 0 and up to 7 numbers from 1 to 64 with a dot before each",
+        Kind::Status => "an exit status is a number from 0 to 255",
+    }
+}
+
+/// Checks whether a text is a value of a kind.
+pub(crate) fn is_value(kind: Kind, text: &[u8]) -> bool
+    ensures { result ≡ is_value kind text.now }
+{
+    match kind {
+        Kind::Path => read_path(text).is_some(),
+        Kind::Mode => read_mode(text).is_some(),
+        Kind::Bytes => true,
+        Kind::Name => read_name(text).is_some(),
+        Kind::Password => read_password(text).is_some(),
+        Kind::Process => read_process(text).is_some(),
+        Kind::Status => read_status(text).is_some(),
+    }
+}
+
+/// Adds the name of an argument, behind a space.
+fn push_kind(said: &mut Vec<u8>, kind: Kind) -> Result<(), AllocError>
+    ensures { OnOk result (said.new.items ≡ said.old.items ++ codes " " ++ kind_name kind) }
+{
+    said.extend_from_slice(b" ")?;
+    said.extend_from_slice(kind_name(kind).as_bytes())
+}
+
+/// Adds the names of the arguments of a call.
+fn push_arguments(said: &mut Vec<u8>, shape: Shape) -> Result<(), AllocError>
+    ensures { OnOk result (said.new.items ≡ said.old.items ++ arguments_text shape) }
+{
+    match shape {
+        Shape::Alone => Ok(()),
+        Shape::One(kind) => push_kind(said, kind),
+        Shape::Two(first, second) => {
+            push_kind(said, first)?;
+            push_kind(said, second)
+        }
+    }
+}
+
+/// Says how the call of a word is written.
+pub(crate) fn usage_text(alloc: Global, word: &[u8], shape: Shape) -> Result<Vec<u8>, AllocError>
+    ensures { IfOk result (λ said. said.items ≡ usage_text word.now shape) }
+{
+    let mut said = Vec::from_slice(alloc, b"the call is `PROC ".as_slice())?;
+    said.extend_from_slice(word)?;
+    push_arguments(&mut said, shape)?;
+    said.extend_from_slice(b"`")?;
+    Ok(said)
+}
