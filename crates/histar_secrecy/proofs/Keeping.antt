@@ -29,12 +29,12 @@ use Rattle.histar_secrecy.specs.Changers.{OthersChangeNothing, changers_are_sile
 use Rattle.histar_secrecy.proofs.Names.{IsQuiet, by_quiet_line, child_of, grown, login_of, runs_kept, runs_put, starter_of}
 use Rattle.histar_secrecy.proofs.WriteRights.{HasNoMore, no_more_by_class, no_more_changes, writes_it_or_above, writes_no_more, writes_not}
 
-module _ (session : Session) (f : Flat) (names : NamesAreGiven f) (path : Path) where
-  -- what stands on the way to the path stands there in this state too
-  abbrev pub StandsStill : Flat → Type 0
-  StandsStill s = (r : Path) → under_path r path ≡ true → get s.files r ≡ get f.files r
+module _ (session : Session) (f : Flat) (path : Path) where
+  -- what is on the way to the path is there in this state too
+  abbrev pub IsWayKept : Flat → Type 0
+  IsWayKept s = (r : Path) → under_path r path ≡ true → get s.files r ≡ get f.files r
 
-  -- who runs and is no changer by its name may not change what stands there
+  -- who runs and is no changer by its name may not change what is there
   abbrev pub OthersMayNot : Flat → Type 0
   OthersMayNot s = (x : ProcName) (p : Process) → running s x ≡ Some p → is_changer session f path x ≡ false → may_change session f p path ≡ false
 
@@ -42,10 +42,12 @@ module _ (session : Session) (f : Flat) (names : NamesAreGiven f) (path : Path) 
   pub record IsKept (s : Flat) : Type 0 where
     pub tree : IsTree s
     pub given : (x : ProcName) → is_given f.processes x ≡ true → is_given s.processes x ≡ true
-    pub way : StandsStill s
+    pub way : IsWayKept s
     pub others : OthersMayNot s
 
-  module _ (s : Flat) (kept : IsKept s) (me : ProcName) (p : Process) (runs : running s me ≡ Some p) (silent : is_changer session f path me ≡ false) where
+module _ {session : Session} {f : Flat} {path : Path} (names : NamesAreGiven f) where
+  module _ (s : Flat) (kept : IsKept session f path s) (me : ProcName) (p : Process) (runs : running s me ≡ Some p)
+      (silent : is_changer session f path me ≡ false) where
     here : s.processes me ≡ Some p
     here = runs_is_there (s.processes me) p runs
 
@@ -55,20 +57,26 @@ module _ (session : Session) (f : Flat) (names : NamesAreGiven f) (path : Path) 
     -- what p writes is not on the way
     not_written : (r : Path) → writes session s p r ≡ true → under_path r path ≡ false
     not_written r w = elim (cases_Bool (under_path r path)) [
-      | inl u ↦ absurd (true≢false (sym (writes_it_or_above session f p r path u (sym (ap (λ o. is_some_and o (λ n. may_write session p n.class)) (kept.way r u)) ∙ w)) ∙ mine))
+      | inl u ↦
+          let there = sym (ap (λ o. is_some_and o (λ n. may_write session p n.class)) (kept.way r u)) ∙ w in
+          absurd (true≢false (sym (writes_it_or_above session f p r path u there) ∙ mine))
       | inr u ↦ u
     ]
 
     -- and neither is what lies in it
     not_in_written : (n : Name) (d : Path) → writes session s p d ≡ true → (r : Path) → under_path r path ≡ true → under_path (n ∷ d) r ≡ false
     not_in_written n d w r u = elim (cases_Bool (under_path (n ∷ d) r)) [
-      | inl v ↦ absurd (true≢false (sym (under_all same same_path_found d (n ∷ d) path (under_child same same_path_found d d n (under_itself same same_path_found d))
-          (under_all same same_path_found (n ∷ d) r path v u)) ∙ not_written d w))
+      | inl v ↦
+          let below = under_child same same_path_found d d n (under_itself same same_path_found d) in
+          let way = under_all same same_path_found d (n ∷ d) path below (under_all same same_path_found (n ∷ d) r path v u) in
+          absurd (true≢false (sym way ∙ not_written d w))
       | inr v ↦ v
     ]
 
-    put_elsewhere : (q : Path) (x : Node) → (r : Path) → under_path r path ≡ true → under_path q r ≡ false → get (Rattle.histar_flat.specs.Files.insert s.files q x) r ≡ get f.files r
-    put_elsewhere q x r u out = get_other s.files q x r (λ e. true≢false (sym (under_itself same same_path_found q) ∙ ap (under_path q) (sym e) ∙ out)) ∙ kept.way r u
+    put_elsewhere : (q : Path) (x : Node) → (r : Path) → under_path r path ≡ true → under_path q r ≡ false
+        → get (Rattle.histar_flat.specs.Files.insert s.files q x) r ≡ get f.files r
+    put_elsewhere q x r u out =
+        get_other s.files q x r (λ e. true≢false (sym (under_itself same same_path_found q) ∙ ap (under_path q) (sym e) ∙ out)) ∙ kept.way r u
 
     written_elsewhere : (q : Path) → writes session s p q ≡ true → (r : Path) → under_path r path ≡ true → under_path q r ≡ false
     written_elsewhere q w r u = elim (cases_Bool (under_path q r)) [
@@ -76,13 +84,15 @@ module _ (session : Session) (f : Flat) (names : NamesAreGiven f) (path : Path) 
       | inr v ↦ v
     ]
 
-    way_changes : (call : UnixCall) → EachChange session s me p call StandsStill
+    way_changes : (call : UnixCall) → EachChange session s me p call (IsWayKept session f path)
     way_changes call = record {
       stays = kept.way;
       makes = λ n d x walked free w own mode made_is r u. put_elsewhere (n ∷ d) x r u (not_in_written n d w r u);
-      overwrites = λ n d bytes file w r u. put_elsewhere (n ∷ d) (record { class = class_of (get s.files (n ∷ d)); content = File bytes }) r u (written_elsewhere (n ∷ d) w r u);
+      overwrites = λ n d bytes file w r u.
+          put_elsewhere (n ∷ d) (record { class = class_of (get s.files (n ∷ d)); content = File bytes }) r u (written_elsewhere (n ∷ d) w r u);
       cuts = λ n d takes w r u.
-          get-keep s.files (λ t. not (under_path (n ∷ d) t)) r ∙ ap (λ b. cond (not b) (get s.files r) None) (not_in_written n d w r u) ∙ kept.way r u;
+          get-keep s.files (λ t. not (under_path (n ∷ d) t)) r ∙ ap (λ b. cond (not b) (get s.files r) None) (not_in_written n d w r u)
+          ∙ kept.way r u;
       renames = λ n k d takes apart free w r u.
           get_renamed n k d apart s.files (nothing_below s kept.tree (k ∷ d) free) r
           ∙ ap (λ b. cond b None (get s.files (moved (k ∷ d) (n ∷ d) r))) (not_in_written n d w r u)
@@ -91,29 +101,35 @@ module _ (session : Session) (f : Flat) (names : NamesAreGiven f) (path : Path) 
       exits = λ n is. kept.way;
       logs_in = λ name is known free. kept.way;
       kills = λ n. kept.way;
-      wraps = λ n d is walked free w named r u. put_elsewhere (n ∷ d) (record { class = Scratch p.user (inner_chain me p); content = Dir }) r u (not_in_written n d w r u);
+      wraps = λ n d is walked free w named r u.
+          put_elsewhere (n ∷ d) (record { class = Scratch p.user (inner_chain me p); content = Dir }) r u (not_in_written n d w r u);
     }
 
-    -- the new job is carried by no class that stood there
+    -- the new job is carried by no class that was there
     not_carried : (r : Path) (node : Node) → get f.files r ≡ Some node → carries (next_child me p) node.class ≡ true → ⊥
-    not_carried r node at c = true≢false (sym (kept.given (next_child me p) (names.of_carried_jobs r node (next_child me p) at c)) ∙ next_is_new s me p here)
+    not_carried r node at c =
+        true≢false (sym (kept.given (next_child me p) (names.of_carried_jobs r node (next_child me p) at c)) ∙ next_is_new s me p here)
 
-    put_still : (q : Process) → HasNoMore session f path q p → OthersMayNot (with_process s me q)
+    put_still : (q : Process) → HasNoMore session f path q p → OthersMayNot session f path (with_process s me q)
     put_still q less x y e c = elim (runs_put s me q x y e) [
       | inl t ↦ subst (λ z. may_change session f z path ≡ false) t.1 (no_more_changes session f q p path less mine)
       | inr t ↦ kept.others x y t c
     ]
 
-    birth_still : (q child : Process) → HasNoMore session f path q p → HasNoMore session f path child p → OthersMayNot (with_process (with_process s me q) (next_child me p) child)
+    birth_still : (q child : Process) → HasNoMore session f path q p → HasNoMore session f path child p
+        → OthersMayNot session f path (with_process (with_process s me q) (next_child me p) child)
     birth_still q child less less_child x y e c = elim (runs_put (with_process s me q) (next_child me p) child x y e) [
       | inl t ↦ subst (λ z. may_change session f z path ≡ false) t.1 (no_more_changes session f child p path less_child mine)
       | inr t ↦ put_still q less x y t c
     ]
 
-    same_rights : (q : Process) → q.user ≡ p.user → q.chain ≡ p.chain → ((job : ProcName) → knows q job ≡ true → knows p job ≡ true) → HasNoMore session f path q p
-    same_rights q user chain more = no_more_by_class session f path q p (λ r node at w. writes_no_more session q p node.class user chain (λ job c k. more job k) w)
+    same_rights : (q : Process) → q.user ≡ p.user → q.chain ≡ p.chain → ((job : ProcName) → knows q job ≡ true → knows p job ≡ true)
+        → HasNoMore session f path q p
+    same_rights q user chain more =
+        no_more_by_class session f path q p (λ r node at w. writes_no_more session q p node.class user chain (λ job c k. more job k) w)
 
-    login_still : (name : Name) → is_free p ≡ true → may_change session f (logged_in name) path ≡ false → OthersMayNot (with_process s me (login_of p name))
+    login_still : (name : Name) → is_free p ≡ true → may_change session f (logged_in name) path ≡ false
+        → OthersMayNot session f path (with_process s me (login_of p name))
     login_still name free away x y e c = elim (runs_put s me (login_of p name) x y e) [
       | inl t ↦ subst (λ z. may_change session f z path ≡ false) t.1 (no_more_changes session f (login_of p name) (logged_in name) path
           (no_more_by_class session f path (login_of p name) (logged_in name) (λ r node at w.
@@ -126,7 +142,7 @@ module _ (session : Session) (f : Flat) (names : NamesAreGiven f) (path : Path) 
         no_jobs [] h = refl
         no_jobs (k ∷ ks) h = absurd (true≢false (sym h))
 
-    wrap_still : OthersMayNot (with_process (with_process s me (starter_of me p)) (next_child me p)
+    wrap_still : OthersMayNot session f path (with_process (with_process s me (starter_of me p)) (next_child me p)
         (child_of p (inner_chain me p)))
     wrap_still = birth_still (starter_of me p) (child_of p (inner_chain me p))
         (no_more_by_class session f path (starter_of me p) p
@@ -151,7 +167,8 @@ module _ (session : Session) (f : Flat) (names : NamesAreGiven f) (path : Path) 
           ]
         ]
 
-    others_changes : (call : UnixCall) → IsQuiet (λ q. may_change session f q path) (Unit {0}) call → EachChange session s me p call OthersMayNot
+    others_changes : (call : UnixCall) → IsQuiet (λ q. may_change session f q path) (Unit {0}) call
+        → EachChange session s me p call (OthersMayNot session f path)
     unfolding put_still birth_still login_still wrap_still
     others_changes call quiet = record {
       stays = kept.others;
@@ -171,24 +188,27 @@ module _ (session : Session) (f : Flat) (names : NamesAreGiven f) (path : Path) 
       wraps = λ n d is walked free w named. wrap_still;
     }
 
-  kept_after : (s : Flat) → IsKept s → (me : ProcName) (call : UnixCall) → is_changer session f path me ≡ false → logs_in_as_changer session f path call ≡ false → IsKept (flat_after session s me call)
+  kept_after : (s : Flat) → IsKept session f path s → (me : ProcName) (call : UnixCall) → is_changer session f path me ≡ false
+      → logs_in_as_changer session f path call ≡ false → IsKept session f path (flat_after session s me call)
   kept_after s kept me call silent quiet = record {
     tree = tree_after s kept.tree session me call;
     given = λ x h. given_stays session s me call x (kept.given x h);
-    way = by_line session s me call StandsStill kept.way (λ p runs. way_changes s kept me p runs silent call);
-    others = by_quiet_line session s me OthersMayNot kept.others (λ q. may_change session f q path) (Unit {0}) call (λ so. quiet)
+    way = by_line session s me call (IsWayKept session f path) kept.way (λ p runs. way_changes s kept me p runs silent call);
+    others = by_quiet_line {test = λ q. may_change session f q path} (record { quiet = λ so. quiet }) s me (OthersMayNot session f path) kept.others
         (λ p runs unchanging. others_changes s kept me p runs silent call unchanging);
   }
 
-  kept_at_end : (calls : List CallLine) (s : Flat) → IsKept s → changers_are_silent session f path calls ≡ true → no_changer_logs_in session f path calls ≡ true → IsKept (flat_end session s calls)
+  kept_at_end : (calls : List CallLine) (s : Flat) → IsKept session f path s → changers_are_silent session f path calls ≡ true
+      → no_changer_logs_in session f path calls ≡ true → IsKept session f path (flat_end session s calls)
   kept_at_end [] s kept silent quiet = kept
   kept_at_end (c ∷ calls) s kept silent quiet =
       let one = and_parts (not (is_changer session f path c.process)) (changers_are_silent session f path calls) silent in
       let two = and_parts (not (logs_in_as_changer session f path c.call)) (no_changer_logs_in session f path calls) quiet in
-      kept_at_end calls (flat_after session s c.process c.call)
-      (kept_after s kept c.process c.call (not-true (is_changer session f path c.process) one.0) (not-true (logs_in_as_changer session f path c.call) two.0)) one.1 two.1
+      let silent_line = not-true (is_changer session f path c.process) one.0 in
+      let quiet_line = not-true (logs_in_as_changer session f path c.call) two.0 in
+      kept_at_end calls (flat_after session s c.process c.call) (kept_after s kept c.process c.call silent_line quiet_line) one.1 two.1
 
-  kept_itself : IsTree f → IsKept f
+  kept_itself : IsTree f → IsKept session f path f
   kept_itself tree = record {
     tree = tree;
     given = λ x h. h;
@@ -196,9 +216,9 @@ module _ (session : Session) (f : Flat) (names : NamesAreGiven f) (path : Path) 
     others = λ x p runs c. sym (ap (λ o. is_some_and o (λ q. may_change session f q path)) runs) ∙ c;
   }
 
--- What stands at the path stays while none who may change it calls anything.
+-- What is at the path stays while none who may change it calls anything.
 pub others_change_nothing : OthersChangeNothing
 others_change_nothing session f reached path node at calls silent quiet =
     let names = subst NamesAreGiven reached.1 (names_are_given_once.old session reached.0) in
-    let kept = kept_at_end session f names path calls f (kept_itself session f names path (subst IsTree reached.1 (paths_are_a_tree session reached.0))) silent quiet in
+    let kept = kept_at_end names calls f (kept_itself names (subst IsTree reached.1 (paths_are_a_tree session reached.0))) silent quiet in
     kept.way path (under_itself same same_path_found path) ∙ at

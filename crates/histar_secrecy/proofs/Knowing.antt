@@ -21,6 +21,7 @@ use Rattle.histar_flat.proofs.Trees.{tree_after, tree_at_start}
 use Rattle.histar_isolation.proofs.Isolated.{started_now}
 use Rattle.histar_isolation.proofs.Kept.{born_cases, put_cases, started_after}
 use Rattle.histar_isolation.proofs.Relation.{IsStarted}
+use Rattle.histar_secrecy.proofs.Readers.{in_chain}
 use Rattle.histar_secrecy.proofs.Names.{child_of, grown, login_of, starter_of}
 
 -- a process of this user knows the job
@@ -44,12 +45,9 @@ abbrev pub KnowsWhatItKnew : Flat → ProcName → Flat → Type 0
 KnowsWhatItKnew f me g = IsTree g → NamesAreGiven g → (x : ProcName) (y : Process) (job : ProcName) → g.processes x ≡ Some y → knows y job ≡ true
     → IsKnown f job y.user ⊎ IsNew f g me job y.user
 
--- a test of a list of jobs, or of none
-in_chain : (jobs : List ProcName) (job : ProcName) → (has jobs job || false) ≡ true → has jobs job ≡ true
-in_chain jobs job h = elim (or_cases (has jobs job) false h) [ inl t ↦ t | inr t ↦ absurd (true≢false (sym t)) ]
-
 -- a process in no job that holds none knows none
-free_knows_none : (chain : List ProcName) (job : ProcName) → (let b : Bool = elim chain [ [] ↦ true | k ∷ ks ↦ false ] in b) ≡ true → (has chain job || false) ≡ false
+free_knows_none : (chain : List ProcName) (job : ProcName) → (let b : Bool = elim chain [ [] ↦ true | k ∷ ks ↦ false ] in b) ≡ true
+    → (has chain job || false) ≡ false
 free_knows_none [] job h = refl
 free_knows_none (k ∷ ks) job h = absurd (true≢false (sym h))
 
@@ -66,7 +64,8 @@ module _ (session : Session) (f : Flat) (names : NamesAreGiven f) (me : ProcName
   knows_chain job h = ap (λ b. b || has p.held job) h
 
   -- where one process changed
-  one_changed : (q : Process) → p.user ≡ q.user → ((job : ProcName) → knows q job ≡ true → knows p job ≡ true) → KnowsWhatItKnew f me (with_process f me q)
+  one_changed : (q : Process) → p.user ≡ q.user → ((job : ProcName) → knows q job ≡ true → knows p job ≡ true)
+      → KnowsWhatItKnew f me (with_process f me q)
   one_changed q user less tree given x y job there k = elim (put_cases f me q x y there) [
     | inl t ↦ inl (by_caller y job (user ∙ ap (λ z. z.user) t.1) (less job (ap (λ z. knows z job) t.1 ∙ k)))
     | inr t ↦ inl (by_old x y job t k)
@@ -108,7 +107,8 @@ module _ (session : Session) (f : Flat) (names : NamesAreGiven f) (me : ProcName
       })
     ]
 
-    wrapped_now : (x : ProcName) (y : Process) (job : ProcName) → (changed session f me p (Wrap (n ∷ d))).processes x ≡ Some y → knows y job ≡ true → Found y job
+    wrapped_now : (x : ProcName) (y : Process) (job : ProcName) → (changed session f me p (Wrap (n ∷ d))).processes x ≡ Some y → knows y job ≡ true
+        → Found y job
     wrapped_now x y job there k =
         elim (born_cases f me (starter_of me p) (next_child me p)
         (child_of p (inner_chain me p)) x y there) [
@@ -144,17 +144,24 @@ pub record AreJobs (f : Flat) : Type 0 where
   -- each job that a process knows was started
   pub started : (x : ProcName) (y : Process) (job : ProcName) → f.processes x ≡ Some y → knows y job ≡ true → IsStarted job f
   -- all that know a job are of one user
-  pub one_user : (x x' : ProcName) (y y' : Process) (job : ProcName) → f.processes x ≡ Some y → knows y job ≡ true → f.processes x' ≡ Some y' → knows y' job ≡ true → y.user ≡ y'.user
+  pub one_user : (x x' : ProcName) (y y' : Process) (job : ProcName) → f.processes x ≡ Some y → knows y job ≡ true → f.processes x' ≡ Some y'
+      → knows y' job ≡ true → y.user ≡ y'.user
   -- process 0 is no job
   pub child : (x : ProcName) (y : Process) (job : ProcName) → f.processes x ≡ Some y → knows y job ≡ true → job ≢ []
 
+-- a process that is there knows the job
+pub record IsKnower (f : Flat) (name : ProcName) (process : Process) (job : ProcName) : Type 0 where
+  pub there : f.processes name ≡ Some process
+  pub known : knows process job ≡ true
+
 -- Who knows a job after a line knew it before, or is of a job that was started.
-pub known_after : (session : Session) (f : Flat) (h : AreJobs f) (me : ProcName) (call : UnixCall) (x : ProcName) (y : Process) (job : ProcName)
-    → (flat_after session f me call).processes x ≡ Some y → knows y job ≡ true → IsKnown f job y.user ⊎ IsNew f (flat_after session f me call) me job y.user
-known_after session f h me call x y job there k =
-    by_line session f me call (KnowsWhatItKnew f me) (λ tree given x y job there k. inl (record { name = x; process = y; there = there; known = k; of_user = refl }))
+pub known_after : (session : Session) {f : Flat} → AreJobs f → (me : ProcName) (call : UnixCall) {x : ProcName} {y : Process} {job : ProcName}
+    → IsKnower (flat_after session f me call) x y job → IsKnown f job y.user ⊎ IsNew f (flat_after session f me call) me job y.user
+known_after session {f} h me call {x} {y} {job} knower =
+    by_line session f me call (KnowsWhatItKnew f me)
+    (λ tree given x y job there k. inl (record { name = x; process = y; there = there; known = k; of_user = refl }))
     (λ p runs. known_changes session f h.names me p (runs_is_there (f.processes me) p runs) call)
-    (tree_after f h.tree session me call) (given_after session f me call h.tree h.names) x y job there k
+    (tree_after f h.tree session me call) (given_after session f me call h.tree h.names) x y job knower.there knower.known
 
 -- a job that is known was given, and so is not new
 pub not_new : (f g : Flat) (me : ProcName) (job : ProcName) (user : Name) → is_given f.processes job ≡ true → IsNew f g me job user → ⊥
@@ -165,12 +172,14 @@ pub jobs_after : (session : Session) (f : Flat) → AreJobs f → (me : ProcName
 jobs_after session f h me call = record {
   tree = tree_after f h.tree session me call;
   names = given_after session f me call h.tree h.names;
-  started = λ x y job there k. elim (known_after session f h me call x y job there k) [
+  started = λ x y job there k. elim (known_after session h me call (record { there = there; known = k })) [
     | inl t ↦ started_after job session f me call (h.started t.name t.process job t.there t.known)
     | inr t ↦ t.started
   ];
-  one_user = λ x x' y y' job there k there' k'. users y y' job (known_after session f h me call x y job there k) (known_after session f h me call x' y' job there' k');
-  child = λ x y job there k. elim (known_after session f h me call x y job there k) [
+  one_user = λ x x' y y' job there k there' k'.
+      users y y' job (known_after session h me call (record { there = there; known = k }))
+      (known_after session h me call (record { there = there'; known = k' }));
+  child = λ x y job there k. elim (known_after session h me call (record { there = there; known = k })) [
     | inl t ↦ h.child t.name t.process job t.there t.known
     | inr t ↦ λ e. let no : next_child me t.process ≡ [] = sym t.named ∙ e in cc
   ];
@@ -179,8 +188,10 @@ jobs_after session f h me call = record {
     users : (y y' : Process) (job : ProcName) → IsKnown f job y.user ⊎ IsNew f (flat_after session f me call) me job y.user
         → IsKnown f job y'.user ⊎ IsNew f (flat_after session f me call) me job y'.user → y.user ≡ y'.user
     users y y' job (inl t) (inl u) = sym t.of_user ∙ h.one_user t.name u.name t.process u.process job t.there t.known u.there u.known ∙ u.of_user
-    users y y' job (inl t) (inr u) = absurd (not_new f (flat_after session f me call) me job y'.user (h.names.of_known_jobs t.name t.process job t.there t.known) u)
-    users y y' job (inr t) (inl u) = absurd (not_new f (flat_after session f me call) me job y.user (h.names.of_known_jobs u.name u.process job u.there u.known) t)
+    users y y' job (inl t) (inr u) =
+        absurd (not_new f (flat_after session f me call) me job y'.user (h.names.of_known_jobs t.name t.process job t.there t.known) u)
+    users y y' job (inr t) (inl u) =
+        absurd (not_new f (flat_after session f me call) me job y.user (h.names.of_known_jobs u.name u.process job u.there u.known) t)
     users y y' job (inr t) (inr u) =
         let e : Some t.process ≡ Some u.process = sym t.there ∙ u.there in
         let one : t.process ≡ u.process = cc in

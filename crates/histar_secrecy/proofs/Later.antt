@@ -46,10 +46,10 @@ module _ (session : Session) (class : Class) (f : Flat) where
     pub standing : AreStanding s
 
 -- Who is of the same user, in the jobs that the other is in, and knows no more of the jobs of the class, is what the other is.
-stands_as : {session : Session} {class : Class} {f : Flat} {x : ProcName} {a : Process} (b : Process) → IsStanding session class f x a → a.user ≡ b.user
+is_as : {session : Session} {class : Class} {f : Flat} {x : ProcName} {a : Process} (b : Process) → IsStanding session class f x a → a.user ≡ b.user
     → ((job : ProcName) → has a.chain job ≡ true → has b.chain job ≡ true)
     → ((job : ProcName) → carries job class ≡ true → knows b job ≡ true → knows a job ≡ true) → IsStanding session class f x b
-stands_as {session} {class} {f} {x} {a} b is user more less = record {
+is_as {session} {class} {f} {x} {a} b is user more less = record {
   confined = λ c. bound_inside session class a b user more (is.confined c);
   outside = λ c t. elim (cases_Bool (may_read session b class)) [
     | inl r ↦ absurd (true≢false (sym (reads_as session b a class (sym user) less r) ∙ is.outside c t))
@@ -63,8 +63,8 @@ pub record IsBegun (session : Session) (class : Class) (f : Flat) : Type 0 where
   pub given : (job : ProcName) → carries job class ≡ true → is_given f.processes job ≡ true
   pub root : is_scratch class ≡ true → HasRoot session f class
 
-module _ {session : Session} {class : Class} {f : Flat} (begun : IsBegun session class f) (s : Flat) (later : IsLater session class f s) (me : ProcName)
-    (silent : is_trusted session class f me ≡ false) where
+module _ {session : Session} {class : Class} {f : Flat} (begun : IsBegun session class f) (s : Flat) (later : IsLater session class f s)
+    (me : ProcName) (silent : is_trusted session class f me ≡ false) where
   module _ (p : Process) (runs : running s me ≡ Some p) where
     here : s.processes me ≡ Some p
     here = runs_is_there (s.processes me) p runs
@@ -76,27 +76,31 @@ module _ {session : Session} {class : Class} {f : Flat} (begun : IsBegun session
     not_of_next : (job : ProcName) → carries job class ≡ true → job ≡ next_child me p → ⊥
     not_of_next job c e = true≢false (sym (later.given job (begun.given job c)) ∙ ap (is_given s.processes) e ∙ next_is_new s me p here)
 
-    -- a child stands as its parent does
-    child_stands : (child : Process) → IsStanding session class f me child → IsStanding session class f (next_child me p) child
-    child_stands child is =
-        let none : runs_bound session class f (next_child me p) ≡ false = ap (λ o. is_some_and (if_running o) (is_bound session class)) (new_name f begun.jobs.names s later.given me p here) in
-        let as' : is_confined session class f (next_child me p) ≡ is_confined session class f me = ap (λ b. b || is_confined session class f me) none in
+    -- a child is what its parent is
+    child_is : (child : Process) → IsStanding session class f me child → IsStanding session class f (next_child me p) child
+    child_is child is =
+        let none : runs_bound session class f (next_child me p) ≡ false =
+        ap (λ o. is_some_and (if_running o) (is_bound session class)) (new_name f begun.jobs.names s later.given me p here) in
+        let as' : is_confined session class f (next_child me p) ≡ is_confined session class f me =
+        ap (λ b. b || is_confined session class f me) none in
         record { confined = λ c. is.confined (sym as' ∙ c); outside = λ c t. is.outside (sym as' ∙ c) silent }
 
-    put_stands : (q : Process) → IsStanding session class f me q → AreStanding session class f (with_process s me q)
-    put_stands q is x y e = elim (runs_put s me q x y e) [
+    put_is : (q : Process) → IsStanding session class f me q → AreStanding session class f (with_process s me q)
+    put_is q is x y e = elim (runs_put s me q x y e) [
       | inl t ↦ subst (λ z. IsStanding session class f z y) t.0 (subst (IsStanding session class f me) t.1 is)
       | inr t ↦ later.standing x y t
     ]
 
-    birth_stands : (q child : Process) → IsStanding session class f me q → IsStanding session class f me child → AreStanding session class f (with_process (with_process s me q) (next_child me p) child)
-    birth_stands q child is is_child x y e = elim (runs_put (with_process s me q) (next_child me p) child x y e) [
-      | inl t ↦ subst (λ z. IsStanding session class f z y) t.0 (subst (IsStanding session class f (next_child me p)) t.1 (child_stands child is_child))
-      | inr t ↦ put_stands q is x y t
+    birth_is : (q child : Process) → IsStanding session class f me q → IsStanding session class f me child
+        → AreStanding session class f (with_process (with_process s me q) (next_child me p) child)
+    birth_is q child is is_child x y e = elim (runs_put (with_process s me q) (next_child me p) child x y e) [
+      | inl t ↦ subst (λ z. IsStanding session class f z y) t.0 (subst (IsStanding session class f (next_child me p)) t.1 (child_is child is_child))
+      | inr t ↦ put_is q is x y t
     ]
 
-    login_stands : (name : Name) → is_free p ≡ true → (is_confined session class f me ≡ false → may_read session (logged_in name) class ≡ false) → IsStanding session class f me (login_of p name)
-    login_stands name free away = record {
+    login_is : (name : Name) → is_free p ≡ true → (is_confined session class f me ≡ false → may_read session (logged_in name) class ≡ false)
+        → IsStanding session class f me (login_of p name)
+    login_is name free away = record {
       confined = λ c. absurd (true≢false (sym free ∙ (bound_parts session class p (mine.confined c)).0));
       outside = λ c t. elim (cases_Bool (may_read session (login_of p name) class)) [
         | inl r ↦ absurd (true≢false (sym (reads_as session (login_of p name) (logged_in name) class refl
@@ -106,8 +110,8 @@ module _ {session : Session} {class : Class} {f : Flat} (begun : IsBegun session
     }
 
     -- the starter of a job, and the first process of the job
-    starter_stands : IsStanding session class f me (starter_of me p)
-    starter_stands = stands_as (starter_of me p) mine refl (λ job h. h) less
+    starter_is : IsStanding session class f me (starter_of me p)
+    starter_is = is_as (starter_of me p) mine refl (λ job h. h) less
       where
         less : (job : ProcName) → carries job class ≡ true → (has p.chain job || has (p.held ++ next_child me p ∷ []) job) ≡ true → knows p job ≡ true
         less job c k = elim (or_cases (has p.chain job) (has (p.held ++ next_child me p ∷ []) job) k) [
@@ -118,8 +122,8 @@ module _ {session : Session} {class : Class} {f : Flat} (begun : IsBegun session
           ]
         ]
 
-    newborn_stands : IsStanding session class f me (child_of p (inner_chain me p))
-    newborn_stands = stands_as (child_of p (inner_chain me p)) mine refl (λ job h. longer_keeps p.chain (next_child me p) job h) less
+    newborn_is : IsStanding session class f me (child_of p (inner_chain me p))
+    newborn_is = is_as (child_of p (inner_chain me p)) mine refl (λ job h. longer_keeps p.chain (next_child me p) job h) less
       where
         less : (job : ProcName) → carries job class ≡ true → (has (inner_chain me p) job || false) ≡ true → knows p job ≡ true
         less job c k = elim (longer_has p.chain (next_child me p) job (in_chain (inner_chain me p) job k)) [
@@ -129,34 +133,36 @@ module _ {session : Session} {class : Class} {f : Flat} (begun : IsBegun session
 
     standing_changes : (call : UnixCall) → IsQuiet (λ q. may_read session q class) (is_confined session class f me ≡ false) call
         → EachChange session s me p call (AreStanding session class f)
-    unfolding put_stands birth_stands
+    unfolding put_is birth_is
     standing_changes call quiet = record {
       stays = later.standing;
       makes = λ n d x walked free w own mode made_is. later.standing;
       overwrites = λ n d bytes file w. later.standing;
       cuts = λ n d takes w. later.standing;
       renames = λ n k d takes ne free w. later.standing;
-      spawns = λ is. birth_stands (grown p) (child_of p p.chain)
-          (stands_as (grown p) mine refl (λ job h. h) (λ job c k. k))
-          (stands_as (child_of p p.chain) mine refl (λ job h. h) (λ job c k. ap (λ b. b || has p.held job) (in_chain p.chain job k)));
-      exits = λ n is. put_stands (record p { exited = Some n }) (stands_as (record p { exited = Some n }) mine refl (λ job h. h) (λ job c k. k));
-      logs_in = λ name is known free. put_stands (login_of p name) (login_stands name free (quiet name is));
+      spawns = λ is. birth_is (grown p) (child_of p p.chain)
+          (is_as (grown p) mine refl (λ job h. h) (λ job c k. k))
+          (is_as (child_of p p.chain) mine refl (λ job h. h) (λ job c k. ap (λ b. b || has p.held job) (in_chain p.chain job k)));
+      exits = λ n is. put_is (record p { exited = Some n }) (is_as (record p { exited = Some n }) mine refl (λ job h. h) (λ job c k. k));
+      logs_in = λ name is known free. put_is (login_of p name) (login_is name free (quiet name is));
       kills = λ n x y e. later.standing x y (runs_kept (under_process (n ∷ me) x) (s.processes x) y e);
-      wraps = λ n d is walked free w named. birth_stands (starter_of me p)
-          (child_of p (inner_chain me p)) starter_stands newborn_stands;
+      wraps = λ n d is walked free w named. birth_is (starter_of me p)
+          (child_of p (inner_chain me p)) starter_is newborn_is;
     }
 
   -- a state after a later one is a later one
-  pub later_after : (call : UnixCall) → (is_confined session class f me ≡ false → logs_in_as_reader session class call ≡ false) → IsLater session class f (flat_after session s me call)
+  pub later_after : (call : UnixCall) → (is_confined session class f me ≡ false → logs_in_as_reader session class call ≡ false)
+      → IsLater session class f (flat_after session s me call)
   later_after call quiet = record {
     given = λ x h. given_stays session s me call x (later.given x h);
     root = λ scratch. root_after session class s (later.root scratch) me call;
-    standing = by_quiet_line session s me (AreStanding session class f) later.standing (λ q. may_read session q class) (is_confined session class f me ≡ false) call quiet
+    standing = by_quiet_line {test = λ q. may_read session q class} (record { quiet = quiet }) s me (AreStanding session class f) later.standing
         (λ p runs unread. standing_changes p runs call unread);
   }
 
 -- who is confined is a process that is bound, or below one
-confined_by : (session : Session) (class : Class) (f : Flat) (x : ProcName) → is_confined session class f x ≡ true → (y : ProcName) × (under_process y x ≡ true) × (runs_bound session class f y ≡ true)
+confined_by : (session : Session) (class : Class) (f : Flat) (x : ProcName) → is_confined session class f x ≡ true
+    → (y : ProcName) × (under_process y x ≡ true) × (runs_bound session class f y ≡ true)
 confined_by session class f [] c = ([], under_itself nat_eq same_name_found [], c)
 confined_by session class f (n ∷ above) c = elim (or_cases (runs_bound session class f (n ∷ above)) (is_confined session class f above) c) [
   | inl t ↦ (n ∷ above, under_itself nat_eq same_name_found (n ∷ above), t)
@@ -164,9 +170,10 @@ confined_by session class f (n ∷ above) c = elim (or_cases (runs_bound session
 ]
 
 -- A process that is bound is in a job that all that know it may read the class.
-pub bound_job : (session : Session) (class : Class) (s : Flat) → AreJobs s → (is_scratch class ≡ true → HasRoot session s class) → (x : ProcName) (p : Process) → s.processes x ≡ Some p
+pub bound_job : {session : Session} {class : Class} {s : Flat} → AreJobs s → (is_scratch class ≡ true → HasRoot session s class)
+    → (x : ProcName) (p : Process) → s.processes x ≡ Some p
     → is_bound session class p ≡ true → (job : ProcName) × (has p.chain job ≡ true) × AreReaders session class job s
-bound_job session class s jobs root x p there bound = by (is_scratch class) refl
+bound_job {session} {class} {s} jobs root x p there bound = by (is_scratch class) refl
   where
     parts : (is_free p ≡ false) × (may_read session (holding_none p) class ≡ true)
     parts = bound_parts session class p bound
@@ -176,7 +183,9 @@ bound_job session class s jobs root x p there bound = by (is_scratch class) refl
     in_root (Readable owner) job h r = absurd (true≢false (sym h))
     in_root Open job h r = absurd (true≢false (sym h))
     in_root (Grouped group) job h r = absurd (true≢false (sym h))
-    in_root (Scratch owner jobs) job h r = in_chain p.chain job (all_of (knows (holding_none p)) jobs job ((and_parts (same p.user owner) (list_all (knows (holding_none p)) jobs) r).1) h)
+    in_root (Scratch owner jobs) job h r =
+        in_chain p.chain job
+        (all_of (knows (holding_none p)) jobs job ((and_parts (same p.user owner) (list_all (knows (holding_none p)) jobs) r).1) h)
 
     of_no_job : (c : Class) → is_scratch c ≡ false → (job : ProcName) → carries job c ≡ true → ⊥
     of_no_job (Private owner) h job k = true≢false (sym k)
@@ -196,7 +205,8 @@ bound_job session class s jobs root x p there bound = by (is_scratch class) refl
             inside = λ y q at i. reads_as session (holding_none p) (holding_none q) class
                 (jobs.one_user x y p q job.0 there known at (ap (λ b. b || has q.held job.0) i)) (λ k c u. absurd (of_no_job class e k c)) parts.1;
             holding = λ y q at i. reads_as session (holding_none p) q class
-                (jobs.one_user x y p q job.0 there known at (ap (λ b. has q.chain job.0 || b) i ∙ or-true (has q.chain job.0))) (λ k c u. absurd (of_no_job class e k c)) parts.1;
+                (jobs.one_user x y p q job.0 there known at (ap (λ b. has q.chain job.0 || b) i ∙ or-true (has q.chain job.0)))
+                (λ k c u. absurd (of_no_job class e k c)) parts.1;
           },
         )
 
@@ -219,13 +229,14 @@ later_itself {session} {class} {f} begun = record {
     alone [] c = c
     alone (n ∷ above) c = (or_parts (runs_bound session class f (n ∷ above)) (is_confined session class f above) c).0
 
-    in_confined : (x : ProcName) (p : Process) → running f x ≡ Some p → (y : ProcName) × (under_process y x ≡ true) × (runs_bound session class f y ≡ true) → is_bound session class p ≡ true
+    in_confined : (x : ProcName) (p : Process) → running f x ≡ Some p
+        → (y : ProcName) × (under_process y x ≡ true) × (runs_bound session class f y ≡ true) → is_bound session class p ≡ true
     in_confined x p runs (y, below, bound) =
         let found = some_process (running f y) (is_bound session class) bound in
         let q : Process = found.0 in
         let there = runs_is_there (f.processes y) q found.1 in
         let here = runs_is_there (f.processes x) p runs in
-        let job = bound_job session class f begun.jobs begun.root y q there found.2 in
+        let job = bound_job begun.jobs begun.root y q there found.2 in
         let started = begun.jobs.started y q job.0 there (ap (λ b. b || has q.held job.0) job.1) in
         let under = under_all nat_eq same_name_found job.0 y x (sym (started.inside y q there) ∙ job.1) below in
         let mine : has p.chain job.0 ≡ true = started.inside x p here ∙ under in

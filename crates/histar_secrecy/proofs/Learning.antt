@@ -35,7 +35,8 @@ replies_from session f (c ∷ calls) = reply_to session f c.0 c.1 ∷ replies_fr
 
 -- In a run of all calls outsiders have the replies of a run of their calls alone.
 pub one_run : {session : Session} {class : Class} {f : Flat} → IsBegun session class f → (calls : List CallLine) (us : List Flat) (s t : Flat)
-    → IsLed session class f s → IsChain session class f s us t → trusted_are_silent session class f calls ≡ true → no_reader_logs_in session class f calls ≡ true
+    → IsLed session class f s → IsChain session class f s us t → trusted_are_silent session class f calls ≡ true
+    → no_reader_logs_in session class f calls ≡ true
     → outside_replies session class f s calls ≡ replies_from session t (outside_calls session class f calls)
 one_run begun [] us s t h chain silent away = refl
 one_run {session} {class} {f} begun (c ∷ calls) us s t h chain silent away = elim (cases_Bool (is_confined session class f c.process)) [
@@ -147,7 +148,8 @@ module _ {session : Session} {class : Class} {f : Flat} (begun : IsBegun session
         l = later_itself begun
 
         root_with : HasRoot session f class → HasRoot session (with_bytes f path other) class
-        root_with r = record { job = r.job; carried = r.carried; given = r.given; readers = record { inside = r.readers.inside; holding = r.readers.holding } }
+        root_with r =
+            record { job = r.job; carried = r.carried; given = r.given; readers = record { inside = r.readers.inside; holding = r.readers.holding } }
 
   -- ---- two runs
 
@@ -158,9 +160,12 @@ module _ {session : Session} {class : Class} {f : Flat} (begun : IsBegun session
       to b = other_bytes_alike (same_class class) f path class file.0 b (same_class_itself class) file.1
 
   -- with any bytes in the file outsiders have the replies of a run of their calls alone, with the first bytes
-  pub replies_are : (one other : List ℕ) (calls : List CallLine) → trusted_are_silent session class f calls ≡ true → no_reader_logs_in session class f calls ≡ true
-      → outside_replies session class f (with_bytes f path other) calls ≡ replies_from session (with_bytes f path one) (outside_calls session class f calls)
-  replies_are one other calls silent away = one_run begun calls [] (with_bytes f path other) (with_bytes f path one) (led_with other) (alike one other) silent away
+  pub replies_are : (one other : List ℕ) (calls : List CallLine) → trusted_are_silent session class f calls ≡ true
+      → no_reader_logs_in session class f calls ≡ true
+      → outside_replies session class f (with_bytes f path other) calls
+      ≡ replies_from session (with_bytes f path one) (outside_calls session class f calls)
+  replies_are one other calls silent away =
+      one_run begun calls [] (with_bytes f path other) (with_bytes f path one) (led_with other) (alike one other) silent away
 
 -- Outsiders learn nothing.
 pub learn_nothing : {session : Session} {class : Class} {f : Flat} → IsBegun session class f → (path : Path) → HasFile f path class
@@ -178,7 +183,8 @@ outsiders_learn_nothing session f reached path class file one other calls others
     learn_nothing (begun_there session f reached path (record { class = class; content = File file.0 }) file.1) path file one other calls others same
 
 -- Who is trusted, confined or an outsider is seen from each process alone.
-module _ (session : Session) (class : Class) (f : Flat) (l : IsLater session class f f) (me : ProcName) (p : Process) (runs : running f me ≡ Some p) where
+module _ (session : Session) (class : Class) (f : Flat) (l : IsLater session class f f) (me : ProcName) (p : Process)
+    (runs : running f me ≡ Some p) where
   trusted_is : is_trusted session class f me ≡ (may_read session p class && not (is_bound session class p))
   trusted_is = ap (λ o. is_some_and o (λ q. may_read session q class && not (is_bound session class q))) runs
 

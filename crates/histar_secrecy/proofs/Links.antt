@@ -56,14 +56,15 @@ module _ {session : Session} {class : Class} {f : Flat} (begun : IsBegun session
 
   -- ---- a confined process
 
-  job_link : (s : Flat) → IsLed session class f s → (job : ProcName) → job ≢ [] → IsStarted job s → AreReaders session class job s → under_process job me ≡ true → AreLinked session class (flat_after session s me call) s
+  job_link : (s : Flat) → IsLed session class f s → (job : ProcName) → job ≢ [] → IsStarted job s → AreReaders session class job s
+      → under_process job me ≡ true → AreLinked session class (flat_after session s me call) s
   job_link s h [] not_first started readers inside = absurd (not_first refl)
   job_link s h (n ∷ w) not_first started readers inside = record {
     number = n;
     above = w;
     left = started_after (n ∷ w) session s me call started;
     right = started;
-    left_readers = readers_after session class (n ∷ w) s readers started.given me call;
+    left_readers = readers_after readers started.given me call;
     right_readers = readers;
     same = job_step (n ∷ w) session s s me call (same_outside_itself (n ∷ w) s) started inside;
   }
@@ -77,7 +78,7 @@ module _ {session : Session} {class : Class} {f : Flat} (begun : IsBegun session
       by None e = (us, chain)
       by (Some p) e =
           let there = runs_is_there (s.processes me) p e in
-          let job = bound_job session class s h.jobs h.later.root me p there ((h.later.standing me p e).confined confined) in
+          let job = bound_job h.jobs h.later.root me p there ((h.later.standing me p e).confined confined) in
           let known : knows p job.0 ≡ true = ap (λ b. b || has p.held job.0) job.1 in
           let started = h.jobs.started me p job.0 there known in
           let link : AreLinked session class (flat_after session s me call) s = job_link s h job.0 (h.jobs.child me p job.0 there known) started job.2
@@ -92,33 +93,40 @@ module _ {session : Session} {class : Class} {f : Flat} (begun : IsBegun session
     no_reader s h p e = (h.later.standing me p e).outside outside line.silent
 
     -- so it knows no readers' job
-    knows_not : (job : ProcName) (s : Flat) → IsLed session class f s → AreReaders session class job s → (p : Process) → running s me ≡ Some p → knows p job ≡ false
+    knows_not : (job : ProcName) (s : Flat) → IsLed session class f s → AreReaders session class job s → (p : Process) → running s me ≡ Some p
+        → knows p job ≡ false
     knows_not job s h readers p e = elim (cases_Bool (knows p job)) [
-      | inl k ↦ absurd (true≢false (sym (knowers_read session class job s readers me p (runs_is_there (s.processes me) p e) k) ∙ no_reader s h p e))
+      | inl k ↦ absurd (true≢false (sym (knowers_read readers me p (runs_is_there (s.processes me) p e) k) ∙ no_reader s h p e))
       | inr k ↦ k
     ]
 
     -- where the name is of the job, nothing of this name runs
-    none_runs : (job : ProcName) (s : Flat) → IsLed session class f s → IsStarted job s → AreReaders session class job s → under_process job me ≡ true → running s me ≡ None
+    none_runs : (job : ProcName) (s : Flat) → IsLed session class f s → IsStarted job s → AreReaders session class job s → under_process job me ≡ true
+        → running s me ≡ None
     none_runs job s h started readers u = by (running s me) refl
       where
         by : (o : Option Process) → running s me ≡ o → running s me ≡ None
         by None e = e
-        by (Some p) e = absurd (true≢false (sym (ap (λ b. b || has p.held job) (started.inside me p (runs_is_there (s.processes me) p e) ∙ u)) ∙ knows_not job s h readers p e))
+        by (Some p) e =
+            let known = ap (λ b. b || has p.held job) (started.inside me p (runs_is_there (s.processes me) p e) ∙ u) in
+            absurd (true≢false (sym known ∙ knows_not job s h readers p e))
 
     -- what is owed for the line in two states
     abbrev IsLineAlike : ProcName → Flat → Flat → Type 0
-    IsLineAlike job s t = (reply_to session s me call ≡ reply_to session t me call) × SameOutside job (flat_after session s me call) (flat_after session t me call)
+    IsLineAlike job s t =
+        (reply_to session s me call ≡ reply_to session t me call) × SameOutside job (flat_after session s me call) (flat_after session t me call)
 
-    by_runs : (job : ProcName) (s t : Flat) (o : Option Process) → running s me ≡ o → running t me ≡ o → reply_by session s me o call ≡ reply_by session t me o call
+    by_runs : (job : ProcName) (s t : Flat) (o : Option Process) → running s me ≡ o → running t me ≡ o
+        → reply_by session s me o call ≡ reply_by session t me o call
         → SameOutside job (flat_by session s me o call) (flat_by session t me o call) → IsLineAlike job s t
-    by_runs job s t o e e' told same = (
-      ap (λ x. reply_by session s me x call) e ∙ told ∙ sym (ap (λ x. reply_by session t me x call) e'),
+    by_runs job s t o e e' replies same = (
+      ap (λ x. reply_by session s me x call) e ∙ replies ∙ sym (ap (λ x. reply_by session t me x call) e'),
       subst (λ x. SameOutside job (flat_by session s me x call) (flat_after session t me call)) (sym e)
           (subst (λ x. SameOutside job (flat_by session s me o call) (flat_by session t me x call)) (sym e') same),
     )
 
-    line_alike : (n : ℕ) (w : ProcName) (s t : Flat) → IsLed session class f s → IsLed session class f t → IsStarted (n ∷ w) s → IsStarted (n ∷ w) t → AreReaders session class (n ∷ w) s → AreReaders session class (n ∷ w) t
+    line_alike : (n : ℕ) (w : ProcName) (s t : Flat) → IsLed session class f s → IsLed session class f t → IsStarted (n ∷ w) s → IsStarted (n ∷ w) t
+        → AreReaders session class (n ∷ w) s → AreReaders session class (n ∷ w) t
         → SameOutside (n ∷ w) s t → IsLineAlike (n ∷ w) s t
     line_alike n w s t hs ht started started' readers readers' same = elim (cases_Bool (under_process (n ∷ w) me)) [
       | inl u ↦ by_runs (n ∷ w) s t None (none_runs (n ∷ w) s hs started readers u) (none_runs (n ∷ w) t ht started' readers' u) refl same
@@ -129,11 +137,13 @@ module _ {session : Session} {class : Class} {f : Flat} (begun : IsBegun session
         by None e e' = by_runs (n ∷ w) s t None e (e' ∙ e) refl same
         by (Some p) e e' =
             let o = knows_not (n ∷ w) s hs readers p e in
-            by_runs (n ∷ w) s t (Some p) e (e' ∙ e) (outsider_reply n w session s t same started started' me p o call) (outsider_state n w session s t same started started' me p o call)
+            by_runs (n ∷ w) s t (Some p) e (e' ∙ e) (outsider_reply n w session s t same started started' me p o call)
+            (outsider_state n w session s t same started started' me p o call)
 
     -- A line of an outsider has the same reply at both ends of a chain, and leaves a chain.
     pub outside_line : (us : List Flat) (s t : Flat) → IsLed session class f s → IsChain session class f s us t
-        → (reply_to session s me call ≡ reply_to session t me call) × IsChain session class f (flat_after session s me call) (map (λ u. flat_after session u me call) us) (flat_after session t me call)
+        → (reply_to session s me call ≡ reply_to session t me call)
+        × IsChain session class f (flat_after session s me call) (map (λ u. flat_after session u me call) us) (flat_after session t me call)
     outside_line [] s t h alike =
         let other : is_some_and (running s me) (λ p. may_read session p class) ≡ false = by (running s me) refl in (
           reply_to_alike session (same_class class) (λ p. may_read session p class) (class_is_kept session class) s t alike me call other,
@@ -153,8 +163,8 @@ module _ {session : Session} {class : Class} {f : Flat} (begun : IsBegun session
               above = link.above;
               left = started_after (link.number ∷ link.above) session s me call link.left;
               right = started_after (link.number ∷ link.above) session u me call link.right;
-              left_readers = readers_after session class (link.number ∷ link.above) s link.left_readers link.left.given me call;
-              right_readers = readers_after session class (link.number ∷ link.above) u link.right_readers link.right.given me call;
+              left_readers = readers_after link.left_readers link.left.given me call;
+              right_readers = readers_after link.right_readers link.right.given me call;
               same = here.1;
             },
             led_after u hu,

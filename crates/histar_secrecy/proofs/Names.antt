@@ -37,7 +37,8 @@ abbrev pub login_of : Process → Name → Process
 login_of p name = record p { user = name; held = [] }
 
 -- what a process that runs is, where one was put
-pub runs_put : (f : Flat) (me : ProcName) (q : Process) (x : ProcName) (y : Process) → running (with_process f me q) x ≡ Some y → ((me ≡ x) × (q ≡ y)) ⊎ (running f x ≡ Some y)
+pub runs_put : (f : Flat) (me : ProcName) (q : Process) (x : ProcName) (y : Process) → running (with_process f me q) x ≡ Some y
+    → ((me ≡ x) × (q ≡ y)) ⊎ (running f x ≡ Some y)
 runs_put f me q x y e = elim (same_name_found me x) [
   | inl t ↦
       let there : Some q ≡ Some y = runs_is_there (Some q) y (sym (ap (λ b. if_running (cond b (Some q) (f.processes x))) t.0) ∙ e) in
@@ -70,9 +71,14 @@ wrong_password : (session : Session) (s : Flat) (me : ProcName) (name : Name) (p
     → (o : Option Process) → flat_by session s me o (Login name password) ≡ s
 wrong_password session s me name password wrong None = refl
 wrong_password session s me name password wrong (Some p) =
-    ap (λ b. flat_or (unless (is_some (user_named session.users name)) ENOENT orelse unless (is_free p) EACCES orelse unless b EAUTH) s (changed session s me p (Login name password))) wrong
-    ∙ by (unless (is_some (user_named session.users name)) ENOENT) (unless (is_free p) EACCES)
+    ap (λ b. flat_or (no_user orelse in_job orelse unless b EAUTH) s (changed session s me p (Login name password))) wrong ∙ by no_user in_job
   where
+    no_user : Option Errno
+    no_user = unless (is_some (user_named session.users name)) ENOENT
+
+    in_job : Option Errno
+    in_job = unless (is_free p) EACCES
+
     by : (a b : Option Errno) → flat_or (a orelse b orelse Some EAUTH) s (changed session s me p (Login name password)) ≡ s
     by None None = refl
     by None (Some e) = refl
@@ -87,15 +93,23 @@ other_fails false b h e = refl
 abbrev pub IsQuiet : (Process → Bool) → Type 0 → UnixCall → Type 0
 IsQuiet test If call = (name : Name) → (rule call).effect ≡ LogsIn name → If → test (logged_in name) ≡ false
 
-module _ (session : Session) (s : Flat) (me : ProcName) (P : Flat → Type 0) (still : P s) (test : Process → Bool) (If : Type 0) where
-  -- A line changes nothing, or is a call of a process that runs, and logs in nobody who passes the test.
-  pub by_quiet_line : (call : UnixCall) → (If → logs_in_as session test call ≡ false)
-      → ((p : Process) → running s me ≡ Some p → IsQuiet test If call → EachChange session s me p call P) → P (flat_after session s me call)
-  by_quiet_line (Login name password) quiet moves = elim (cases_Bool (is_password session name password)) [
-    | inl right ↦ by_line session s me (Login name password) P still (λ p runs. moves p runs (λ n e so.
-        let logs_in : LogsIn name ≡ LogsIn n = e in
-        let one : name ≡ n = cc in
-        subst (λ x. test (logged_in x) ≡ false) one (other_fails (test (logged_in name)) (is_password session name password) (quiet so) right)))
-    | inr wrong ↦ subst P (sym (wrong_password session s me name password wrong (running s me))) still
-  ]
-  by_quiet_line call quiet moves = by_line session s me call P still (λ p runs. moves p runs (λ n e so. absurd (cc)))
+-- where this is so, the call is no login, with the right password, as a user who passes the test
+pub record IsQuietLine (session : Session) (test : Process → Bool) (If : Type 0) (call : UnixCall) : Type 0 where
+  pub quiet : If → logs_in_as session test call ≡ false
+
+-- A line changes nothing, or is a call of a process that runs, and logs in nobody who passes the test.
+pub by_quiet_line : {session : Session} {test : Process → Bool} {If : Type 0} {call : UnixCall} → IsQuietLine session test If call
+    → (s : Flat) (me : ProcName) (P : Flat → Type 0) → P s
+    → ((p : Process) → running s me ≡ Some p → IsQuiet test If call → EachChange session s me p call P) → P (flat_after session s me call)
+by_quiet_line {session} {test} {If} {call} line s me P still moves = by call line.quiet moves
+  where
+    by : (call : UnixCall) → (If → logs_in_as session test call ≡ false)
+        → ((p : Process) → running s me ≡ Some p → IsQuiet test If call → EachChange session s me p call P) → P (flat_after session s me call)
+    by (Login name password) quiet moves = elim (cases_Bool (is_password session name password)) [
+      | inl right ↦ by_line session s me (Login name password) P still (λ p runs. moves p runs (λ n e so.
+          let logs_in : LogsIn name ≡ LogsIn n = e in
+          let one : name ≡ n = cc in
+          subst (λ x. test (logged_in x) ≡ false) one (other_fails (test (logged_in name)) (is_password session name password) (quiet so) right)))
+      | inr wrong ↦ subst P (sym (wrong_password session s me name password wrong (running s me))) still
+    ]
+    by call quiet moves = by_line session s me call P still (λ p runs. moves p runs (λ n e so. absurd (cc)))

@@ -21,12 +21,14 @@ has_number (k ∷ jobs) job = λ i. by (nat_eq job k) i || has_number jobs job i
     by false = refl
 
 -- all numbers are among others where the jobs that they name are
-has_numbers : (jobs others : List ℕ) → list_all (λ other. list_any (nat_eq other) jobs) others ≡ list_all (has (map numbered jobs)) (map numbered others)
+has_numbers : (jobs others : List ℕ)
+    → list_all (λ other. list_any (nat_eq other) jobs) others ≡ list_all (has (map numbered jobs)) (map numbered others)
 has_numbers jobs [] = refl
 has_numbers jobs (k ∷ others) = λ i. has_number jobs k i && has_numbers jobs others i
 
 -- a process writes what is scratch where it may read it, and is in no other jobs
-pub writes_scratch : (session : Session) (user owner : Name) (jobs held of : List ℕ) → (may_read session (with_rights user jobs held) (Scratch owner (map numbered of))
+pub writes_scratch : (session : Session) (user owner : Name) (jobs held of : List ℕ)
+    → (may_read session (with_rights user jobs held) (Scratch owner (map numbered of))
     && list_all (λ other. list_any (nat_eq other) of) jobs) ≡ may_write session (with_rights user jobs held) (Scratch owner (map numbered of))
 writes_scratch session user owner jobs held of =
     ap (λ b. may_read session (with_rights user jobs held) (Scratch owner (map numbered of)) && b) (has_numbers of jobs)
@@ -79,14 +81,16 @@ module _ (number : ProcName → ℕ) (one : AreNumbered number) where
   knows_by_number p jobs = all_numbers jobs (knows (named p)) (knows p) (λ job i. has_named p.chain job i || has_named p.held job i)
 
   -- Rights are the same.
-  pub reads_by_number : (session : Session) (p : Process) (class : Class) → may_read (of_groups session.groups) (named p) (numbered_class number class) ≡ may_read session p class
+  pub reads_by_number : (session : Session) (p : Process) (class : Class)
+      → may_read (of_groups session.groups) (named p) (numbered_class number class) ≡ may_read session p class
   reads_by_number session p (Private owner) = refl
   reads_by_number session p (Readable owner) = refl
   reads_by_number session p Open = refl
   reads_by_number session p (Scratch owner jobs) = ap (λ b. same p.user owner && b) (knows_by_number p jobs)
   reads_by_number session p (Grouped group) = refl
 
-  pub writes_by_number : (session : Session) (p : Process) (class : Class) → may_write (of_groups session.groups) (named p) (numbered_class number class) ≡ may_write session p class
+  pub writes_by_number : (session : Session) (p : Process) (class : Class)
+      → may_write (of_groups session.groups) (named p) (numbered_class number class) ≡ may_write session p class
   writes_by_number session p (Private owner) = ap (λ b. same p.user owner && b) (free_by_number p)
   writes_by_number session p (Readable owner) = ap (λ b. same p.user owner && b) (free_by_number p)
   writes_by_number session p Open = free_by_number p
@@ -94,5 +98,6 @@ module _ (number : ProcName → ℕ) (one : AreNumbered number) where
       λ i. same p.user owner && knows_by_number p jobs i && all_numbers p.chain (has (numbered_jobs number jobs)) (has jobs) (has_named jobs) i
   writes_by_number session p (Grouped group) = ap (λ b. is_member session p.user group && b) (free_by_number p)
 
-  pub bound_by_number : (session : Session) (class : Class) (p : Process) → is_bound (of_groups session.groups) (numbered_class number class) (named p) ≡ is_bound session class p
+  pub bound_by_number : (session : Session) (class : Class) (p : Process)
+      → is_bound (of_groups session.groups) (numbered_class number class) (named p) ≡ is_bound session class p
   bound_by_number session class p = λ i. not (free_by_number p i) && reads_by_number session (holding_none p) class i

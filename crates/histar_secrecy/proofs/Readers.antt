@@ -10,21 +10,15 @@ use Rattle.histar_flat.specs.Classes.{Class, Process, carries, is_free, knows, m
 use Rattle.histar_flat.specs.Classes.Class.{Private, Readable, Open, Scratch, Grouped}
 use Rattle.histar_flat.proofs.FileLemmas.{same_itself, same_path_found}
 use Rattle.histar_flat.proofs.Secrecy.{AreKept}
+use Rattle.histar_flat.proofs.Warrants.{writable_is_readable}
 use Rattle.histar_isolation.proofs.TestLemmas.{all_of, is_same, is_same_path}
 use Rattle.histar_secrecy.specs.Standings.{holding_none, is_bound}
 use Rattle.histar_secrecy.specs.Noninterference.{BoundWriteForReaders}
 use Rattle.histar_secrecy.proofs.WriteRights.{all_more}
 
--- who may write what is of a class may read it
-pub writes_as_reader : (session : Session) (p : Process) (class : Class) → may_write session p class ≡ true → may_read session p class ≡ true
-writes_as_reader session p (Private owner) h = (and_parts (same p.user owner) (is_free p) h).0
-writes_as_reader session p (Readable owner) h = refl
-writes_as_reader session p Open h = refl
-writes_as_reader session p (Scratch owner jobs) h = (and_parts (same p.user owner && list_all (knows p) jobs) (list_all (has jobs) p.chain) h).0
-writes_as_reader session p (Grouped group) h = (and_parts (is_member session p.user group) (is_free p) h).0
-
 -- who is of the same user, and knows the jobs of a class that the other knows, may read what the other may read of it
-pub reads_as : (session : Session) (a b : Process) (class : Class) → a.user ≡ b.user → ((job : ProcName) → carries job class ≡ true → knows a job ≡ true → knows b job ≡ true)
+pub reads_as : (session : Session) (a b : Process) (class : Class) → a.user ≡ b.user
+    → ((job : ProcName) → carries job class ≡ true → knows a job ≡ true → knows b job ≡ true)
     → may_read session a class ≡ true → may_read session b class ≡ true
 reads_as session a b (Private owner) user more h = sym (ap (λ u. same u owner) user) ∙ h
 reads_as session a b (Readable owner) user more h = refl
@@ -39,13 +33,15 @@ pub in_chain : (jobs : List ProcName) (job : ProcName) → (has jobs job || fals
 in_chain jobs job h = elim (or_cases (has jobs job) false h) [ inl t ↦ t | inr t ↦ absurd (true≢false (sym t)) ]
 
 -- where it is in the jobs of a process that holds none
-pub reads_inside : (session : Session) (a b : Process) (class : Class) → a.user ≡ b.user → ((job : ProcName) → has a.chain job ≡ true → has b.chain job ≡ true)
+pub reads_inside : (session : Session) (a b : Process) (class : Class) → a.user ≡ b.user
+    → ((job : ProcName) → has a.chain job ≡ true → has b.chain job ≡ true)
     → may_read session (holding_none a) class ≡ true → may_read session (holding_none b) class ≡ true
 reads_inside session a b class user more h =
     reads_as session (holding_none a) (holding_none b) class user (λ job c k. ap (λ x. x || false) (more job (in_chain a.chain job k))) h
 
 -- what it may read holding none it may read
-pub reads_holding : (session : Session) (a : Process) (class : Class) → may_read session (holding_none a) class ≡ true → may_read session a class ≡ true
+pub reads_holding : (session : Session) (a : Process) (class : Class) → may_read session (holding_none a) class ≡ true
+    → may_read session a class ≡ true
 reads_holding session a class h = reads_as session (holding_none a) a class refl (λ job c k. ap (λ x. x || has a.held job) (in_chain a.chain job k)) h
 
 -- the first job of a process that is in some
@@ -65,15 +61,19 @@ in_a_job p job = by p.chain
     by (k ∷ ks) h = refl
 
 -- what being bound says
-pub bound_parts : (session : Session) (class : Class) (p : Process) → is_bound session class p ≡ true → (is_free p ≡ false) × (may_read session (holding_none p) class ≡ true)
-bound_parts session class p h = let parts = and_parts (not (is_free p)) (may_read session (holding_none p) class) h in (not-true (is_free p) parts.0, parts.1)
+pub bound_parts : (session : Session) (class : Class) (p : Process) → is_bound session class p ≡ true
+    → (is_free p ≡ false) × (may_read session (holding_none p) class ≡ true)
+bound_parts session class p h =
+    let parts = and_parts (not (is_free p)) (may_read session (holding_none p) class) h in (not-true (is_free p) parts.0, parts.1)
 
 -- who is in a job, and may read by the jobs that it is in, is bound
-pub is_bound_by : (session : Session) (class : Class) (p : Process) → is_free p ≡ false → may_read session (holding_none p) class ≡ true → is_bound session class p ≡ true
+pub is_bound_by : (session : Session) (class : Class) (p : Process) → is_free p ≡ false → may_read session (holding_none p) class ≡ true
+    → is_bound session class p ≡ true
 is_bound_by session class p busy reads = λ i. not (busy i) && reads i
 
 -- who is of the same user, and in the jobs of who is bound, is bound
-pub bound_inside : (session : Session) (class : Class) (a b : Process) → a.user ≡ b.user → ((job : ProcName) → has a.chain job ≡ true → has b.chain job ≡ true)
+pub bound_inside : (session : Session) (class : Class) (a b : Process) → a.user ≡ b.user
+    → ((job : ProcName) → has a.chain job ≡ true → has b.chain job ≡ true)
     → is_bound session class a ≡ true → is_bound session class b ≡ true
 bound_inside session class a b user more h =
     let parts = bound_parts session class a h in
@@ -114,7 +114,7 @@ same_class_itself (Grouped g) = same_itself g
 pub class_is_kept : (session : Session) (class : Class) → AreKept session (same_class class) (λ p. may_read session p class)
 class_is_kept session class = record {
   unread = λ p c other h. by p c other h;
-  unwritten = λ p c other h. by p c other (writes_as_reader session p c h);
+  unwritten = λ p c other h. by p c other (writable_is_readable session p c h);
 }
   where
     by : (p : Process) (c : Class) → may_read session p class ≡ false → may_read session p c ≡ true → not (same_class class c) ≡ true
@@ -144,7 +144,8 @@ bound_write_for_readers session class written p reader bound writes reads = by c
         let both = and_parts (same p.user owner && list_all (knows p) jobs) (list_all (has jobs) p.chain) w in
         ((and_parts (same p.user owner) (list_all (knows p) jobs) both.0).0, both.1)
 
-    by : (c w : Class) → may_read session (holding_none p) c ≡ true → IsWritten w → may_read session reader w ≡ true → may_read session reader c ≡ true
+    by : (c w : Class) → may_read session (holding_none p) c ≡ true → IsWritten w → may_read session reader w ≡ true
+        → may_read session reader c ≡ true
     by c (Private owner) r x h = absurd x
     by c (Readable owner) r x h = absurd x
     by c Open r x h = absurd x

@@ -23,12 +23,14 @@ use Rattle.histar_secrecy.proofs.Readers.{bound_parts, reads_holding}
 
 -- standings by two tests
 by_tests : (reads bound trusted confined : Bool) → trusted ≡ (reads && not bound) → confined ≡ bound → (bound ≡ true → reads ≡ true)
-    → (let s : Standing = if reads then (if bound then Confined else Trusted) else Outside in s) ≡ (let s : Standing = if trusted then Trusted else if confined then Confined else Outside in s)
+    → (let s : Standing = if reads then (if bound then Confined else Trusted) else Outside in s)
+    ≡ (let s : Standing = if trusted then Trusted else if confined then Confined else Outside in s)
 by_tests reads bound trusted confined t c h =
     by reads bound h ∙ sym (λ i. if t i then Trusted else if c i then Confined else Outside)
   where
     by : (reads bound : Bool) → (bound ≡ true → reads ≡ true)
-        → (let s : Standing = if reads then (if bound then Confined else Trusted) else Outside in s) ≡ (let s : Standing = if (reads && not bound) then Trusted else if bound then Confined else Outside in s)
+        → (let s : Standing = if reads then (if bound then Confined else Trusted) else Outside in s)
+        ≡ (let s : Standing = if (reads && not bound) then Trusted else if bound then Confined else Outside in s)
     by true true h = refl
     by true false h = refl
     by false true h = absurd (true≢false (sym (h refl)))
@@ -44,17 +46,6 @@ module _ (number : ProcName → ℕ) (one : AreNumbered number) (session : Sessi
     exited = None;
     born = 0;
   })
-
-  standing_is : (c : Class) (class : FileClass) → numbered_class number c ≡ class_of class → (m : Member) (p : Process) → IsShownProcess number f m p
-      → IsShown session c f m.name p → shown_of session.groups (class_of class) m ≡ (m.name, standing_in session c f m.name)
-  standing_is c class of_class m p is shown = λ i. (m.name, standing i)
-    where
-      standing : standing_of session.groups (class_of class) (with_rights m.user m.jobs.items m.held.items) ≡ standing_in session c f m.name
-      standing =
-          (λ i. standing_of session.groups (sym of_class i) (shown_is is i))
-          ∙ (λ i. if reads_by_number number one session p c i then (if bound_by_number number one session c p i then Confined else Trusted) else Outside)
-          ∙ by_tests (may_read session p c) (is_bound session c p) (is_trusted session c f m.name) (is_confined session c f m.name) shown.trusted shown.confined
-          (λ b. reads_holding session p c (bound_parts session c p b).1)
 
   -- a process writes what is there where it may write what is of the class
   writes_is : (p : Process) (o : Option Node) (class : FileClass) → IsOfClass number o class
@@ -72,11 +63,26 @@ module _ (number : ProcName → ℕ) (one : AreNumbered number) (session : Sessi
       || list_any (λ class. may_write (of_groups session.groups) (named number one p) (class_of class)) (h.1 i)
   changes_is p (n ∷ d) (c ∷ classes) h = λ i. writes_is p (get f.files (n ∷ d)) c h.0 i || changes_is p d classes h.1 i
 
+-- a process that is shown has the standing of the one that runs
+standing_is : {number : ProcName → ℕ} (one : AreNumbered number) {session : Session} {f : Flat} {c : Class} (class : FileClass)
+    → numbered_class number c ≡ class_of class → {m : Member} {p : Process} → IsShownProcess number f m p → IsShown session c f m.name p
+    → shown_of session.groups (class_of class) m ≡ (m.name, standing_in session c f m.name)
+standing_is {number} one {session} {f} {c} class of_class {m} {p} is shown = λ i. (m.name, standing i)
+  where
+    standing : standing_of session.groups (class_of class) (with_rights m.user m.jobs.items m.held.items) ≡ standing_in session c f m.name
+    standing =
+        (λ i. standing_of session.groups (sym of_class i) (shown_is number one session f is i))
+        ∙
+        (λ i. if reads_by_number number one session p c i then (if bound_by_number number one session c p i then Confined else Trusted) else Outside)
+        ∙ by_tests (may_read session p c) (is_bound session c p) (is_trusted session c f m.name)
+        (is_confined session c f m.name) shown.trusted shown.confined
+        (λ b. reads_holding session p c (bound_parts session c p b).1)
+
 pub shown_is_so : ShownIsSo
 unfolding shown_is standing_is changes_is
 shown_is_so session f reached number one = record {
   standing = λ path node class at of_class m p is.
-      standing_is number one session f node.class class of_class m p is (standings_are_shown session f reached path node at m.name p is.runs);
+      standing_is one class of_class is (standings_are_shown session f reached path node at m.name p is.runs);
   changer = λ path classes to m p is.
       ap (λ q. changes_one session.groups q classes) (shown_is number one session f is) ∙ changes_is number one session f p path classes to
       ∙ sym (ap (λ o. is_some_and o (λ q. may_change session f q path)) is.runs);

@@ -1,5 +1,5 @@
 -- Worked sessions: who is trusted, confined and an outsider, and that each premise of the laws is needed.
-use Rattle.std.specs.Prelude.{◌≡◌, true, false, List, [], ◌∷◌, ◌++◌, None, Some, codes, refl}
+use Rattle.std.specs.Prelude.{◌≡◌, true, false, List, [], ◌∷◌, ◌++◌, None, Some, codes, map, refl}
 use Rattle.histar_flat.specs.declared.calls.CallLine.{CallLine}
 use Rattle.histar_flat.specs.declared.calls.Mode.TheVariants as modes
 use Rattle.histar_flat.specs.declared.calls.UnixCall.TheVariants.{Create, Read, Write, List as ListCall, Stat, Rmtree, Spawn, Exit, Status, Login, Wrap}
@@ -15,6 +15,8 @@ use Rattle.histar_flat.specs.Meaning.{boot, flat_end}
 use Rattle.histar_flat.proofs.WorkedScripts.{line_of, three_users, tmp_made}
 use Rattle.histar_secrecy.specs.Standings.{is_confined, is_outsider, is_trusted}
 use Rattle.histar_secrecy.specs.Noninterference.{no_reader_logs_in, outside_replies, trusted_are_silent}
+use Rattle.histar_secrecy.specs.declared.standing.Standing.TheVariants.{Trusted, Confined, Outside}
+use Rattle.histar_secrecy.specs.ShownStandings.{standing_in}
 use Rattle.histar_secrecy.specs.Changers.{changers_are_silent, is_changer}
 use Rattle.histar_secrecy.proofs.Learning.{outsiders_learn_nothing}
 
@@ -70,14 +72,15 @@ jobs =
     line_of 18 (1 ∷ 1 ∷ []) (Login (codes "alice") (codes "aa")) ∷
     line_of 19 (1 ∷ 1 ∷ []) (Exit 7) ∷ []
 
--- so bob's process is told the same with the job's lines and without them, whatever stands in the file
+-- so bob's process has the same replies with the job's lines and without them, whatever is in the file
 bob_learns_nothing : outside_replies three_users mine state (with_bytes state letter (codes "one")) (jobs ++ bobs)
     ≡ outside_replies three_users mine state (with_bytes state letter (codes "other")) bobs
 unfolding state before letter mine jobs bobs file_is_there
-bob_learns_nothing = outsiders_learn_nothing three_users state (before, refl) letter mine (codes "secret", file_is_there) (codes "one") (codes "other")
+bob_learns_nothing =
+    outsiders_learn_nothing three_users state (before, refl) letter mine (codes "secret", file_is_there) (codes "one") (codes "other")
     (jobs ++ bobs) bobs (record { silent = refl; others_silent = refl; alike = refl; no_login = refl })
 
--- and this is what it is told
+-- and these are its replies
 bobs_replies : outside_replies three_users mine state (with_bytes state letter (codes "one")) (jobs ++ bobs)
     ≡ Entries ((codes "j", true) ∷ (codes "s", false) ∷ []) ∷ Refused EACCES ∷ Refused EACCES ∷ Refused EACCES ∷ []
 unfolding state before letter mine jobs bobs
@@ -119,8 +122,7 @@ guessed = refl
 
 -- ---- who may change the letter: its owner, and all that may write /tmp; the job may not
 
-changers : (is_changer three_users state letter [] ∷ is_changer three_users state letter (1 ∷ []) ∷ is_changer three_users state letter (2 ∷ []) ∷ is_changer three_users state letter (1 ∷ 1 ∷ []) ∷ [])
-    ≡ (true ∷ true ∷ true ∷ false ∷ [])
+changers : map (is_changer three_users state letter) ([] ∷ (1 ∷ []) ∷ (2 ∷ []) ∷ (1 ∷ 1 ∷ []) ∷ []) ≡ (true ∷ true ∷ true ∷ false ∷ [])
 unfolding state before letter
 changers = refl
 
@@ -140,7 +142,11 @@ in_the_job : Path
 in_the_job = codes "x" ∷ codes "j" ∷ codes "tmp" ∷ []
 
 with_scratch : Flat
-with_scratch = flat_end three_users (boot three_users) (before ++ line_of 13 (1 ∷ 1 ∷ []) (Create (codes "x" ∷ codes "j" ∷ codes "tmp" ∷ []) modes.Open) ∷ line_of 14 [] Spawn ∷ line_of 15 (3 ∷ []) (Login (codes "alice") (codes "aa")) ∷ [])
+with_scratch =
+    flat_end three_users (boot three_users)
+    (before ++ line_of 13 (1 ∷ 1 ∷ []) (Create (codes "x" ∷ codes "j" ∷ codes "tmp" ∷ []) modes.Open)
+    ∷ line_of 14 [] Spawn
+    ∷ line_of 15 (3 ∷ []) (Login (codes "alice") (codes "aa")) ∷ [])
 
 scratch : Class
 scratch = Scratch (codes "alice") ((1 ∷ 1 ∷ []) ∷ [])
@@ -149,12 +155,12 @@ it_is_scratch : get with_scratch.files in_the_job ≡ Some (record { class = scr
 unfolding with_scratch before in_the_job scratch
 it_is_scratch = refl
 
-standings : (is_trusted three_users scratch with_scratch (1 ∷ []) ∷ is_confined three_users scratch with_scratch (1 ∷ 1 ∷ []) ∷ is_outsider three_users scratch with_scratch (3 ∷ []) ∷ is_outsider three_users scratch with_scratch (2 ∷ []) ∷ [])
-    ≡ (true ∷ true ∷ true ∷ true ∷ [])
+standings : map (standing_in three_users scratch with_scratch) ((1 ∷ []) ∷ (1 ∷ 1 ∷ []) ∷ (3 ∷ []) ∷ (2 ∷ []) ∷ [])
+    ≡ Trusted ∷ Confined ∷ Outside ∷ Outside ∷ []
 unfolding with_scratch before scratch
 standings = refl
 
--- a login as alice tells nothing of it
+-- a login as alice shows nothing of it
 no_login_reads_it : no_reader_logs_in three_users scratch with_scratch (line_of 16 (2 ∷ []) (Login (codes "alice") (codes "aa")) ∷ []) ≡ true
 unfolding with_scratch before scratch
 no_login_reads_it = refl
@@ -166,7 +172,10 @@ inner_file : Path
 inner_file = codes "z" ∷ codes "k" ∷ codes "j" ∷ codes "tmp" ∷ []
 
 with_inner : Flat
-with_inner = flat_end three_users (boot three_users) (before ++ line_of 13 (1 ∷ 1 ∷ []) (Wrap (codes "k" ∷ codes "j" ∷ codes "tmp" ∷ [])) ∷ line_of 14 (1 ∷ 1 ∷ 1 ∷ []) (Create (codes "z" ∷ codes "k" ∷ codes "j" ∷ codes "tmp" ∷ []) modes.Open) ∷ [])
+with_inner =
+    flat_end three_users (boot three_users)
+    (before ++ line_of 13 (1 ∷ 1 ∷ []) (Wrap (codes "k" ∷ codes "j" ∷ codes "tmp" ∷ []))
+    ∷ line_of 14 (1 ∷ 1 ∷ 1 ∷ []) (Create (codes "z" ∷ codes "k" ∷ codes "j" ∷ codes "tmp" ∷ []) modes.Open) ∷ [])
 
 inner : Class
 inner = Scratch (codes "alice") ((1 ∷ 1 ∷ []) ∷ (1 ∷ 1 ∷ 1 ∷ []) ∷ [])
@@ -175,7 +184,6 @@ it_is_of_the_inner_job : get with_inner.files inner_file ≡ Some (record { clas
 unfolding with_inner before inner_file inner
 it_is_of_the_inner_job = refl
 
-inner_standings : (is_outsider three_users inner with_inner (1 ∷ []) ∷ is_trusted three_users inner with_inner (1 ∷ 1 ∷ []) ∷ is_confined three_users inner with_inner (1 ∷ 1 ∷ 1 ∷ []) ∷ [])
-    ≡ (true ∷ true ∷ true ∷ [])
+inner_standings : map (standing_in three_users inner with_inner) ((1 ∷ []) ∷ (1 ∷ 1 ∷ []) ∷ (1 ∷ 1 ∷ 1 ∷ []) ∷ []) ≡ Outside ∷ Trusted ∷ Confined ∷ []
 unfolding with_inner before inner
 inner_standings = refl
