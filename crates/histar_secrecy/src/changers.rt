@@ -9,15 +9,16 @@ use crate::standing::Member;
 use histar_flat::{Group, Name, ProcName};
 use std::alloc::{AllocError, Global};
 
-/// Returns those of these processes that may change what is at a path, where these are the classes of that and
-/// of each directory above it.
+/// Returns those of these processes that may change what is at a path, where these are the classes of
+/// that and of each directory above it.
 pub fn changers_of(
     alloc: Global,
     groups: &[Group],
     classes: &[FileClass],
     members: &[Member],
 ) -> Result<Vec<ProcName>, AllocError>
-    ensures { IfOk result (λ v. v.items ≡ map (λ (m : Member). m.name)
+    ensures { IfOk result (λ v.
+        v.items ≡ map (λ (m : Member). m.name)
         (filter (is_shown_changer groups.now classes.now) members.now)) }
 {
     members
@@ -37,7 +38,8 @@ pub fn login_changers(
     classes: &[FileClass],
     users: &[Name],
 ) -> Result<Vec<Name>, AllocError>
-    ensures { IfOk result (λ v. v.items ≡ filter (is_login_changer groups.now classes.now) users.now) }
+    ensures { IfOk result (λ v.
+        v.items ≡ filter (is_login_changer groups.now classes.now) users.now) }
 {
     users
         .iter()

@@ -11,7 +11,8 @@ use histar_flat::{Group, Name};
 /// Checks whether a process of this user, which is in some jobs and holds some, may read a file.
 #[tactic(auto, using(crate::proofs::NumberedJobs::knows_numbers))]
 pub fn may_read(groups: &[Group], user: Name, jobs: &[u64], held: &[u64], class: &FileClass) -> bool
-    ensures { result ≡ may_read (of_groups groups.now) (with_rights user jobs.now held.now) (class_of class.now) }
+    ensures { result ≡ may_read (of_groups groups.now)
+        (with_rights user jobs.now held.now) (class_of class.now) }
 {
     match class {
         FileClass::Private(owner) => user == *owner,
@@ -30,7 +31,8 @@ pub fn may_write(
     held: &[u64],
     class: &FileClass,
 ) -> bool
-    ensures { result ≡ may_write (of_groups groups.now) (with_rights user jobs.now held.now) (class_of class.now) }
+    ensures { result ≡ may_write (of_groups groups.now)
+        (with_rights user jobs.now held.now) (class_of class.now) }
 {
     match class {
         FileClass::Private(owner) | FileClass::Readable(owner) => {
@@ -53,7 +55,8 @@ fn has_all(jobs: &[u64], others: &[u64]) -> bool
 
 /// Checks whether a process that is in some jobs and holds some knows each of these.
 fn knows_all(jobs: &[u64], held: &[u64], of: &[u64]) -> bool
-    ensures { result ≡ list_all (λ job. list_any (nat_eq job) jobs.now || list_any (nat_eq job) held.now) of.now }
+    ensures { result ≡ list_all
+        (λ job. list_any (nat_eq job) jobs.now || list_any (nat_eq job) held.now) of.now }
 {
     of.iter().all(|job| has(jobs, *job) || has(held, *job))
 }

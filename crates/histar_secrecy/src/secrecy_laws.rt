@@ -1,4 +1,5 @@
-//! On whom the secret in a file depends, and the file itself. Each law is the contract of a function that does nothing.
+//! On whom it depends that a file stays secret, and as it is. Each law is the contract of a function
+//! that does nothing.
 ghost use Rattle.histar_secrecy.specs.Changers.{OthersChangeNothing};
 ghost use Rattle.histar_secrecy.specs.Noninterference.{BoundWriteForReaders, OutsidersLearnNothing, ProgramsLearnNothing, StandingsAreShown, WhatIsWrittenStaysSecret};
 ghost use Rattle.histar_secrecy.specs.ShownStandings.{ShownIsSo};

@@ -18,8 +18,8 @@ pub enum Standing {
     Outside,
 }
 
-/// A process that runs: its user, the jobs that it is in, and those that it holds, by numbers. No two jobs
-/// have the same number.
+/// A process that runs: its user, the jobs that it is in, and those that it holds, by numbers. No two
+/// jobs have the same number.
 #[derive(Drop)]
 pub struct Member {
     pub name: ProcName,
@@ -50,7 +50,8 @@ pub fn trust_of(
     class: &FileClass,
     members: &[Member],
 ) -> Result<Vec<(ProcName, Standing)>, AllocError>
-    ensures { IfOk result (λ v. v.items ≡ map (shown_of groups.now (class_of class.now)) members.now) }
+    ensures { IfOk result (λ v.
+        v.items ≡ map (shown_of groups.now (class_of class.now)) members.now) }
 {
     members
         .iter()
@@ -65,7 +66,8 @@ pub fn login_readers(
     class: &FileClass,
     users: &[Name],
 ) -> Result<Vec<Name>, AllocError>
-    ensures { IfOk result (λ v. v.items ≡ filter (is_login_reader groups.now (class_of class.now)) users.now) }
+    ensures { IfOk result (λ v.
+        v.items ≡ filter (is_login_reader groups.now (class_of class.now)) users.now) }
 {
     users
         .iter()
