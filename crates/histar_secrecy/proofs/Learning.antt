@@ -21,7 +21,7 @@ use Rattle.histar_isolation.specs.Comparison.{is_dir_of}
 use Rattle.histar_isolation.proofs.Kept.{kept_put}
 use Rattle.histar_flat.proofs.Secrecy.{IsAlikeBut, other_bytes_alike}
 use Rattle.histar_secrecy.specs.Standings.{is_bound, is_confined, is_outsider, is_trusted, logs_in_as_reader}
-use Rattle.histar_secrecy.specs.Noninterference.{HasFile, IsReached, IsShown, OutsidersCallTheSame, OutsidersLearnNothing, StandingsAreShown, no_reader_logs_in, outside_calls, outside_replies, trusted_are_silent}
+use Rattle.histar_secrecy.specs.Noninterference.{HasFile, IsReached, ShowsStanding, OutsidersCallTheSame, OutsidersLearnNothing, StandingsAreShown, no_reader_logs_in, outside_calls, outside_replies, trusted_are_silent}
 use Rattle.histar_secrecy.proofs.Knowing.{AreJobs, jobs_at_end}
 use Rattle.histar_secrecy.proofs.Links.{IsChain, IsLed, IsUntrusted, confined_line, led_after, outside_line}
 use Rattle.histar_secrecy.proofs.Roots.{AreRooted, HasRoot, rooted_at_end}
@@ -210,7 +210,7 @@ module _ (session : Session) (class : Class) (f : Flat) (l : IsLater session cla
       by false true h = absurd (true≢false (sym (h refl)))
       by false false h = refl
 
-  pub shown : IsShown session class f me p
+  pub shown : ShowsStanding session class f me p
   shown = record { trusted = trusted_is; confined = confined_is; outside = outside_is }
 
 pub standings_are_shown : StandingsAreShown

@@ -18,7 +18,7 @@ use Rattle.histar_flat.specs.Laws.{NamesAreGiven}
 use Rattle.histar_flat.proofs.Changes.{EachChange, by_line, runs_is_there}
 use Rattle.histar_flat.proofs.FileLemmas.{same_name_found}
 use Rattle.histar_flat.proofs.GivenNames.{next_is_new}
-use Rattle.histar_secrecy.specs.Logins.{is_password, logged_in, logs_in_as}
+use Rattle.histar_secrecy.specs.Logins.{is_password_of, logged_in, logs_in_as}
 
 -- a process to which one more child was born
 abbrev pub grown : Process → Process
@@ -67,7 +67,7 @@ new_name f names s given me p here = by (f.processes (next_child me p)) refl
     by (Some q) e = absurd (true≢false (sym (given (next_child me p) (names.of_processes (next_child me p) q e)) ∙ next_is_new s me p here))
 
 -- a login with another password changes nothing
-wrong_password : (session : Session) (s : Flat) (me : ProcName) (name : Name) (password : Password) → is_password session name password ≡ false
+wrong_password : (session : Session) (s : Flat) (me : ProcName) (name : Name) (password : Password) → is_password_of session name password ≡ false
     → (o : Option Process) → flat_by session s me o (Login name password) ≡ s
 wrong_password session s me name password wrong None = refl
 wrong_password session s me name password wrong (Some p) =
@@ -105,11 +105,11 @@ by_quiet_line {session} {test} {If} {call} line s me P still moves = by call lin
   where
     by : (call : UnixCall) → (If → logs_in_as session test call ≡ false)
         → ((p : Process) → running s me ≡ Some p → IsQuiet test If call → EachChange session s me p call P) → P (flat_after session s me call)
-    by (Login name password) quiet moves = elim (cases_Bool (is_password session name password)) [
+    by (Login name password) quiet moves = elim (cases_Bool (is_password_of session name password)) [
       | inl right ↦ by_line session s me (Login name password) P still (λ p runs. moves p runs (λ n e so.
           let logs_in : LogsIn name ≡ LogsIn n = e in
           let one : name ≡ n = cc in
-          subst (λ x. test (logged_in x) ≡ false) one (other_fails (test (logged_in name)) (is_password session name password) (quiet so) right)))
+          subst (λ x. test (logged_in x) ≡ false) one (other_fails (test (logged_in name)) (is_password_of session name password) (quiet so) right)))
       | inr wrong ↦ subst P (sym (wrong_password session s me name password wrong (running s me))) still
     ]
     by call quiet moves = by_line session s me call P still (λ p runs. moves p runs (λ n e so. absurd (cc)))

@@ -8,11 +8,11 @@ use Rattle.histar_flat.specs.Sessions.{Session}
 use Rattle.histar_flat.specs.FlatState.Content.{File}
 use Rattle.histar_flat.specs.FlatState.{Flat, with_bytes}
 use Rattle.histar_flat.specs.FlatCalls.{flat_after, reply_to}
-use Rattle.histar_secrecy.specs.Noninterference.{Follows, Program, ProgramsLearnNothing, outside_calls}
+use Rattle.histar_secrecy.specs.Noninterference.{Follows, OutsideProgram, ProgramsLearnNothing, outside_calls}
 use Rattle.histar_secrecy.proofs.Learning.{begun_there, learn_nothing, replies_are, replies_from}
 
 -- two lists of calls that follow one program from one state are the same as far as they go
-same_calls : (session : Session) (program : Program) (calls others : List (ProcName × UnixCall)) (f : Flat) (before : List Reply)
+same_calls : (session : Session) (program : OutsideProgram) (calls others : List (ProcName × UnixCall)) (f : Flat) (before : List Reply)
     → Follows program before calls (replies_from session f calls)
     → Follows program before others (replies_from session f others) → length calls ≡ length others → calls ≡ others
 same_calls session program [] [] f before h k e = refl

@@ -14,9 +14,9 @@ use Rattle.histar_secrecy.specs.declared.standing.Standing.{Standing}
 use Rattle.histar_secrecy.specs.declared.standing.Standing.TheVariants.{Trusted, Confined, Outside}
 use Rattle.histar_secrecy.specs.Logins.{logged_in}
 use Rattle.histar_secrecy.specs.Standings.{is_bound, is_confined, is_trusted}
-use Rattle.histar_secrecy.specs.Noninterference.{IsShown}
+use Rattle.histar_secrecy.specs.Noninterference.{ShowsStanding}
 use Rattle.histar_secrecy.specs.Changers.{may_change}
-use Rattle.histar_secrecy.specs.ShownStandings.{AreClassesTo, AreNumbered, IsOfClass, IsShownProcess, ShownIsSo, changes_one, class_of, numbered, numbered_class, of_groups, shown_of, standing_in, standing_of, with_rights}
+use Rattle.histar_secrecy.specs.ShownStandings.{AreClassesTo, AreNumbered, IsOfClass, IsShownProcess, ShownIsSo, changes_one, flat_class, job_numbered, class_by_number, of_groups, shown_of, standing_in, standing_of, with_rights}
 use Rattle.histar_secrecy.proofs.Learning.{standings_are_shown}
 use Rattle.histar_secrecy.proofs.NumberedJobs.{bound_by_number, in_two_steps, named, reads_by_number, writes_by_number}
 use Rattle.histar_secrecy.proofs.Readers.{bound_parts, reads_holding}
@@ -41,18 +41,18 @@ module _ (number : ProcName → ℕ) (one : AreNumbered number) (session : Sessi
   shown_is : {m : Member} {p : Process} → IsShownProcess number f m p → with_rights m.user m.jobs.items m.held.items ≡ named number one p
   shown_is {m} {p} is = sym (λ i. record {
     user = is.user i;
-    chain = (sym (in_two_steps number p.chain) ∙ ap (map numbered) is.jobs) i;
-    held = (sym (in_two_steps number p.held) ∙ ap (map numbered) is.held) i;
+    chain = (sym (in_two_steps number p.chain) ∙ ap (map job_numbered) is.jobs) i;
+    held = (sym (in_two_steps number p.held) ∙ ap (map job_numbered) is.held) i;
     exited = None;
     born = 0;
   })
 
   -- a process writes what is there where it may write what is of the class
   writes_is : (p : Process) (o : Option Node) (class : FileClass) → IsOfClass number o class
-      → may_write (of_groups session.groups) (named number one p) (class_of class) ≡ is_some_and o (λ n. may_write session p n.class)
+      → may_write (of_groups session.groups) (named number one p) (flat_class class) ≡ is_some_and o (λ n. may_write session p n.class)
   writes_is p None class e = absurd (cc)
   writes_is p (Some n) class e =
-      let of_class : numbered_class number n.class ≡ class_of class = cc in
+      let of_class : class_by_number number n.class ≡ flat_class class = cc in
       ap (may_write (of_groups session.groups) (named number one p)) (sym of_class) ∙ writes_by_number number one session p n.class
 
   changes_is : (p : Process) (path : Path) (classes : List FileClass) → AreClassesTo number f path classes
@@ -60,16 +60,16 @@ module _ (number : ProcName → ℕ) (one : AreNumbered number) (session : Sessi
   changes_is p path [] h = absurd h
   changes_is p [] (c ∷ classes) h =
       λ i. writes_is p (get f.files []) c h.0 i
-      || list_any (λ class. may_write (of_groups session.groups) (named number one p) (class_of class)) (h.1 i)
+      || list_any (λ class. may_write (of_groups session.groups) (named number one p) (flat_class class)) (h.1 i)
   changes_is p (n ∷ d) (c ∷ classes) h = λ i. writes_is p (get f.files (n ∷ d)) c h.0 i || changes_is p d classes h.1 i
 
 -- a process that is shown has the standing of the one that runs
 standing_is : {number : ProcName → ℕ} (one : AreNumbered number) {session : Session} {f : Flat} {c : Class} (class : FileClass)
-    → numbered_class number c ≡ class_of class → {m : Member} {p : Process} → IsShownProcess number f m p → IsShown session c f m.name p
-    → shown_of session.groups (class_of class) m ≡ (m.name, standing_in session c f m.name)
+    → class_by_number number c ≡ flat_class class → {m : Member} {p : Process} → IsShownProcess number f m p → ShowsStanding session c f m.name p
+    → shown_of session.groups (flat_class class) m ≡ (m.name, standing_in session c f m.name)
 standing_is {number} one {session} {f} {c} class of_class {m} {p} is shown = λ i. (m.name, standing i)
   where
-    standing : standing_of session.groups (class_of class) (with_rights m.user m.jobs.items m.held.items) ≡ standing_in session c f m.name
+    standing : standing_of session.groups (flat_class class) (with_rights m.user m.jobs.items m.held.items) ≡ standing_in session c f m.name
     standing =
         (λ i. standing_of session.groups (sym of_class i) (shown_is number one session f is i))
         ∙
@@ -80,8 +80,8 @@ standing_is {number} one {session} {f} {c} class of_class {m} {p} is shown = λ 
 
 pub shown_is_so : ShownIsSo
 unfolding shown_is standing_is changes_is
-shown_is_so session f reached number one = record {
-  standing = λ path node class at of_class m p is.
+shown_is_so session f number one = record {
+  standing = λ reached path node class at of_class m p is.
       standing_is one class of_class is (standings_are_shown session f reached path node at m.name p is.runs);
   changer = λ path classes to m p is.
       ap (λ q. changes_one session.groups q classes) (shown_is number one session f is) ∙ changes_is number one session f p path classes to

@@ -1,12 +1,12 @@
 -- Worked sessions: who is trusted, confined and an outsider, and that each premise of the laws is needed.
-use Rattle.std.specs.Prelude.{◌≡◌, true, false, List, [], ◌∷◌, ◌++◌, None, Some, codes, map, refl}
+use Rattle.std.specs.Prelude.{◌≡◌, true, false, List, [], ◌∷◌, ◌++◌, None, Some, codes, filter, map, refl}
 use Rattle.histar_flat.specs.declared.calls.CallLine.{CallLine}
 use Rattle.histar_flat.specs.declared.calls.Mode.TheVariants as modes
 use Rattle.histar_flat.specs.declared.calls.UnixCall.TheVariants.{Create, Read, Write, List as ListCall, Stat, Rmtree, Spawn, Exit, Status, Login, Wrap}
 use Rattle.histar_flat.specs.declared.replies.Errno.TheVariants.{EACCES}
 use Rattle.histar_flat.specs.declared.replies.Reply.TheVariants.{Data, Entries, Refused, Done}
 use Rattle.histar_flat.specs.Words.{Path}
-use Rattle.histar_flat.specs.Classes.{Class}
+use Rattle.histar_flat.specs.Classes.{Class, Process}
 use Rattle.histar_flat.specs.Classes.Class.{Private, Scratch}
 use Rattle.histar_flat.specs.Files.{get}
 use Rattle.histar_flat.specs.FlatState.{Flat, with_bytes}
@@ -15,8 +15,10 @@ use Rattle.histar_flat.specs.Meaning.{boot, flat_end}
 use Rattle.histar_flat.proofs.WorkedScripts.{line_of, three_users, tmp_made}
 use Rattle.histar_secrecy.specs.Standings.{is_confined, is_outsider, is_trusted}
 use Rattle.histar_secrecy.specs.Noninterference.{no_reader_logs_in, outside_replies, trusted_are_silent}
+use Rattle.histar_secrecy.specs.declared.file_class.FileClass.{FileClass}
+use Rattle.histar_secrecy.specs.declared.file_class.FileClass.TheVariants as classes
 use Rattle.histar_secrecy.specs.declared.standing.Standing.TheVariants.{Trusted, Confined, Outside}
-use Rattle.histar_secrecy.specs.ShownStandings.{standing_in}
+use Rattle.histar_secrecy.specs.ShownStandings.{changes_one, is_login_changer, is_login_reader, job_numbered, standing_in, standing_of, with_rights}
 use Rattle.histar_secrecy.specs.Changers.{changers_are_silent, is_changer}
 use Rattle.histar_secrecy.proofs.Learning.{outsiders_learn_nothing}
 
@@ -187,3 +189,34 @@ it_is_of_the_inner_job = refl
 inner_standings : map (standing_in three_users inner with_inner) ((1 ∷ []) ∷ (1 ∷ 1 ∷ []) ∷ (1 ∷ 1 ∷ 1 ∷ []) ∷ []) ≡ Outside ∷ Trusted ∷ Confined ∷ []
 unfolding with_inner before inner
 inner_standings = refl
+
+-- ---- what is shown of the letter, where the job has the number 7: of 0.1, which holds it, of its first process, and of 0.2
+
+three : List Process
+three = with_rights (codes "alice") [] (7 ∷ []) ∷ with_rights (codes "alice") (7 ∷ []) [] ∷ with_rights (codes "bob") [] [] ∷ []
+
+shown : map (standing_of [] mine) three ≡ Trusted ∷ Confined ∷ Outside ∷ []
+unfolding mine three
+shown = refl
+
+readers : filter (is_login_reader [] mine) (codes "alice" ∷ codes "bob" ∷ []) ≡ codes "alice" ∷ []
+unfolding mine
+readers = refl
+
+-- of a file that the job makes its number is shown: another job's process is an outsider
+shown_scratch : map (standing_of [] (Scratch (codes "alice") (map job_numbered (7 ∷ []))))
+    (with_rights (codes "alice") [] (7 ∷ []) ∷ with_rights (codes "alice") (7 ∷ 9 ∷ []) [] ∷ with_rights (codes "alice") (8 ∷ []) [] ∷ [])
+    ≡ Trusted ∷ Confined ∷ Outside ∷ []
+shown_scratch = refl
+
+-- in a directory of bob's alice and bob log in as changers, and the job changes nothing
+way : List FileClass
+way = classes.Private (codes "alice") ∷ classes.Readable (codes "bob") ∷ []
+
+logins : filter (is_login_changer [] way) (codes "alice" ∷ codes "bob" ∷ codes "carol" ∷ []) ≡ codes "alice" ∷ codes "bob" ∷ []
+unfolding way
+logins = refl
+
+changers_there : map (λ p. changes_one [] p way) three ≡ true ∷ false ∷ true ∷ []
+unfolding way three
+changers_there = refl

@@ -70,17 +70,17 @@ WhatIsWrittenStaysSecret = (session : Session) (f : Flat) → IsReached session 
     ≡ outside_replies session class f (flat_after session f writer (Write path other)) others
 
 -- What all outsiders together do as a program: by the replies so far, the latest first, which process calls next, and what.
-abbrev pub Program : Type 0
-Program = List Reply → ProcName × UnixCall
+abbrev pub OutsideProgram : Type 0
+OutsideProgram = List Reply → ProcName × UnixCall
 
 -- these calls are those of the program, where these are the replies to them, and those the replies before
-abbrev pub Follows : Program → List Reply → List (ProcName × UnixCall) → List Reply → Type 0
+abbrev pub Follows : OutsideProgram → List Reply → List (ProcName × UnixCall) → List Reply → Type 0
 Follows program before [] replies = Unit {0}
 Follows program before (c ∷ calls) [] = Unit {0}
 Follows program before (c ∷ calls) (r ∷ replies) = (c ≡ program before) × Follows program (r ∷ before) calls replies
 
 -- In the calls from the state s on the trusted are silent, and outsiders follow the program, and log in as no reader.
-pub record OutsidersFollow (session : Session) (class : Class) (f s : Flat) (program : Program) (calls : List CallLine) : Type 0 where
+pub record OutsidersFollow (session : Session) (class : Class) (f s : Flat) (program : OutsideProgram) (calls : List CallLine) : Type 0 where
   pub silent : trusted_are_silent session class f calls ≡ true
   pub no_login : no_reader_logs_in session class f calls ≡ true
   pub follows : Follows program [] (outside_calls session class f calls) (outside_replies session class f s calls)
@@ -89,7 +89,7 @@ pub record OutsidersFollow (session : Session) (class : Class) (f s : Flat) (pro
 -- call the same, and have the same replies.
 abbrev pub ProgramsLearnNothing : Type 0
 ProgramsLearnNothing = (session : Session) (f : Flat) → IsReached session f → (path : Path) (class : Class) → HasFile f path class
-    → (one other : List ℕ) (calls others : List CallLine) (program : Program)
+    → (one other : List ℕ) (calls others : List CallLine) (program : OutsideProgram)
     → OutsidersFollow session class f (with_bytes f path one) program calls → OutsidersFollow session class f (with_bytes f path other) program others
     → length (outside_calls session class f calls) ≡ length (outside_calls session class f others)
     → (outside_calls session class f calls ≡ outside_calls session class f others)
@@ -102,7 +102,7 @@ BoundWriteForReaders = (session : Session) (class written : Class) (p reader : P
     → may_read session reader class ≡ true
 
 -- a process that runs is confined exactly where it is bound, and an outsider exactly where it may not read what is of the class
-pub record IsShown (session : Session) (class : Class) (f : Flat) (me : ProcName) (p : Process) : Type 0 where
+pub record ShowsStanding (session : Session) (class : Class) (f : Flat) (me : ProcName) (p : Process) : Type 0 where
   pub trusted : is_trusted session class f me ≡ (may_read session p class && not (is_bound session class p))
   pub confined : is_confined session class f me ≡ is_bound session class p
   pub outside : is_outsider session class f me ≡ not (may_read session p class)
@@ -110,4 +110,4 @@ pub record IsShown (session : Session) (class : Class) (f : Flat) (me : ProcName
 -- In each state that calls lead to, each process that runs shows by itself whether it is trusted, confined or an outsider.
 abbrev pub StandingsAreShown : Type 0
 StandingsAreShown = (session : Session) (f : Flat) → IsReached session f → (path : Path) (node : Node) → get f.files path ≡ Some node
-    → (me : ProcName) (p : Process) → running f me ≡ Some p → IsShown session node.class f me p
+    → (me : ProcName) (p : Process) → running f me ≡ Some p → ShowsStanding session node.class f me p

@@ -23,20 +23,20 @@ abbrev pub of_groups : List Group → Session
 of_groups groups = record { users = []; groups = groups }
 
 -- a job that is known by its number
-abbrev pub numbered : ℕ → ProcName
-numbered number = number ∷ []
+abbrev pub job_numbered : ℕ → ProcName
+job_numbered number = number ∷ []
 
 -- a process that runs, of this user, in the jobs of these numbers, and holding the jobs of those
 abbrev pub with_rights : Name → List ℕ → List ℕ → Process
-with_rights user jobs held = record { user = user; chain = map numbered jobs; held = map numbered held; exited = None; born = 0 }
+with_rights user jobs held = record { user = user; chain = map job_numbered jobs; held = map job_numbered held; exited = None; born = 0 }
 
 -- the class as the rules have it, with each job by its number
-abbrev pub class_of : FileClass → Class
-class_of (classes.Private owner) = Private owner
-class_of (classes.Readable owner) = Readable owner
-class_of classes.Open = Open
-class_of (classes.Scratch owner jobs) = Scratch owner (map numbered jobs.items)
-class_of (classes.Grouped group) = Grouped group
+abbrev pub flat_class : FileClass → Class
+flat_class (classes.Private owner) = Private owner
+flat_class (classes.Readable owner) = Readable owner
+flat_class classes.Open = Open
+flat_class (classes.Scratch owner jobs) = Scratch owner (map job_numbered jobs.items)
+flat_class (classes.Grouped group) = Grouped group
 
 -- the standing of a process that runs, to what is of the class
 abbrev pub standing_of : List Group → Class → Process → Standing
@@ -53,7 +53,7 @@ is_login_reader groups class user = may_read (of_groups groups) (logged_in user)
 
 -- a process may write what is of one of these classes
 abbrev pub changes_one : List Group → Process → List FileClass → Bool
-changes_one groups p classes = list_any (λ class. may_write (of_groups groups) p (class_of class)) classes
+changes_one groups p classes = list_any (λ class. may_write (of_groups groups) p (flat_class class)) classes
 
 -- a process that is shown may write what is of one of these classes
 abbrev pub is_shown_changer : List Group → List FileClass → Member → Bool
@@ -73,17 +73,17 @@ AreNumbered number = (a b : ProcName) → number a ≡ number b → a ≡ b
 
 module _ (number : ProcName → ℕ) where
   -- these jobs, known by their numbers
-  abbrev pub numbered_jobs : List ProcName → List ProcName
-  numbered_jobs jobs = map (λ job. numbered (number job)) jobs
+  abbrev pub jobs_by_number : List ProcName → List ProcName
+  jobs_by_number jobs = map (λ job. job_numbered (number job)) jobs
 
   -- the class, with its jobs known by their numbers
-  abbrev pub numbered_class : Class → Class
-  numbered_class (Scratch owner jobs) = Scratch owner (numbered_jobs jobs)
-  numbered_class class = class
+  abbrev pub class_by_number : Class → Class
+  class_by_number (Scratch owner jobs) = Scratch owner (jobs_by_number jobs)
+  class_by_number class = class
 
   -- what is there is of this class
   abbrev pub IsOfClass : Option Node → FileClass → Type 0
-  IsOfClass there class = option_map (λ (n : Node). numbered_class n.class) there ≡ Some (class_of class)
+  IsOfClass there class = option_map (λ (n : Node). class_by_number n.class) there ≡ Some (flat_class class)
 
   -- these are the classes of what is at the path, and of each directory above it
   abbrev pub AreClassesTo : Flat → Path → List FileClass → Type 0
@@ -98,19 +98,19 @@ module _ (number : ProcName → ℕ) where
     pub jobs : map number p.chain ≡ m.jobs.items
     pub held : map number p.held ≡ m.held.items
 
-  -- What is shown is so in a state: of each process that runs its standing to a file, and whether it is a changer of what is at a path;
-  -- and of each user whether it logs in as a reader, and as a changer.
+  -- What is shown is so in a state: of each process that runs its standing to a file, where calls lead to the state, and whether it is a
+  -- changer of what is at a path; and of each user whether it logs in as a reader, and as a changer.
   pub record ShowsAState (session : Session) (f : Flat) : Type 0 where
-    pub standing : (path : Path) (node : Node) (class : FileClass) → get f.files path ≡ Some node → numbered_class node.class ≡ class_of class
-        → (m : Member) (p : Process) → IsShownProcess f m p
-        → shown_of session.groups (class_of class) m ≡ (m.name, standing_in session node.class f m.name)
+    pub standing : IsReached session f → (path : Path) (node : Node) (class : FileClass) → get f.files path ≡ Some node
+        → class_by_number node.class ≡ flat_class class → (m : Member) (p : Process) → IsShownProcess f m p
+        → shown_of session.groups (flat_class class) m ≡ (m.name, standing_in session node.class f m.name)
     pub changer : (path : Path) (classes : List FileClass) → AreClassesTo f path classes → (m : Member) (p : Process) → IsShownProcess f m p
         → is_shown_changer session.groups classes m ≡ is_changer session f path m.name
-    pub reader_login : (of_class : Class) (class : FileClass) → numbered_class of_class ≡ class_of class
-        → (user : Name) → is_login_reader session.groups (class_of class) user ≡ may_read session (logged_in user) of_class
+    pub reader_login : (of_class : Class) (class : FileClass) → class_by_number of_class ≡ flat_class class
+        → (user : Name) → is_login_reader session.groups (flat_class class) user ≡ may_read session (logged_in user) of_class
     pub changer_login : (path : Path) (classes : List FileClass) → AreClassesTo f path classes
         → (user : Name) → is_login_changer session.groups classes user ≡ may_change session f (logged_in user) path
 
--- What is shown is so in each state that calls lead to, however the jobs are numbered.
+-- What is shown is so in each state, however the jobs are numbered.
 abbrev pub ShownIsSo : Type 0
-ShownIsSo = (session : Session) (f : Flat) → IsReached session f → (number : ProcName → ℕ) → AreNumbered number → ShowsAState number session f
+ShownIsSo = (session : Session) (f : Flat) (number : ProcName → ℕ) → AreNumbered number → ShowsAState number session f

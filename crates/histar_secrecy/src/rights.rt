@@ -3,7 +3,7 @@ ghost use Rattle.std.specs.Prelude.{◌≡◌, ◌||◌, nat_eq};
 ghost use Rattle.std.specs.List.{list_all, list_any};
 ghost use Rattle.histar_flat.specs.Sessions.{is_member};
 ghost use Rattle.histar_flat.specs.Classes.{may_read, may_write};
-ghost use Rattle.histar_secrecy.specs.ShownStandings.{class_of, of_groups, with_rights};
+ghost use Rattle.histar_secrecy.specs.ShownStandings.{flat_class, of_groups, with_rights};
 
 use crate::file_class::FileClass;
 use histar_flat::{Group, Name};
@@ -12,7 +12,7 @@ use histar_flat::{Group, Name};
 #[tactic(auto, using(crate::proofs::NumberedJobs::knows_numbers))]
 pub fn may_read(groups: &[Group], user: Name, jobs: &[u64], held: &[u64], class: &FileClass) -> bool
     ensures { result ≡ may_read (of_groups groups.now)
-        (with_rights user jobs.now held.now) (class_of class.now) }
+        (with_rights user jobs.now held.now) (flat_class class.now) }
 {
     match class {
         FileClass::Private(owner) => user == *owner,
@@ -32,7 +32,7 @@ pub fn may_write(
     class: &FileClass,
 ) -> bool
     ensures { result ≡ may_write (of_groups groups.now)
-        (with_rights user jobs.now held.now) (class_of class.now) }
+        (with_rights user jobs.now held.now) (flat_class class.now) }
 {
     match class {
         FileClass::Private(owner) | FileClass::Readable(owner) => {

@@ -1,6 +1,6 @@
 //! Who is trusted with a file, who is confined, and who is an outsider.
 ghost use Rattle.std.specs.Prelude.{◌≡◌, IfOk, filter, map};
-ghost use Rattle.histar_secrecy.specs.ShownStandings.{class_of, is_login_reader, shown_of, standing_of, with_rights};
+ghost use Rattle.histar_secrecy.specs.ShownStandings.{flat_class, is_login_reader, shown_of, standing_of, with_rights};
 
 use crate::file_class::FileClass;
 use crate::rights::may_read;
@@ -30,7 +30,7 @@ pub struct Member {
 
 /// Returns the standing of a process to a file of the class.
 fn standing_of(groups: &[Group], class: &FileClass, member: &Member) -> Standing
-    ensures { result ≡ standing_of groups.now (class_of class.now)
+    ensures { result ≡ standing_of groups.now (flat_class class.now)
         (with_rights member.now.user member.now.jobs.items member.now.held.items) }
 {
     let jobs = member.jobs.as_slice();
@@ -51,7 +51,7 @@ pub fn trust_of(
     members: &[Member],
 ) -> Result<Vec<(ProcName, Standing)>, AllocError>
     ensures { IfOk result (λ v.
-        v.items ≡ map (shown_of groups.now (class_of class.now)) members.now) }
+        v.items ≡ map (shown_of groups.now (flat_class class.now)) members.now) }
 {
     members
         .iter()
@@ -67,7 +67,7 @@ pub fn login_readers(
     users: &[Name],
 ) -> Result<Vec<Name>, AllocError>
     ensures { IfOk result (λ v.
-        v.items ≡ filter (is_login_reader groups.now (class_of class.now)) users.now) }
+        v.items ≡ filter (is_login_reader groups.now (flat_class class.now)) users.now) }
 {
     users
         .iter()
