@@ -1,0 +1,222 @@
+-- Worked sessions: who is trusted, confined and an outsider, and that each premise of the laws is needed.
+use Rattle.std.specs.Prelude.{◌≡◌, true, false, List, [], ◌∷◌, ◌++◌, None, Some, codes, filter, map, refl}
+use Rattle.histar_flat.specs.declared.calls.CallLine.{CallLine}
+use Rattle.histar_flat.specs.declared.calls.Mode.TheVariants as modes
+use Rattle.histar_flat.specs.declared.calls.UnixCall.TheVariants.{Create, Read, Write, List as ListCall, Stat, Rmtree, Spawn, Exit, Status, Login, Wrap}
+use Rattle.histar_flat.specs.declared.replies.Errno.TheVariants.{EACCES}
+use Rattle.histar_flat.specs.declared.replies.Reply.TheVariants.{Data, Entries, Refused, Done}
+use Rattle.histar_flat.specs.Words.{Path}
+use Rattle.histar_flat.specs.Classes.{Class, Process}
+use Rattle.histar_flat.specs.Classes.Class.{Private, Scratch}
+use Rattle.histar_flat.specs.Files.{get}
+use Rattle.histar_flat.specs.FlatState.{Flat, with_bytes}
+use Rattle.histar_flat.specs.FlatState.Content.{File}
+use Rattle.histar_flat.specs.Meaning.{boot, flat_end}
+use Rattle.histar_flat.proofs.WorkedScripts.{line_of, three_users, tmp_made}
+use Rattle.histar_secrecy.specs.Standings.{is_confined, is_outsider, is_trusted}
+use Rattle.histar_secrecy.specs.Noninterference.{no_reader_logs_in, outside_replies, trusted_are_silent}
+use Rattle.histar_secrecy.specs.declared.file_class.FileClass.{FileClass}
+use Rattle.histar_secrecy.specs.declared.file_class.FileClass.TheVariants as classes
+use Rattle.histar_secrecy.specs.declared.standing.Standing.TheVariants.{Trusted, Confined, Outside}
+use Rattle.histar_secrecy.specs.ShownStandings.{changes_one, is_login_changer, is_login_reader, job_numbered, standing_in, standing_of, with_rights}
+use Rattle.histar_secrecy.specs.Changers.{changers_are_silent, is_changer}
+use Rattle.histar_secrecy.proofs.Learning.{outsiders_learn_nothing}
+
+-- alice's process 0.1 has a private file in /tmp, and starts the job 0.1.1, whose directory is /tmp/j; 0.2 is bob's
+letter : Path
+letter = codes "s" ∷ codes "tmp" ∷ []
+
+before : List CallLine
+before = tmp_made ++
+    line_of 10 (1 ∷ []) (Create (codes "s" ∷ codes "tmp" ∷ []) modes.Private) ∷
+    line_of 11 (1 ∷ []) (Write (codes "s" ∷ codes "tmp" ∷ []) (codes "secret")) ∷
+    line_of 12 (1 ∷ []) (Wrap (codes "j" ∷ codes "tmp" ∷ [])) ∷ []
+
+state : Flat
+state = flat_end three_users (boot three_users) before
+
+mine : Class
+mine = Private (codes "alice")
+
+file_is_there : get state.files letter ≡ Some (record { class = mine; content = File (codes "secret") })
+unfolding state before letter mine
+file_is_there = refl
+
+-- 0.1 is trusted with it, 0.1.1 is confined, and so is each process below it; 0 and 0.2 are outsiders
+trusted : is_trusted three_users mine state (1 ∷ []) ≡ true
+unfolding state before mine
+trusted = refl
+
+confined : is_confined three_users mine state (5 ∷ 1 ∷ 1 ∷ []) ≡ true
+unfolding state before mine
+confined = refl
+
+outside : is_outsider three_users mine state (2 ∷ []) ≡ true
+unfolding state before mine
+outside = refl
+
+-- what bob's process calls
+bobs : List CallLine
+bobs =
+    line_of 20 (2 ∷ []) (ListCall (codes "tmp" ∷ [])) ∷
+    line_of 21 (2 ∷ []) (Status (1 ∷ 1 ∷ [])) ∷
+    line_of 22 (2 ∷ []) (Read (codes "s" ∷ codes "tmp" ∷ [])) ∷
+    line_of 23 (2 ∷ []) (Stat (codes "x" ∷ codes "j" ∷ codes "tmp" ∷ [])) ∷ []
+
+-- the job reads the file, writes in its directory, starts processes and a job, and ends
+jobs : List CallLine
+jobs =
+    line_of 13 (1 ∷ 1 ∷ []) (Read (codes "s" ∷ codes "tmp" ∷ [])) ∷
+    line_of 14 (1 ∷ 1 ∷ []) (Create (codes "x" ∷ codes "j" ∷ codes "tmp" ∷ []) modes.Open) ∷
+    line_of 15 (1 ∷ 1 ∷ []) (Write (codes "x" ∷ codes "j" ∷ codes "tmp" ∷ []) (codes "secret")) ∷
+    line_of 16 (1 ∷ 1 ∷ []) (Wrap (codes "k" ∷ codes "j" ∷ codes "tmp" ∷ [])) ∷
+    line_of 17 (1 ∷ 1 ∷ 1 ∷ []) Spawn ∷
+    line_of 18 (1 ∷ 1 ∷ []) (Login (codes "alice") (codes "aa")) ∷
+    line_of 19 (1 ∷ 1 ∷ []) (Exit 7) ∷ []
+
+-- so bob's process has the same replies with the job's lines and without them, whatever is in the file
+bob_learns_nothing : outside_replies three_users mine state (with_bytes state letter (codes "one")) (jobs ++ bobs)
+    ≡ outside_replies three_users mine state (with_bytes state letter (codes "other")) bobs
+unfolding state before letter mine jobs bobs file_is_there
+bob_learns_nothing =
+    outsiders_learn_nothing three_users state (before, refl) letter mine (codes "secret", file_is_there) (codes "one") (codes "other")
+    (jobs ++ bobs) bobs (record { silent = refl; others_silent = refl; alike = refl; no_login = refl })
+
+-- and these are its replies
+bobs_replies : outside_replies three_users mine state (with_bytes state letter (codes "one")) (jobs ++ bobs)
+    ≡ Entries ((codes "j", true) ∷ (codes "s", false) ∷ []) ∷ Refused EACCES ∷ Refused EACCES ∷ Refused EACCES ∷ []
+unfolding state before letter mine jobs bobs
+bobs_replies = refl
+
+-- ---- each premise is needed
+
+-- a trusted process makes a file
+declassified : List CallLine
+declassified = line_of 13 (1 ∷ []) (Create (codes "y" ∷ codes "tmp" ∷ []) modes.Open) ∷ bobs
+
+it_is_not_silent : trusted_are_silent three_users mine state declassified ≡ false
+unfolding state before mine declassified bobs
+it_is_not_silent = refl
+
+it_shows : outside_replies three_users mine state (with_bytes state letter (codes "one")) declassified
+    ≡ Entries ((codes "j", true) ∷ (codes "s", false) ∷ (codes "y", false) ∷ []) ∷ Refused EACCES ∷ Refused EACCES ∷ Refused EACCES ∷ []
+unfolding state before letter mine declassified bobs
+it_shows = refl
+
+-- an outsider logs in as alice
+as_alice : List CallLine
+as_alice =
+    line_of 13 (2 ∷ []) (Login (codes "alice") (codes "aa")) ∷
+    line_of 14 (2 ∷ []) (Read (codes "s" ∷ codes "tmp" ∷ [])) ∷ []
+
+it_logs_in : no_reader_logs_in three_users mine state as_alice ≡ false
+unfolding state before mine as_alice
+it_logs_in = refl
+
+it_reads : outside_replies three_users mine state (with_bytes state letter (codes "one")) as_alice ≡ Done ∷ Data (codes "one") ∷ []
+unfolding state before letter mine as_alice
+it_reads = refl
+
+-- another password does no harm
+guessed : no_reader_logs_in three_users mine state (line_of 13 (2 ∷ []) (Login (codes "alice") (codes "xx")) ∷ []) ≡ true
+unfolding state before mine
+guessed = refl
+
+-- ---- who may change the letter: its owner, and all that may write /tmp; the job may not
+
+changers : map (is_changer three_users state letter) ([] ∷ (1 ∷ []) ∷ (2 ∷ []) ∷ (1 ∷ 1 ∷ []) ∷ []) ≡ (true ∷ true ∷ true ∷ false ∷ [])
+unfolding state before letter
+changers = refl
+
+-- bob's process takes it away
+taken : get (flat_end three_users state (line_of 13 (2 ∷ []) (Rmtree (codes "s" ∷ codes "tmp" ∷ [])) ∷ [])).files letter ≡ None
+unfolding state before letter
+taken = refl
+
+-- and so does the job's once it is alice's, in no job: but it can't log in
+jobs_are_silent : changers_are_silent three_users state letter jobs ≡ true
+unfolding state before letter jobs
+jobs_are_silent = refl
+
+-- ---- a file that the job makes: who started the job may read it, and another process of alice's may not
+
+in_the_job : Path
+in_the_job = codes "x" ∷ codes "j" ∷ codes "tmp" ∷ []
+
+with_scratch : Flat
+with_scratch =
+    flat_end three_users (boot three_users)
+    (before ++ line_of 13 (1 ∷ 1 ∷ []) (Create (codes "x" ∷ codes "j" ∷ codes "tmp" ∷ []) modes.Open)
+    ∷ line_of 14 [] Spawn
+    ∷ line_of 15 (3 ∷ []) (Login (codes "alice") (codes "aa")) ∷ [])
+
+scratch : Class
+scratch = Scratch (codes "alice") ((1 ∷ 1 ∷ []) ∷ [])
+
+it_is_scratch : get with_scratch.files in_the_job ≡ Some (record { class = scratch; content = File [] })
+unfolding with_scratch before in_the_job scratch
+it_is_scratch = refl
+
+standings : map (standing_in three_users scratch with_scratch) ((1 ∷ []) ∷ (1 ∷ 1 ∷ []) ∷ (3 ∷ []) ∷ (2 ∷ []) ∷ [])
+    ≡ Trusted ∷ Confined ∷ Outside ∷ Outside ∷ []
+unfolding with_scratch before scratch
+standings = refl
+
+-- a login as alice shows nothing of it
+no_login_reads_it : no_reader_logs_in three_users scratch with_scratch (line_of 16 (2 ∷ []) (Login (codes "alice") (codes "aa")) ∷ []) ≡ true
+unfolding with_scratch before scratch
+no_login_reads_it = refl
+
+-- ---- a file of an inner job: who is in the outer job and started the inner one is trusted with it, since it may write what others in the
+-- outer job read; who started the outer job is an outsider
+
+inner_file : Path
+inner_file = codes "z" ∷ codes "k" ∷ codes "j" ∷ codes "tmp" ∷ []
+
+with_inner : Flat
+with_inner =
+    flat_end three_users (boot three_users)
+    (before ++ line_of 13 (1 ∷ 1 ∷ []) (Wrap (codes "k" ∷ codes "j" ∷ codes "tmp" ∷ []))
+    ∷ line_of 14 (1 ∷ 1 ∷ 1 ∷ []) (Create (codes "z" ∷ codes "k" ∷ codes "j" ∷ codes "tmp" ∷ []) modes.Open) ∷ [])
+
+inner : Class
+inner = Scratch (codes "alice") ((1 ∷ 1 ∷ []) ∷ (1 ∷ 1 ∷ 1 ∷ []) ∷ [])
+
+it_is_of_the_inner_job : get with_inner.files inner_file ≡ Some (record { class = inner; content = File [] })
+unfolding with_inner before inner_file inner
+it_is_of_the_inner_job = refl
+
+inner_standings : map (standing_in three_users inner with_inner) ((1 ∷ []) ∷ (1 ∷ 1 ∷ []) ∷ (1 ∷ 1 ∷ 1 ∷ []) ∷ []) ≡ Outside ∷ Trusted ∷ Confined ∷ []
+unfolding with_inner before inner
+inner_standings = refl
+
+-- ---- what is shown of the letter, where the job has the number 7: of 0.1, which holds it, of its first process, and of 0.2
+
+three : List Process
+three = with_rights (codes "alice") [] (7 ∷ []) ∷ with_rights (codes "alice") (7 ∷ []) [] ∷ with_rights (codes "bob") [] [] ∷ []
+
+shown : map (standing_of [] mine) three ≡ Trusted ∷ Confined ∷ Outside ∷ []
+unfolding mine three
+shown = refl
+
+readers : filter (is_login_reader [] mine) (codes "alice" ∷ codes "bob" ∷ []) ≡ codes "alice" ∷ []
+unfolding mine
+readers = refl
+
+-- of a file that the job makes its number is shown: another job's process is an outsider
+shown_scratch : map (standing_of [] (Scratch (codes "alice") (map job_numbered (7 ∷ []))))
+    (with_rights (codes "alice") [] (7 ∷ []) ∷ with_rights (codes "alice") (7 ∷ 9 ∷ []) [] ∷ with_rights (codes "alice") (8 ∷ []) [] ∷ [])
+    ≡ Trusted ∷ Confined ∷ Outside ∷ []
+shown_scratch = refl
+
+-- in a directory of bob's alice and bob log in as changers, and the job changes nothing
+way : List FileClass
+way = classes.Private (codes "alice") ∷ classes.Readable (codes "bob") ∷ []
+
+logins : filter (is_login_changer [] way) (codes "alice" ∷ codes "bob" ∷ codes "carol" ∷ []) ≡ codes "alice" ∷ codes "bob" ∷ []
+unfolding way
+logins = refl
+
+changers_there : map (λ p. changes_one [] p way) three ≡ true ∷ false ∷ true ∷ []
+unfolding way three
+changers_there = refl

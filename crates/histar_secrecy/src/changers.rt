@@ -1,0 +1,64 @@
+//! Who may change what is at a path.
+ghost use Rattle.std.specs.Prelude.{◌≡◌, IfOk, filter, map};
+ghost use Rattle.histar_secrecy.specs.ShownStandings.{changes_one, is_login_changer, is_shown_changer, with_rights};
+ghost use Rattle.histar_secrecy.specs.declared.standing.Member.{Member};
+
+use crate::file_class::FileClass;
+use crate::rights::may_write;
+use crate::standing::Member;
+use histar_flat::{Group, Name, ProcName};
+use std::alloc::{AllocError, Global};
+
+/// Returns those of these processes that may change what is at a path, where these are the classes of
+/// that and of each directory above it.
+pub fn changers_of(
+    alloc: Global,
+    groups: &[Group],
+    classes: &[FileClass],
+    members: &[Member],
+) -> Result<Vec<ProcName>, AllocError>
+    ensures { IfOk result (λ v.
+        v.items ≡ map (λ (m : Member). m.name)
+        (filter (is_shown_changer groups.now classes.now) members.now)) }
+{
+    members
+        .iter()
+        .filter(|member| {
+            let jobs = member.jobs.as_slice();
+            writes_one(groups, member.user, jobs, member.held.as_slice(), classes)
+        })
+        .map(|member| member.name)
+        .collect(alloc)
+}
+
+/// Returns those of these users as whom a process that logs in may change what is at the path.
+pub fn login_changers(
+    alloc: Global,
+    groups: &[Group],
+    classes: &[FileClass],
+    users: &[Name],
+) -> Result<Vec<Name>, AllocError>
+    ensures { IfOk result (λ v.
+        v.items ≡ filter (is_login_changer groups.now classes.now) users.now) }
+{
+    users
+        .iter()
+        .filter(|user| writes_one(groups, **user, &[], &[], classes))
+        .copied()
+        .collect(alloc)
+}
+
+/// Checks whether a process may write what is of one of these classes.
+fn writes_one(
+    groups: &[Group],
+    user: Name,
+    jobs: &[u64],
+    held: &[u64],
+    classes: &[FileClass],
+) -> bool
+    ensures { result ≡ changes_one groups.now (with_rights user jobs.now held.now) classes.now }
+{
+    classes
+        .iter()
+        .any(|class| may_write(groups, user, jobs, held, class))
+}

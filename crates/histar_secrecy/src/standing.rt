@@ -1,0 +1,77 @@
+//! Who is trusted with a file, who is confined, and who is an outsider.
+ghost use Rattle.std.specs.Prelude.{◌≡◌, IfOk, filter, map};
+ghost use Rattle.histar_secrecy.specs.ShownStandings.{flat_class, is_login_reader, shown_of, standing_of, with_rights};
+
+use crate::file_class::FileClass;
+use crate::rights::may_read;
+use histar_flat::{Group, Name, ProcName};
+use std::alloc::{AllocError, Global};
+
+/// The standing of a process that runs, to what is in a file.
+#[derive(Clone, Copy)]
+pub enum Standing {
+    /// It may read the file, and nothing confines it: it is trusted with what is in the file.
+    Trusted,
+    /// It may read the file, and what it may write only those may read who may read the file.
+    Confined,
+    /// It may not read the file.
+    Outside,
+}
+
+/// A process that runs: its user, the jobs that it is in, and those that it holds, by numbers. No two
+/// jobs have the same number.
+#[derive(Drop)]
+pub struct Member {
+    pub name: ProcName,
+    pub user: Name,
+    pub jobs: Vec<u64>,
+    pub held: Vec<u64>,
+}
+
+/// Returns the standing of a process to a file of the class.
+fn standing_of(groups: &[Group], class: &FileClass, member: &Member) -> Standing
+    ensures { result ≡ standing_of groups.now (flat_class class.now)
+        (with_rights member.now.user member.now.jobs.items member.now.held.items) }
+{
+    let jobs = member.jobs.as_slice();
+    if !may_read(groups, member.user, jobs, member.held.as_slice(), class) {
+        Standing::Outside
+    } else if !jobs.is_empty() && may_read(groups, member.user, jobs, &[], class) {
+        Standing::Confined
+    } else {
+        Standing::Trusted
+    }
+}
+
+/// Returns the standing of each process to a file of the class.
+pub fn trust_of(
+    alloc: Global,
+    groups: &[Group],
+    class: &FileClass,
+    members: &[Member],
+) -> Result<Vec<(ProcName, Standing)>, AllocError>
+    ensures { IfOk result (λ v.
+        v.items ≡ map (shown_of groups.now (flat_class class.now)) members.now) }
+{
+    members
+        .iter()
+        .map(|member| (member.name, standing_of(groups, class, member)))
+        .collect(alloc)
+}
+
+/// Returns those of these users as whom a process that logs in may read a file of the class.
+pub fn login_readers(
+    alloc: Global,
+    groups: &[Group],
+    class: &FileClass,
+    users: &[Name],
+) -> Result<Vec<Name>, AllocError>
+    ensures { IfOk result (λ v.
+        v.items ≡ filter (is_login_reader groups.now (flat_class class.now)) users.now) }
+{
+    users
+        .iter()
+        .filter(|user| may_read(groups, **user, &[], &[], class))
+        .copied()
+        .collect(alloc)
+}
