@@ -1,5 +1,8 @@
--- The exit statuses of faults.
+-- The exit statuses.
 use Rattle.std.specs.Prelude.{ℕ}
+use Rattle.histar_cli.specs.declared.status.Outcome.{Outcome}
+use Rattle.histar_cli.specs.declared.status.Outcome.TheVariants.{Done, NotSo}
+use Rattle.histar_cli.specs.declared.status.Outcome.TheVariants as outcomes
 use Rattle.histar_script.specs.declared.fault.Fault.{Fault}
 use Rattle.histar_script.specs.declared.fault.Fault.TheVariants.{BadScript, TooLong, OutOfMemory, ReadFailed, WriteFailed}
 
@@ -10,3 +13,9 @@ status_of TooLong = 1
 status_of OutOfMemory = 3
 status_of ReadFailed = 4
 status_of WriteFailed = 4
+
+-- 0 where a task was done, 5 where what was asked is not so, 1 where a script is bad
+abbrev pub outcome_status : Outcome → ℕ
+outcome_status Done = 0
+outcome_status NotSo = 5
+outcome_status outcomes.BadScript = 1

@@ -1,114 +1,22 @@
-//! The program: `histar run FILE` runs a script and prints the replies, and on request the tree and the trace;
-//! `histar raw FILE` runs a session of raw calls, and on request explains its denials; `histar check JOB FILE` compares runs with and without a job;
-//! `histar access FILE` prints what each process may do at each path.
+//! The program: `histar run FILE` runs a script and prints the replies; `histar --help` lists the subcommands.
 #![tactic(auto)]
 
+mod files;
 mod status;
-mod task;
+mod tasks;
 
-use crate::status::status;
-use crate::task::{Task, read_words};
-use histar_access::access;
-use histar_comparison::compare;
-use histar_devices::read_input;
+use crate::status::{Outcome, outcome_status, status};
+use crate::tasks::{access_file, check_file, lint_file, run_file, run_raw_file};
+use histar_command_line::{Task, read_words};
 use histar_flat::{ProcName, read_process};
-use histar_raw_explain::explain_raw_script;
-use histar_raw_session::run_raw_script;
 use histar_script::Fault;
-use histar_shell::{Counted, Options, run};
 use std::alloc::Global;
-use std::io::{BufWriter, Write};
 use std::process::ExitCode;
 use std::rt::{Env, Files};
-use std::{env, fs, io};
+use std::{env, io};
 
 /// The status of a refused command line.
 const REFUSED: u8 = 2;
-
-/// Flushes the output, which a run doesn't do, and returns the fault of the run, or else that of a failed flush.
-///
-/// It is flushed after a fault too, but not after a failed write: what that left in the buffer is dropped, as is what a
-/// failed flush leaves. The buffer itself tries a write again that a signal interrupted, as std's does, and no other.
-fn finish<W: Write + Drop>(
-    ran: Result<(), Fault>,
-    mut output: BufWriter<W, Global>,
-) -> Result<(), Fault> {
-    let mut flushed = Ok(());
-    if ran != Err(Fault::WriteFailed) {
-        flushed = output.flush();
-    }
-    let (_writer, _unwritten) = output.into_parts();
-    ran?;
-    flushed.map_err(|_| Fault::WriteFailed)
-}
-
-/// Runs the script in a file, and prints the replies and what else is asked for.
-fn run_file<R: Files + Print>(
-    rt: &R,
-    alloc: Global,
-    path: &str,
-    options: Options,
-) -> Result<(), Fault> {
-    let file = fs::open(rt, path).map_err(|_| Fault::ReadFailed)?;
-    let output = BufWriter::new(alloc, io::writer(rt)).map_err(|_| Fault::OutOfMemory)?;
-    let mut reader = Counted::new(file);
-    let mut writer = Counted::new(output);
-    let ran = run(alloc, &mut reader, &mut writer, options);
-    finish(ran.map(|_trace| ()), writer.into_inner())
-}
-
-/// Runs the raw session in a file, and prints what its calls are answered, and if it is asked for why some were denied.
-fn run_raw_file<R: Files + Print>(
-    rt: &R,
-    alloc: Global,
-    path: &str,
-    explain: bool,
-) -> Result<(), Fault> {
-    let file = fs::open(rt, path).map_err(|_| Fault::ReadFailed)?;
-    let output = BufWriter::new(alloc, io::writer(rt)).map_err(|_| Fault::OutOfMemory)?;
-    let mut reader = Counted::new(file);
-    let mut writer = Counted::new(output);
-    let ran = if explain {
-        explain_raw_script(alloc, &mut reader, &mut writer)
-    } else {
-        run_raw_script(alloc, &mut reader, &mut writer)
-    };
-    finish(ran, writer.into_inner())
-}
-
-/// Compares the script in a file with the script without a job, and prints what is found.
-fn check_file<R: Files + Print>(
-    rt: &R,
-    alloc: Global,
-    job: &ProcName,
-    path: &str,
-) -> Result<(), Fault> {
-    let file = fs::open(rt, path).map_err(|_| Fault::ReadFailed)?;
-    let mut reader = Counted::new(file);
-    let input = read_input(alloc, &mut reader)?;
-    let verdict = compare(alloc, input.as_slice(), job)?;
-    let line = format!(in alloc; "{verdict}\n")?;
-    let mut output = io::writer(rt);
-    output
-        .write_all(line.as_bytes())
-        .map_err(|_| Fault::WriteFailed)?;
-    output.flush().map_err(|_| Fault::WriteFailed)
-}
-
-/// Prints who may do what after the calls of the script in a file, or before a line.
-fn access_file<R: Files + Print>(
-    rt: &R,
-    alloc: Global,
-    path: &str,
-    at: Option<u32>,
-) -> Result<(), Fault> {
-    let file = fs::open(rt, path).map_err(|_| Fault::ReadFailed)?;
-    let output = BufWriter::new(alloc, io::writer(rt)).map_err(|_| Fault::OutOfMemory)?;
-    let mut reader = Counted::new(file);
-    let mut writer = Counted::new(output);
-    let ran = access(alloc, &mut reader, &mut writer, at);
-    finish(ran, writer.into_inner())
-}
 
 /// Writes a fault to standard error, and returns its status.
 fn report<R: Eprint>(rt: &R, fault: &Fault) -> u8 {
@@ -132,24 +40,36 @@ enum BadWord {
     Line,
 }
 
+/// Reads the number of a line.
+fn read_line(word: Option<&str>) -> Result<Option<u32>, BadWord> {
+    match word {
+        None => Ok(None),
+        Some(word) => match word.parse::<u32>() {
+            Ok(line) => Ok(Some(line)),
+            Err(_) => Err(BadWord::Line),
+        },
+    }
+}
+
+/// Reads the name of a job.
+fn read_job(word: &str) -> Result<ProcName, BadWord> {
+    read_process(word.as_bytes()).ok_or(BadWord::Job)
+}
+
 /// Does a task. It does nothing, and opens no file, where a word of it can't be read.
-fn perform<R: Files + Print>(
+fn perform<R: Files + Input + Print>(
     rt: &R,
     alloc: Global,
     task: Task<'_>,
-) -> Result<Result<(), Fault>, BadWord> {
+) -> Result<Result<Outcome, Fault>, BadWord> {
     match task {
-        Task::Run(path, options) => Ok(run_file(rt, alloc, path, options)),
+        Task::Run(path, flags) => Ok(run_file(rt, alloc, path, flags)),
         Task::Raw(path, explain) => Ok(run_raw_file(rt, alloc, path, explain)),
-        Task::Check(job, path) => {
-            let job = read_process(job.as_bytes()).ok_or(BadWord::Job)?;
-            Ok(check_file(rt, alloc, &job, path))
+        Task::Check(job, path, exit_code) => {
+            Ok(check_file(rt, alloc, &read_job(job)?, path, exit_code))
         }
-        Task::Access(path, None) => Ok(access_file(rt, alloc, path, None)),
-        Task::Access(path, Some(line)) => {
-            let line = line.parse::<u32>().map_err(|_| BadWord::Line)?;
-            Ok(access_file(rt, alloc, path, Some(line)))
-        }
+        Task::Access(path, line) => Ok(access_file(rt, alloc, path, read_line(line)?)),
+        Task::Lint(path) => Ok(lint_file(rt, alloc, path)),
     }
 }
 
@@ -175,12 +95,12 @@ fn explain<R: Print + Eprint>(rt: &R, error: &clap::Error) -> u8 {
 }
 
 /// Does what the words ask for, and returns the status.
-fn obey<R: Files + Print + Eprint>(rt: &R, alloc: Global, words: &[&str]) -> u8 {
+fn obey<R: Files + Input + Print + Eprint>(rt: &R, alloc: Global, words: &[&str]) -> u8 {
     match read_words(alloc, words) {
         Err(error) => explain(rt, &error),
         Ok(task) => match perform(rt, alloc, task) {
             Err(word) => refuse_word(rt, &word),
-            Ok(Ok(())) => 0,
+            Ok(Ok(outcome)) => outcome_status(outcome),
             Ok(Err(fault)) => report(rt, &fault),
         },
     }
@@ -198,7 +118,7 @@ fn refuse<R: Eprint>(rt: &R, error: &io::Error) -> u8 {
 }
 
 /// Reads the command line and obeys it. A command line that can't be read is refused.
-fn start<R: Env + Files + Print + Eprint + AllocGlobal>(rt: &R) -> u8 {
+fn start<R: Env + Files + Input + Print + Eprint + AllocGlobal>(rt: &R) -> u8 {
     let alloc = rt.alloc();
     let owned = match command_line(rt) {
         Ok(owned) => owned,

@@ -1,11 +1,32 @@
 //! What the program ends with.
 ghost use Rattle.std.specs.Prelude.{◌≡◌};
-ghost use Rattle.histar_cli.specs.Status.{status_of};
+ghost use Rattle.histar_cli.specs.Status.{outcome_status, status_of};
 
 use histar_script::Fault;
 
-/// The exit status of a fault: 1 for the script, 3 for memory that ran out, 4 for a device. A refused
-/// command line has 2, and a run that was done 0.
+/// What a task came to that was done.
+#[derive(Clone, Copy)]
+pub enum Outcome {
+    Done,
+    /// What was asked is not so.
+    NotSo,
+    /// A script was looked at, and it is bad.
+    BadScript,
+}
+
+/// Returns the exit status of a task that was done: 0, 5 where what was asked is not so, and 1 where a script is bad.
+pub fn outcome_status(outcome: Outcome) -> u8
+    ensures { result ≡ outcome_status outcome }
+{
+    match outcome {
+        Outcome::Done => 0,
+        Outcome::BadScript => 1,
+        Outcome::NotSo => 5,
+    }
+}
+
+/// Returns the exit status of a fault: 1 for the script, 3 for memory that ran out, 4 for a device. A refused
+/// command line has 2.
 pub fn status(fault: &Fault) -> u8
     ensures { result ≡ status_of fault.now }
 {

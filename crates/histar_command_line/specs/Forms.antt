@@ -28,9 +28,9 @@ argument_rule (Valued name flag help) = option_rule name.now flag.now
 abbrev pub form_app : Form → App
 form_app form = fold with_rule (new_app form.name.now) (map argument_rule form.arguments.now)
 
--- the program, which has a version
+-- the program, which has a version, and shows its help where no word is given
 abbrev pub named_app : App
-named_app = let app = new_app (codes "histar") in record app { top = record app.top { has_version = true } }
+named_app = let app = new_app (codes "histar") in record app { top = record app.top { has_version = true; arg_required_else_help = true } }
 
 -- a subcommand of this name, with these arguments
 abbrev pub subcommand_app : Text → List Rule → App
@@ -44,18 +44,18 @@ run_app = subcommand_app (codes "run") (flag_rule (codes "tree") ∷ flag_rule (
 abbrev pub raw_app : App
 raw_app = subcommand_app (codes "raw") (flag_rule (codes "explain") ∷ word_rule (codes "FILE") ∷ [])
 
--- `check JOB FILE`
+-- `check [--exit-code] JOB FILE`
 abbrev pub check_app : App
-check_app = subcommand_app (codes "check") (word_rule (codes "JOB") ∷ word_rule (codes "FILE") ∷ [])
+check_app = subcommand_app (codes "check") (flag_rule (codes "exit-code") ∷ word_rule (codes "JOB") ∷ word_rule (codes "FILE") ∷ [])
 
 -- `access [--at LINE] FILE`
 abbrev pub access_app : App
 access_app = subcommand_app (codes "access") (option_rule (codes "LINE") (codes "at") ∷ word_rule (codes "FILE") ∷ [])
 
--- `diff [--at LINE] OLD NEW`
-abbrev pub diff_app : App
-diff_app = subcommand_app (codes "diff") (option_rule (codes "LINE") (codes "at") ∷ word_rule (codes "OLD") ∷ word_rule (codes "NEW") ∷ [])
+-- `lint FILE`
+abbrev pub lint_app : App
+lint_app = subcommand_app (codes "lint") (word_rule (codes "FILE") ∷ [])
 
 -- the program with its subcommands
 abbrev pub histar_app : App
-histar_app = fold with_subcommand named_app (run_app.top ∷ raw_app.top ∷ check_app.top ∷ access_app.top ∷ diff_app.top ∷ [])
+histar_app = fold with_subcommand named_app (run_app.top ∷ raw_app.top ∷ check_app.top ∷ access_app.top ∷ lint_app.top ∷ [])

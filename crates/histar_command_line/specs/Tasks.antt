@@ -3,7 +3,7 @@ use Rattle.std.specs.Prelude.{◌≡◌, Bool, false, List, codes, Option, None,
 use Rattle.std.specs.Str.{bytes_eq}
 use Rattle.clap.specs.Words.{Row, Text, first_of}
 use Rattle.histar_command_line.specs.declared.task.Task.{Task}
-use Rattle.histar_command_line.specs.declared.task.Task.TheVariants.{Run, Raw, Check, Access, Diff}
+use Rattle.histar_command_line.specs.declared.task.Task.TheVariants.{Run, Raw, Check, Access, Lint}
 
 -- the value of a flag that was given
 abbrev pub is_given : Option Text → Bool
@@ -18,9 +18,9 @@ is_set name rows = is_given (first_of name rows)
 abbrev pub subcommand : Task → Text
 subcommand (Run file flags) = codes "run"
 subcommand (Raw file explain) = codes "raw"
-subcommand (Check job file) = codes "check"
+subcommand (Check job file exit_code) = codes "check"
 subcommand (Access file at) = codes "access"
-subcommand (Diff old new at) = codes "diff"
+subcommand (Lint file) = codes "lint"
 
 -- the task has the words and the flags of its subcommand
 abbrev pub HasArguments : Task → List Row → Type 0
@@ -31,16 +31,14 @@ HasArguments (Run file flags) rows =
 HasArguments (Raw file explain) rows =
     (first_of (codes "FILE") rows ≡ Some file.now)
     × (explain ≡ is_set (codes "explain") rows)
-HasArguments (Check job file) rows =
+HasArguments (Check job file exit_code) rows =
     (first_of (codes "JOB") rows ≡ Some job.now)
     × (first_of (codes "FILE") rows ≡ Some file.now)
+    × (exit_code ≡ is_set (codes "exit-code") rows)
 HasArguments (Access file at) rows =
     (first_of (codes "FILE") rows ≡ Some file.now)
     × (option_map (λ line. line.now) at ≡ first_of (codes "LINE") rows)
-HasArguments (Diff old new at) rows =
-    (first_of (codes "OLD") rows ≡ Some old.now)
-    × (first_of (codes "NEW") rows ≡ Some new.now)
-    × (option_map (λ line. line.now) at ≡ first_of (codes "LINE") rows)
+HasArguments (Lint file) rows = first_of (codes "FILE") rows ≡ Some file.now
 
 -- this is the task of the subcommand that was matched, with its words and its flags
 abbrev pub IsTaskOf : Task → Option (Text × List Row) → Type 0

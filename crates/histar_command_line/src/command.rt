@@ -25,7 +25,9 @@ Exit status:
   2  the command line is refused, JOB is no process, or LINE is no number
   3  out of memory
   4  FILE can't be read, or the output can't be written
-  5  what was asked is not so: diff found a difference";
+  5  what was asked is not so
+
+A FILE that is - is standard input.";
 
 /// Returns an argument, as `clap` reads it.
 fn arg_of<'a>(alloc: Global, argument: Argument<'a>) -> Arg<'a>
@@ -60,11 +62,7 @@ fn subcommand_of<'a>(alloc: Global, form: &Form<'a>) -> Result<Command<'a>, Allo
 }
 
 /// Adds a subcommand to the program.
-fn add<'a>(
-    alloc: Global,
-    histar: Command<'a>,
-    form: &Form<'a>,
-) -> Result<Command<'a>, AllocError>
+fn add<'a>(alloc: Global, histar: Command<'a>, form: &Form<'a>) -> Result<Command<'a>, AllocError>
     ensures { IfOk result (λ c. app_of c ≡ with_subcommand (app_of histar.entry) (form_app form.now).top) }
 {
     let subcommand = subcommand_of(alloc, form)?;
@@ -78,11 +76,12 @@ pub(crate) fn command<'a>(alloc: Global) -> Result<Command<'a>, AllocError>
     let histar = Command::new(alloc, "histar")
         .version(VERSION)
         .about(ABOUT)
-        .after_help(AFTER_HELP);
+        .after_help(AFTER_HELP)
+        .arg_required_else_help(true);
     let histar = histar.bin_name("histar")?;
     let histar = add(alloc, histar, &forms::run())?;
     let histar = add(alloc, histar, &forms::raw())?;
     let histar = add(alloc, histar, &forms::check())?;
     let histar = add(alloc, histar, &forms::access())?;
-    add(alloc, histar, &forms::diff())
+    add(alloc, histar, &forms::lint())
 }

@@ -1,6 +1,6 @@
 //! The forms of the subcommands: their names, their arguments and their help.
 ghost use Rattle.std.specs.Prelude.{◌≡◌};
-ghost use Rattle.histar_command_line.specs.Forms.{form_app, run_app, raw_app, check_app, access_app, diff_app};
+ghost use Rattle.histar_command_line.specs.Forms.{form_app, run_app, raw_app, check_app, access_app, lint_app};
 
 /// An argument of a subcommand.
 #[derive(Clone, Copy)]
@@ -35,18 +35,19 @@ pub(crate) fn run<'a>() -> Form<'a>
     ensures { form_app result ≡ run_app }
 {
     Form {
-    name: "run",
-    about: "Run a script and print a reply for each call",
-    after_help: "Example:
+        name: "run",
+        about: "Run a script and print a reply for each call",
+        after_help: "Example:
   histar run --tree --trace examples/first.histar",
-    arguments: &[
-        Argument::Flag("tree", "Print each file and directory after the last call"),
-        Argument::Flag(
-            "trace",
-            "Print each raw call of the kernel, and why it was denied",
-        ),
-        Argument::Word("FILE", SCRIPT),
-    ],}
+        arguments: &[
+            Argument::Flag("tree", "Print each file and directory after the last call"),
+            Argument::Flag(
+                "trace",
+                "Print each raw call of the kernel, and why it was denied",
+            ),
+            Argument::Word("FILE", SCRIPT),
+        ],
+    }
 }
 
 /// Returns `raw [--explain] FILE`.
@@ -54,31 +55,36 @@ pub(crate) fn raw<'a>() -> Form<'a>
     ensures { form_app result ≡ raw_app }
 {
     Form {
-    name: "raw",
-    about: "Run a session of raw kernel calls and print an answer or a denial for each",
-    after_help: "Example:
+        name: "raw",
+        about: "Run a session of raw kernel calls and print an answer or a denial for each",
+        after_help: "Example:
   histar raw --explain examples/missing_keys.raw",
-    arguments: &[
-        Argument::Flag("explain", "Print why each denied call was denied"),
-        Argument::Word("FILE", "The session: raw calls, each of a thread"),
-    ],}
+        arguments: &[
+            Argument::Flag("explain", "Print why each denied call was denied"),
+            Argument::Word("FILE", "The session: raw calls, each of a thread"),
+        ],
+    }
 }
 
-/// Returns `check JOB FILE`.
+/// Returns `check [--exit-code] JOB FILE`.
 pub(crate) fn check<'a>() -> Form<'a>
     ensures { form_app result ≡ check_app }
 {
     Form {
-    name: "check",
-    about: "Run a script with and without a job and print what differs for outsiders",
-    after_help: "Example:
+        name: "check",
+        about: "Run a script with and without a job and print what differs for outsiders",
+        after_help: "Example:
   histar check 0.1.1 examples/scan.histar
 prints
-  same",
-    arguments: &[
-        Argument::Word("JOB", "The job: the name of its first process"),
-        Argument::Word("FILE", SCRIPT),
-    ],}
+  same
+
+Exit status: 0; with --exit-code it is 5 for anything but same",
+        arguments: &[
+            Argument::Flag("exit-code", "End with status 5 unless the answer is `same`"),
+            Argument::Word("JOB", "The job: the name of its first process"),
+            Argument::Word("FILE", SCRIPT),
+        ],
+    }
 }
 
 /// Returns `access [--at LINE] FILE`.
@@ -86,9 +92,9 @@ pub(crate) fn access<'a>() -> Form<'a>
     ensures { form_app result ≡ access_app }
 {
     Form {
-    name: "access",
-    about: "Run a script and print for each path what each process may do there",
-    after_help: "Each line is a path, what is there, its owner and its mode, and for each running process its rights:
+        name: "access",
+        about: "Run a script and print for each path what each process may do there",
+        after_help: "Each line is a path, what is there, its owner and its mode, and for each running process its rights:
   s  it may ask for owner and mode
   r  it may read the file, or list the directory
   w  it may write the file, or make something in the directory
@@ -99,27 +105,28 @@ Example:
   histar access examples/access/tenants.histar
 prints, among others, the line
   /srv/drop/bolt/orders file - group:bolt 0:---- 0.1:---- 0.2:srwd 0.3:---- 0.4:---- 0.4.1:srwd",
-    arguments: &[Argument::Valued("LINE", "at", AT), Argument::Word("FILE", SCRIPT)],}
+        arguments: &[
+            Argument::Valued("LINE", "at", AT),
+            Argument::Word("FILE", SCRIPT),
+        ],
+    }
 }
 
-/// Returns `diff [--at LINE] OLD NEW`.
-pub(crate) fn diff<'a>() -> Form<'a>
-    ensures { form_app result ≡ diff_app }
+/// Returns `lint FILE`.
+pub(crate) fn lint<'a>() -> Form<'a>
+    ensures { form_app result ≡ lint_app }
 {
     Form {
-    name: "diff",
-    about: "Run two scripts and print whose rights differ at which path",
-    after_help: "Each line is a path, a process, its user, and its rights after the old script and after the new one.
+        name: "lint",
+        about: "Print why a script is bad: its first bad line, and the rule that this breaks",
+        after_help: "Nothing is printed of a right script. Of a bad one it is FILE, the number of its first bad line, and a sentence.
 
-Exit status: 0 where nobody's rights differ, 5 where somebody's do
+Exit status: 0 where the script is right, 1 where it is bad
 
 Example:
-  histar diff examples/policy_before.histar examples/policy_after.histar
-prints, among others, the line
-  /home 0.1 alice srw- sr--",
-    arguments: &[
-        Argument::Valued("LINE", "at", AT),
-        Argument::Word("OLD", "The old script"),
-        Argument::Word("NEW", "The new script"),
-    ],}
+  histar lint examples/lint/no_mode.histar
+prints
+  examples/lint/no_mode.histar:4: the call is `PROC create PATH MODE`",
+        arguments: &[Argument::Word("FILE", SCRIPT)],
+    }
 }

@@ -23,12 +23,13 @@ pub enum Task<'a> {
     Run(&'a str, RunFlags),
     /// Run the session of raw calls in this file, and explain why calls were denied, if that is asked for.
     Raw(&'a str, bool),
-    /// Compare the script in a file with the one without a job: first the job, then the file.
-    Check(&'a str, &'a str),
+    /// Compare the script in a file with the one without a job: first the job, then the file; and whether the status says what
+    /// was found.
+    Check(&'a str, &'a str, bool),
     /// Print who may do what after the script in this file, or before the line of this number.
     Access(&'a str, Option<&'a str>),
-    /// Print whose rights differ after an old script and a new one, or before the line of this number in both.
-    Diff(&'a str, &'a str, Option<&'a str>),
+    /// Print why the script in this file is bad, where it is.
+    Lint(&'a str),
 }
 
 /// Checks whether a flag was given: its value is `true` then.
@@ -59,13 +60,14 @@ fn task_of<'a>(matches: &ArgMatches<'a>) -> Option<Task<'a>>
     if let Some(check) = matches.subcommand_matches("check") {
         let job = check.get_str("JOB")?;
         let file = check.get_str("FILE")?;
-        return Some(Task::Check(job, file));
+        let exit_code = is_set(check, "exit-code");
+        return Some(Task::Check(job, file, exit_code));
     }
-    rights_task_of(matches)
+    state_task_of(matches)
 }
 
-/// Returns the task of a subcommand on rights that was matched.
-fn rights_task_of<'a>(matches: &ArgMatches<'a>) -> Option<Task<'a>>
+/// Returns the task of a subcommand that was matched which looks at a script or at a state.
+fn state_task_of<'a>(matches: &ArgMatches<'a>) -> Option<Task<'a>>
     ensures { IfSome result (λ task. IsTaskOf task (subcommand_rows_of matches.now)) }
 {
     if let Some(access) = matches.subcommand_matches("access") {
@@ -73,11 +75,9 @@ fn rights_task_of<'a>(matches: &ArgMatches<'a>) -> Option<Task<'a>>
         let at = access.get_str("LINE");
         return Some(Task::Access(file, at));
     }
-    let diff = matches.subcommand_matches("diff")?;
-    let old = diff.get_str("OLD")?;
-    let new = diff.get_str("NEW")?;
-    let at = diff.get_str("LINE");
-    Some(Task::Diff(old, new, at))
+    let lint = matches.subcommand_matches("lint")?;
+    let file = lint.get_str("FILE")?;
+    Some(Task::Lint(file))
 }
 
 /// Returns the task that the words name, the program's own name first.

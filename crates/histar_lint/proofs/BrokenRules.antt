@@ -1,6 +1,6 @@
 -- Each bad line breaks a rule.
 use Rattle.std.proofs.Common.{◌≡◌, ℕ, ◌+◌, Bool, true, false, cond, eqb, List, [], ◌∷◌, ◌++◌, length, codes, Option, Some, None, ◌||◌, ◌&&◌, ◌⊎◌, inl, inr, refl, sym, ap, ◌∙◌, subst, arith}
-use Rattle.std.specs.Prelude.{not, is_some, is_none, unwrap_or, nat_lt, nat_le, }
+use Rattle.std.specs.Prelude.{not, is_some, is_none, unwrap_or, nat_lt, nat_le}
 use Rattle.std.specs.List.{list_all}
 use Rattle.std.specs.Option.{option_and_then, option_map_or}
 use Rattle.std.specs.Str.{bytes_eq}
@@ -33,15 +33,15 @@ no_user text bad =
     elim (none_at name _ bad) [
       | inl none ↦ or_first (is_none name) _ (is_nothing name none)
       | inr named ↦ elim (none_at (after_word text) _ named.2) [
-          | inl none ↦ or_second (is_none name) _ (or_first (is_none (after_word text)) _ (is_nothing (after_word text) none))
-          | inr rest ↦ elim (none_at (password_of rest.0) _ rest.2) [
-              | inl none ↦
-                let same : rest_of text ≡ rest.0 = ap (λ (o : Option (List ℕ)). unwrap_or o []) rest.1 in
-                let wrong : is_none (password_of (rest_of text)) ≡ true = ap (λ (word : List ℕ). is_none (password_of word)) same ∙ is_nothing (password_of rest.0) none in
-                or_second (is_none name) _ (or_second (is_none (after_word text)) _ (or_first (is_none (password_of (rest_of text))) false wrong))
-              | inr password ↦ absurd cc
-            ]
+        | inl none ↦ or_second (is_none name) _ (or_first (is_none (after_word text)) _ (is_nothing (after_word text) none))
+        | inr rest ↦ elim (none_at (password_of rest.0) _ rest.2) [
+          | inl none ↦
+              let same : rest_of text ≡ rest.0 = ap (λ (o : Option (List ℕ)). unwrap_or o []) rest.1 in
+              let wrong : is_none (password_of (rest_of text)) ≡ true = ap (λ (word : List ℕ). is_none (password_of word)) same ∙ is_nothing (password_of rest.0) none in
+              or_second (is_none name) _ (or_second (is_none (after_word text)) _ (or_first (is_none (password_of (rest_of text))) false wrong))
+          | inr password ↦ absurd cc
         ]
+      ]
     ]
 
 -- four tests, one of which fails
@@ -108,9 +108,9 @@ no_call process text bad =
     elim (none_at (process_of process) _ bad) [
       | inl none ↦ or_first (is_none (process_of process)) _ (is_nothing (process_of process) none)
       | inr named ↦ elim (none_at (call_of text) _ named.2) [
-          | inl none ↦ or_second (is_none (process_of process)) _ (no_words text (shape_named (word_of text)) none)
-          | inr call ↦ absurd cc
-        ]
+        | inl none ↦ or_second (is_none (process_of process)) _ (no_words text (shape_named (word_of text)) none)
+        | inr call ↦ absurd cc
+      ]
     ]
 
 -- two tests, one of which fails
@@ -264,9 +264,9 @@ misplaced lines s n (b ∷ line) item is bad =
     elim (either_chosen (is_plain (b ∷ line)) _ _ (Some item) is) [
       | inr h ↦ absurd cc
       | inl h ↦ elim (either_chosen (eqb b 35) _ _ (Some item) h.1) [
-          | inl comment ↦ no_comment lines s n (b ∷ line) item comment.1 bad
-          | inr words ↦ misplaced_words lines s n (b ∷ line) item words.1 bad
-        ]
+        | inl comment ↦ no_comment lines s n (b ∷ line) item comment.1 bad
+        | inr words ↦ misplaced_words lines s n (b ∷ line) item words.1 bad
+      ]
     ]
 
 pub each_bad_line_breaks_one : EachBadLineBreaksOne

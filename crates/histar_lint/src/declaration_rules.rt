@@ -22,7 +22,8 @@ const MOST_USERS: usize = 16;
 const MOST_GROUPS: usize = 8;
 
 /// What the name of a user or of a group has to be.
-const DECLARED_NAME: &str = "the name of a user or a group has 1 to 32 of a-z, 0-9, dot, underscore and hyphen, begins with a letter and is not nobody";
+const DECLARED_NAME: &str =
+    "the name of a user or a group has 1 to 32 of a-z, 0-9, dot, underscore and hyphen, begins with a letter and is not nobody";
 
 /// Returns the sentence of the first rule that the words behind `user` break.
 pub(crate) fn user_word_sentence(text: &[u8]) -> Option<&'static str>

@@ -87,7 +87,10 @@ pub(crate) fn byte_sentence(alloc: Global, line: &[u8]) -> Result<Option<Vec<u8>
         return Ok(Some(long_text(alloc, line)?));
     }
     if ends_with(line, b'\r') {
-        let said = Vec::from_slice(alloc, b"the line ends with a carriage return (0x0d)".as_slice())?;
+        let said = Vec::from_slice(
+            alloc,
+            b"the line ends with a carriage return (0x0d)".as_slice(),
+        )?;
         return Ok(Some(said));
     }
     match unprintable(line) {

@@ -118,12 +118,14 @@ pub(crate) fn kind_text(kind: Kind) -> &'static str
     ensures { result.now ≡ kind_text kind }
 {
     match kind {
-        Kind::Path => "a path is / or up to 8 names, each behind a slash and of 1 to 32 of a-z, 0-9, dot, underscore and hyphen",
+        Kind::Path =>
+            "a path is / or up to 8 names, each behind a slash and of 1 to 32 of a-z, 0-9, dot, underscore and hyphen",
         Kind::Mode => "a mode is private, readable, open or group:NAME of a declared group",
         Kind::Bytes => "bytes follow a space",
         Kind::Name => "a name has 1 to 32 of a-z, 0-9, dot, underscore and hyphen",
         Kind::Password => "a password has 1 to 32 printable bytes and no space",
-        Kind::Process => "a process is 0, or 0 and up to 7 numbers from 1 to 64 with a dot before each",
+        Kind::Process =>
+            "a process is 0, or 0 and up to 7 numbers from 1 to 64 with a dot before each",
         Kind::Status => "an exit status is a number from 0 to 255",
     }
 }

@@ -18,7 +18,11 @@ fn hex_digit(number: u8) -> u8
     requires { number < 16 }
     ensures { result ≡ hex_digit number }
 {
-    if number < 10 { b'0' + number } else { b'W' + number }
+    if number < 10 {
+        b'0' + number
+    } else {
+        b'W' + number
+    }
 }
 
 /// Adds a byte to the base 16.

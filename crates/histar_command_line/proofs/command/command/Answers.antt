@@ -9,10 +9,11 @@ pub returns : goal.returns
 returns c =
     let top = λ (app : App). app.top in
     let named : app_of c.in_ok-histar.histar ≡ named_app =
-    ap app_of_fields c.in_ok-histar.ensures.0 ∙ ap app_of_fields c.after_help-histar.ensures ∙ ap app_of_fields c.about.ensures ∙ ap app_of_fields c.version.ensures
-    ∙ ap (λ (app : App). record app { top = record app.top { has_version = true } }) c.new.ensures.app in
+    ap app_of_fields c.in_ok-histar.ensures.0 ∙ ap app_of_fields c.arg_required_else_help-histar.ensures
+    ∙ ap (λ (app : App). record app { top = record app.top { arg_required_else_help = true } }) (ap app_of_fields c.after_help.ensures ∙ ap app_of_fields c.about.ensures ∙ ap app_of_fields c.version.ensures
+    ∙ ap (λ (app : App). record app { top = record app.top { has_version = true } }) c.new.ensures.app) in
     let with_run = c.in_ok-histar-2.ensures ∙ ap₂ with_subcommand named (ap top c.run.ensures) in
     let with_raw = c.in_ok-histar-3.ensures ∙ ap₂ with_subcommand with_run (ap top c.raw.ensures) in
     let with_check = c.in_ok-histar-4.ensures ∙ ap₂ with_subcommand with_raw (ap top c.check.ensures) in
     let with_access = c.in_ok-histar-5.ensures ∙ ap₂ with_subcommand with_check (ap top c.access.ensures) in
-    IfOk-weaker c.add-5.result _ _ (λ r added. added ∙ ap₂ with_subcommand with_access (ap top c.diff.ensures)) c.add-5.ensures
+    IfOk-weaker c.add-5.result _ _ (λ r added. added ∙ ap₂ with_subcommand with_access (ap top c.lint.ensures)) c.add-5.ensures

@@ -39,5 +39,6 @@ returns-in-Some-subcommand_matches-2 c =
       (
         sym (c.in_ok-job.ensures ∙ first_value-rows found (codes "JOB")),
         sym (c.in_ok-file-3.ensures ∙ first_value-rows found (codes "FILE")),
+        c.is_set-exit_code.ensures ∙ ap is_given (first_value-rows found (codes "exit-code")),
       ),
     )

@@ -19,8 +19,8 @@ split_line-requires c =
     elim (cases_lt 0 (length c.right.rest.now)) [
       | inl some ↦ some
       | inr none ↦
-        let empty : length c.right.rest.now ≡ 0 = omega arith in
-        absurd (has_line c.args.text.now c.right.rest.now c.right.script c.right.count c.args.bad c.right.invariant c.right-test.true (no_lines c.right.rest.now empty))
+          let empty : length c.right.rest.now ≡ 0 = omega arith in
+          absurd (has_line c.args.text.now c.right.rest.now c.right.script c.right.count c.args.bad c.right.invariant c.right-test.true (no_lines c.right.rest.now empty))
     ]
 
 pub take_line-requires : goal.take_line-requires

@@ -1,0 +1,108 @@
+//! What the program does for each subcommand.
+
+use crate::files::{finish, open, output};
+use crate::status::Outcome;
+use histar_access::access;
+use histar_command_line::RunFlags;
+use histar_comparison::{Verdict, compare};
+use histar_devices::read_input;
+use histar_flat::ProcName;
+use histar_lint::lint;
+use histar_raw_explain::explain_raw_script;
+use histar_raw_session::run_raw_script;
+use histar_script::Fault;
+use histar_shell::{Options, run};
+use std::alloc::Global;
+use std::io::{self, Write};
+use std::rt::Files;
+
+/// Runs the script in a file, and prints the replies and what else is asked for.
+pub fn run_file<R: Files + Input + Print>(
+    rt: &R,
+    alloc: Global,
+    path: &str,
+    flags: RunFlags,
+) -> Result<Outcome, Fault> {
+    let options = Options {
+        tree: flags.tree,
+        trace: flags.trace,
+    };
+    let mut reader = open(rt, path)?;
+    let mut writer = output(rt, alloc)?;
+    let done = run(alloc, &mut reader, &mut writer, options);
+    finish(done.map(|_trace| Outcome::Done), writer)
+}
+
+/// Runs the raw session in a file, and prints what its calls are answered, and if it is asked for why some were denied.
+pub fn run_raw_file<R: Files + Input + Print>(
+    rt: &R,
+    alloc: Global,
+    path: &str,
+    explain: bool,
+) -> Result<Outcome, Fault> {
+    let mut reader = open(rt, path)?;
+    let mut writer = output(rt, alloc)?;
+    let done = if explain {
+        explain_raw_script(alloc, &mut reader, &mut writer)
+    } else {
+        run_raw_script(alloc, &mut reader, &mut writer)
+    };
+    finish(done.map(|_| Outcome::Done), writer)
+}
+
+/// Compares the script in a file with the script without a job, and prints what is found.
+pub fn check_file<R: Files + Input + Print>(
+    rt: &R,
+    alloc: Global,
+    job: &ProcName,
+    path: &str,
+    exit_code: bool,
+) -> Result<Outcome, Fault> {
+    let mut reader = open(rt, path)?;
+    let input = read_input(alloc, &mut reader)?;
+    let verdict = compare(alloc, input.as_slice(), job)?;
+    let line = format!(in alloc; "{verdict}\n")?;
+    let mut output = io::writer(rt);
+    output
+        .write_all(line.as_bytes())
+        .map_err(|_| Fault::WriteFailed)?;
+    output.flush().map_err(|_| Fault::WriteFailed)?;
+    if exit_code && !matches!(verdict, Verdict::Same) {
+        return Ok(Outcome::NotSo);
+    }
+    Ok(Outcome::Done)
+}
+
+/// Prints who may do what after the calls of the script in a file, or before a line.
+pub fn access_file<R: Files + Input + Print>(
+    rt: &R,
+    alloc: Global,
+    path: &str,
+    at: Option<u32>,
+) -> Result<Outcome, Fault> {
+    let mut reader = open(rt, path)?;
+    let mut writer = output(rt, alloc)?;
+    let done = access(alloc, &mut reader, &mut writer, at);
+    finish(done.map(|_| Outcome::Done), writer)
+}
+
+/// Prints why the script in a file is bad, where it is.
+pub fn lint_file<R: Files + Input + Print>(
+    rt: &R,
+    alloc: Global,
+    path: &str,
+) -> Result<Outcome, Fault> {
+    let mut reader = open(rt, path)?;
+    let mut writer = output(rt, alloc)?;
+    let done = lint(alloc, path.as_bytes(), &mut reader, &mut writer);
+    finish(
+        done.map(|is_right| {
+            if is_right {
+                Outcome::Done
+            } else {
+                Outcome::BadScript
+            }
+        }),
+        writer,
+    )
+}

@@ -1,0 +1,26 @@
+use Rattle.std.proofs.Common.{refl, sym, ◌∙◌, codes}
+use Rattle.clap.specs.Words.{rows_of, found_of}
+use Rattle.clap.proofs.WalkLemmas.{first_value-rows}
+use Rattle.histar_command_line.proofs.Matches.{matched}
+use Rattle.histar_command_line.proofs.task.state_task_of.Goals as goal
+
+pub returns-in-Some : goal.returns-in-Some
+returns-in-Some c =
+    let m = c.in-Some in
+    let found = found_of m.access.now in (
+      rows_of found,
+      matched c.args.matches.now (codes "access") (rows_of found) (m.ensures.found.0 refl) m.ensures.rows,
+      (
+        sym (c.in_ok-file.ensures ∙ first_value-rows found (codes "FILE")),
+        c.get_str-at.ensures ∙ first_value-rows found (codes "LINE"),
+      ),
+    )
+
+pub returns : goal.returns
+returns c =
+    let m = c.in_ok-lint in
+    let found = found_of m.lint.now in (
+      rows_of found,
+      matched c.args.matches.now (codes "lint") (rows_of found) (m.ensures.found.0 refl) m.ensures.rows,
+      sym (c.in_ok-file-2.ensures ∙ first_value-rows found (codes "FILE")),
+    )
