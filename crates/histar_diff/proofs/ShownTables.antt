@@ -194,7 +194,7 @@ same_bit false true e = absurd cc
 same_bit false false e = refl
 
 -- rights that pass the test are the same
-same_rights_are : (a b : Rights) → same_rights a b ≡ true → a ≡ b
+pub same_rights_are : (a b : Rights) → same_rights a b ≡ true → a ≡ b
 same_rights_are a b e =
     let last = and_parts (beq a.stat b.stat && beq a.read b.read && beq a.write b.write) (beq a.remove b.remove) e in
     let middle = and_parts (beq a.stat b.stat && beq a.read b.read) (beq a.write b.write) last.0 in

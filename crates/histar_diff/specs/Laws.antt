@@ -9,6 +9,7 @@ use Rattle.histar_diff.specs.declared.table.Table.{Table}
 use Rattle.histar_diff.specs.declared.differences.Difference.{Difference}
 use Rattle.histar_diff.specs.Differences.{AreDifferences, by_pair, pair_cmp}
 use Rattle.histar_diff.specs.Shown.{ShowsRights, rights_of}
+use Rattle.histar_diff.specs.Changes.{AreChanges, IsAnsweredAlike}
 use Rattle.histar_diff.specs.Tables.{IsTable, rights_in}
 
 -- a pair of a path and a process is listed exactly where its rights differ
@@ -43,3 +44,18 @@ NothingHasChanged =
     → AreDifferences old new []
     → (q : Path) (p : ProcName) → rights_of session (flat_end session (boot session) calls) q p
     ≡ rights_of later (flat_end later (boot later) more) q p
+
+-- the differences of two tables that show the rights after the calls of scripts are the changes between the two states
+abbrev pub DifferencesAreChanges : Type 0
+DifferencesAreChanges =
+    (session later : Session) (calls more : List CallLine) (old new : Table) (ds : List Difference)
+    → ShowsRights session (flat_end session (boot session) calls) old → ShowsRights later (flat_end later (boot later) more) new
+    → AreDifferences old new ds
+    → AreChanges session (flat_end session (boot session) calls) later (flat_end later (boot later) more) ds
+
+-- where nothing has changed after the calls of two scripts, each process is answered alike at each path
+abbrev pub NobodyIsAnsweredOtherwise : Type 0
+NobodyIsAnsweredOtherwise =
+    (session later : Session) (calls more : List CallLine)
+    → AreChanges session (flat_end session (boot session) calls) later (flat_end later (boot later) more) []
+    → (me : ProcName) (q : Path) → IsAnsweredAlike session calls later more me q
