@@ -1,8 +1,11 @@
 -- Differences of tables as changes between flat states, and what it means that there is none.
-use Rattle.std.specs.Prelude.{◌≡◌, ℕ, ◌+◌, Bool, true, false, cond, if◌then◌else◌, List, [], ◌∷◌, map, Option, None, Some, option_map, refl}
+use Rattle.std.specs.Prelude.{◌≡◌, ℕ, ◌+◌, ◌&&◌, Bool, true, false, is_some, cond, if◌then◌else◌, List, [], ◌∷◌, map, Option, None, Some, option_map, refl}
 use Rattle.std.proofs.Common.{ap, sym, ◌∙◌, subst}
+use Rattle.std.proofs.lemmas.Bool.{true≢false}
 use Rattle.std.proofs.lemmas.Option.{none-some}
+use Rattle.std.specs.Bool.{beq}
 use Rattle.std.specs.Ordering.{eq_by_cmp}
+use Rattle.std.specs.FinMap.Entries.{same_entries}
 use Rattle.std.specs.FinMap.{find}
 use Rattle.histar_flat.specs.declared.calls.CallLine.{CallLine}
 use Rattle.histar_flat.specs.Words.{Name, Path, ProcName}
@@ -18,12 +21,13 @@ use Rattle.histar_rights.proofs.Answered.{letters_are_replies}
 use Rattle.histar_rights.proofs.Listed.{running_are_listed}
 use Rattle.histar_diff.specs.Tables.{Placed, by_process, no_rights, process_in}
 use Rattle.histar_diff.specs.declared.table.Table.{Table}
+use Rattle.histar_diff.specs.declared.differences.Difference.{Difference}
 use Rattle.histar_diff.specs.Lines.{same_rights}
-use Rattle.histar_diff.specs.Differences.{newer_user}
+use Rattle.histar_diff.specs.Differences.{Pair, by_pair, newer_user, pair_cmp}
 use Rattle.histar_diff.specs.Shown.{ShowsRights, rights_if, rights_of, runner}
 use Rattle.histar_diff.specs.Changes.{AreChanges, AnswersAre, change, user_now}
-use Rattle.histar_diff.specs.Laws.{DifferencesAreChanges, NobodyIsAnsweredOtherwise}
-use Rattle.histar_diff.proofs.ShownTables.{same_rights_are, tables_show_rights}
+use Rattle.histar_diff.specs.Laws.{ChangesAreListed, ChangesAreOneList, DifferencesAreChanges, NobodyIsAnsweredOtherwise}
+use Rattle.histar_diff.proofs.ShownTables.{pair_cmp_exact, pair_cmp_total, same_rights_are, tables_show_rights, without_pairs}
 
 -- ---- users
 
@@ -75,20 +79,17 @@ differences_are_changes session later calls more old new ds a b are = record {
       else option_map (λ (name : Name). record { path = q; process = p; user = name; before = before i; after = after i }) (user i));
 }
 
-module _ (session : Session) (f : Flat) (later : Session) (g : Flat) (q : Path) (p : ProcName) where
-  -- a process that runs in no state has no rights
-  none_runs : (node : Option Node) → rights_if session f q p node None ≡ no_rights
-  none_runs None = refl
-  none_runs (Some node) = refl
+-- a process that doesn't run has no rights
+none_runs : (q : Path) (p : ProcName) (session : Session) (f : Flat) (node : Option Node) → rights_if session f q p node None ≡ no_rights
+none_runs q p session f None = refl
+none_runs q p session f (Some node) = refl
 
+module _ (session : Session) (f : Flat) (later : Session) (g : Flat) (q : Path) (p : ProcName) where
   -- rights that are not listed as changed are the same
   unchanged : (x y : Option Node) (c d : Option Process) (a b : Rights) → a ≡ rights_if session f q p x c → b ≡ rights_if later g q p y d
       → (same : Bool) → same_rights a b ≡ same → None ≡ (if same then None else option_map (change session f later g q p) (user_now c d)) → a ≡ b
   unchanged x y c d a b m n true e none = same_rights_are a b e
-  unchanged None None None None a b m n false e none = m ∙ sym n
-  unchanged None (Some y) None None a b m n false e none = m ∙ sym n
-  unchanged (Some x) None None None a b m n false e none = m ∙ sym n
-  unchanged (Some x) (Some y) None None a b m n false e none = m ∙ sym n
+  unchanged x y None None a b m n false e none = m ∙ none_runs q p session f x ∙ sym (n ∙ none_runs q p later g y)
   unchanged x y (Some c) None a b m n false e none = absurd (none-some (change session f later g q p c.user) none)
   unchanged x y None (Some d) a b m n false e none = absurd (none-some (change session f later g q p d.user) none)
   unchanged x y (Some c) (Some d) a b m n false e none = absurd (none-some (change session f later g q p d.user) none)
@@ -98,6 +99,49 @@ module _ (session : Session) (f : Flat) (later : Session) (g : Flat) (q : Path) 
   same_where_none none =
       unchanged _ _ (running f p) (running g p) (rights_of session f q p) (rights_of later g q p) refl refl
       (same_rights (rights_of session f q p) (rights_of later g q p)) refl (none.each q p)
+
+-- rights are the same as themselves
+same_bit_itself : (a : Bool) → beq a a ≡ true
+same_bit_itself true = refl
+same_bit_itself false = refl
+
+same_itself : (r : Rights) → same_rights r r ≡ true
+same_itself r = λ i. same_bit_itself r.stat i && same_bit_itself r.read i && same_bit_itself r.write i && same_bit_itself r.remove i
+
+module _ (session : Session) (f : Flat) (later : Session) (g : Flat) (q : Path) (p : ProcName) where
+  -- rights that are the same are no change
+  no_change : (a b : Rights) (user : Option Name) → a ≡ b → (if same_rights a b then None else option_map (change session f later g q p) user) ≡ None
+  no_change a b user e =
+      ap (λ (r : Rights). if same_rights a r then None else option_map (change session f later g q p) user) (sym e)
+      ∙ ap (λ t. if t then None else option_map (change session f later g q p) user) (same_itself a)
+
+  -- rights that differ are a change
+  a_change : (x y : Option Node) (c d : Option Process) (a b : Rights) → a ≡ rights_if session f q p x c → b ≡ rights_if later g q p y d
+      → (same : Bool) → same_rights a b ≡ same → (a ≡ b → ⊥) → is_some (if same then None else option_map (change session f later g q p) (user_now c d)) ≡ true
+  a_change x y c d a b m n true e differ = absurd (differ (same_rights_are a b e))
+  a_change x y None None a b m n false e differ =
+      absurd (differ (m ∙ none_runs q p session f x ∙ sym (n ∙ none_runs q p later g y)))
+  a_change x y (Some c) None a b m n false e differ = refl
+  a_change x y None (Some d) a b m n false e differ = refl
+  a_change x y (Some c) (Some d) a b m n false e differ = refl
+
+-- a pair is a change exactly where its rights differ
+pub changes_are_listed : ChangesAreListed
+changes_are_listed session f later g cs are q p =
+    let a = rights_of session f q p in
+    let b = rights_of later g q p in (
+      λ listed same. true≢false (sym listed ∙ ap is_some (are.each q p ∙ no_change session f later g q p a b (user_now (running f p) (running g p)) same)),
+      λ differ. ap is_some (are.each q p)
+          ∙ a_change session f later g q p (get f.files q) (get g.files q) (running f p) (running g p) a b refl refl (same_rights a b) refl differ,
+    )
+
+-- two lists of exactly the changes are the same list
+pub changes_are_one_list : ChangesAreOneList
+changes_are_one_list session f later g cs ds a b =
+    sym (without_pairs cs)
+    ∙ ap (map (λ (e : Pair × Difference). e.1))
+    (same_entries pair_cmp pair_cmp_total pair_cmp_exact (by_pair cs) (by_pair ds) a.rising b.rising (λ k. a.each k.0 k.1 ∙ sym (b.each k.0 k.1)))
+    ∙ without_pairs ds
 
 -- the rights after calls are what is answered
 rights_answer : (session : Session) (calls : List CallLine) (me : ProcName) (q : Path) (node : Option Node) (process : Option Process)
