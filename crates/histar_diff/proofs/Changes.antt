@@ -117,7 +117,8 @@ module _ (session : Session) (f : Flat) (later : Session) (g : Flat) (q : Path) 
 
   -- rights that differ are a change
   a_change : (x y : Option Node) (c d : Option Process) (a b : Rights) → a ≡ rights_if session f q p x c → b ≡ rights_if later g q p y d
-      → (same : Bool) → same_rights a b ≡ same → (a ≡ b → ⊥) → is_some (if same then None else option_map (change session f later g q p) (user_now c d)) ≡ true
+      → (same : Bool) → same_rights a b ≡ same → (a ≡ b → ⊥) → is_some
+      (if same then None else option_map (change session f later g q p) (user_now c d)) ≡ true
   a_change x y c d a b m n true e differ = absurd (differ (same_rights_are a b e))
   a_change x y None None a b m n false e differ =
       absurd (differ (m ∙ none_runs q p session f x ∙ sym (n ∙ none_runs q p later g y)))
@@ -130,7 +131,8 @@ pub changes_are_listed : ChangesAreListed
 changes_are_listed session f later g cs are q p =
     let a = rights_of session f q p in
     let b = rights_of later g q p in (
-      λ listed same. true≢false (sym listed ∙ ap is_some (are.each q p ∙ no_change session f later g q p a b (user_now (running f p) (running g p)) same)),
+      λ listed same. true≢false (sym listed
+          ∙ ap is_some (are.each q p ∙ no_change session f later g q p a b (user_now (running f p) (running g p)) same)),
       λ differ. ap is_some (are.each q p)
           ∙ a_change session f later g q p (get f.files q) (get g.files q) (running f p) (running g p) a b refl refl (same_rights a b) refl differ,
     )

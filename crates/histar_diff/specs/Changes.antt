@@ -50,7 +50,8 @@ IsAnsweredBy session calls me q letters =
     AnswersAre session calls me q letters (get (flat_end session (boot session) calls).files q) (running (flat_end session (boot session) calls) me)
 
 -- the same letters say what a process is answered at a path after each of two scripts
-pub record IsAnsweredAlike (session : Session) (calls : List CallLine) (later : Session) (more : List CallLine) (me : ProcName) (q : Path) : Type 0 where
+pub record IsAnsweredAlike (session : Session) (calls : List CallLine) (later : Session) (more : List CallLine) (me : ProcName)
+    (q : Path) : Type 0 where
   pub letters : Rights
   pub before : IsAnsweredBy session calls me q letters
   pub after : IsAnsweredBy later more me q letters
