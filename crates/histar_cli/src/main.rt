@@ -8,7 +8,7 @@ mod task;
 
 use crate::status::status;
 use crate::task::{Task, read_words};
-use histar_access::access;
+use histar_access::{access, diff};
 use histar_comparison::compare;
 use histar_devices::read_input;
 use histar_flat::{ProcName, read_process};
@@ -108,6 +108,26 @@ fn access_file<R: Files + Print>(
     let mut writer = Counted::new(output);
     let ran = access(alloc, &mut reader, &mut writer, at);
     finish(ran, writer.into_inner())
+}
+
+/// Prints what changed from the script in one file to that in another, after their calls or before a line, and
+/// returns whether nothing did.
+fn diff_file<R: Files + Print>(
+    rt: &R,
+    alloc: Global,
+    old: &str,
+    new: &str,
+    at: Option<u32>,
+) -> Result<bool, Fault> {
+    let old_file = fs::open(rt, old).map_err(|_| Fault::ReadFailed)?;
+    let new_file = fs::open(rt, new).map_err(|_| Fault::ReadFailed)?;
+    let output = BufWriter::new(alloc, io::writer(rt)).map_err(|_| Fault::OutOfMemory)?;
+    let (mut old_reader, mut new_reader) = (Counted::new(old_file), Counted::new(new_file));
+    let mut writer = Counted::new(output);
+    let ran = diff(alloc, &mut old_reader, &mut new_reader, &mut writer, at);
+    let is_same = ran == Ok(true);
+    finish(ran.map(|_same| ()), writer.into_inner())?;
+    Ok(is_same)
 }
 
 /// Writes a fault to standard error, and returns its status.
