@@ -94,7 +94,8 @@ module _ (at : Option ℕ) where
       c.is_after.shows c.exact
 
   -- the lines were written
-  pub changes_written : {a b : List ℕ} {ds : List Difference} {old new : Option (List ℕ)} → AreCompared a b ds → (none : Bool) → (none ≡ true) ↔ (ds ≡ [])
+  pub changes_written : {a b : List ℕ} {ds : List Difference} {old new : Option (List ℕ)} → AreCompared a b ds → (none : Bool)
+      → (none ≡ true) ↔ (ds ≡ [])
       → Appends old new (differences_text ds) → ComparesTexts at a b old new (Ok none)
   changes_written {ds = ds} c none answered written = record {
     faults = ap is_ok (both_are c);

@@ -17,7 +17,8 @@ module _ (whole : List ℕ) where
   none_yet w = record { text = []; parts = refl; written = Appends-nil w }
 
   -- one piece more
-  pub piece_more : {old mid new : Option (List ℕ)} {left : List ℕ} → (piece rest : List ℕ) → left ≡ piece ++ rest → IsBegun old mid left → Appends mid new piece
+  pub piece_more : {old mid new : Option (List ℕ)} {left : List ℕ} → (piece rest : List ℕ) → left ≡ piece ++ rest → IsBegun old mid left
+      → Appends mid new piece
       → IsBegun old new rest
   piece_more {old = old} {mid = mid} {new = new} piece rest is begun more = record {
     text = begun.text ++ piece;

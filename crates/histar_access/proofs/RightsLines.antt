@@ -36,7 +36,8 @@ module _ (s : State) (visitors : List Cell) (tree : List TreeNode) where
   no_lines = record { are = refl }
 
   -- one line more
-  pub line_more : {way : List (List Cell)} {left rest : List TreeNode} {lines : List TableLine} → (node : TreeNode) (line : TableLine) → left ≡ node ∷ rest
+  pub line_more : {way : List (List Cell)} {left rest : List TreeNode} {lines : List TableLine} → (node : TreeNode) (line : TableLine)
+      → left ≡ node ∷ rest
       → line_rights line ≡ rights_line (line_of_node node (next_row s visitors tree way node)) → AreLines way left lines
       → AreLines (take (length node.path) way ++ next_row s visitors tree way node ∷ []) rest (lines ++ line ∷ [])
   line_more {way = way} {rest = rest} {lines = lines} node line turn is are =

@@ -18,7 +18,8 @@ returns-in_err-write_bytes-clause-err g c =
     let p = err_from_is_err_and c.from_residual-in_err-write_bytes.result c.from_residual-in_err-write_bytes.ensures.1 in
     let ds = c.args.differences.now in
     let i = c.lines.difference-index in
-    let line = c.as_slice.ensures.value ∙ c.in_ok-push_difference.ensures ∙ ap (λ t. t ++ difference_text c.difference-item.result) c.new-line.ensures.items in
+    let line = c.as_slice.ensures.value ∙ c.in_ok-push_difference.ensures
+    ∙ ap (λ t. t ++ difference_text c.difference-item.result) c.new-line.ensures.items in
     let next = ap differences_text (next_left ds i c.difference-item.result (search rules) c.difference-item.is)
     ∙ ap (λ t. t ++ differences_text (drop (i + 1) ds)) (sym line) in
     rw p.1 (piece_begun (differences_text ds) (differences_text (drop (i + 1) ds)) next c.lines.invariant.begun c.in_err-write_bytes.ensures.err)
@@ -27,7 +28,8 @@ pub lines-preserved : goal.lines-preserved
 lines-preserved g c =
     let ds = c.args.differences.now in
     let i = c.lines.difference-index in
-    let line = c.as_slice.ensures.value ∙ c.in_ok-push_difference.ensures ∙ ap (λ t. t ++ difference_text c.difference-item.result) c.new-line.ensures.items in
+    let line = c.as_slice.ensures.value ∙ c.in_ok-push_difference.ensures
+    ∙ ap (λ t. t ++ difference_text c.difference-item.result) c.new-line.ensures.items in
     let next = ap differences_text (next_left ds i c.difference-item.result (search rules) c.difference-item.is)
     ∙ ap (λ t. t ++ differences_text (drop (i + 1) ds)) (sym line) in
     record {

@@ -11,7 +11,8 @@ use Rattle.histar_access.proofs.rights_table.table_lines.Goals as goal
 
 pub nodes-init : goal.nodes-init
 nodes-init g c =
-    same_lines (state c.args.machine.now.kernel) c.args.visitors.now c.args.tree.now (ap (map cells_of) c.new-way.ensures.items) c.new-lines.ensures.items
+    same_lines (state c.args.machine.now.kernel) c.args.visitors.now c.args.tree.now
+    (ap (map cells_of) c.new-way.ensures.items) c.new-lines.ensures.items
     (no_lines (state c.args.machine.now.kernel) c.args.visitors.now c.args.tree.now)
 
 pub nodes-preserved : goal.nodes-preserved
@@ -29,7 +30,8 @@ nodes-preserved g c =
     let line = c.in_ok-line.ensures ∙ ap (λ cells. rights_line (line_of_node node cells)) (c.as_slice-in-nodes.ensures.value ∙ row) in
     let more = line_more s visitors tree node c.in_ok-line.line
     (next_left tree i node (search rules) c.node-item.is) line c.nodes.invariant in
-    same_lines s visitors tree (way_more ways _ _ (length node.path) c.in_ok-row.row _ kept c.in_ok-push-2.ensures.items row) c.in_ok-push.ensures.items more
+    same_lines s visitors tree
+    (way_more ways _ _ (length node.path) c.in_ok-row.row _ kept c.in_ok-push-2.ensures.items row) c.in_ok-push.ensures.items more
 
 pub returns : goal.returns
 returns g c =
