@@ -1,12 +1,10 @@
 -- What a machine shows after calls.
-use Rattle.std.proofs.Common.{◌≡◌, ℕ, Bool, true, false, List, [], ◌∷◌, ◌++◌, Option, Result, Ok, sym, ap, ◌∙◌, subst, refl, append-nil, arith}
+use Rattle.std.proofs.Common.{◌≡◌, ℕ, true, false, List, [], ◌∷◌, ◌++◌, Option, Ok, sym, ap, ◌∙◌, subst, append-nil, arith}
 use Rattle.std.proofs.lemmas.List.Elements.{filter-append}
 use Rattle.histar_flat.specs.declared.calls.CallLine.{CallLine}
 use Rattle.histar_flat.specs.declared.calls.UnixCall.{UnixCall}
 use Rattle.histar_flat.specs.declared.replies.Reply.{Reply}
 use Rattle.histar_flat.specs.Words.{ProcName}
-use Rattle.histar_flat.specs.Sessions.{Session}
-use Rattle.histar_flat.specs.FlatState.{Flat}
 use Rattle.histar_flat.specs.Meaning.{flat_end}
 use Rattle.histar_flat.proofs.Laws.{states_go_on}
 use Rattle.histar_shell.specs.Machine.{MachineModel}
@@ -14,24 +12,31 @@ use Rattle.histar_shell.specs.Meaning.{FollowsMeaning, Shows}
 use Rattle.histar_access.specs.Session.{ShowsAfter, calls_before, is_before}
 
 -- after one call
-pub after_call : (old new : MachineModel) (line : ℕ) (process : ProcName) (call : UnixCall) (reply : Reply) → FollowsMeaning old new line process call (Ok reply)
+pub after_call : (old new : MachineModel) (line : ℕ) (process : ProcName) (call : UnixCall) (reply : Reply)
+    → FollowsMeaning old new line process call (Ok reply)
     → ShowsAfter old new (record { line = line; process = process; call = call } ∷ [])
 after_call old new line process call reply means session f shows = (means session f shows).shows
 
 -- the calls before a line, with one more behind them
-before_more : (at : Option ℕ) (calls : List CallLine) (c : CallLine) (more : List CallLine) → calls_before at (c ∷ []) ≡ more → calls_before at (calls ++ c ∷ []) ≡ calls_before at calls ++ more
-before_more at calls c more is = filter-append (λ (d : CallLine). is_before at d.line) calls (c ∷ []) ∙ ap (λ (l : List CallLine). calls_before at calls ++ l) is
+before_more : (at : Option ℕ) (calls : List CallLine) (c : CallLine) (more : List CallLine) → calls_before at (c ∷ []) ≡ more
+    → calls_before at (calls ++ c ∷ []) ≡ calls_before at calls ++ more
+before_more at calls c more is = filter-append (λ (d : CallLine). is_before at d.line) calls (c ∷ [])
+    ∙ ap (λ (l : List CallLine). calls_before at calls ++ l) is
 
 -- one more that is made
-pub made_more : (at : Option ℕ) (first mid new : MachineModel) (calls : List CallLine) (c : CallLine) → is_before at c.line ≡ true → ShowsAfter first mid (calls_before at calls) → ShowsAfter mid new (c ∷ [])
+pub made_more : (at : Option ℕ) (first mid new : MachineModel) (calls : List CallLine) (c : CallLine) → is_before at c.line ≡ true
+    → ShowsAfter first mid (calls_before at calls) → ShowsAfter mid new (c ∷ [])
     → ShowsAfter first new (calls_before at (calls ++ c ∷ []))
 made_more at first mid new calls c before earlier later session f shows =
     let one : calls_before at (c ∷ []) ≡ c ∷ [] = grind (arith, before) in
-    subst (Shows session new) (sym (ap (flat_end session f) (before_more at calls c (c ∷ []) one) ∙ states_go_on session f (calls_before at calls) (c ∷ [])))
+    subst (Shows session new) (sym (ap (flat_end session f) (before_more at calls c (c ∷ []) one)
+    ∙ states_go_on session f (calls_before at calls) (c ∷ [])))
     (later session (flat_end session f (calls_before at calls)) (earlier session f shows))
 
 -- one more that is not
-pub left_more : (at : Option ℕ) (first mid : MachineModel) (calls : List CallLine) (c : CallLine) → is_before at c.line ≡ false → ShowsAfter first mid (calls_before at calls) → ShowsAfter first mid (calls_before at (calls ++ c ∷ []))
+pub left_more : (at : Option ℕ) (first mid : MachineModel) (calls : List CallLine) (c : CallLine) → is_before at c.line ≡ false
+    → ShowsAfter first mid (calls_before at calls) → ShowsAfter first mid (calls_before at (calls ++ c ∷ []))
 left_more at first mid calls c before earlier session f shows =
     let none : calls_before at (c ∷ []) ≡ [] = grind (arith, before) in
-    subst (λ (cs : List CallLine). Shows session mid (flat_end session f cs)) (sym (before_more at calls c [] none ∙ append-nil (calls_before at calls))) (earlier session f shows)
+    subst (λ (cs : List CallLine). Shows session mid (flat_end session f cs)) (sym (before_more at calls c [] none
+    ∙ append-nil (calls_before at calls))) (earlier session f shows)

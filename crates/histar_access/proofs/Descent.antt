@@ -1,7 +1,7 @@
 -- Going down a tree once finds at each path what its directory gives.
-use Rattle.std.specs.Prelude.{◌≡◌, ℕ, zero, suc, ◌+◌, Bool, true, false, cond, T, List, [], ◌∷◌, ◌++◌, length, map, take, drop, Option, Some, None, refl}
-use Rattle.std.specs.List.{filter_map, cons_option, flat_map}
-use Rattle.std.proofs.Common.{◌⊎◌, arith, ap, inl, inr, sym, ◌∙◌, subst, append-nil, append_assoc}
+use Rattle.std.specs.Prelude.{◌≡◌, ℕ, zero, suc, Bool, true, false, cond, T, List, [], ◌∷◌, ◌++◌, length, map, take, drop, Option, Some, None, refl}
+use Rattle.std.specs.List.{cons_option, flat_map}
+use Rattle.std.proofs.Common.{arith, ap, inl, inr, sym, ◌∙◌, subst, append-nil, append_assoc}
 use Rattle.std.proofs.Math.Seq.{take-append_seam}
 use Rattle.std.proofs.lemmas.List.{map-append, take-append-drop, length-append}
 use Rattle.std.specs.FinMap.{find, is_sorted}
@@ -25,7 +25,8 @@ last_of_more x y (z ∷ l) = last_of_more z y l
 front_of : {A : Type 0} (l front : List A) (x : A) (n : ℕ) → length front ≡ n → take (suc n) l ≡ front ++ x ∷ [] → take n l ≡ front
 front_of l front x n fits is =
     ap (λ k. take k l) (sym fits)
-    ∙ ap (take (length front)) (sym (take-append-drop (suc n) l) ∙ ap (λ (t : List _). t ++ drop (suc n) l) is ∙ append_assoc front (x ∷ []) (drop (suc n) l))
+    ∙ ap (take (length front)) (sym (take-append-drop (suc n) l) ∙ ap (λ (t : List _). t ++ drop (suc n) l) is
+    ∙ append_assoc front (x ∷ []) (drop (suc n) l))
     ∙ take-append_seam front (x ∷ [] ++ drop (suc n) l)
 
 module _ {A : Type 0} (f : Flat) (start : A) (below : Path × Node → A → A) (value : Path → Node → A) where
@@ -79,15 +80,21 @@ module _ {A : Type 0} (f : Flat) (start : A) (below : Path × Node → A → A) 
   AreThereWith q n x es b = AreThere q (cons_option (cond b (Some (n, x)) None) (nodes_in q es))
 
   -- the entries of a directory are there
-  entries_there : (q : Path) (es : List (Path × Node)) → T (is_sorted path_cmp es) → ((r : Path) (x : Node) → find path_cmp r es ≡ Some x → get f.files r ≡ Some x) → AreThere q (nodes_in q es)
+  entries_there : (q : Path) (es : List (Path × Node)) → T (is_sorted path_cmp es)
+      → ((r : Path) (x : Node) → find path_cmp r es ≡ Some x → get f.files r ≡ Some x) → AreThere q (nodes_in q es)
   entries_there q [] h lead = tt
   entries_there q (e ∷ es) h lead = step e.0 e.1 lead (entries_there q es (second (below_all path_cmp e.0 es) _ h)
       (λ r x is. lead r x (find_later path_cmp_total path_cmp_exact e.0 e.1 es r x (first (below_all path_cmp e.0 es) _ h) is)))
     where
-      step : (r : Path) (x : Node) → ((p : Path) (y : Node) → find path_cmp p ((r, x) ∷ es) ≡ Some y → get f.files p ≡ Some y) → AreThere q (nodes_in q es) → AreThere q (nodes_in q ((r, x) ∷ es))
+      step : (r : Path) (x : Node) → ((p : Path) (y : Node) → find path_cmp p ((r, x) ∷ es) ≡ Some y → get f.files p ≡ Some y)
+          → AreThere q (nodes_in q es) → AreThere q (nodes_in q ((r, x) ∷ es))
       step [] x lead rest = rest
       step (n ∷ above) x lead rest = elim (same_path_found q above) [
-        | inl t ↦ subst (AreThereWith q n x es) (sym t.0) (ap (λ (d : Path). get f.files (n ∷ d)) t.1 ∙ lead (n ∷ above) x (find_first path_cmp_total path_cmp_exact (n ∷ above) x es), rest)
+        | inl t ↦ subst (AreThereWith q n x es) (sym t.0) (
+          ap (λ (d : Path). get f.files (n ∷ d)) t.1
+              ∙ lead (n ∷ above) x (find_first path_cmp_total path_cmp_exact (n ∷ above) x es),
+          rest,
+        )
         | inr t ↦ subst (AreThereWith q n x es) (sym t.0) rest
       ]
 
@@ -103,7 +110,8 @@ module _ {A : Type 0} (f : Flat) (start : A) (below : Path × Node → A → A) 
       is : rows way (es ++ rest) ≡ values es ++ rows end rest
 
     abbrev Walks : ℕ → Type 0
-    Walks levels = (q : Path) (node : Node) → get f.files q ≡ Some node → (way : List A) → take (length q) way ≡ way_to q → (rest : List (Path × Node)) → Finds q (walked levels f.files.entries q node) rest way
+    Walks levels = (q : Path) (node : Node) → get f.files q ≡ Some node → (way : List A) → take (length q) way ≡ way_to q →
+        (rest : List (Path × Node)) → Finds q (walked levels f.files.entries q node) rest way
 
     -- entry by entry
     walk_entries : (levels : ℕ) → Walks levels → (q : Path) (node : Node) → get f.files q ≡ Some node → (cs : List (Name × Node)) → AreThere q cs
@@ -130,15 +138,19 @@ module _ {A : Type 0} (f : Flat) (start : A) (below : Path × Node → A → A) 
     walks_find zero q node at way kept rest = record { end = way; kept = kept; is = refl }
     walks_find (suc levels) q node at way kept rest =
         let row = below (q, node) (last_or start (take (length q) way)) in
-        let row_is : row ≡ value q node = ap (λ (l : List A). below (q, node) (last_or start l)) kept ∙ ap (below (q, node)) (last_way q) ∙ given q node at in
+        let row_is : row ≡ value q node = ap (λ (l : List A). below (q, node) (last_or start l)) kept ∙ ap (below (q, node)) (last_way q)
+        ∙ given q node at in
         let next : List A = take (length q) way ++ row ∷ [] in
         let next_is : next ≡ way_into q node = λ i. kept i ++ row_is i ∷ [] in
         let short : length (way_into q node) ≡ suc (length q) = length-append (way_to q) (value q node ∷ []) ∙ omega (arith, length_way q) in
         let held : take (suc (length q)) next ≡ way_into q node =
-        ap (take (suc (length q))) next_is ∙ ap (λ k. take k (way_into q node)) (sym short) ∙ ap (take (length (way_into q node))) (sym (append-nil (way_into q node))) ∙ take-append_seam (way_into q node) [] in
+        ap (take (suc (length q))) next_is ∙ ap (λ k. take k (way_into q node)) (sym short)
+        ∙ ap (take (length (way_into q node))) (sym (append-nil (way_into q node))) ∙ take-append_seam (way_into q node) [] in
         let children = flat_map (λ (c : Name × Node). walked levels f.files.entries (c.0 ∷ q) c.1) (nodes_in q f.files.entries) in
-        let by : (b : Bool) → FindsBelow q node (cond b children []) rest next = λ b. elim b as (λ v. FindsBelow q node (cond v children []) rest next) [
-          | true ↦ walk_entries levels (walks_find levels) q node at (nodes_in q f.files.entries) (entries_there q f.files.entries f.files.sorted (λ r x is. is)) next held rest
+        let by : (b : Bool) → FindsBelow q node (cond b children []) rest next = λ b. elim b as
+        (λ v. FindsBelow q node (cond v children []) rest next) [
+          | true ↦ walk_entries levels (walks_find levels) q node at (nodes_in q f.files.entries)
+              (entries_there q f.files.entries f.files.sorted (λ r x is. is)) next held rest
           | false ↦ record { end = next; kept = held; is = refl }
         ] in
         let there = by (is_dir node) in
@@ -149,7 +161,8 @@ module _ {A : Type 0} (f : Flat) (start : A) (below : Path × Node → A → A) 
         }
 
     -- from `/` on
-    pub descent : (levels : ℕ) (slash : Node) → get f.files [] ≡ Some slash → rows [] (walked levels f.files.entries [] slash) ≡ values (walked levels f.files.entries [] slash)
+    pub descent : (levels : ℕ) (slash : Node) → get f.files [] ≡ Some slash
+        → rows [] (walked levels f.files.entries [] slash) ≡ values (walked levels f.files.entries [] slash)
     descent levels slash at =
         let all = walks_find levels [] slash at [] refl [] in
         let es = walked levels f.files.entries [] slash in

@@ -4,8 +4,12 @@ pub mod SameProcesses
 pub mod Matching
 pub mod Tables
 pub mod Writing
+pub mod Runners
 pub mod ShownTables
+pub mod RightsLines
 pub mod Calling
 pub mod TableLemmas
 pub mod RowLemmas
+pub mod Pieces
 pub mod Runs
+pub mod Comparing

@@ -1,5 +1,5 @@
 -- The last of some rows, and what is made of items so far.
-use Rattle.std.proofs.Common.{◌≡◌, ℕ, zero, suc, ◌+◌, ◌-◌, ◌<◌, List, [], ◌∷◌, ◌++◌, Option, Some, None, take, length, get_or, arith, sym, ap, ◌∙◌, refl}
+use Rattle.std.proofs.Common.{◌≡◌, ℕ, zero, suc, ◌+◌, ◌-◌, ◌<◌, List, [], ◌∷◌, ◌++◌, Option, Some, take, length, get_or, arith, sym, ap, ◌∙◌}
 use Rattle.std.specs.Prelude.{map, slice_get}
 use Rattle.std.specs.Global.{Vec}
 use Rattle.std.specs.List.{cons_option, filter_map}
@@ -13,7 +13,8 @@ use Rattle.histar_access.specs.Rows.{last_or}
 abbrev pub cells_of : Vec Cell → List Cell
 cells_of row = row.items
 
-last_at : (x : List Cell) (rows : List (Vec Cell)) (n : ℕ) (row : Vec Cell) → length rows ≡ suc n → slice_get rows n ≡ Some row → last_or x (map cells_of rows) ≡ row.items
+last_at : (x : List Cell) (rows : List (Vec Cell)) (n : ℕ) (row : Vec Cell) → length rows ≡ suc n → slice_get rows n ≡ Some row
+    → last_or x (map cells_of rows) ≡ row.items
 last_at x [] n row long is = absurd (omega arith)
 last_at x (y ∷ []) zero row long is = ap cells_of (same_Some y row is)
 last_at x (y ∷ []) (suc n) row long is = absurd (omega arith)
@@ -21,19 +22,24 @@ last_at x (y ∷ z ∷ rows) zero row long is = absurd (omega arith)
 last_at x (y ∷ z ∷ rows) (suc n) row long is = last_at y.items (z ∷ rows) n row (omega arith) is
 
 -- the last of some rows, where there is one
-pub last_found : (x : List Cell) (rows : List (Vec Cell)) (row : Vec Cell) → Some row ≡ slice_get rows (length rows - 1) → last_or x (map cells_of rows) ≡ row.items
+pub last_found : (x : List Cell) (rows : List (Vec Cell)) (row : Vec Cell) → Some row ≡ slice_get rows (length rows - 1)
+    → last_or x (map cells_of rows) ≡ row.items
 last_found x [] row is = absurd (none-some row (sym is))
 last_found x (y ∷ rows) row is = last_at x (y ∷ rows) (length rows) row (omega arith) (ap (slice_get (y ∷ rows)) (omega arith) ∙ sym is)
 
 -- one item more
-pub kept_more : {X Y : Type 0} (h : X → Option Y) (xs : List X) (i : ℕ) (x : X) → i < length xs → x ≡ get_or xs i x → filter_map h (take (i + 1) xs) ≡ filter_map h (take i xs) ++ cons_option (h x) []
+pub kept_more : {X Y : Type 0} (h : X → Option Y) (xs : List X) (i : ℕ) (x : X) → i < length xs → x ≡ get_or xs i x
+    → filter_map h (take (i + 1) xs) ≡ filter_map h (take i xs) ++ cons_option (h x) []
 kept_more h xs i x within is =
-    ap (filter_map h) (take_more xs i x within) ∙ filter_map-append h (take i xs) (get_or xs i x ∷ []) ∙ ap (λ y. filter_map h (take i xs) ++ cons_option (h y) []) (sym is)
+    ap (filter_map h) (take_more xs i x within) ∙ filter_map-append h (take i xs) (get_or xs i x ∷ [])
+    ∙ ap (λ y. filter_map h (take i xs) ++ cons_option (h y) []) (sym is)
 
 -- the way to a node, as it is kept
 pub kept_way : (ways kept : List (Vec Cell)) (n : ℕ) → kept ≡ take n ways → map cells_of kept ≡ take n (map cells_of ways)
 kept_way ways kept n is = ap (map cells_of) is ∙ sym (take-map cells_of n ways)
 
 -- and with a row more
-pub way_more : (ways kept new : List (Vec Cell)) (n : ℕ) (row : Vec Cell) (cells : List Cell) → kept ≡ take n ways → new ≡ kept ++ row ∷ [] → row.items ≡ cells → map cells_of new ≡ take n (map cells_of ways) ++ cells ∷ []
-way_more ways kept new n row cells is pushed same = ap (map cells_of) pushed ∙ map-append cells_of kept (row ∷ []) ∙ (λ i. kept_way ways kept n is i ++ same i ∷ [])
+pub way_more : (ways kept new : List (Vec Cell)) (n : ℕ) (row : Vec Cell) (cells : List Cell) → kept ≡ take n ways → new ≡ kept ++ row ∷ []
+    → row.items ≡ cells → map cells_of new ≡ take n (map cells_of ways) ++ cells ∷ []
+way_more ways kept new n row cells is pushed same = ap (map cells_of) pushed ∙ map-append cells_of kept (row ∷ [])
+    ∙ (λ i. kept_way ways kept n is i ++ same i ∷ [])

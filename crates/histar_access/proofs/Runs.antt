@@ -1,31 +1,27 @@
 -- What `access` says, put together from what its parts say.
-use Rattle.std.proofs.Common.{◌≡◌, ℕ, ◌<◌, true, false, ltb, List, [], ◌++◌, length, Option, Some, None, Result, Ok, Err, refl, sym, ap, subst, ◌∙◌, arith, rules, tests, append-nil, inl, inr}
-use Rattle.std.specs.Prelude.{Bool, IfErr, IfSome, IsOk, MatchResult, OnErr, OnOk, is_ok}
-use Rattle.std.specs.Io.KnownBytes.{Appends, Keeps}
+use Rattle.std.proofs.Common.{◌≡◌, ℕ, ◌<◌, true, false, ltb, List, ◌++◌, length, Option, Some, None, Result, Ok, Err, refl, sym, ap, subst, ◌∙◌, arith, rules, tests, append-nil, inl, inr}
+use Rattle.std.specs.Prelude.{IfErr, IfSome, MatchResult, OnErr, OnOk, is_ok}
+use Rattle.std.specs.Io.KnownBytes.{Keeps}
 use Rattle.std.proofs.lemmas.Bool.{cases_lt, false≢true}
 use Rattle.std.proofs.lemmas.List.{length-append}
 use Rattle.std.proofs.KnownBytes.{Keeps-refl}
 use Rattle.histar_devices.specs.declared.input.InputError.{InputError}
 use Rattle.histar_devices.specs.declared.input.InputError.TheVariants as input
 use Rattle.histar_devices.specs.Input.{most_taken, TakesAll, TakesSome}
-use Rattle.histar_devices.specs.Writing.{AppendsFront}
-use Rattle.histar_flat.specs.declared.calls.CallLine.{CallLine}
-use Rattle.histar_flat.specs.Sessions.{Session}
-use Rattle.histar_flat.specs.FlatState.{Flat}
-use Rattle.histar_flat.specs.Meaning.{boot, flat_end}
+use Rattle.histar_flat.specs.Meaning.{boot}
 use Rattle.histar_script.specs.declared.fault.Fault.{Fault}
 use Rattle.histar_script.specs.declared.fault.Fault.TheVariants.{BadScript, TooLong, OutOfMemory, ReadFailed, WriteFailed}
 use Rattle.histar_script.specs.Script.{Reading}
 use Rattle.histar_script.specs.Outcome.{Gives, input_fault}
 use Rattle.histar_script.specs.Lines.{most_script_bytes}
 use Rattle.histar_script.specs.Reading.{script_of}
-use Rattle.histar_script.specs.Runs.{IsOutputFault, LeavesSink, StopsReading, is_read_failed, RunsTaken, RunsInput}
+use Rattle.histar_script.specs.Runs.{IsOutputFault, LeavesSink, StopsReading, is_read_failed, is_write_failed, RunsTaken, RunsInput}
 use Rattle.histar_shell.proofs.RunLemmas.{sink_called}
 use Rattle.histar_rights.proofs.Named.{processes_are_named}
 use Rattle.histar_shell.specs.Machine.{MachineModel}
-use Rattle.histar_shell.specs.Meaning.{Shows, ShowsStart}
+use Rattle.histar_shell.specs.Meaning.{ShowsStart}
 use Rattle.histar_shell.specs.Outcome.{AgreesWith, IsFaultAt}
-use Rattle.histar_access.specs.Session.{AccessText, BeginsToWrite, ShowsAfter, WritesAtFault, WritesTable, calls_before, state_before}
+use Rattle.histar_access.specs.Session.{AccessText, BeginsToWrite, IsMachineOf, ShowsAfter, WritesAtFault, WritesTable, calls_before, state_before}
 use Rattle.histar_access.specs.Shown.{AppendsTable, BeginsTable, IsShown}
 
 -- what it answers
@@ -44,6 +40,21 @@ no_read_failed WriteFailed fault = refl
 pub no_read_fails : (r : Answer) → IfErr r IsOutputFault → is_read_failed r ≡ false
 no_read_fails (Ok done) h = refl
 no_read_fails (Err f) h = no_read_failed f h
+
+-- reading a script calls no device
+pub reads_none : (f : Fault) (read : Result Reading Fault) → Gives (Err f) read → is_read_failed {A = Unit {0}} (Err f) ≡ false
+reads_none (BadScript n) read given = refl
+reads_none TooLong read given = refl
+reads_none OutOfMemory read given = refl
+reads_none ReadFailed read given = absurd given
+reads_none WriteFailed read given = refl
+
+pub writes_none : (f : Fault) (read : Result Reading Fault) → Gives (Err f) read → is_write_failed {A = Unit {0}} (Err f) ≡ false
+writes_none (BadScript n) read given = refl
+writes_none TooLong read given = refl
+writes_none OutOfMemory read given = refl
+writes_none ReadFailed read given = refl
+writes_none WriteFailed read given = absurd given
 
 -- and of the sink
 pub sink_after : {W : Type 0} (old new : W) (r : Answer) → IfErr r IsOutputFault → IfErr r (LeavesSink old new)
@@ -71,7 +82,11 @@ module _ (at : Option ℕ) where
 
   -- a text in which reading finds a fault
   pub faulty_text : (text : List ℕ) (w : Option (List ℕ)) (f : Fault) → Gives (Err f) (script_of text) → AccessText at text w w (Err f)
-  faulty_text text w f given = record { faults = script_fault_agrees f (script_of text) given; writes = script_fault_writes f w (script_of text) given }
+  faulty_text text w f given = record {
+    faults = script_fault_agrees f (script_of text) given;
+    writes = script_fault_writes f w
+        (script_of text) given;
+  }
 
   -- a text for which memory ran out before anything was written
   pub unwritten_text : (text : List ℕ) (w : Option (List ℕ)) → AccessText at text w w (Err OutOfMemory)
@@ -79,56 +94,72 @@ module _ (at : Option ℕ) where
 
   -- ---- a machine after the calls
 
-  module _ (script : Reading) (start end : MachineModel) (session : Session) (calls : List CallLine) (session_is : session ≡ script.session) (calls_are : calls ≡ script.calls)
-      (starts : ShowsStart session start) (after : ShowsAfter start end (calls_before at calls)) where
-    -- it lays out the flat state after the calls
-    pub shows_after : Shows script.session end (state_before at script)
-    shows_after =
-        let told = after session (boot session) starts in
-        let by_calls = subst (λ (cs : List CallLine). Shows session end (flat_end session (boot session) (calls_before at cs))) calls_are told in
-        subst (λ (declared : Session). Shows declared end (flat_end declared (boot declared) (calls_before at script.calls))) session_is by_calls
+  -- a machine that was booted for a script and made its calls lays out the flat state after them
+  pub machine_of : (text : List ℕ) (script : Reading) → script_of text ≡ Ok script → (start end : MachineModel) → ShowsStart script.session start
+      → ShowsAfter start end (calls_before at script.calls) → IsMachineOf at text end
+  machine_of text script given start end starts after = record {
+    script = script;
+    is_read = given;
+    shows = after script.session (boot script.session) starts;
+    named = processes_are_named script.session (calls_before at script.calls);
+  }
 
+  module _ (text : List ℕ) (end : MachineModel) (is : IsMachineOf at text end) where
     -- so it lays out some flat state
     pub is_shown : IsShown end
-    is_shown = (script.session, state_before at script, shows_after, processes_are_named script.session (calls_before at script.calls))
+    is_shown = (is.script.session, state_before at is.script, is.shows, is.named)
 
-    module _ (text : List ℕ) (given : script_of text ≡ Ok script) (old new : Option (List ℕ)) where
-      -- the text of its table was written
-      pub written_text : AppendsTable end old new → AccessText at text old new (Ok tt)
-      written_text h = record {
-        faults = ap is_ok given;
-        writes = record { script = script; is_read = given; written = h script.session (state_before at script) shows_after (processes_are_named script.session (calls_before at script.calls)) };
-      }
+    -- the text of its table was written
+    pub written_text : (old new : Option (List ℕ)) → AppendsTable end old new → AccessText at text old new (Ok tt)
+    written_text old new h = record {
+      faults = ap is_ok is.is_read;
+      writes = record { script = is.script; is_read = is.is_read; written = h is.script.session (state_before at is.script) is.shows is.named };
+    }
 
-      begins : BeginsTable end old new → BeginsToWrite at old new (script_of text)
-      begins h = record { script = script; is_read = given; written = h script.session (state_before at script) shows_after (processes_are_named script.session (calls_before at script.calls)) }
+    begins : (old new : Option (List ℕ)) → BeginsTable end old new → BeginsToWrite at old new (script_of text)
+    begins old new h = record {
+      script = is.script;
+      is_read = is.is_read;
+      written = h is.script.session
+          (state_before at is.script) is.shows is.named;
+    }
 
-      -- or a beginning of it
-      pub begun_text : (f : Fault) → IsOutputFault f → BeginsTable end old new → AccessText at text old new (Err f)
-      begun_text (BadScript n) h b = absurd h
-      begun_text TooLong h b = absurd h
-      begun_text OutOfMemory h b = record { faults = tt; writes = inr (begins b) }
-      begun_text ReadFailed h b = absurd h
-      begun_text WriteFailed h b = record { faults = ap is_ok given; writes = begins b }
+    -- or a beginning of it
+    pub begun_text : (old new : Option (List ℕ)) (f : Fault) → IsOutputFault f → BeginsTable end old new → AccessText at text old new (Err f)
+    begun_text old new (BadScript n) h b = absurd h
+    begun_text old new TooLong h b = absurd h
+    begun_text old new OutOfMemory h b = record { faults = tt; writes = inr (begins old new b) }
+    begun_text old new ReadFailed h b = absurd h
+    begun_text old new WriteFailed h b = record { faults = ap is_ok is.is_read; writes = begins old new b }
 
-      -- so it is, whatever writing answers
-      pub text_run : (r : Answer) → OnOk r (AppendsTable end old new) → OnErr r (BeginsTable end old new) → IfErr r IsOutputFault → AccessText at text old new r
-      text_run (Ok done) a b h = written_text a
-      text_run (Err f) a b h = begun_text f h b
+    -- so it is, whatever writing answers
+    pub text_run : {old new : Option (List ℕ)} → (r : Answer) → OnOk r (AppendsTable end old new) → OnErr r (BeginsTable end old new)
+        → IfErr r IsOutputFault
+        → AccessText at text old new r
+    text_run {old = old} {new = new} (Ok done) a b h = written_text old new a
+    text_run {old = old} {new = new} (Err f) a b h = begun_text old new f h b
 
   -- ---- an input that is taken
 
   -- an error of the input stops the reading
-  pub stops_reading : (e : InputError) (left rest w : Option (List ℕ)) → TakesSome left rest → RunsInput (AccessText at) left rest w w (Err (input_fault e))
+  pub stops_reading : (e : InputError) (left rest w : Option (List ℕ)) → TakesSome left rest
+      → RunsInput (AccessText at) left rest w w (Err (input_fault e))
   stops_reading input.OutOfMemory left rest w takes = inl (record { takes = takes; keeps = Keeps-refl w })
   stops_reading input.ReadFailed left rest w takes = record { takes = takes; keeps = Keeps-refl w }
 
   -- what was taken is run
-  pub runs_taken : (left rest old new : Option (List ℕ)) (taken text : List ℕ) (result : Answer) → TakesAll left rest taken → text ≡ taken → AccessText at text old new result → is_read_failed result ≡ false → RunsInput (AccessText at) left rest old new result
+  pub runs_taken : (left rest old new : Option (List ℕ)) (taken text : List ℕ) (result : Answer) → TakesAll left rest taken → text ≡ taken
+      → AccessText at text old new result → is_read_failed result ≡ false → RunsInput (AccessText at) left rest old new result
   runs_taken left rest old new taken text result takes same runs no_read_failed =
-      at_result result (record { taken = taken; takes = takes; runs = subst (λ (t : List ℕ). AccessText at t old new result) same runs }) no_read_failed
+      at_result result (record {
+        taken = taken;
+        takes = takes;
+        runs = subst
+            (λ (t : List ℕ). AccessText at t old new result) same runs;
+      }) no_read_failed
     where
-      at_result : (r : Answer) → RunsTaken (AccessText at) left rest old new r → is_read_failed r ≡ false → RunsInput (AccessText at) left rest old new r
+      at_result : (r : Answer) → RunsTaken (AccessText at) left rest old new r → is_read_failed r ≡ false
+          → RunsInput (AccessText at) left rest old new r
       at_result (Ok done) h none = h
       at_result (Err (BadScript n)) h none = h
       at_result (Err TooLong) h none = h
@@ -141,7 +172,7 @@ module _ (at : Option ℕ) where
   long_is text lt = let e : ltb most_script_bytes (length text) ≡ true = search (rules, tests) in rw e refl
 
   -- what was taken says what the whole input says
-  same_script : (input : List ℕ) (rest : Option (List ℕ)) (taken : List ℕ) → TakesAll (Some input) rest taken → script_of taken ≡ script_of input
+  pub same_script : (input : List ℕ) (rest : Option (List ℕ)) (taken : List ℕ) → TakesAll (Some input) rest taken → script_of taken ≡ script_of input
   same_script input None taken takes = absurd takes.consumed
   same_script input (Some rest) taken takes =
       elim (cases_lt (length taken) most_taken) [
@@ -150,28 +181,35 @@ module _ (at : Option ℕ) where
       ]
 
   -- what was run is the script of the whole input
-  same_run : (input taken : List ℕ) (old new : Option (List ℕ)) (result : Answer) → script_of taken ≡ script_of input → AccessText at taken old new result → AccessText at input old new result
+  same_run : (input taken : List ℕ) (old new : Option (List ℕ)) (result : Answer) → script_of taken ≡ script_of input
+      → AccessText at taken old new result → AccessText at input old new result
   same_run input taken old new result same runs = record {
     faults = subst (λ (read : Result Reading Fault). AgreesWith read result) same runs.faults;
-    writes = subst (λ (read : Result Reading Fault). MatchResult result (λ _. WritesTable at old new read) (WritesAtFault at old new read)) same runs.writes;
+    writes = subst (λ (read : Result Reading Fault). MatchResult result (λ _. WritesTable at old new read)
+        (WritesAtFault at old new read)) same runs.writes;
   }
 
   -- a known input that was taken was run
-  taken_known : (left rest old new : Option (List ℕ)) (result : Answer) → RunsTaken (AccessText at) left rest old new result → IfSome left (λ input. AccessText at input old new result)
+  taken_known : (left rest old new : Option (List ℕ)) (result : Answer) → RunsTaken (AccessText at) left rest old new result
+      → IfSome left (λ input. AccessText at input old new result)
   taken_known None rest old new result h = tt
   taken_known (Some input) rest old new result h = same_run input h.taken old new result (same_script input rest h.taken h.takes) h.runs
 
   -- a known input of which some was taken was run as far as that
-  stopped_known : (left rest old new : Option (List ℕ)) (result : Answer) → ((input : List ℕ) → Keeps old new → AccessText at input old new result) → StopsReading left rest old new → IfSome left (λ input. AccessText at input old new result)
+  stopped_known : (left rest old new : Option (List ℕ)) (result : Answer) → ((input : List ℕ) → Keeps old new → AccessText at input old new result)
+      → StopsReading left rest old new → IfSome left (λ input. AccessText at input old new result)
   stopped_known None rest old new result runs h = tt
   stopped_known (Some input) rest old new result runs h = runs input h.keeps
 
   -- a known input was run
-  pub input_known : (left rest old new : Option (List ℕ)) (result : Answer) → RunsInput (AccessText at) left rest old new result → IfSome left (λ input. AccessText at input old new result)
+  pub input_known : (left rest old new : Option (List ℕ)) (result : Answer) → RunsInput (AccessText at) left rest old new result
+      → IfSome left (λ input. AccessText at input old new result)
   input_known left rest old new (Ok done) h = taken_known left rest old new (Ok done) h
   input_known left rest old new (Err (BadScript n)) h = taken_known left rest old new (Err (BadScript n)) h
   input_known left rest old new (Err TooLong) h = taken_known left rest old new (Err TooLong) h
-  input_known left rest old new (Err OutOfMemory) (inl h) = stopped_known left rest old new (Err OutOfMemory) (λ text keeps. record { faults = tt; writes = inl keeps }) h
+  input_known left rest old new (Err OutOfMemory) (inl h) = stopped_known left rest old new (Err OutOfMemory)
+      (λ text keeps. record { faults = tt; writes = inl keeps }) h
   input_known left rest old new (Err OutOfMemory) (inr h) = taken_known left rest old new (Err OutOfMemory) h
-  input_known left rest old new (Err ReadFailed) h = stopped_known left rest old new (Err ReadFailed) (λ text keeps. record { faults = tt; writes = keeps }) h
+  input_known left rest old new (Err ReadFailed) h = stopped_known left rest old new (Err ReadFailed)
+      (λ text keeps. record { faults = tt; writes = keeps }) h
   input_known left rest old new (Err WriteFailed) h = taken_known left rest old new (Err WriteFailed) h

@@ -12,7 +12,6 @@ use Rattle.histar_calls.specs.declared.places.Places.{Places}
 use Rattle.histar_process.specs.Caller.{caller_in, status_at}
 use Rattle.histar_process.specs.declared.caller.Caller.{Caller}
 use Rattle.histar_shell.proofs.SameUsers.{same_kin, same_user}
-use Rattle.histar_tree.specs.declared.process.Life.{Life}
 use Rattle.histar_tree.specs.declared.process.Life.TheVariants.{Running}
 use Rattle.histar_tree.specs.declared.process.ProcessNode.{ProcessNode}
 use Rattle.histar_tree.specs.Process.{life_in, node_in, owned_beside, running_at, running_by, thread_label, container_label}
@@ -40,7 +39,8 @@ module _ (session : Session) (s : State) where
     life ← same_life home status.exited i
     Some (record { name = me; home = home; chain = jobs_in outer; life = life; born = status.born })
 
-  same_processes : (levels : ℕ) (me : ProcName) (home : Home) → processes_at levels (without_passwords session) s me home ≡ processes_at levels session s me home
+  same_processes : (levels : ℕ) (me : ProcName) (home : Home)
+      → processes_at levels (without_passwords session) s me home ≡ processes_at levels session s me home
   same_processes zero me home = refl
   same_processes (suc levels) me home = λ i. do
     node ← same_node me home i
@@ -48,11 +48,13 @@ module _ (session : Session) (s : State) where
     Some (node ∷ below)
 
   -- the processes of a session are those of its users with no passwords
-  pub processes_unproved : (places : Places) (processes : List ProcessNode) → AreProcessesOf (without_passwords session) s places processes → AreProcessesOf session s places processes
+  pub processes_unproved : (places : Places) (processes : List ProcessNode) → AreProcessesOf (without_passwords session) s places processes
+      → AreProcessesOf session s places processes
   unfolding AreProcessesOf
   processes_unproved places processes are = sym (same_processes (levels_at []) [] places.home) ∙ are
 
-  pub processes_proved : (places : Places) (processes : List ProcessNode) → AreProcessesOf session s places processes → AreProcessesOf (without_passwords session) s places processes
+  pub processes_proved : (places : Places) (processes : List ProcessNode) → AreProcessesOf session s places processes
+      → AreProcessesOf (without_passwords session) s places processes
   unfolding AreProcessesOf
   processes_proved places processes are = same_processes (levels_at []) [] places.home ∙ are
 

@@ -2,27 +2,27 @@
 use Rattle.std.specs.Prelude.{◌≡◌, ℕ, suc, ◌≤◌, true, List, [], ◌∷◌, length, map, Option, None, Some, refl}
 use Rattle.std.specs.List.{filter_map}
 use Rattle.std.proofs.Common.{ap, sym, ◌∙◌, subst, arith}
-use Rattle.histar_flat.specs.Words.{Name, Path, ProcName, most_names, most_numbers}
+use Rattle.histar_flat.specs.Words.{Name, Path, ProcName, most_names}
 use Rattle.histar_flat.specs.Sessions.{Session}
 use Rattle.histar_flat.specs.Files.{get}
 use Rattle.histar_flat.specs.Classes.{Class, may_read, may_write}
-use Rattle.histar_flat.specs.FlatState.{Content, Flat, IsTree, Node, bytes_at, bytes_of, is_dir, is_dir_at, is_some_and, is_there}
+use Rattle.histar_flat.specs.FlatState.{Content, Flat, IsTree, Node, bytes_of, is_dir, is_dir_at, is_some_and, is_there}
 use Rattle.histar_flat.specs.FlatState.Content.{Dir, File}
 use Rattle.histar_flat.specs.FlatCalls.{most_bytes}
 use Rattle.histar_object.specs.State.{State}
 use Rattle.histar_syscall.specs.KernelModel.{state}
-use Rattle.histar_layout.specs.UserTable.{without_passwords}
 use Rattle.histar_layout.specs.declared.entry.Target.TheVariants.{Directory}
 use Rattle.histar_calls.specs.declared.places.Places.{Places}
 use Rattle.histar_login.specs.Start.{places_of}
 use Rattle.histar_refinement.specs.LaysOut.{Laid}
 use Rattle.histar_refinement.specs.Sessions.{IsSession}
 use Rattle.histar_refinement.proofs.Standing.{parent_is_dir, root_is_dir}
-use Rattle.histar_rights.specs.Rights.{above_root, rights_at, rights_below}
-use Rattle.histar_rights.specs.Running.{HaveShownNames, Named, running_from, running_in}
-use Rattle.histar_rights.specs.Table.{AccessLine, access_table, line_of}
+use Rattle.histar_rights.specs.Rights.{rights_below}
+use Rattle.histar_rights.specs.Running.{HaveShownNames, Named, running_in}
+use Rattle.histar_rights.specs.Table.{access_table, line_of}
 use Rattle.histar_rights.specs.Laws.{HaveFewBytes, rights_above, rights_or}
 use Rattle.histar_rights.proofs.Giving.{directories_give_rights}
+use Rattle.histar_diff.specs.Shown.{runner}
 use Rattle.histar_tree.specs.declared.process.ProcessNode.{ProcessNode}
 use Rattle.histar_tree.specs.declared.tree.TreeNode.{TreeNode}
 use Rattle.histar_tree.specs.Laws.{HasProcessesOf, HasTreeOf}
@@ -40,13 +40,15 @@ use Rattle.histar_shell.proofs.SameUsers.{tree_unproved}
 use Rattle.histar_shell.proofs.Users.{is_session}
 use Rattle.histar_access.specs.declared.cells.Cell.{Cell}
 use Rattle.histar_access.specs.Cells.{lines_from, visitors_among}
+use Rattle.histar_access.specs.RightsTable.{runner_of}
 use Rattle.histar_access.specs.Rows.{rows_from}
 use Rattle.histar_access.specs.Shown.{AreVisitors, HasProcesses}
 use Rattle.histar_access.proofs.Descent.{descent, found_above, found_at}
 use Rattle.histar_access.proofs.Matching.{AreMatched, tree_labelled, tree_matched}
+use Rattle.histar_access.proofs.Runners.{line_runner, runners_listed}
 use Rattle.histar_access.proofs.SameProcesses.{one_list, processes_proved, processes_unproved}
-use Rattle.histar_access.proofs.Tables.{Row, flat_below, flat_row_line, lines_matched, map_twice, start, table_lines, value, zipped, zipped_values}
-use Rattle.histar_access.proofs.Visiting.{Visitor, cell_by, cells_are, filter_map_map, named_are, named_by, named_line, named_of, running_listed, start_cell, visitors}
+use Rattle.histar_access.proofs.Tables.{flat_below, lines_matched, map_twice, start, table_lines, value, zipped, zipped_values}
+use Rattle.histar_access.proofs.Visiting.{Visitor, cell_by, cells_are, filter_map_map, named_are, named_by, named_of, running_listed, start_cell, visitors}
 
 module _ (session : Session) (s : State) (f : Flat) (l : Laid session s f) where
   -- the paths are a tree
@@ -62,22 +64,29 @@ module _ (session : Session) (s : State) (f : Flat) (l : Laid session s f) where
 
   -- each process finds at a path what its directory gives
   module _ (small : HaveFewBytes f) (ok : IsSession session) (vs : List (Visitor session s f l)) where
-    above_is : (q : Path) (v : Visitor session s f l) → found_above f (start session s f l ok vs) (flat_below session s f l ok vs) (value session s f l ok vs) q v ≡ rights_above session f v.name v.process q
+    above_is : (q : Path) (v : Visitor session s f l)
+        → found_above f (start session s f l ok vs) (flat_below session s f l ok vs)
+        (value session s f l ok vs) q v ≡ rights_above session f v.name v.process q
     above_is [] v = refl
     above_is (n ∷ d) v = by (get f.files d)
       where
-        by : (o : Option Node) → found_at f (start session s f l ok vs) (flat_below session s f l ok vs) (value session s f l ok vs) d o v ≡ rights_or session f v.name v.process d o
+        by : (o : Option Node)
+            → found_at f (start session s f l ok vs) (flat_below session s f l ok vs)
+            (value session s f l ok vs) d o v ≡ rights_or session f v.name v.process d o
         by None = refl
         by (Some above) = refl
 
     is_given : (q : Path) (node : Node) → get f.files q ≡ Some node
-        → flat_below session s f l ok vs (q, node) (found_above f (start session s f l ok vs) (flat_below session s f l ok vs) (value session s f l ok vs) q) ≡ value session s f l ok vs q node
+        → flat_below session s f l ok vs (q, node)
+        (found_above f (start session s f l ok vs) (flat_below session s f l ok vs)
+        (value session s f l ok vs) q) ≡ value session s f l ok vs q node
     is_given q node at = λ i v.
         (ap (λ r. rights_below r (may_read session v.process node.class) (may_write session v.process node.class)) (above_is q v)
         ∙ sym (directories_give_rights session f are_tree small v.name v.process q node at)) i
 
     -- so the lines of a tree that matches are those of the table
-    lines_are : (shallow : (q : Path) → is_there f q ≡ true → length q ≤ most_names) (tree : List TreeNode) → AreMatched session s f l ok tree f.files.entries → map (named_of session s f l) vs ≡ running_in f
+    lines_are : (shallow : (q : Path) → is_there f q ≡ true → length q ≤ most_names) (tree : List TreeNode)
+        → AreMatched session s f l ok tree f.files.entries → map (named_of session s f l) vs ≡ running_in f
         → lines_from s (map (start_cell session s f l) vs) [] tree ≡ access_table session f
     lines_are shallow tree match named =
         let es = f.files.entries in
@@ -86,16 +95,21 @@ module _ (session : Session) (s : State) (f : Flat) (l : Laid session s f) where
         let rows = rows_from (λ (e : Path × Node). length e.0) (flat_below session s f l ok vs) (start session s f l ok vs) [] in
         let found : rows es ≡ map (λ (e : Path × Node). value session s f l ok vs e.0 e.1) es =
         ap rows (sym met)
-        ∙ descent f (start session s f l ok vs) (flat_below session s f l ok vs) (value session s f l ok vs) is_given (suc most_names) (record { class = root.0; content = Dir }) root.1
+        ∙ descent f (start session s f l ok vs) (flat_below session s f l ok vs) (value session s f l ok vs) is_given (suc most_names)
+        (record { class = root.0; content = Dir }) root.1
         ∙ ap (map (λ (e : Path × Node). value session s f l ok vs e.0 e.1)) met in
-        lines_matched session s f l ok vs tree es match [] ∙ ap (zipped session s f l ok vs es) found ∙ zipped_values session s f l ok vs es ∙ table_lines session s f l ok vs es
+        lines_matched session s f l ok vs tree es match [] ∙ ap (zipped session s f l ok vs es) found ∙ zipped_values session s f l ok vs es
+        ∙ table_lines session s f l ok vs es
         ∙ ap (λ (ps : List Named). map (line_of session f ps) es) named
 
 -- files have few bytes
-few_bytes : (f : Flat) → ((q : Path) (class : Class) (bytes : List ℕ) → get f.files q ≡ Some (record { class = class; content = File bytes }) → length bytes ≤ most_bytes) → HaveFewBytes f
+few_bytes : (f : Flat)
+    → ((q : Path) (class : Class) (bytes : List ℕ) → get f.files q ≡ Some
+    (record { class = class; content = File bytes }) → length bytes ≤ most_bytes) → HaveFewBytes f
 few_bytes f small q = by (get f.files q) refl
   where
-    of_content : (class : Class) (content : Content) → get f.files q ≡ Some (record { class = class; content = content }) → length (bytes_of (Some (record { class = class; content = content }))) ≤ most_bytes
+    of_content : (class : Class) (content : Content) → get f.files q ≡ Some (record { class = class; content = content })
+        → length (bytes_of (Some (record { class = class; content = content }))) ≤ most_bytes
     of_content class Dir e = omega arith
     of_content class (File bytes) e = small q class bytes e
 
@@ -120,7 +134,8 @@ module _ (session : Session) (m : MachineModel) (f : Flat) (shows : Shows sessio
   tree_here : IsTreeIn m has_tree.tree
   tree_here =
       subst (λ (users : Session). IsTreeOf users s m.places has_tree.tree) (sym shows.users)
-      (tree_unproved session s m.places has_tree.tree (subst (λ (places : Places). IsTreeOf session s places has_tree.tree) (sym shows.places) has_tree.is_tree))
+      (tree_unproved session s m.places has_tree.tree
+      (subst (λ (places : Places). IsTreeOf session s places has_tree.tree) (sym shows.places) has_tree.is_tree))
 
   -- so the machine has a tree
   pub tree_there : HasTree m
@@ -134,7 +149,8 @@ module _ (session : Session) (m : MachineModel) (f : Flat) (shows : Shows sessio
   processes_there = (
     has_processes.processes,
     subst (λ (users : Session). AreProcessesOf users s m.places has_processes.processes) (sym shows.users)
-        (processes_proved session s m.places has_processes.processes (subst (λ (places : Places). AreProcessesOf session s places has_processes.processes) (sym shows.places) has_processes.are_processes)),
+        (processes_proved session s m.places has_processes.processes
+        (subst (λ (places : Places). AreProcessesOf session s places has_processes.processes) (sym shows.places) has_processes.are_processes)),
   )
 
   -- the names of processes
@@ -158,16 +174,30 @@ module _ (session : Session) (m : MachineModel) (f : Flat) (shows : Shows sessio
     unfolding running_in
     named_found =
         sym (named_are session s f l (names processes))
-        ∙ ap (filter_map (named_by session s f l)) (sym (map_twice (λ (line : ProcessLine). line.name) process_line processes) ∙ ap (λ (ps : List ProcessNode). map (λ (line : ProcessLine). line.name) (map process_line ps)) same ∙ ap (map (λ (line : ProcessLine). line.name)) has_processes.lines)
+        ∙ ap (filter_map (named_by session s f l)) (sym (map_twice (λ (line : ProcessLine). line.name) process_line processes)
+        ∙ ap (λ (ps : List ProcessNode). map (λ (line : ProcessLine). line.name) (map process_line ps)) same
+        ∙ ap (map (λ (line : ProcessLine). line.name)) has_processes.lines)
         ∙ filter_map_map (named_by session s f l) (λ (line : ProcessLine). line.name) (flat_processes l.category (process_levels []) f [])
         ∙ running_listed f l.category (process_levels []) []
 
+    -- those of them that run, with their users, are those of the flat state
+    pub runners_found : filter_map runner_of processes ≡ map runner (running_in f)
+    unfolding running_in
+    runners_found =
+        sym (filter_map_map line_runner process_line processes)
+        ∙ ap (λ (ps : List ProcessNode). filter_map line_runner (map process_line ps)) same
+        ∙ ap (filter_map line_runner) has_processes.lines
+        ∙ runners_listed f l.category (process_levels []) []
+
   -- the lines of the machine are the table of the flat state
-  pub machine_table : (tree : List TreeNode) → IsTreeIn m tree → (cells : List Cell) → AreVisitors m cells → lines_from s cells [] tree ≡ access_table session f
+  pub machine_table : (tree : List TreeNode) → IsTreeIn m tree → (cells : List Cell) → AreVisitors m cells
+      → lines_from s cells [] tree ≡ access_table session f
   unfolding IsTreeOf
   machine_table tree is cells are =
       let vs = visitors session s f l (names are.0) in
-      let labelled = tree_labelled session s (tree_levels []) [] (Directory (places_of (length session.users)).slash.container (places_of (length session.users)).slash.listing) has_tree.tree has_tree.is_tree in
+      let labelled = tree_labelled session s (tree_levels []) []
+      (Directory (places_of (length session.users)).slash.container
+      (places_of (length session.users)).slash.listing) has_tree.tree has_tree.is_tree in
       let match = tree_matched session s f l ok has_tree.tree labelled has_tree.same has_tree.lines in
       (λ i. lines_from s ((are.2 ∙ cells_found are.0 are.1) i) [] (states_have_one_tree m.users s m.places tree has_tree.tree is tree_here i))
       ∙ lines_are session s f l (few_bytes f shows.small) ok vs shows.shallow has_tree.tree match (named_found are.0 are.1)

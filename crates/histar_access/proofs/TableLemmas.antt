@@ -1,17 +1,11 @@
 -- What is written of a table, from what its parts say.
-use Rattle.std.proofs.Common.{◌≡◌, ℕ, List, [], ◌∷◌, ◌++◌, Option, Some, None, sym, ap, ◌∙◌, subst, refl}
-use Rattle.std.specs.Prelude.{map, MatchOption}
-use Rattle.std.specs.Global.{Vec}
+use Rattle.std.proofs.Common.{ℕ, List, [], Option, ap, subst, refl}
 use Rattle.std.specs.Io.KnownBytes.{Appends}
 use Rattle.std.proofs.KnownBytes.{Appends-nil}
 use Rattle.histar_devices.specs.Writing.{AppendsFront}
-use Rattle.histar_flat.specs.Sessions.{Session}
-use Rattle.histar_syscall.specs.KernelModel.{KernelModel, state}
-use Rattle.histar_calls.specs.declared.places.Places.{Places}
+use Rattle.histar_syscall.specs.KernelModel.{state}
 use Rattle.histar_rights.specs.Table.{access_table, access_text}
-use Rattle.histar_tree.specs.declared.process.ProcessNode.{ProcessNode}
 use Rattle.histar_tree.specs.declared.tree.TreeNode.{TreeNode}
-use Rattle.histar_tree.specs.Processes.{AreProcessesOf, FindsProcesses}
 use Rattle.histar_shell.specs.Ending.{HasTree, IsTreeIn}
 use Rattle.histar_shell.specs.Machine.{MachineModel}
 use Rattle.histar_access.specs.declared.cells.Cell.{Cell}

@@ -1,29 +1,25 @@
 -- The lines that are read off a machine are the table of the flat state that it lays out.
-use Rattle.std.specs.Prelude.{◌≡◌, ℕ, List, [], ◌∷◌, ◌++◌, length, map, take, Option, None, Some, refl}
-use Rattle.std.specs.List.{filter_map}
-use Rattle.std.proofs.Common.{ap, sym, ◌∙◌, subst}
-use Rattle.std.proofs.lemmas.Bool.{le-leb}
+use Rattle.std.specs.Prelude.{◌≡◌, List, [], ◌∷◌, ◌++◌, length, map, take, refl}
+use Rattle.std.proofs.Common.{ap, sym, ◌∙◌}
 use Rattle.std.proofs.lemmas.List.{map-append, take-map}
-use Rattle.histar_flat.specs.Words.{Name, Path, ProcName, most_names, most_numbers}
+use Rattle.histar_flat.specs.Words.{Path}
 use Rattle.histar_flat.specs.Sessions.{Session}
-use Rattle.histar_flat.specs.Files.{get}
-use Rattle.histar_flat.specs.Classes.{Process, may_read, may_write}
-use Rattle.histar_flat.specs.FlatState.{Flat, Node, IsTree, bytes_of}
+use Rattle.histar_flat.specs.Classes.{may_read, may_write}
+use Rattle.histar_flat.specs.FlatState.{Flat, Node}
 use Rattle.histar_object.specs.State.{State}
 use Rattle.histar_layout.specs.Listing.{object_of}
 use Rattle.histar_refinement.specs.LaysOut.{Laid}
 use Rattle.histar_refinement.specs.Sessions.{IsSession}
 use Rattle.histar_rights.specs.declared.rights.Rights.{Rights}
 use Rattle.histar_rights.specs.Rights.{above_root, rights_at, rights_below}
-use Rattle.histar_rights.specs.Table.{AccessLine, Cell as NamedRights, access_table, cell_at, line_of}
-use Rattle.histar_rights.proofs.Giving.{directories_give_rights}
+use Rattle.histar_rights.specs.Table.{AccessLine, Cell as NamedRights, cell_at, line_of}
 use Rattle.histar_tree.specs.declared.tree.TreeNode.{TreeNode}
 use Rattle.histar_tree.specs.TreeLines.{flat_line}
 use Rattle.histar_access.specs.declared.cells.Cell.{Cell}
 use Rattle.histar_access.specs.Cells.{cell_below, line_of_node, lines_from, row_below, shown}
 use Rattle.histar_access.specs.Rows.{last_or, rows_from}
 use Rattle.histar_access.proofs.Matching.{AreMatched, IsMatch}
-use Rattle.histar_access.proofs.Visiting.{Visitor, named_of, start_cell}
+use Rattle.histar_access.proofs.Visiting.{Visitor, named_of}
 
 -- what functions make one after the other
 pub map_twice : {A B C : Type 0} (g : B → C) (h : A → B) (xs : List A) → map g (map h xs) ≡ map (λ x. g (h x)) xs
@@ -66,10 +62,17 @@ module _ (session : Session) (s : State) (f : Flat) (l : Laid session s f) (ok :
   zipped (e ∷ es) (r ∷ rs) = flat_row_line e r ∷ zipped es rs
 
   -- the cells below those of a row
-  row_made : (node : TreeNode) (e : Path × Node) → IsMatch session s f l ok node e → (r : Row) → row_below s (object_of node.target) (cells r) ≡ cells (flat_below e r)
+  row_made : (node : TreeNode) (e : Path × Node) → IsMatch session s f l ok node e → (r : Row)
+      → row_below s (object_of node.target) (cells r) ≡ cells (flat_below e r)
   row_made node e match r =
-      map_twice (cell_below s (object_of node.target)) (λ (v : Visitor session s f l). record { process = v.name; thread = v.thread; rights = r v }) vs
-      ∙ (λ i. map (λ (v : Visitor session s f l). record { process = v.name; thread = v.thread; rights = rights_below (r v) (match.observed v i) (match.modified v i) }) vs)
+      map_twice (cell_below s (object_of node.target))
+      (λ (v : Visitor session s f l). record { process = v.name; thread = v.thread; rights = r v }) vs
+      ∙ (λ i. map (λ (v : Visitor session s f l). record {
+        process = v.name;
+        thread = v.thread;
+        rights = rights_below (r v) (match.observed v i)
+            (match.modified v i);
+      }) vs)
 
   -- the lines of a tree are those of the entries that match it
   pub lines_matched : (tree : List TreeNode) (es : List (Path × Node)) → AreMatched session s f l ok tree es → (way : List Row)
@@ -87,7 +90,8 @@ module _ (session : Session) (s : State) (f : Flat) (l : Laid session s f) (ok :
       let row_is : row ≡ cells flat_row =
       ap (λ (k : List (List Cell)). row_below s (object_of node.target) (last_or (cells start) k)) kept_is
       ∙ ap (row_below s (object_of node.target)) (last_made cells start flat_kept) ∙ row_made node e match.0 (last_or start flat_kept) in
-      let next_is : kept ++ row ∷ [] ≡ map cells (flat_kept ++ flat_row ∷ []) = (λ i. kept_is i ++ row_is i ∷ []) ∙ sym (map-append cells flat_kept (flat_row ∷ [])) in
+      let next_is : kept ++ row ∷ [] ≡ map cells (flat_kept ++ flat_row ∷ []) = (λ i. kept_is i ++ row_is i ∷ [])
+      ∙ sym (map-append cells flat_kept (flat_row ∷ [])) in
       let line_is : line_of_node node row ≡ flat_row_line e flat_row =
       (λ i. record { path = match.0.path i; stat = match.0.stat i; cells = map shown (row_is i) })
       ∙ ap (λ (c : List NamedRights). record { path = e.0; stat = (flat_line e).stat; cells = c })
@@ -99,14 +103,17 @@ module _ (session : Session) (s : State) (f : Flat) (l : Laid session s f) (ok :
   abbrev pub value : Path → Node → Row
   value q node v = rights_at session f v.name v.process q node
 
-  pub zipped_values : (es : List (Path × Node)) → zipped es (map (λ (e : Path × Node). value e.0 e.1) es) ≡ map (λ (e : Path × Node). flat_row_line e (value e.0 e.1)) es
+  pub zipped_values : (es : List (Path × Node))
+      → zipped es (map (λ (e : Path × Node). value e.0 e.1) es) ≡ map (λ (e : Path × Node). flat_row_line e (value e.0 e.1)) es
   unfolding zipped
   zipped_values [] = refl
   zipped_values (e ∷ es) = ap (λ (ls : List AccessLine). flat_row_line e (value e.0 e.1) ∷ ls) (zipped_values es)
 
   -- a line of the table
   table_line : (e : Path × Node) → flat_row_line e (value e.0 e.1) ≡ line_of session f (map (named_of session s f l) vs) e
-  table_line e = ap (λ (c : List NamedRights). record { path = e.0; stat = (flat_line e).stat; cells = c }) (sym (map_twice (cell_at session f e) (named_of session s f l) vs))
+  table_line e = ap (λ (c : List NamedRights). record { path = e.0; stat = (flat_line e).stat; cells = c })
+      (sym (map_twice (cell_at session f e) (named_of session s f l) vs))
 
-  pub table_lines : (es : List (Path × Node)) → map (λ (e : Path × Node). flat_row_line e (value e.0 e.1)) es ≡ map (line_of session f (map (named_of session s f l) vs)) es
+  pub table_lines : (es : List (Path × Node))
+      → map (λ (e : Path × Node). flat_row_line e (value e.0 e.1)) es ≡ map (line_of session f (map (named_of session s f l) vs)) es
   table_lines es = λ i. map (λ (e : Path × Node). table_line e i) es

@@ -1,5 +1,5 @@
 -- The processes that are found to run are those of the flat state, each with its thread.
-use Rattle.std.specs.Prelude.{◌≡◌, ℕ, zero, suc, Bool, true, false, List, [], ◌∷◌, ◌++◌, length, map, Option, None, Some, is_some, option_map, refl}
+use Rattle.std.specs.Prelude.{◌≡◌, ℕ, zero, suc, false, List, [], ◌∷◌, ◌++◌, length, map, Option, None, Some, is_some, option_map, refl}
 use Rattle.std.specs.List.{cons_option, filter_map, flat_map, range_with_len}
 use Rattle.std.proofs.Common.{ap, sym, ◌∙◌}
 use Rattle.std.proofs.lemmas.Bool.{true≢false}
@@ -20,10 +20,8 @@ use Rattle.histar_refinement.specs.Laws.{RunsAs}
 use Rattle.histar_refinement.proofs.CallerFound.{callers_are_found, callers_are_there}
 use Rattle.histar_rights.specs.Rights.{above_root}
 use Rattle.histar_rights.specs.Running.{Named, and_children, itself, running_from}
-use Rattle.histar_tree.specs.declared.process.ProcessNode.{ProcessNode}
-use Rattle.histar_tree.specs.ProcessLines.{ProcessLine, flat_processes, process_line, with_children}
+use Rattle.histar_tree.specs.ProcessLines.{ProcessLine, flat_processes, with_children}
 use Rattle.histar_access.specs.declared.cells.Cell.{Cell}
-use Rattle.histar_access.specs.Cells.{visitor_of}
 
 -- what a function makes of what another makes
 pub filter_map_map : {A B C : Type 0} (g : B → Option C) (h : A → B) (xs : List A) → filter_map g (map h xs) ≡ filter_map (λ x. g (h x)) xs
@@ -71,11 +69,15 @@ module _ (session : Session) (s : State) (f : Flat) (l : Laid session s f) where
   cell_by me = option_map (λ (caller : Caller). record { process = me; thread = caller.thread; rights = above_root }) (caller_at s first me)
 
   -- the cells are those of the visitors
-  one_cell : (me : ProcName) (o : Option Caller) (e : caller_at s first me ≡ o) (names : List ProcName) (rest : List Visitor) (cells : List Cell) → cells ≡ map start_cell rest
-      → cons_option (option_map (λ (caller : Caller). record { process = me; thread = caller.thread; rights = above_root }) o) cells ≡ map start_cell (cons_option (visitor_by me o e) rest)
+  one_cell : (me : ProcName) (o : Option Caller) (e : caller_at s first me ≡ o) (names : List ProcName) (rest : List Visitor) (cells : List Cell)
+      → cells ≡ map start_cell rest
+      → cons_option (option_map
+      (λ (caller : Caller). record { process = me; thread = caller.thread; rights = above_root }) o) cells ≡ map start_cell
+      (cons_option (visitor_by me o e) rest)
   unfolding visitor_by
   one_cell me None e names rest cells same = same
-  one_cell me (Some caller) e names rest cells same = ap (λ (cs : List Cell). record { process = me; thread = caller.thread; rights = above_root } ∷ cs) same
+  one_cell me (Some caller) e names rest cells same = ap
+      (λ (cs : List Cell). record { process = me; thread = caller.thread; rights = above_root } ∷ cs) same
 
   pub cells_are : (names : List ProcName) → filter_map cell_by names ≡ map start_cell (visitors names)
   unfolding visitors
@@ -91,7 +93,8 @@ module _ (session : Session) (s : State) (f : Flat) (l : Laid session s f) where
       → cons_option (named_by me) ps ≡ map named_of (cons_option (visitor_by me o e) rest)
   unfolding visitor_by
   one_named me None e rest ps same =
-      ap (λ (o : Option Process). cons_option (option_map (λ p. (me, p)) o) ps) (none_runs (running f me) (sym (callers_are_there session s f l me) ∙ ap is_some e)) ∙ same
+      ap (λ (o : Option Process). cons_option (option_map (λ p. (me, p)) o) ps) (none_runs (running f me) (sym (callers_are_there session s f l me)
+      ∙ ap is_some e)) ∙ same
   one_named me (Some caller) e rest ps same =
       let found = (callers_are_found session s f l me caller).0 e in
       let runs : running f me ≡ Some found.0 = ap if_running found.1.runs.0 ∙ still found.0 found.0.exited refl found.1.runs.1 in
@@ -132,7 +135,8 @@ module _ (f : Flat) (category : Categories) where
   running_listed (suc levels) me = by (f.processes me) refl (running_listed levels)
     where
       by : (o : Option Process) → f.processes me ≡ o → IsListed levels
-          → filter_map named_line (with_children category (λ n. flat_processes category levels f (n ∷ me)) me o) ≡ and_children (λ n. running_from levels f (n ∷ me)) me o
+          → filter_map named_line (with_children category (λ n. flat_processes category levels f (n ∷ me)) me o) ≡ and_children
+          (λ n. running_from levels f (n ∷ me)) me o
       by None e each = refl
       by (Some p) e each =
           (λ i. cons_option (option_map (λ r. (me, r)) (if_running (e i))) (children_listed levels each me (range_with_len 1 p.born) i))

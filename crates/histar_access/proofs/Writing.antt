@@ -1,10 +1,10 @@
 -- The lines of a tree, as they are written one after another.
-use Rattle.std.proofs.Common.{◌≡◌, ℕ, ◌+◌, ◌<◌, ◌≤◌, List, [], ◌∷◌, ◌++◌, Option, Some, None, drop, take, length, get_or, sym, ap, ◌∙◌, subst, refl, append-nil, append_assoc, arith}
+use Rattle.std.proofs.Common.{◌≡◌, ℕ, ◌+◌, ◌<◌, ◌≤◌, List, [], ◌∷◌, ◌++◌, Option, drop, take, length, get_or, sym, ap, ◌∙◌, subst, refl, append-nil, append_assoc, arith}
 use Rattle.std.specs.Prelude.{map}
 use Rattle.std.specs.List.{flat_map}
 use Rattle.std.specs.Io.KnownBytes.{Appends}
 use Rattle.std.proofs.KnownBytes.{Appends-trans}
-use Rattle.std.proofs.lemmas.List.{drop_more, length-drop, nil_from_length, take-map}
+use Rattle.std.proofs.lemmas.List.{drop_more, length-drop, nil_from_length}
 use Rattle.histar_devices.specs.Writing.{AppendsFront}
 use Rattle.histar_shell.proofs.AnswerLemmas.{front_after}
 use Rattle.histar_object.specs.State.{State}
@@ -44,8 +44,10 @@ module _ (s : State) (visitors : List Cell) (tree : List TreeNode) where
   next_row way node = row_below s (object_of node.target) (last_or visitors (take (length node.path) way))
 
   -- one line more
-  pub written_more : (old mid new : Option (List ℕ)) (way : List (List Cell)) (left rest : List TreeNode) (node : TreeNode) (line : List ℕ) → left ≡ node ∷ rest → IsWritten old mid way left
-      → line ≡ access_line_text (line_of_node node (next_row way node)) → Appends mid new line → IsWritten old new (take (length node.path) way ++ next_row way node ∷ []) rest
+  pub written_more : (old mid new : Option (List ℕ)) (way : List (List Cell)) (left rest : List TreeNode) (node : TreeNode) (line : List ℕ)
+      → left ≡ node ∷ rest → IsWritten old mid way left
+      → line ≡ access_line_text (line_of_node node (next_row way node)) → Appends mid new line → IsWritten old new
+      (take (length node.path) way ++ next_row way node ∷ []) rest
   written_more old mid new way left rest node line turn before is more =
       let later = access_text (lines_from s visitors (take (length node.path) way ++ next_row way node ∷ []) rest) in
       record {
@@ -57,7 +59,8 @@ module _ (s : State) (visitors : List Cell) (tree : List TreeNode) where
       }
 
   -- a beginning of one
-  pub begun_more : (old mid new : Option (List ℕ)) (way : List (List Cell)) (left rest : List TreeNode) (node : TreeNode) (line : List ℕ) → left ≡ node ∷ rest → IsWritten old mid way left
+  pub begun_more : (old mid new : Option (List ℕ)) (way : List (List Cell)) (left rest : List TreeNode) (node : TreeNode) (line : List ℕ)
+      → left ≡ node ∷ rest → IsWritten old mid way left
       → line ≡ access_line_text (line_of_node node (next_row way node)) → AppendsFront mid new line → AppendsFront old new whole
   begun_more old mid new way left rest node line turn before is front =
       let later = access_text (lines_from s visitors (take (length node.path) way ++ next_row way node ∷ []) rest) in
@@ -67,10 +70,14 @@ module _ (s : State) (visitors : List Cell) (tree : List TreeNode) where
       subst (AppendsFront old new) (sym parts) (front_after old mid new before.text line later before.written front)
 
   -- what was written is a beginning
-  pub front_written : (old new : Option (List ℕ)) (way : List (List Cell)) (left : List TreeNode) → IsWritten old new way left → AppendsFront old new whole
-  front_written old new way left is = (access_text (lines_from s visitors way left), record { front = is.text; parts = is.parts; appended = is.written })
+  pub front_written : (old new : Option (List ℕ)) (way : List (List Cell)) (left : List TreeNode) → IsWritten old new way left
+      → AppendsFront old new whole
+  front_written old new way left is =
+      (access_text (lines_from s visitors way left), record { front = is.text; parts = is.parts; appended = is.written })
 
   -- at the end it is all
-  pub all_written : (old new : Option (List ℕ)) (way : List (List Cell)) (left : List TreeNode) → left ≡ [] → IsWritten old new way left → Appends old new whole
+  pub all_written : (old new : Option (List ℕ)) (way : List (List Cell)) (left : List TreeNode) → left ≡ [] → IsWritten old new way left
+      → Appends old new whole
   all_written old new way left none is =
-      subst (Appends old new) (sym (is.parts ∙ ap (λ (l : List TreeNode). is.text ++ access_text (lines_from s visitors way l)) none ∙ append-nil is.text)) is.written
+      subst (Appends old new) (sym (is.parts ∙ ap (λ (l : List TreeNode). is.text ++ access_text (lines_from s visitors way l)) none
+      ∙ append-nil is.text)) is.written

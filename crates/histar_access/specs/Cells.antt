@@ -1,11 +1,12 @@
 -- The rights of threads at the paths of a state, by the labels of its objects.
-use Rattle.std.specs.Prelude.{ℕ, List, [], ◌∷◌, ◌++◌, length, map, take, Option, None, Some, option_map}
+use Rattle.std.specs.Prelude.{ℕ, List, [], ◌∷◌, ◌++◌, length, map, take, Option, option_map}
 use Rattle.std.specs.List.{filter_map}
 use Rattle.histar_object.specs.State.{State, observes, modifies}
 use Rattle.histar_layout.specs.Listing.{object_of}
 use Rattle.histar_calls.specs.declared.places.Places.{Places}
 use Rattle.histar_process.specs.declared.caller.Caller.{Caller}
 use Rattle.histar_process.specs.Caller.{caller_at}
+use Rattle.histar_rights.specs.declared.rights.Rights.{Rights}
 use Rattle.histar_rights.specs.Rights.{above_root, rights_below}
 use Rattle.histar_rights.specs.Table.{AccessLine, Cell as NamedRights, cell_text}
 use Rattle.histar_tree.specs.declared.process.ProcessNode.{ProcessNode}
@@ -39,6 +40,10 @@ row_below s object above = map (cell_below s object) above
 -- the process and its rights, which are shown
 abbrev pub shown : Cell → NamedRights
 shown c = record { process = c.process; rights = c.rights }
+
+-- the rights of a process
+abbrev pub cell_rights : Cell → Rights
+cell_rights c = c.rights
 
 -- the text of a process and its rights
 abbrev pub shown_text : Cell → List ℕ

@@ -2,3 +2,5 @@ pub mod Rows
 pub mod Cells
 pub mod Shown
 pub mod Session
+pub mod RightsTable
+pub mod Diff

@@ -8,9 +8,11 @@ use Rattle.histar_flat.specs.Sessions.{Session}
 use Rattle.histar_flat.specs.FlatState.{Flat}
 use Rattle.histar_flat.specs.Meaning.{boot, flat_end}
 use Rattle.histar_script.specs.Script.{Reading}
+use Rattle.histar_script.specs.Outcome.{Gives}
 use Rattle.histar_script.specs.Reading.{script_of}
 use Rattle.histar_script.specs.declared.fault.Fault.{Fault}
 use Rattle.histar_script.specs.declared.fault.Fault.TheVariants.{OutOfMemory, WriteFailed}
+use Rattle.histar_rights.specs.Running.{HaveShownNames}
 use Rattle.histar_rights.specs.Table.{access_table, access_text}
 use Rattle.histar_shell.specs.Machine.{MachineModel}
 use Rattle.histar_shell.specs.Meaning.{Shows}
@@ -36,6 +38,18 @@ table_text at script = access_text (access_table script.session (state_before at
 -- whatever flat state a machine laid out, it lays out the one after these calls
 abbrev pub ShowsAfter : MachineModel → MachineModel → List CallLine → Type 0
 ShowsAfter old new calls = (session : Session) (f : Flat) → Shows session old f → Shows session new (flat_end session f calls)
+
+-- the text is a script, and the machine lays out the flat state before this line, in which processes have names that can be shown
+pub record IsMachineOf (at : Option ℕ) (text : List ℕ) (m : MachineModel) : Type 0 where
+  pub script : Reading
+  pub is_read : script_of text ≡ Ok script
+  pub shows : Shows script.session m (state_before at script)
+  pub named : HaveShownNames (state_before at script)
+
+-- The text was read as a script and run up to this line, or its fault is the answer.
+abbrev pub RunsText : Option ℕ → List ℕ → Result MachineModel Fault → Type 0
+RunsText at text (Ok m) = IsMachineOf at text m
+RunsText at text (Err fault) = Gives {A = Reading} (Err fault) (script_of text)
 
 -- the reading is of a script, and the text of its table was written
 pub record WritesTable (at : Option ℕ) (old new : Option (List ℕ)) (read : Result Reading Fault) : Type 0 where

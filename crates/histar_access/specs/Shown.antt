@@ -26,14 +26,20 @@ AreProcessesIn m processes = AreProcessesOf m.users (state m.kernel) m.places pr
 abbrev pub HasProcesses : MachineModel → Type 0
 HasProcesses m = (processes : List ProcessNode) × AreProcessesIn m processes
 
+-- those of these processes of a machine that run
+abbrev pub visitors_in : MachineModel → List ProcessNode → List Cell
+visitors_in m processes = visitors_among (state m.kernel) m.places processes
+
 -- those of the processes of a machine that run
 abbrev pub AreVisitors : MachineModel → List Cell → Type 0
-AreVisitors m visitors = (processes : List ProcessNode) × AreProcessesIn m processes × (visitors ≡ visitors_among (state m.kernel) m.places processes)
+AreVisitors m visitors = (processes : List ProcessNode) × AreProcessesIn m processes × (visitors ≡ visitors_in m processes)
 
 -- Whatever flat state the machine lays out, the text of its table was written.
 abbrev pub AppendsTable : MachineModel → Option (List ℕ) → Option (List ℕ) → Type 0
-AppendsTable m old new = (session : Session) (f : Flat) → Shows session m f → HaveShownNames f → Appends old new (access_text (access_table session f))
+AppendsTable m old new = (session : Session) (f : Flat) → Shows session m f → HaveShownNames f → Appends old new
+    (access_text (access_table session f))
 
 -- a beginning of it was written
 abbrev pub BeginsTable : MachineModel → Option (List ℕ) → Option (List ℕ) → Type 0
-BeginsTable m old new = (session : Session) (f : Flat) → Shows session m f → HaveShownNames f → AppendsFront old new (access_text (access_table session f))
+BeginsTable m old new = (session : Session) (f : Flat) → Shows session m f → HaveShownNames f → AppendsFront old new
+    (access_text (access_table session f))

@@ -3,8 +3,11 @@
 #![tactic(auto)]
 
 mod cells;
+mod changes;
+mod rights_table;
 mod session;
 mod table;
 
 pub use cells::Cell;
+pub use changes::diff;
 pub use session::access;

@@ -2,7 +2,7 @@
 ghost use Rattle.std.specs.Prelude.{◌≡◌, false, IfErr, IfSome, OnOk, [], ◌∷◌};
 ghost use Rattle.histar_devices.specs.Device.{CountsFailure};
 ghost use Rattle.histar_script.specs.Runs.{LeavesSink, is_read_failed, is_write_failed, RunsInput};
-ghost use Rattle.histar_access.specs.Session.{AccessText, calls_before, is_before, ShowsAfter};
+ghost use Rattle.histar_access.specs.Session.{AccessText, calls_before, is_before, RunsText, ShowsAfter};
 
 use crate::table::write_table;
 use histar_calls::Stopped;
@@ -36,10 +36,12 @@ pub fn access<R: Source, W: Sink>(
 
     // Whatever the source tells, bytes of it were taken, to its end but never more than 1,048,577: the fault of the script that
     // they are is answered, or exactly the text of the table of the flat state after its calls is written.
-    ensures runs { RunsInput (AccessText at) (R.left reader.old) (R.left reader.new) (W.written writer.old) (W.written writer.new) result }
+    ensures runs { RunsInput (AccessText at) (R.left reader.old) (R.left reader.new)
+        (W.written writer.old) (W.written writer.new) result }
 
     // So where the input is known, this is the table of the script of the whole input.
-    ensures known { IfSome (R.left reader.old) (λ input. AccessText at input (W.written writer.old) (W.written writer.new) result) }
+    ensures known { IfSome (R.left reader.old) (λ input.
+        AccessText at input (W.written writer.old) (W.written writer.new) result) }
 {
     let input = read_input(alloc, reader)?;
     access_text(alloc, input.as_slice(), writer, at)
@@ -57,6 +59,19 @@ fn access_text<W: Sink>(
     ensures writes { CountsFailure (W.failures writer.old) (W.failures writer.new) (is_write_failed result) }
     ensures runs { AccessText at text.now (W.written writer.old) (W.written writer.new) result }
 {
+    let machine = machine_before(alloc, text, at)?;
+    write_table(alloc, &machine, writer)
+}
+
+/// Runs the script that a text is on a machine of its own, up to a line where one is given, and returns the
+/// machine.
+pub(crate) fn machine_before(
+    alloc: Global,
+    text: &[u8],
+    at: Option<u32>,
+) -> Result<Machine<InternStore>, Fault>
+    ensures { RunsText at text.now result }
+{
     let store = InternStore::new(alloc, REMEMBERED_ANSWERS)?;
     let script = read_script(alloc, text)?;
     let (session, calls) = script.into_parts();
@@ -66,7 +81,7 @@ fn access_text<W: Sink>(
     let Ok(()) = make_calls(alloc, &mut machine, calls, at) else {
         return Err(Fault::OutOfMemory);
     };
-    write_table(alloc, &machine, writer)
+    Ok(machine)
 }
 
 /// Has the machine do the calls on the lines before one, in their order, or all.

@@ -6,9 +6,10 @@ ghost use Rattle.histar_devices.specs.Writing.{AppendsFront};
 ghost use Rattle.histar_rights.specs.Table.{access_line_text, access_text};
 ghost use Rattle.histar_script.specs.Runs.{IsOutputFault, is_write_failed};
 ghost use Rattle.histar_syscall.specs.KernelModel.{state};
-ghost use Rattle.histar_access.specs.Cells.{line_of_node, lines_from, visitor_of, visitors_among};
+ghost use Rattle.histar_access.specs.Cells.{line_of_node, lines_from, visitor_of};
 ghost use Rattle.histar_access.specs.Rows.{last_or};
-ghost use Rattle.histar_access.specs.Shown.{AppendsTable, AreProcessesIn, BeginsTable, HasProcesses, IsShown};
+ghost use Rattle.histar_access.specs.Shown.{AppendsTable, AreProcessesIn, BeginsTable};
+ghost use Rattle.histar_access.specs.Shown.{HasProcesses, IsShown, visitors_in};
 
 use crate::cells::{Cell, push_cells, row_below};
 use histar_devices::{Sink, write_bytes};
@@ -43,7 +44,7 @@ pub fn write_table<S: LabelStore + Drop, W: Sink>(
 }
 
 /// Returns the processes of a machine, in the order of their names.
-fn processes<S: LabelStore + Drop>(
+pub(crate) fn processes<S: LabelStore + Drop>(
     alloc: Global,
     machine: &Machine<S>,
 ) -> Result<Vec<ProcessNode>, AllocError>
@@ -57,12 +58,12 @@ fn processes<S: LabelStore + Drop>(
 }
 
 /// Returns those of these processes that run, each with its thread.
-fn visitors_among<S: LabelStore + Drop>(
+pub(crate) fn visitors_among<S: LabelStore + Drop>(
     alloc: Global,
     machine: &Machine<S>,
     processes: &[ProcessNode],
 ) -> Result<Vec<Cell>, AllocError>
-    ensures { IfOk result (λ visitors. visitors.items ≡ visitors_among (state machine.now.kernel) machine.now.places processes.now) }
+    ensures { IfOk result (λ visitors. visitors.items ≡ visitors_in machine.now processes.now) }
 {
     let mut visitors = Vec::new(alloc);
     for process in processes {
@@ -113,7 +114,7 @@ fn write_lines<S: LabelStore + Drop, W: Sink>(
 }
 
 /// Returns the last of these rows; where there is none, the processes as they are above `/`.
-fn last_row<'a>(way: &'a [Vec<Cell>], visitors: &'a [Cell]) -> &'a [Cell]
+pub(crate) fn last_row<'a>(way: &'a [Vec<Cell>], visitors: &'a [Cell]) -> &'a [Cell]
     ensures { result.now ≡ last_or visitors.now (map (λ row. row.items) way.now) }
 {
     match way.last() {

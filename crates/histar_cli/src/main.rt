@@ -6,7 +6,7 @@ mod status;
 mod tasks;
 
 use crate::status::{Outcome, outcome_status, status};
-use crate::tasks::{access_file, check_file, lint_file, run_file, run_raw_file};
+use crate::tasks::{access_file, check_file, diff_files, lint_file, run_file, run_raw_file};
 use histar_command_line::{Task, read_words};
 use histar_flat::{ProcName, read_process};
 use histar_script::Fault;
@@ -69,6 +69,7 @@ fn perform<R: Files + Input + Print>(
             Ok(check_file(rt, alloc, &read_job(job)?, path, exit_code))
         }
         Task::Access(path, line) => Ok(access_file(rt, alloc, path, read_line(line)?)),
+        Task::Diff(old, new, line) => Ok(diff_files(rt, alloc, old, new, read_line(line)?)),
         Task::Lint(path) => Ok(lint_file(rt, alloc, path)),
     }
 }

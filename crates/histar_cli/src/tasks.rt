@@ -2,7 +2,7 @@
 
 use crate::files::{finish, open, output};
 use crate::status::Outcome;
-use histar_access::access;
+use histar_access::{access, diff};
 use histar_command_line::RunFlags;
 use histar_comparison::{Verdict, compare};
 use histar_devices::read_input;
@@ -84,6 +84,30 @@ pub fn access_file<R: Files + Input + Print>(
     let mut writer = output(rt, alloc)?;
     let done = access(alloc, &mut reader, &mut writer, at);
     finish(done.map(|_| Outcome::Done), writer)
+}
+
+/// Prints whose rights differ after the calls of two scripts, or before a line of both.
+pub fn diff_files<R: Files + Input + Print>(
+    rt: &R,
+    alloc: Global,
+    old: &str,
+    new: &str,
+    at: Option<u32>,
+) -> Result<Outcome, Fault> {
+    let mut old_reader = open(rt, old)?;
+    let mut new_reader = open(rt, new)?;
+    let mut writer = output(rt, alloc)?;
+    let done = diff(alloc, &mut old_reader, &mut new_reader, &mut writer, at);
+    finish(
+        done.map(|is_same| {
+            if is_same {
+                Outcome::Done
+            } else {
+                Outcome::NotSo
+            }
+        }),
+        writer,
+    )
 }
 
 /// Prints why the script in a file is bad, where it is.

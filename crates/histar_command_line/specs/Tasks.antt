@@ -3,7 +3,7 @@ use Rattle.std.specs.Prelude.{◌≡◌, Bool, false, List, codes, Option, None,
 use Rattle.std.specs.Str.{bytes_eq}
 use Rattle.clap.specs.Words.{Row, Text, first_of}
 use Rattle.histar_command_line.specs.declared.task.Task.{Task}
-use Rattle.histar_command_line.specs.declared.task.Task.TheVariants.{Run, Raw, Check, Access, Lint}
+use Rattle.histar_command_line.specs.declared.task.Task.TheVariants.{Run, Raw, Check, Access, Diff, Lint}
 
 -- the value of a flag that was given
 abbrev pub is_given : Option Text → Bool
@@ -20,6 +20,7 @@ subcommand (Run file flags) = codes "run"
 subcommand (Raw file explain) = codes "raw"
 subcommand (Check job file exit_code) = codes "check"
 subcommand (Access file at) = codes "access"
+subcommand (Diff old new at) = codes "diff"
 subcommand (Lint file) = codes "lint"
 
 -- the task has the words and the flags of its subcommand
@@ -37,6 +38,10 @@ HasArguments (Check job file exit_code) rows =
     × (exit_code ≡ is_set (codes "exit-code") rows)
 HasArguments (Access file at) rows =
     (first_of (codes "FILE") rows ≡ Some file.now)
+    × (option_map (λ line. line.now) at ≡ first_of (codes "LINE") rows)
+HasArguments (Diff old new at) rows =
+    (first_of (codes "OLD") rows ≡ Some old.now)
+    × (first_of (codes "NEW") rows ≡ Some new.now)
     × (option_map (λ line. line.now) at ≡ first_of (codes "LINE") rows)
 HasArguments (Lint file) rows = first_of (codes "FILE") rows ≡ Some file.now
 

@@ -83,5 +83,6 @@ pub(crate) fn command<'a>(alloc: Global) -> Result<Command<'a>, AllocError>
     let histar = add(alloc, histar, &forms::raw())?;
     let histar = add(alloc, histar, &forms::check())?;
     let histar = add(alloc, histar, &forms::access())?;
+    let histar = add(alloc, histar, &forms::diff())?;
     add(alloc, histar, &forms::lint())
 }

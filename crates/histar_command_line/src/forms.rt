@@ -1,6 +1,6 @@
 //! The forms of the subcommands: their names, their arguments and their help.
 ghost use Rattle.std.specs.Prelude.{◌≡◌};
-ghost use Rattle.histar_command_line.specs.Forms.{form_app, run_app, raw_app, check_app, access_app, lint_app};
+ghost use Rattle.histar_command_line.specs.Forms.{form_app, run_app, raw_app, check_app, access_app, diff_app, lint_app};
 
 /// An argument of a subcommand.
 #[derive(Clone, Copy)]
@@ -108,6 +108,29 @@ prints, among others, the line
         arguments: &[
             Argument::Valued("LINE", "at", AT),
             Argument::Word("FILE", SCRIPT),
+        ],
+    }
+}
+
+/// Returns `diff [--at LINE] OLD NEW`.
+pub(crate) fn diff<'a>() -> Form<'a>
+    ensures { form_app result ≡ diff_app }
+{
+    Form {
+        name: "diff",
+        about: "Run two scripts and print whose rights differ at which path",
+        after_help: "Each line is a path, a process, its user, and its rights after the old script and after the new one.
+
+Exit status: 0 where nobody's rights differ, 5 where somebody's do
+
+Example:
+  histar diff examples/policy_before.histar examples/policy_after.histar
+prints, among others, the line
+  /home 0.1 alice srw- sr--",
+        arguments: &[
+            Argument::Valued("LINE", "at", AT),
+            Argument::Word("OLD", "The old script"),
+            Argument::Word("NEW", "The new script"),
         ],
     }
 }

@@ -28,6 +28,8 @@ pub enum Task<'a> {
     Check(&'a str, &'a str, bool),
     /// Print who may do what after the script in this file, or before the line of this number.
     Access(&'a str, Option<&'a str>),
+    /// Print whose rights differ after an old script and a new one, or before the line of this number in both.
+    Diff(&'a str, &'a str, Option<&'a str>),
     /// Print why the script in this file is bad, where it is.
     Lint(&'a str),
 }
@@ -74,6 +76,12 @@ fn state_task_of<'a>(matches: &ArgMatches<'a>) -> Option<Task<'a>>
         let file = access.get_str("FILE")?;
         let at = access.get_str("LINE");
         return Some(Task::Access(file, at));
+    }
+    if let Some(diff) = matches.subcommand_matches("diff") {
+        let old = diff.get_str("OLD")?;
+        let new = diff.get_str("NEW")?;
+        let at = diff.get_str("LINE");
+        return Some(Task::Diff(old, new, at));
     }
     let lint = matches.subcommand_matches("lint")?;
     let file = lint.get_str("FILE")?;

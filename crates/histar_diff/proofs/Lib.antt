@@ -2,3 +2,4 @@ pub mod Steps
 pub mod Joins
 pub mod Listing
 pub mod ShownTables
+pub mod Changes

@@ -162,11 +162,11 @@ tables_show_rights session calls t shows q p =
 -- ---- one list
 
 -- the order of pairs is total
-pair_cmp_total : IsTotalOrder pair_cmp
+pub pair_cmp_total : IsTotalOrder pair_cmp
 pair_cmp_total = then_total (by_image (λ (k : Pair). k.0) path_cmp path_cmp_total) (by_image (λ (k : Pair). k.1) process_cmp process_cmp_total)
 
 -- two pairs tie only where they are equal
-pair_cmp_exact : IsAntisymmetric pair_cmp
+pub pair_cmp_exact : IsAntisymmetric pair_cmp
 pair_cmp_exact a b e = by (path_cmp a.0 b.0) refl e
   where
     by : (o : Ordering) → path_cmp a.0 b.0 ≡ o → ordering_then o (process_cmp a.1 b.1) ≡ Equal → a ≡ b
@@ -174,7 +174,7 @@ pair_cmp_exact a b e = by (path_cmp a.0 b.0) refl e
     by Equal m e = λ i. (path_cmp_exact a.0 b.0 m i, process_cmp_exact a.1 b.1 e i)
     by Greater m e = absurd cc
 
-without_pairs : (ds : List Difference) → map (λ (e : Pair × Difference). e.1) (by_pair ds) ≡ ds
+pub without_pairs : (ds : List Difference) → map (λ (e : Pair × Difference). e.1) (by_pair ds) ≡ ds
 without_pairs [] = refl
 without_pairs (d ∷ ds) = ap (λ es. d ∷ es) (without_pairs ds)
 
@@ -194,7 +194,7 @@ same_bit false true e = absurd cc
 same_bit false false e = refl
 
 -- rights that pass the test are the same
-same_rights_are : (a b : Rights) → same_rights a b ≡ true → a ≡ b
+pub same_rights_are : (a b : Rights) → same_rights a b ≡ true → a ≡ b
 same_rights_are a b e =
     let last = and_parts (beq a.stat b.stat && beq a.read b.read && beq a.write b.write) (beq a.remove b.remove) e in
     let middle = and_parts (beq a.stat b.stat && beq a.read b.read) (beq a.write b.write) last.0 in

@@ -4,11 +4,13 @@ use Rattle.std.specs.FinMap.{find}
 use Rattle.histar_flat.specs.declared.calls.CallLine.{CallLine}
 use Rattle.histar_flat.specs.Words.{Path, ProcName}
 use Rattle.histar_flat.specs.Sessions.{Session}
+use Rattle.histar_flat.specs.FlatState.{Flat}
 use Rattle.histar_flat.specs.Meaning.{boot, flat_end}
 use Rattle.histar_diff.specs.declared.table.Table.{Table}
 use Rattle.histar_diff.specs.declared.differences.Difference.{Difference}
 use Rattle.histar_diff.specs.Differences.{AreDifferences, by_pair, pair_cmp}
 use Rattle.histar_diff.specs.Shown.{ShowsRights, rights_of}
+use Rattle.histar_diff.specs.Changes.{AreChanges, IsAnsweredAlike}
 use Rattle.histar_diff.specs.Tables.{IsTable, rights_in}
 
 -- a pair of a path and a process is listed exactly where its rights differ
@@ -43,3 +45,30 @@ NothingHasChanged =
     → AreDifferences old new []
     → (q : Path) (p : ProcName) → rights_of session (flat_end session (boot session) calls) q p
     ≡ rights_of later (flat_end later (boot later) more) q p
+
+-- the differences of two tables that show the rights after the calls of scripts are the changes between the two states
+abbrev pub DifferencesAreChanges : Type 0
+DifferencesAreChanges =
+    (session later : Session) (calls more : List CallLine) (old new : Table) (ds : List Difference)
+    → ShowsRights session (flat_end session (boot session) calls) old → ShowsRights later (flat_end later (boot later) more) new
+    → AreDifferences old new ds
+    → AreChanges session (flat_end session (boot session) calls) later (flat_end later (boot later) more) ds
+
+-- a pair of a path and a process has changed exactly where its rights differ
+abbrev pub ChangesAreListed : Type 0
+ChangesAreListed =
+    (session : Session) (f : Flat) (later : Session) (g : Flat) (cs : List Difference) → AreChanges session f later g cs
+    → (q : Path) (p : ProcName) → (is_some (find pair_cmp (q, p) (by_pair cs)) ≡ true) ↔ (rights_of session f q p ≢ rights_of later g q p)
+
+-- two lists of exactly the changes between two states are the same list
+abbrev pub ChangesAreOneList : Type 0
+ChangesAreOneList =
+    (session : Session) (f : Flat) (later : Session) (g : Flat) (cs ds : List Difference)
+    → AreChanges session f later g cs → AreChanges session f later g ds → cs ≡ ds
+
+-- where nothing has changed after the calls of two scripts, each process is answered alike at each path
+abbrev pub NobodyIsAnsweredOtherwise : Type 0
+NobodyIsAnsweredOtherwise =
+    (session later : Session) (calls more : List CallLine)
+    → AreChanges session (flat_end session (boot session) calls) later (flat_end later (boot later) more) []
+    → (me : ProcName) (q : Path) → IsAnsweredAlike session calls later more me q

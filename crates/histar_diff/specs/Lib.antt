@@ -5,4 +5,5 @@ pub mod Lines
 pub mod Differences
 pub mod Texts
 pub mod Shown
+pub mod Changes
 pub mod Laws

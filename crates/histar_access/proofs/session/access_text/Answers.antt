@@ -2,8 +2,7 @@ use Rattle.histar_access.proofs.Runs.{is_shown, no_read_fails, sink_after, text_
 use Rattle.histar_access.proofs.session.access_text.Goals as goal
 
 pub write_table-requires : goal.write_table-requires
-write_table-requires g c =
-    is_shown c.args.at c.in_ok-script.script c.in-Ok.machine c.make_calls.new.machine _ _ c.into_parts-session.ensures.session c.into_parts-session.ensures.calls c.in-Ok.ensures.shows c.in-Ok-make_calls.ensures
+write_table-requires g c = is_shown c.args.at c.args.text.now c.in_ok-machine.machine c.in_ok-machine.ensures
 
 pub returns-clause-nothing : goal.returns-clause-nothing
 returns-clause-nothing g c = sink_after c.args.writer.now c.write_table.new.writer c.write_table.result c.write_table.ensures.faults
@@ -13,5 +12,5 @@ returns-clause-reads g c = no_read_fails c.write_table.result c.write_table.ensu
 
 pub returns-clause-runs : goal.returns-clause-runs
 returns-clause-runs g c =
-    text_run c.args.at c.in_ok-script.script c.in-Ok.machine c.make_calls.new.machine _ _ c.into_parts-session.ensures.session c.into_parts-session.ensures.calls c.in-Ok.ensures.shows c.in-Ok-make_calls.ensures
-    c.args.text.now c.in_ok-script.ensures.exact _ _ c.write_table.result c.write_table.ensures.ok c.write_table.ensures.err c.write_table.ensures.faults
+    text_run c.args.at c.args.text.now c.in_ok-machine.machine c.in_ok-machine.ensures c.write_table.result
+    c.write_table.ensures.ok c.write_table.ensures.err c.write_table.ensures.faults

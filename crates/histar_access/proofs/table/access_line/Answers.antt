@@ -1,4 +1,4 @@
-use Rattle.std.proofs.Common.{arith, ◌++◌, append_assoc}
+use Rattle.std.proofs.Common.{arith}
 use Rattle.std.proofs.lemmas.Grind.{common_steps}
 use Rattle.histar_access.proofs.Writing.{texts_shown}
 use Rattle.histar_access.proofs.table.access_line.Goals as goal

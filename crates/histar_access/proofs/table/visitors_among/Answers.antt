@@ -1,6 +1,5 @@
-use Rattle.std.proofs.Common.{rules, arith, sym, ap, ◌∙◌, ◌++◌, [], ◌∷◌, append-nil}
-use Rattle.std.specs.List.{cons_option, filter_map}
-use Rattle.std.proofs.lemmas.Grind.{common_steps}
+use Rattle.std.proofs.Common.{rules, sym, ap, ◌∙◌, ◌++◌, [], append-nil}
+use Rattle.std.specs.List.{cons_option}
 use Rattle.std.specs.Global.{Vec}
 use Rattle.histar_access.specs.declared.cells.Cell.{Cell}
 use Rattle.histar_syscall.specs.KernelModel.{state}
@@ -13,8 +12,11 @@ pub loop-process-preserved : goal.loop-process-preserved
 loop-process-preserved g c =
     let s = state c.args.machine.now.kernel in
     let places = c.args.machine.now.places in
-    let more = kept_more (visitor_of s places) c.args.processes.now c.loop-process.process-index c.process-item.result (search rules) (search rules) in
+    let more = kept_more (visitor_of s places) c.args.processes.now c.loop-process.process-index c.process-item.result (search rules)
+    (search rules) in
     elim c.match-visitor_of.branch [
-      | in-Some+in_ok-push w ↦ let is = sym c.visitor_of.ensures ∙ w.in-Some.is in ap (λ (v : Vec Cell). v.items) w.visitors-is ∙ w.in_ok-push.ensures.items ∙ (λ i. c.loop-process.invariant i ++ cons_option (sym is i) []) ∙ sym more
-      | in_default w ↦ let is = sym c.visitor_of.ensures ∙ w.in_default.is in ap (λ (v : Vec Cell). v.items) w.visitors-is ∙ sym (append-nil c.loop-process.visitors.items) ∙ (λ i. c.loop-process.invariant i ++ cons_option (sym is i) []) ∙ sym more
+      | in-Some+in_ok-push w ↦ let is = sym c.visitor_of.ensures ∙ w.in-Some.is in ap (λ (v : Vec Cell). v.items) w.visitors-is
+          ∙ w.in_ok-push.ensures.items ∙ (λ i. c.loop-process.invariant i ++ cons_option (sym is i) []) ∙ sym more
+      | in_default w ↦ let is = sym c.visitor_of.ensures ∙ w.in_default.is in ap (λ (v : Vec Cell). v.items) w.visitors-is
+          ∙ sym (append-nil c.loop-process.visitors.items) ∙ (λ i. c.loop-process.invariant i ++ cons_option (sym is i) []) ∙ sym more
     ]

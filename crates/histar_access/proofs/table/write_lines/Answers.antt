@@ -1,21 +1,20 @@
-use Rattle.std.proofs.Common.{◌≡◌, ℕ, ◌+◌, List, [], ◌∷◌, ◌++◌, drop, take, length, rules, sym, ap, ◌∙◌, subst, refl, arith}
+use Rattle.std.proofs.Common.{◌+◌, List, [], drop, take, length, rules, sym, ap, ◌∙◌, subst, refl}
 use Rattle.std.specs.Prelude.{map}
 use Rattle.std.proofs.KnownBytes.{Appends-nil}
 use Rattle.std.proofs.lemmas.Result.{err_from_is_err_and}
-use Rattle.histar_object.specs.State.{State}
-use Rattle.histar_layout.specs.Listing.{object_of}
-use Rattle.histar_syscall.specs.KernelModel.{KernelModel, state}
+use Rattle.histar_syscall.specs.KernelModel.{state}
 use Rattle.histar_rights.specs.Table.{access_line_text}
 use Rattle.histar_access.specs.declared.cells.Cell.{Cell}
 use Rattle.histar_access.specs.Cells.{line_of_node, row_below}
 use Rattle.histar_access.specs.Rows.{last_or}
 use Rattle.histar_access.proofs.RowLemmas.{cells_of, kept_way, way_more}
-use Rattle.histar_access.proofs.Writing.{IsWritten, begun_more, front_written, next_left, next_row, written_more}
+use Rattle.histar_access.proofs.Writing.{IsWritten, begun_more, front_written, next_left, written_more}
 use Rattle.histar_access.proofs.table.write_lines.Goals as goal
 
 pub lines-init : goal.lines-init
 lines-init g c = record {
-  written = subst (λ (way : List (List Cell)). IsWritten (state c.args.machine.now.kernel) c.args.visitors.now c.args.tree.now (g.W.Sink.written c.args.writer.now) (g.W.Sink.written c.args.writer.now) way c.args.tree.now) (ap (map cells_of) (sym c.new-way.ensures.items))
+  written = subst (λ (way : List (List Cell)). IsWritten (state c.args.machine.now.kernel) c.args.visitors.now c.args.tree.now
+      (g.W.Sink.written c.args.writer.now) (g.W.Sink.written c.args.writer.now) way c.args.tree.now) (ap (map cells_of) (sym c.new-way.ensures.items))
       (record { text = []; parts = refl; written = Appends-nil (g.W.Sink.written c.args.writer.now) });
   count = refl;
 }
@@ -39,10 +38,13 @@ returns-in_err-write_bytes-clause-err g c =
     let node = c.node-item.result in
     let ways = c.lines.way.items in
     let kept = c.truncate.ensures.items ∙ ap (λ n. take n ways) c.depth.ensures.value in
-    let above = c.last_row-above.ensures ∙ ap (λ rows. last_or c.args.visitors.now (map cells_of rows)) c.as_slice.ensures.value ∙ ap (last_or c.args.visitors.now) (kept_way ways _ (length node.path) kept) in
+    let above = c.last_row-above.ensures ∙ ap (λ rows. last_or c.args.visitors.now (map cells_of rows)) c.as_slice.ensures.value
+    ∙ ap (last_or c.args.visitors.now) (kept_way ways _ (length node.path) kept) in
     let row = c.in_ok-row.ensures ∙ (λ j. row_below (state (c.kernel.ensures j)) (c.object.ensures j) (above j)) in
-    let line = c.as_slice-in-lines-2.ensures.value ∙ c.in_ok-line.ensures ∙ ap (λ cells. access_line_text (line_of_node node cells)) (c.as_slice-in-lines.ensures.value ∙ row) in
-    rw p.1 (begun_more s c.args.visitors.now tree _ _ _ (map cells_of ways) (drop i tree) (drop (i + 1) tree) node _ (next_left tree i node (search rules) c.node-item.is) c.lines.invariant.written line c.in_err-write_bytes.ensures.err)
+    let line = c.as_slice-in-lines-2.ensures.value ∙ c.in_ok-line.ensures
+    ∙ ap (λ cells. access_line_text (line_of_node node cells)) (c.as_slice-in-lines.ensures.value ∙ row) in
+    rw p.1 (begun_more s c.args.visitors.now tree _ _ _ (map cells_of ways) (drop i tree) (drop (i + 1) tree) node _
+    (next_left tree i node (search rules) c.node-item.is) c.lines.invariant.written line c.in_err-write_bytes.ensures.err)
 
 pub returns-in_err-push-clause-err : goal.returns-in_err-push-clause-err
 returns-in_err-push-clause-err g c =
@@ -53,11 +55,14 @@ returns-in_err-push-clause-err g c =
     let node = c.node-item.result in
     let ways = c.lines.way.items in
     let kept = c.truncate.ensures.items ∙ ap (λ n. take n ways) c.depth.ensures.value in
-    let above = c.last_row-above.ensures ∙ ap (λ rows. last_or c.args.visitors.now (map cells_of rows)) c.as_slice.ensures.value ∙ ap (last_or c.args.visitors.now) (kept_way ways _ (length node.path) kept) in
+    let above = c.last_row-above.ensures ∙ ap (λ rows. last_or c.args.visitors.now (map cells_of rows)) c.as_slice.ensures.value
+    ∙ ap (last_or c.args.visitors.now) (kept_way ways _ (length node.path) kept) in
     let row = c.in_ok-row.ensures ∙ (λ j. row_below (state (c.kernel.ensures j)) (c.object.ensures j) (above j)) in
-    let line = c.as_slice-in-lines-2.ensures.value ∙ c.in_ok-line.ensures ∙ ap (λ cells. access_line_text (line_of_node node cells)) (c.as_slice-in-lines.ensures.value ∙ row) in
+    let line = c.as_slice-in-lines-2.ensures.value ∙ c.in_ok-line.ensures
+    ∙ ap (λ cells. access_line_text (line_of_node node cells)) (c.as_slice-in-lines.ensures.value ∙ row) in
     rw p.1 (front_written s c.args.visitors.now tree _ _ _ _
-    (written_more s c.args.visitors.now tree _ _ _ (map cells_of ways) (drop i tree) (drop (i + 1) tree) node _ (next_left tree i node (search rules) c.node-item.is) c.lines.invariant.written line c.in_ok-write_bytes.ensures.ok))
+    (written_more s c.args.visitors.now tree _ _ _ (map cells_of ways) (drop i tree) (drop (i + 1) tree) node _
+    (next_left tree i node (search rules) c.node-item.is) c.lines.invariant.written line c.in_ok-write_bytes.ensures.ok))
 
 pub lines-preserved : goal.lines-preserved
 lines-preserved g c =
@@ -67,11 +72,16 @@ lines-preserved g c =
     let node = c.node-item.result in
     let ways = c.lines.way.items in
     let kept = c.truncate.ensures.items ∙ ap (λ n. take n ways) c.depth.ensures.value in
-    let above = c.last_row-above.ensures ∙ ap (λ rows. last_or c.args.visitors.now (map cells_of rows)) c.as_slice.ensures.value ∙ ap (last_or c.args.visitors.now) (kept_way ways _ (length node.path) kept) in
+    let above = c.last_row-above.ensures ∙ ap (λ rows. last_or c.args.visitors.now (map cells_of rows)) c.as_slice.ensures.value
+    ∙ ap (last_or c.args.visitors.now) (kept_way ways _ (length node.path) kept) in
     let row = c.in_ok-row.ensures ∙ (λ j. row_below (state (c.kernel.ensures j)) (c.object.ensures j) (above j)) in
-    let line = c.as_slice-in-lines-2.ensures.value ∙ c.in_ok-line.ensures ∙ ap (λ cells. access_line_text (line_of_node node cells)) (c.as_slice-in-lines.ensures.value ∙ row) in
+    let line = c.as_slice-in-lines-2.ensures.value ∙ c.in_ok-line.ensures
+    ∙ ap (λ cells. access_line_text (line_of_node node cells)) (c.as_slice-in-lines.ensures.value ∙ row) in
     record {
-      written = subst (λ (way : List (List Cell)). IsWritten s c.args.visitors.now tree (g.W.Sink.written c.args.writer.now) (g.W.Sink.written c.write_bytes.new.writer) way (drop (i + 1) tree)) (sym (way_more ways _ _ (length node.path) c.in_ok-row.row _ kept c.in_ok-push.ensures.items row))
-          (written_more s c.args.visitors.now tree _ _ _ (map cells_of ways) (drop i tree) (drop (i + 1) tree) node _ (next_left tree i node (search rules) c.node-item.is) c.lines.invariant.written line c.in_ok-write_bytes.ensures.ok);
+      written = subst (λ (way : List (List Cell)). IsWritten s c.args.visitors.now tree (g.W.Sink.written c.args.writer.now)
+          (g.W.Sink.written c.write_bytes.new.writer) way (drop (i + 1) tree))
+          (sym (way_more ways _ _ (length node.path) c.in_ok-row.row _ kept c.in_ok-push.ensures.items row))
+          (written_more s c.args.visitors.now tree _ _ _ (map cells_of ways) (drop i tree) (drop (i + 1) tree) node _
+          (next_left tree i node (search rules) c.node-item.is) c.lines.invariant.written line c.in_ok-write_bytes.ensures.ok);
       count = search rules;
     }

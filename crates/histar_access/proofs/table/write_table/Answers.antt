@@ -3,7 +3,7 @@ use Rattle.std.proofs.lemmas.Result.{err_from_is_err_and, on_ok_weaker, on_err_w
 use Rattle.histar_syscall.specs.KernelModel.{state}
 use Rattle.histar_shell.specs.Ending.{IsTreeIn}
 use Rattle.histar_access.specs.Cells.{visitors_among}
-use Rattle.histar_access.specs.Shown.{AreProcessesIn, AreVisitors}
+use Rattle.histar_access.specs.Shown.{AreVisitors}
 use Rattle.histar_access.proofs.TableLemmas.{shown_processes, shown_tree, table_begun, table_written, unbegun}
 use Rattle.histar_access.proofs.table.write_table.Goals as goal
 
@@ -32,12 +32,22 @@ pub returns-clause-ok : goal.returns-clause-ok
 returns-clause-ok g c =
     let m = c.args.machine.now in
     let is : IsTreeIn m c.as_slice-3.result.now = subst (IsTreeIn m) (sym c.as_slice-3.ensures.value) c.in_ok-tree.ensures in
-    let are : AreVisitors m c.as_slice-2.result.now = (c.in_ok-processes.processes.items, c.in_ok-processes.ensures, c.as_slice-2.ensures.value ∙ c.in_ok-visitors.ensures ∙ ap (visitors_among (state m.kernel) m.places) c.as_slice.ensures.value) in
+    let are : AreVisitors m c.as_slice-2.result.now = (
+      c.in_ok-processes.processes.items,
+      c.in_ok-processes.ensures,
+      c.as_slice-2.ensures.value
+          ∙ c.in_ok-visitors.ensures ∙ ap (visitors_among (state m.kernel) m.places) c.as_slice.ensures.value,
+    ) in
     on_ok_weaker c.write_lines.result (table_written m c.as_slice-3.result.now is c.as_slice-2.result.now are _ _) c.write_lines.ensures.ok
 
 pub returns-clause-err : goal.returns-clause-err
 returns-clause-err g c =
     let m = c.args.machine.now in
     let is : IsTreeIn m c.as_slice-3.result.now = subst (IsTreeIn m) (sym c.as_slice-3.ensures.value) c.in_ok-tree.ensures in
-    let are : AreVisitors m c.as_slice-2.result.now = (c.in_ok-processes.processes.items, c.in_ok-processes.ensures, c.as_slice-2.ensures.value ∙ c.in_ok-visitors.ensures ∙ ap (visitors_among (state m.kernel) m.places) c.as_slice.ensures.value) in
+    let are : AreVisitors m c.as_slice-2.result.now = (
+      c.in_ok-processes.processes.items,
+      c.in_ok-processes.ensures,
+      c.as_slice-2.ensures.value
+          ∙ c.in_ok-visitors.ensures ∙ ap (visitors_among (state m.kernel) m.places) c.as_slice.ensures.value,
+    ) in
     on_err_weaker c.write_lines.result (table_begun m c.as_slice-3.result.now is c.as_slice-2.result.now are _ _) c.write_lines.ensures.err

@@ -16,6 +16,19 @@ returns-in-Some c =
       ),
     )
 
+pub returns-in-Some-subcommand_matches : goal.returns-in-Some-subcommand_matches
+returns-in-Some-subcommand_matches c =
+    let m = c.in-Some-subcommand_matches in
+    let found = found_of m.diff.now in (
+      rows_of found,
+      matched c.args.matches.now (codes "diff") (rows_of found) (m.ensures.found.0 refl) m.ensures.rows,
+      (
+        sym (c.in_ok-old.ensures ∙ first_value-rows found (codes "OLD")),
+        sym (c.in_ok-new.ensures ∙ first_value-rows found (codes "NEW")),
+        c.get_str-at-in-Some-subcommand_matches.ensures ∙ first_value-rows found (codes "LINE"),
+      ),
+    )
+
 pub returns : goal.returns
 returns c =
     let m = c.in_ok-lint in

@@ -1,0 +1,226 @@
+-- What `diff` says, put together from what its parts say.
+use Rattle.std.proofs.Common.{◌≡◌, ℕ, true, false, List, [], ◌∷◌, length, Option, Some, None, Result, Ok, Err, refl, sym, ap, subst, ◌∙◌, arith, inl, inr}
+use Rattle.std.specs.Prelude.{◌↔◌, ◌==◌, Bool, IfSome, IsOk, MatchResult, is_ok}
+use Rattle.std.specs.Io.KnownBytes.{Appends, Keeps}
+use Rattle.std.proofs.lemmas.Bool.{false≢true}
+use Rattle.std.proofs.lemmas.Bool.Decides.{nat_tests}
+use Rattle.std.proofs.KnownBytes.{Keeps-refl}
+use Rattle.histar_devices.specs.declared.input.InputError.{InputError}
+use Rattle.histar_devices.specs.declared.input.InputError.TheVariants as input
+use Rattle.histar_devices.specs.Device.{CountsFailure}
+use Rattle.histar_devices.specs.Input.{TakesAll, TakesSome, is_read_failed as fails_to_read}
+use Rattle.histar_devices.specs.Writing.{AppendsFront}
+use Rattle.histar_script.specs.declared.fault.Fault.{Fault}
+use Rattle.histar_script.specs.declared.fault.Fault.TheVariants.{BadScript, TooLong, OutOfMemory, ReadFailed, WriteFailed}
+use Rattle.histar_script.specs.Script.{Reading}
+use Rattle.histar_script.specs.Outcome.{Gives, input_fault}
+use Rattle.histar_script.specs.Reading.{script_of}
+use Rattle.histar_script.specs.Runs.{IsOutputFault, is_read_failed}
+use Rattle.histar_diff.specs.declared.differences.Difference.{Difference}
+use Rattle.histar_diff.specs.declared.table.Table.{Table}
+use Rattle.histar_diff.specs.Differences.{AreDifferences}
+use Rattle.histar_diff.specs.Tables.{IsTable}
+use Rattle.histar_diff.specs.Texts.{differences_text}
+use Rattle.histar_diff.proofs.Changes.{differences_are_changes}
+use Rattle.histar_diff.proofs.ShownTables.{shown_tables_rise}
+use Rattle.histar_shell.specs.Machine.{MachineModel}
+use Rattle.histar_access.specs.Diff.{AreChangesOf, BeginsChanges, ChangesAtFault, ComparesInputs, ComparesTaken, ComparesTexts, CountsOneFailure, Inputs, IsFaultOf, IsTableOf, Scripts, StopsAtInput, both_read, scripts_of, WritesChanges}
+use Rattle.histar_access.specs.RightsTable.{ShowsTable}
+use Rattle.histar_access.specs.Session.{IsMachineOf, calls_before, state_before}
+use Rattle.histar_access.proofs.Runs.{same_script}
+
+-- what it answers
+abbrev Answer : Type 0
+Answer = Result Bool Fault
+
+module _ (at : Option ℕ) where
+  -- ---- tables
+
+  -- the table of a machine of a script
+  pub table_is : (text : List ℕ) (m : MachineModel) (t : Table) → IsMachineOf at text m → ShowsTable m t → IsTableOf at text t
+  table_is text m t is shows = record {
+    script = is.script;
+    is_read = is.is_read;
+    shows = shows is.script.session
+        (state_before at is.script) is.shows is.named;
+  }
+
+  -- it is in order
+  pub table_rises : (text : List ℕ) (t : Table) → IsTableOf at text t → IsTable t
+  table_rises text t is = shown_tables_rise is.script.session (calls_before at is.script.calls) t is.shows
+
+  -- ---- a text that is no script
+
+  module _ (a b : List ℕ) (w : Option (List ℕ)) where
+    -- want of memory before anything was written
+    pub no_memory : ComparesTexts at a b w w (Err OutOfMemory)
+    no_memory = record { faults = tt; writes = inl (Keeps-refl w) }
+
+    -- a fault of the old one
+    pub old_fault : (f : Fault) → Gives {A = Reading} (Err f) (script_of a) → ComparesTexts at a b w w (Err f)
+    old_fault (BadScript n) given = record { faults = ap (λ (r : Result Reading Fault). both_read r (script_of b)) given; writes = Keeps-refl w }
+    old_fault TooLong given = record { faults = ap (λ (r : Result Reading Fault). both_read r (script_of b)) given; writes = Keeps-refl w }
+    old_fault OutOfMemory given = no_memory
+    old_fault ReadFailed given = absurd given
+    old_fault WriteFailed given = absurd given
+
+    -- a fault of the new one, where the old one is a script
+    pub new_fault : (old : Reading) → script_of a ≡ Ok old → (f : Fault) → Gives {A = Reading} (Err f) (script_of b)
+        → ComparesTexts at a b w w (Err f)
+    new_fault old is (BadScript n) given = record { faults = λ i. both_read (is i) (given i); writes = Keeps-refl w }
+    new_fault old is TooLong given = record { faults = λ i. both_read (is i) (given i); writes = Keeps-refl w }
+    new_fault old is OutOfMemory given = no_memory
+    new_fault old is ReadFailed given = absurd given
+    new_fault old is WriteFailed given = absurd given
+
+  -- ---- two tables
+
+  -- the tables of two texts, and exactly their differences
+  pub record AreCompared (a b : List ℕ) (ds : List Difference) : Type 0 where
+    pub before : Table
+    pub after : Table
+    pub is_before : IsTableOf at a before
+    pub is_after : IsTableOf at b after
+    pub exact : AreDifferences before after ds
+
+  both_are : {a b : List ℕ} {ds : List Difference} → (c : AreCompared a b ds) → scripts_of a b ≡ Ok (c.is_before.script, c.is_after.script)
+  both_are c = λ i. both_read (c.is_before.is_read i) (c.is_after.is_read i)
+
+  are_changes : {a b : List ℕ} {ds : List Difference} → (c : AreCompared a b ds) → AreChangesOf at (c.is_before.script, c.is_after.script) ds
+  are_changes {ds = ds} c =
+      let old = c.is_before.script in
+      let new = c.is_after.script in
+      differences_are_changes old.session new.session (calls_before at old.calls) (calls_before at new.calls) c.before c.after ds c.is_before.shows
+      c.is_after.shows c.exact
+
+  -- the lines were written
+  pub changes_written : {a b : List ℕ} {ds : List Difference} {old new : Option (List ℕ)} → AreCompared a b ds → (none : Bool)
+      → (none ≡ true) ↔ (ds ≡ [])
+      → Appends old new (differences_text ds) → ComparesTexts at a b old new (Ok none)
+  changes_written {ds = ds} c none answered written = record {
+    faults = ap is_ok (both_are c);
+    writes = record {
+      scripts = (c.is_before.script, c.is_after.script);
+      are_read = both_are c;
+      changes = ds;
+      are_changes = are_changes c;
+      written = written;
+      answered = answered;
+    };
+  }
+
+  begins : {a b : List ℕ} {ds : List Difference} {old new : Option (List ℕ)} → AreCompared a b ds → AppendsFront old new (differences_text ds)
+      → BeginsChanges at old new (scripts_of a b)
+  begins {ds = ds} c front = record {
+    scripts = (c.is_before.script, c.is_after.script);
+    are_read = both_are c;
+    changes = ds;
+    are_changes = are_changes c;
+    written = front;
+  }
+
+  -- or a beginning of them
+  pub changes_begun : {a b : List ℕ} {ds : List Difference} {old new : Option (List ℕ)} → AreCompared a b ds → (f : Fault) → IsOutputFault f
+      → AppendsFront old new (differences_text ds) → ComparesTexts at a b old new (Err f)
+  changes_begun c (BadScript n) h front = absurd h
+  changes_begun c TooLong h front = absurd h
+  changes_begun c OutOfMemory h front = record { faults = tt; writes = inr (begins c front) }
+  changes_begun c ReadFailed h front = absurd h
+  changes_begun c WriteFailed h front = record { faults = ap is_ok (both_are c); writes = begins c front }
+
+  -- ---- inputs that are taken
+
+  -- an error of the old input stops the reading
+  pub stops_at_old : (e : InputError) (left rest later w : Option (List ℕ)) → TakesSome left rest
+      → ComparesInputs at (left, later) (rest, later) w w (Err (input_fault e))
+  stops_at_old input.OutOfMemory left rest later w takes = inl (inl (record { takes_old = takes; keeps_new = refl }), Keeps-refl w)
+  stops_at_old input.ReadFailed left rest later w takes = (inl (record { takes_old = takes; keeps_new = refl }), Keeps-refl w)
+
+  -- and an error of the new one
+  pub stops_at_new : (e : InputError) (left rest : Inputs) (v : Option (List ℕ)) (taken : List ℕ) → TakesAll left.0 rest.0 taken
+      → TakesSome left.1 rest.1
+      → ComparesInputs at left rest v v (Err (input_fault e))
+  stops_at_new input.OutOfMemory left rest v taken all some = inl
+      (inr (record { old_taken = taken; takes_old = all; takes_new = some }), Keeps-refl v)
+  stops_at_new input.ReadFailed left rest v taken all some = (inr (record { old_taken = taken; takes_old = all; takes_new = some }), Keeps-refl v)
+
+  -- what was taken is compared
+  pub compares_taken : (left rest : Inputs) (old new : Option (List ℕ)) (result : Answer) → ComparesTaken at left rest old new result
+      → is_read_failed result ≡ false
+      → ComparesInputs at left rest old new result
+  compares_taken left rest old new (Ok none) h reads = h
+  compares_taken left rest old new (Err (BadScript n)) h reads = h
+  compares_taken left rest old new (Err TooLong) h reads = h
+  compares_taken left rest old new (Err OutOfMemory) h reads = inr h
+  compares_taken left rest old new (Err ReadFailed) h reads = absurd (false≢true (sym reads))
+  compares_taken left rest old new (Err WriteFailed) h reads = h
+
+  -- the texts of the whole inputs are compared as what was taken of them
+  same_texts : {c d : List ℕ} → (a b : List ℕ) (old new : Option (List ℕ)) (result : Answer) → scripts_of c d ≡ scripts_of a b
+      → ComparesTexts at c d old new result → ComparesTexts at a b old new result
+  same_texts a b old new result same compares = record {
+    faults = subst (λ (read : Result Scripts Fault). MatchResult result (λ _. IsOk read) (IsFaultOf read)) same compares.faults;
+    writes = subst (λ (read : Result Scripts Fault). MatchResult result (WritesChanges at old new read)
+        (ChangesAtFault at old new read)) same compares.writes;
+  }
+
+  taken_known : (a b : Option (List ℕ)) (rest : Inputs) (old new : Option (List ℕ)) (result : Answer) → ComparesTaken at (a, b) rest old new result
+      → IfSome a (λ x. IfSome b (λ y. ComparesTexts at x y old new result))
+  taken_known None b rest old new result h = tt
+  taken_known (Some x) None rest old new result h = tt
+  taken_known (Some x) (Some y) rest old new result h =
+      same_texts x y old new result
+      (λ i. both_read (same_script at x rest.0 h.old_taken h.takes_old i) (same_script at y rest.1 h.new_taken h.takes_new i)) h.compares
+
+  stopped_known : {rest : Inputs} → (a b old new : Option (List ℕ)) (result : Answer)
+      → ((x y : List ℕ) → Keeps old new → ComparesTexts at x y old new result)
+      → StopsAtInput (a, b) rest old new → IfSome a (λ x. IfSome b (λ y. ComparesTexts at x y old new result))
+  stopped_known None b old new result runs h = tt
+  stopped_known (Some x) None old new result runs h = tt
+  stopped_known (Some x) (Some y) old new result runs h = runs x y h.1
+
+  -- known inputs were compared
+  pub inputs_known : (a b : Option (List ℕ)) (rest : Inputs) (old new : Option (List ℕ)) (result : Answer)
+      → ComparesInputs at (a, b) rest old new result
+      → IfSome a (λ x. IfSome b (λ y. ComparesTexts at x y old new result))
+  inputs_known a b rest old new (Ok none) h = taken_known a b rest old new (Ok none) h
+  inputs_known a b rest old new (Err (BadScript n)) h = taken_known a b rest old new (Err (BadScript n)) h
+  inputs_known a b rest old new (Err TooLong) h = taken_known a b rest old new (Err TooLong) h
+  inputs_known a b rest old new (Err OutOfMemory) (inl h) = stopped_known a b old new (Err OutOfMemory)
+      (λ x y keeps. record { faults = tt; writes = inl keeps }) h
+  inputs_known a b rest old new (Err OutOfMemory) (inr h) = taken_known a b rest old new (Err OutOfMemory) h
+  inputs_known a b rest old new (Err ReadFailed) h = stopped_known a b old new (Err ReadFailed)
+      (λ x y keeps. record { faults = tt; writes = keeps }) h
+  inputs_known a b rest old new (Err WriteFailed) h = taken_known a b rest old new (Err WriteFailed) h
+
+-- ---- no changes
+
+-- no change is listed exactly where the list has no length
+pub none_listed : (cs : List Difference) (none : Bool) → none ≡ (length cs == 0) → (none ≡ true) ↔ (cs ≡ [])
+none_listed [] none is = (λ _. refl, λ _. is)
+none_listed (c ∷ cs) none is = (
+  λ none_is.
+      let e = sym is ∙ none_is in
+      let zero : length (c ∷ cs) ≡ 0 = grind (arith, nat_tests, e) in
+      absurd (omega (arith, zero)),
+  λ empty. absurd (cc),
+)
+
+-- ---- failed reads
+
+-- a failed read of the old source
+pub old_fails : (e : InputError) (a b c : ℕ) → CountsFailure a b (fails_to_read {A = Unit {0}} (Err e))
+    → CountsOneFailure a b c c (is_read_failed {A = Bool} (Err (input_fault e)))
+old_fails input.OutOfMemory a b c counts = (true, counts, refl)
+old_fails input.ReadFailed a b c counts = (true, counts, refl)
+
+-- or of the new one
+pub new_fails : (e : InputError) (a b c d : ℕ) → CountsFailure a b false → CountsFailure c d (fails_to_read {A = Unit {0}} (Err e))
+    → CountsOneFailure a b c d (is_read_failed {A = Bool} (Err (input_fault e)))
+new_fails input.OutOfMemory a b c d kept counts = (false, kept, counts)
+new_fails input.ReadFailed a b c d kept counts = (false, kept, counts)
+
+-- or of none
+pub none_fails : (a b c d : ℕ) (failed : Bool) → CountsFailure a b false → CountsFailure c d false → failed ≡ false → CountsOneFailure a b c d failed
+none_fails a b c d true kept held none = absurd (false≢true (sym none))
+none_fails a b c d false kept held none = (true, kept, held)

@@ -1,0 +1,26 @@
+use Rattle.std.proofs.Common.{[], ap, ◌∙◌}
+use Rattle.std.specs.Prelude.{map}
+use Rattle.std.specs.List.{filter_map}
+use Rattle.histar_syscall.specs.KernelModel.{state}
+use Rattle.histar_diff.specs.Shown.{rights_line}
+use Rattle.histar_access.specs.Cells.{lines_from}
+use Rattle.histar_access.specs.RightsTable.{runner_of}
+use Rattle.histar_access.specs.Shown.{visitors_in}
+use Rattle.histar_access.proofs.RightsLines.{table_shows}
+use Rattle.histar_access.proofs.TableLemmas.{shown_processes, shown_tree}
+use Rattle.histar_access.proofs.rights_table.table_of.Goals as goal
+
+pub tree-requires : goal.tree-requires
+tree-requires g c = shown_tree c.args.machine.now c.requires
+
+pub processes-requires : goal.processes-requires
+processes-requires g c = shown_processes c.args.machine.now c.requires
+
+pub returns : goal.returns
+returns g c =
+    let m = c.args.machine.now in
+    let runners = c.in_ok-runners.ensures ∙ ap (filter_map runner_of) c.as_slice-4.ensures.value in
+    let visitors = c.as_slice-2.ensures.value ∙ c.in_ok-visitors.ensures ∙ ap (visitors_in m) c.as_slice.ensures.value in
+    let lines = c.in_ok-lines.ensures ∙ (λ i. map rights_line (lines_from (state m.kernel) (visitors i) [] (c.as_slice-3.ensures.value i))) in
+    table_shows m c.in_ok-tree.tree.items c.in_ok-tree.ensures c.in_ok-processes.processes.items c.in_ok-processes.ensures
+    (record { processes = c.in_ok-runners.runners; lines = c.in_ok-lines.lines }) runners lines

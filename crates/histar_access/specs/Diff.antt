@@ -1,0 +1,127 @@
+-- What `diff` answers and writes, by the inputs of which the two scripts are read.
+use Rattle.std.specs.Prelude.{◌≡◌, ◌↔◌, ℕ, ◌⊎◌, Bool, true, not, ◌&&◌, List, [], Option, Result, Ok, Err, IsOk, MatchResult}
+use Rattle.std.specs.Io.KnownBytes.{Appends, Keeps}
+use Rattle.histar_devices.specs.Device.{CountsFailure}
+use Rattle.histar_devices.specs.Input.{TakesAll, TakesSome}
+use Rattle.histar_devices.specs.Writing.{AppendsFront}
+use Rattle.histar_script.specs.Script.{Reading}
+use Rattle.histar_script.specs.Outcome.{Gives}
+use Rattle.histar_script.specs.Reading.{script_of}
+use Rattle.histar_script.specs.declared.fault.Fault.{Fault}
+use Rattle.histar_script.specs.declared.fault.Fault.TheVariants.{OutOfMemory, ReadFailed, WriteFailed}
+use Rattle.histar_diff.specs.declared.differences.Difference.{Difference}
+use Rattle.histar_diff.specs.declared.table.Table.{Table}
+use Rattle.histar_diff.specs.Changes.{AreChanges}
+use Rattle.histar_diff.specs.Shown.{ShowsRights}
+use Rattle.histar_diff.specs.Texts.{differences_text}
+use Rattle.histar_access.specs.Session.{state_before}
+
+-- ---- two scripts
+
+-- the old script and the new one
+abbrev pub Scripts : Type 0
+Scripts = Reading × Reading
+
+-- both scripts, or the fault of the old one, or else that of the new one
+abbrev pub both_read : Result Reading Fault → Result Reading Fault → Result Scripts Fault
+both_read (Ok old) (Ok new) = Ok (old, new)
+both_read (Ok old) (Err fault) = Err fault
+both_read (Err fault) new = Err fault
+
+-- the scripts that two texts are
+abbrev pub scripts_of : List ℕ → List ℕ → Result Scripts Fault
+scripts_of old new = both_read (script_of old) (script_of new)
+
+-- these are exactly the changes between the flat states of two scripts, each after its calls before this line
+abbrev pub AreChangesOf : Option ℕ → Scripts → List Difference → Type 0
+AreChangesOf at scripts cs = AreChanges scripts.0.session (state_before at scripts.0) scripts.1.session (state_before at scripts.1) cs
+
+-- ---- what is written
+
+-- both are scripts, the lines of exactly the changes were written, and the answer is true exactly where there is none
+pub record WritesChanges (at : Option ℕ) (old new : Option (List ℕ)) (read : Result Scripts Fault) (none : Bool) : Type 0 where
+  pub scripts : Scripts
+  pub are_read : read ≡ Ok scripts
+  pub changes : List Difference
+  pub are_changes : AreChangesOf at scripts changes
+  pub written : Appends old new (differences_text changes)
+  pub answered : (none ≡ true) ↔ (changes ≡ [])
+
+-- both are scripts, and a beginning of the lines of the changes was written
+pub record BeginsChanges (at : Option ℕ) (old new : Option (List ℕ)) (read : Result Scripts Fault) : Type 0 where
+  pub scripts : Scripts
+  pub are_read : read ≡ Ok scripts
+  pub changes : List Difference
+  pub are_changes : AreChangesOf at scripts changes
+  pub written : AppendsFront old new (differences_text changes)
+
+-- At a failed write a beginning of the lines was written, where memory runs out that or nothing, at the other faults nothing.
+abbrev pub ChangesAtFault : Option ℕ → Option (List ℕ) → Option (List ℕ) → Result Scripts Fault → Fault → Type 0
+ChangesAtFault at old new read OutOfMemory = Keeps old new ⊎ BeginsChanges at old new read
+ChangesAtFault at old new read WriteFailed = BeginsChanges at old new read
+ChangesAtFault at old new read fault = Keeps old new
+
+-- The fault of a script is answered as what it is. The others are no faults of a script, and a write fails only after two right ones.
+abbrev pub IsFaultOf : Result Scripts Fault → Fault → Type 0
+IsFaultOf read OutOfMemory = Unit {0}
+IsFaultOf read ReadFailed = Unit {0}
+IsFaultOf read WriteFailed = IsOk read
+IsFaultOf read fault = read ≡ Err fault
+
+-- The texts were read as scripts: the first fault of the two is answered, or exactly the lines of the changes between them were written.
+pub record ComparesTexts (at : Option ℕ) (a b : List ℕ) (old new : Option (List ℕ)) (result : Result Bool Fault) : Type 0 where
+  pub faults : MatchResult result (λ _. IsOk (scripts_of a b)) (IsFaultOf (scripts_of a b))
+  pub writes : MatchResult result (WritesChanges at old new (scripts_of a b)) (ChangesAtFault at old new (scripts_of a b))
+
+-- ---- what is taken
+
+-- what is left of the old input and of the new one
+abbrev pub Inputs : Type 0
+Inputs = Option (List ℕ) × Option (List ℕ)
+
+-- Both inputs were taken, the old one and then the new one, and the texts that they are were compared.
+pub record ComparesTaken (at : Option ℕ) (left rest : Inputs) (old new : Option (List ℕ)) (result : Result Bool Fault) : Type 0 where
+  pub old_taken : List ℕ
+  pub takes_old : TakesAll left.0 rest.0 old_taken
+  pub new_taken : List ℕ
+  pub takes_new : TakesAll left.1 rest.1 new_taken
+  pub compares : ComparesTexts at old_taken new_taken old new result
+
+-- some bytes of the old input were taken and none of the new one
+pub record StopsAtOld (left rest : Inputs) : Type 0 where
+  pub takes_old : TakesSome left.0 rest.0
+  pub keeps_new : rest.1 ≡ left.1
+
+-- the old input was taken, and some bytes of the new one
+pub record StopsAtNew (left rest : Inputs) : Type 0 where
+  pub old_taken : List ℕ
+  pub takes_old : TakesAll left.0 rest.0 old_taken
+  pub takes_new : TakesSome left.1 rest.1
+
+-- Reading stopped at one of the inputs, and nothing was written.
+abbrev pub StopsAtInput : Inputs → Inputs → Option (List ℕ) → Option (List ℕ) → Type 0
+StopsAtInput left rest old new = (StopsAtOld left rest ⊎ StopsAtNew left rest) × Keeps old new
+
+-- Both inputs are taken and compared, but reading stops at a failed read, and where memory runs out may have done so.
+abbrev pub ComparesInputs : Option ℕ → Inputs → Inputs → Option (List ℕ) → Option (List ℕ) → Result Bool Fault → Type 0
+ComparesInputs at left rest old new (Err OutOfMemory) = StopsAtInput left rest old new ⊎ ComparesTaken at left rest old new (Err OutOfMemory)
+ComparesInputs at left rest old new (Err ReadFailed) = StopsAtInput left rest old new
+ComparesInputs at left rest old new result = ComparesTaken at left rest old new result
+
+-- The old source counted one failed call more, or else the new one did, where a read failed; and else neither did.
+abbrev pub CountsOneFailure : ℕ → ℕ → ℕ → ℕ → Bool → Type 0
+CountsOneFailure old old_after new new_after has_failed =
+    (is_old : Bool) × CountsFailure old old_after (has_failed && is_old) × CountsFailure new new_after (has_failed && not is_old)
+
+-- ---- the parts
+
+-- the text is a script, and the table shows the rights of its flat state before this line
+pub record IsTableOf (at : Option ℕ) (text : List ℕ) (t : Table) : Type 0 where
+  pub script : Reading
+  pub is_read : script_of text ≡ Ok script
+  pub shows : ShowsRights script.session (state_before at script) t
+
+-- the text was read as a script, and this is the table of it, or its fault is the answer
+abbrev pub ReadsTable : Option ℕ → List ℕ → Result Table Fault → Type 0
+ReadsTable at text (Ok t) = IsTableOf at text t
+ReadsTable at text (Err fault) = Gives {A = Reading} (Err fault) (script_of text)

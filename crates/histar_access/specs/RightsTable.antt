@@ -1,0 +1,34 @@
+-- The table of a machine as a value.
+use Rattle.std.specs.Prelude.{List, Option, None, Some}
+use Rattle.histar_flat.specs.Words.{Path}
+use Rattle.histar_flat.specs.Sessions.{Session}
+use Rattle.histar_flat.specs.FlatState.{Flat}
+use Rattle.histar_rights.specs.declared.rights.Rights.{Rights}
+use Rattle.histar_rights.specs.Running.{HaveShownNames}
+use Rattle.histar_diff.specs.declared.table.Runner.{Runner}
+use Rattle.histar_diff.specs.declared.table.Table.{Table}
+use Rattle.histar_diff.specs.declared.table.TableLine.{TableLine}
+use Rattle.histar_diff.specs.Shown.{ShowsRights}
+use Rattle.histar_tree.specs.declared.process.Life.{Life}
+use Rattle.histar_tree.specs.declared.process.Life.TheVariants.{Running, Exited}
+use Rattle.histar_tree.specs.declared.process.ProcessNode.{ProcessNode}
+use Rattle.histar_flat.specs.Words.{ProcName}
+use Rattle.histar_shell.specs.Machine.{MachineModel}
+use Rattle.histar_shell.specs.Meaning.{Shows}
+
+-- a process of this life, and its user, where it runs
+abbrev pub runner_by : ProcName → Life → Option Runner
+runner_by me (Running user held) = Some (record { process = me; user = user })
+runner_by me (Exited number) = None
+
+-- a process and its user, where it runs
+abbrev pub runner_of : ProcessNode → Option Runner
+runner_of node = runner_by node.name node.life
+
+-- a path and the rights there
+abbrev pub line_rights : TableLine → Path × List Rights
+line_rights line = (line.path, line.rights.items)
+
+-- Whatever flat state the machine lays out, the table shows the rights of that.
+abbrev pub ShowsTable : MachineModel → Table → Type 0
+ShowsTable m t = (session : Session) (f : Flat) → Shows session m f → HaveShownNames f → ShowsRights session f t

@@ -1,0 +1,105 @@
+//! What changed between two scripts, from bytes to bytes.
+ghost use Rattle.std.specs.Prelude.{◌≡◌, false, IfErr, IfSome, OnErr, OnOk};
+ghost use Rattle.std.specs.Io.KnownBytes.{Appends};
+ghost use Rattle.histar_devices.specs.Device.{CountsFailure};
+ghost use Rattle.histar_devices.specs.Writing.{AppendsFront};
+ghost use Rattle.histar_script.specs.Runs.{IsOutputFault, LeavesSink, is_read_failed, is_write_failed};
+ghost use Rattle.histar_diff.specs.Texts.{differences_text};
+ghost use Rattle.histar_access.specs.Diff.{ComparesInputs, ComparesTexts, CountsOneFailure, ReadsTable};
+
+use crate::rights_table::table_of;
+use crate::session::machine_before;
+use histar_devices::{Sink, Source, read_input, write_bytes};
+use histar_diff::{Difference, Table, differences_between, push_difference};
+use histar_script::Fault;
+use std::alloc::Global;
+
+/// Reads two scripts, runs each on a machine of its own, and writes what changed from the old one to
+/// the new one: a line for each path and process whose rights differ. It answers whether nothing did.
+/// With a line number the calls on lines before that one are run of each, and else all.
+///
+/// Both scripts are read whole before the first call of either, and both tables are there before the
+/// first line is written. It doesn't flush the sink.
+pub fn diff<R: Source, Q: Source, W: Sink>(
+    alloc: Global,
+    old_script: &mut R,
+    new_script: &mut Q,
+    writer: &mut W,
+    at: Option<u32>,
+) -> Result<bool, Fault>
+    // After a bad script, one that is too long and a failed read the sink is as it was.
+    ensures nothing { IfErr result (LeavesSink writer.old writer.new) }
+
+    // A device has failed exactly where its fault is the answer; of the sources one alone.
+    ensures reads { CountsOneFailure (R.failures old_script.old) (R.failures old_script.new)
+        (Q.failures new_script.old) (Q.failures new_script.new) (is_read_failed result) }
+    ensures writes { CountsFailure (W.failures writer.old) (W.failures writer.new) (is_write_failed result) }
+
+    // Whatever the sources tell, bytes of both were taken, of each to its end but never more than
+    // 1,048,577: the first fault of the scripts that they are is answered, or exactly the lines of the
+    // changes between their flat states are written.
+    ensures runs { ComparesInputs at
+        (R.left old_script.old, Q.left new_script.old) (R.left old_script.new, Q.left new_script.new)
+        (W.written writer.old) (W.written writer.new) result }
+
+    // So where both inputs are known, these are the changes from the script of the old one to that of
+    // the new one.
+    ensures known { IfSome (R.left old_script.old) (λ a. IfSome (Q.left new_script.old) (λ b.
+        ComparesTexts at a b (W.written writer.old) (W.written writer.new) result)) }
+{
+    let old = read_input(alloc, old_script)?;
+    let new = read_input(alloc, new_script)?;
+    compare_texts(alloc, old.as_slice(), new.as_slice(), writer, at)
+}
+
+/// Writes what changed between the scripts that two texts are.
+fn compare_texts<W: Sink>(
+    alloc: Global,
+    old: &[u8],
+    new: &[u8],
+    writer: &mut W,
+    at: Option<u32>,
+) -> Result<bool, Fault>
+    ensures nothing { IfErr result (LeavesSink writer.old writer.new) }
+    ensures reads { is_read_failed result ≡ false }
+    ensures writes { CountsFailure (W.failures writer.old) (W.failures writer.new) (is_write_failed result) }
+    ensures runs { ComparesTexts at old.now new.now
+        (W.written writer.old) (W.written writer.new) result }
+{
+    let before = table_before(alloc, old, at)?;
+    let after = table_before(alloc, new, at)?;
+    let differences = differences_between(alloc, &before, &after)?;
+    let lines = differences.as_slice();
+    write_differences(alloc, lines, writer)?;
+    Ok(lines.is_empty())
+}
+
+/// Returns the table of the script that a text is, before a line where one is given.
+fn table_before(alloc: Global, text: &[u8], at: Option<u32>) -> Result<Table, Fault>
+    ensures { ReadsTable at text.now result }
+{
+    let machine = machine_before(alloc, text, at)?;
+    let table = table_of(alloc, &machine)?;
+    Ok(table)
+}
+
+/// Writes a line for each of these differences.
+fn write_differences<W: Sink>(
+    alloc: Global,
+    differences: &[Difference],
+    writer: &mut W,
+) -> Result<(), Fault>
+    ensures ok { OnOk result (Appends (W.written writer.old) (W.written writer.new)
+        (differences_text differences.now)) }
+    ensures err { OnErr result (AppendsFront (W.written writer.old) (W.written writer.new)
+        (differences_text differences.now)) }
+    ensures faults { IfErr result IsOutputFault }
+    ensures count { CountsFailure (W.failures writer.old) (W.failures writer.new) (is_write_failed result) }
+{
+    'lines: for difference in differences {
+        let mut line = Vec::new(alloc);
+        push_difference(&mut line, difference)?;
+        write_bytes(writer, line.as_slice())?;
+    }
+    Ok(())
+}

@@ -1,0 +1,5 @@
+use Rattle.histar_diff.proofs.Changes.{changes_are_listed}
+use Rattle.histar_diff.proofs.diff_laws.changes_are_listed.Goals as goal
+
+pub returns : goal.returns
+returns c = changes_are_listed

@@ -1,0 +1,5 @@
+use Rattle.histar_diff.proofs.Changes.{differences_are_changes}
+use Rattle.histar_diff.proofs.diff_laws.differences_are_changes.Goals as goal
+
+pub returns : goal.returns
+returns c = differences_are_changes

@@ -1,0 +1,5 @@
+use Rattle.histar_diff.proofs.Changes.{nobody_is_answered_otherwise}
+use Rattle.histar_diff.proofs.diff_laws.nobody_is_answered_otherwise.Goals as goal
+
+pub returns : goal.returns
+returns c = nobody_is_answered_otherwise
