@@ -16,7 +16,7 @@ use Rattle.histar_raw_session.specs.declared.read_session.RawLine.{RawLine}
 use Rattle.histar_raw_session.specs.Answers.{IsMadeOnLine}
 use Rattle.histar_explain.specs.declared.explanations.Explanation.{Explanation}
 use Rattle.histar_explain.specs.Explanations.{ExplainsDenial}
-use Rattle.histar_raw_explain.specs.Texts.{explanation_text}
+use Rattle.histar_raw_explain.specs.Texts.{raw_words, explanation_text}
 use Rattle.histar_raw_explain.specs.Explained.{ExplainsCall, ExplainsLast, ExplainsOne, ExplainsCalls}
 
 -- lines that explain an entry
@@ -35,7 +35,7 @@ last_granted k lines S e same is granted none =
 
 -- a denied call
 pub last_denied : {E : Type 0} (result : Result (Vec ℕ) E) (k : KernelModel) (S : List TraceEntry) (e : TraceEntry) (d : Denied) (x : Explanation) → S ≡ k.trace → Some e ≡ slice_get S (length S - 1) → e.denied ≡ Some d → ExplainsDenial (state k) e.thread e.call d x
-    → IfOk result (λ (text : Vec ℕ). text.items ≡ explanation_text e.line e.thread x) → IfOk result (λ (text : Vec ℕ). ExplainsLast k text.items)
+    → IfOk result (λ (text : Vec ℕ). text.items ≡ explanation_text raw_words e.line e.thread x) → IfOk result (λ (text : Vec ℕ). ExplainsLast k text.items)
 last_denied (Err error) k S e d x same is denied explained text = text
 last_denied (Ok lines) k S e d x same is denied explained text =
     at_last k lines.items S (Some e) same is (subst (λ (o : Option Denied). ExplainsCall (state k) e.line e.thread e.call o lines.items) (sym denied) (x, explained, text))

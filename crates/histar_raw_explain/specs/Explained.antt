@@ -16,12 +16,12 @@ use Rattle.histar_raw_session.specs.Answers.{PrintsCalls, BeginsAnswers}
 use Rattle.histar_raw_session.specs.Run.{RunsText}
 use Rattle.histar_explain.specs.declared.explanations.Explanation.{Explanation}
 use Rattle.histar_explain.specs.Explanations.{ExplainsDenial}
-use Rattle.histar_raw_explain.specs.Texts.{explanation_text}
+use Rattle.histar_raw_explain.specs.Texts.{raw_words, explanation_text}
 
 -- the lines are those of the explanation of a denial at a state, and none where the call was granted
 abbrev pub ExplainsCall : State → ℕ → ℕ → RawCall → Option Denied → List ℕ → Type 0
 ExplainsCall s line thread call None lines = lines ≡ []
-ExplainsCall s line thread call (Some denied) lines = (e : Explanation) × ExplainsDenial s thread call denied e × (lines ≡ explanation_text line thread e)
+ExplainsCall s line thread call (Some denied) lines = (e : Explanation) × ExplainsDenial s thread call denied e × (lines ≡ explanation_text raw_words line thread e)
 
 -- the lines explain the last call of a kernel, if one was made
 abbrev pub ExplainsLast : KernelModel → List ℕ → Type 0

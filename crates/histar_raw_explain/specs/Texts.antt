@@ -1,4 +1,4 @@
--- How the explanation of a denied raw call is written.
+-- How the explanation of a denied call is written.
 use Rattle.std.specs.Prelude.{ℕ, ◌==◌, List, [], ◌++◌, length, Option, None, Some, codes, decimal, if◌then◌else◌}
 use Rattle.std.specs.List.{flat_map}
 use Rattle.histar_label.specs.declared.levels.Level.{Level}
@@ -13,26 +13,42 @@ use Rattle.histar_explain.specs.declared.reasons.Party.{Party}
 use Rattle.histar_explain.specs.declared.reasons.Party.TheVariants.{Thread, Object, GateClearance, VerifyLabel, LabelAsked, ClearanceAsked, ThreadClearance, ThreadClearanceAndLabel, Floor, Clearances, AnySegment, AnyContainer}
 use Rattle.histar_explain.specs.declared.reasons.Reason.{Reason}
 
+-- how threads, objects and categories are written, and categories in a list of several
+pub record Words : Type 0 where
+  pub thread : ℕ → List ℕ
+  pub object : ℕ → List ℕ
+  pub category : ℕ → List ℕ
+  pub listed : ℕ → List ℕ
+
+-- each by its number
+abbrev pub raw_words : Words
+raw_words = record {
+  thread = λ t. codes "thread " ++ decimal t;
+  object = λ q. codes "object " ++ decimal q;
+  category = λ c. codes "category " ++ decimal c;
+  listed = decimal;
+}
+
 -- a verb and an object
-abbrev pub object_word : List ℕ → ℕ → List ℕ
-object_word verb q = verb ++ codes " object " ++ decimal q
+abbrev pub object_text : Words → List ℕ → ℕ → List ℕ
+object_text words verb q = verb ++ codes " " ++ words.object q
 
 -- what a denied call tried
-abbrev pub act_text : Act → List ℕ
-act_text acts.Call = codes "call"
-act_text (acts.Use q) = object_word (codes "use") q
-act_text (acts.Observe q) = object_word (codes "observe") q
-act_text (acts.Modify q) = object_word (codes "modify") q
-act_text (acts.Enter q) = object_word (codes "enter") q
-act_text (acts.EnterWith q) = object_word (codes "enter") q ++ codes " with those labels"
-act_text (acts.Write q) = object_word (codes "write") q
-act_text acts.TakeLabel = codes "take that label"
-act_text acts.TakeClearance = codes "take that clearance"
-act_text acts.MakeCategory = codes "make that category"
-act_text acts.MakeSegment = codes "make that segment"
-act_text acts.MakeContainer = codes "make that container"
-act_text acts.MakeThread = codes "make that thread"
-act_text acts.MakeGate = codes "make that gate"
+abbrev pub act_text : Words → Act → List ℕ
+act_text words acts.Call = codes "call"
+act_text words (acts.Use q) = object_text words (codes "use") q
+act_text words (acts.Observe q) = object_text words (codes "observe") q
+act_text words (acts.Modify q) = object_text words (codes "modify") q
+act_text words (acts.Enter q) = object_text words (codes "enter") q
+act_text words (acts.EnterWith q) = object_text words (codes "enter") q ++ codes " with those labels"
+act_text words (acts.Write q) = object_text words (codes "write") q
+act_text words acts.TakeLabel = codes "take that label"
+act_text words acts.TakeClearance = codes "take that clearance"
+act_text words acts.MakeCategory = codes "make that category"
+act_text words acts.MakeSegment = codes "make that segment"
+act_text words acts.MakeContainer = codes "make that container"
+act_text words acts.MakeThread = codes "make that thread"
+act_text words acts.MakeGate = codes "make that gate"
 
 -- what is in the way of a call, where that has no number
 abbrev pub plain_text : Obstacle → List ℕ
@@ -86,49 +102,45 @@ excess_text AnyContainer upper l m = has_text upper m ++ codes ", which " ++ par
 excess_text lower upper l m = has_text lower l ++ codes ", " ++ party_text upper ++ codes " " ++ level_text m
 
 -- what each line begins with: the number of the call's line, the thread, and what it may not do
-abbrev pub opening_text : ℕ → ℕ → Act → List ℕ
-opening_text line thread act = codes "?" ++ decimal line ++ codes " thread " ++ decimal thread ++ codes " may not " ++ act_text act ++ codes ": "
-
--- a category
-abbrev pub category_text : ℕ → List ℕ
-category_text c = codes "category " ++ decimal c
+abbrev pub opening_text : Words → ℕ → ℕ → Act → List ℕ
+opening_text words line thread act = codes "?" ++ decimal line ++ codes " " ++ words.thread thread ++ codes " may not " ++ act_text words act ++ codes ": "
 
 -- the line of a category that was never made
-abbrev pub unmade_line : List ℕ → ℕ → List ℕ
-unmade_line opening c = opening ++ category_text c ++ codes " was never made\n"
+abbrev pub unmade_line : Words → List ℕ → ℕ → List ℕ
+unmade_line words opening c = opening ++ words.category c ++ codes " was never made\n"
 
 -- the beginning of the line of a category
-abbrev pub place_text : List ℕ → ℕ → List ℕ
-place_text opening c = opening ++ codes "at " ++ category_text c ++ codes " "
+abbrev pub place_text : Words → List ℕ → ℕ → List ℕ
+place_text words opening c = opening ++ codes "at " ++ words.category c ++ codes " "
 
 -- the line of a listed category at which a comparison fails
-abbrev pub difference_line : List ℕ → Party → Party → Difference → List ℕ
-difference_line opening lower upper d = place_text opening d.category ++ excess_text lower upper d.lower d.upper ++ codes "\n"
+abbrev pub difference_line : Words → List ℕ → Party → Party → Difference → List ℕ
+difference_line words opening lower upper d = place_text words opening d.category ++ excess_text lower upper d.lower d.upper ++ codes "\n"
 
 -- a category that is spared, with a space before it
-abbrev pub spared_text : Difference → List ℕ
-spared_text d = codes " " ++ decimal d.category
+abbrev pub spared_text : Words → Difference → List ℕ
+spared_text words d = codes " " ++ words.listed d.category
 
 -- all that have no line but those that are spared
-abbrev pub but_text : List Difference → List ℕ
-but_text spared = codes "other category but" ++ flat_map spared_text spared
+abbrev pub but_text : Words → List Difference → List ℕ
+but_text words spared = codes "other category but" ++ flat_map (spared_text words) spared
 
 -- all categories that no label lists, or all others but those that are spared
-unfoldable pub elsewhere_text : List Difference → List ℕ
-elsewhere_text spared = if length spared == 0 then codes "category that neither lists" else but_text spared
+unfoldable pub elsewhere_text : Words → List Difference → List ℕ
+elsewhere_text words spared = if length spared == 0 then codes "category that neither lists" else but_text words spared
 
 -- the beginning of the line of all other categories
-abbrev pub every_text : List ℕ → List Difference → List ℕ
-every_text opening spared = opening ++ codes "at every " ++ elsewhere_text spared ++ codes " "
+abbrev pub every_text : Words → List ℕ → List Difference → List ℕ
+every_text words opening spared = opening ++ codes "at every " ++ elsewhere_text words spared ++ codes " "
 
 -- the line of all other categories, where the comparison fails for the defaults
-abbrev pub elsewhere_line : List ℕ → Party → Party → List Difference → Option (Level × Level) → List ℕ
-elsewhere_line opening lower upper spared None = []
-elsewhere_line opening lower upper spared (Some levels) = every_text opening spared ++ excess_text lower upper levels.0 levels.1 ++ codes "\n"
+abbrev pub elsewhere_line : Words → List ℕ → Party → Party → List Difference → Option (Level × Level) → List ℕ
+elsewhere_line words opening lower upper spared None = []
+elsewhere_line words opening lower upper spared (Some levels) = every_text words opening spared ++ excess_text lower upper levels.0 levels.1 ++ codes "\n"
 
 -- the lines of a reason: its listed categories by rising number, and then all others
-abbrev pub reason_lines : List ℕ → Reason → List ℕ
-reason_lines opening r = flat_map (difference_line opening r.lower r.upper) r.named.items ++ elsewhere_line opening r.lower r.upper r.spared.items r.elsewhere
+abbrev pub reason_lines : Words → List ℕ → Reason → List ℕ
+reason_lines words opening r = flat_map (difference_line words opening r.lower r.upper) r.named.items ++ elsewhere_line words opening r.lower r.upper r.spared.items r.elsewhere
 
 -- the line of what is in the way, if anything is
 abbrev pub obstacle_lines : List ℕ → Option Obstacle → List ℕ
@@ -136,9 +148,9 @@ obstacle_lines opening None = []
 obstacle_lines opening (Some obstacle) = opening ++ obstacle_text obstacle ++ codes "\n"
 
 -- the lines of an explanation, each with the same beginning
-abbrev pub explanation_lines : List ℕ → Explanation → List ℕ
-explanation_lines opening e = flat_map (unmade_line opening) e.unmade.items ++ flat_map (reason_lines opening) e.reasons.items ++ obstacle_lines opening e.obstacle
+abbrev pub explanation_lines : Words → List ℕ → Explanation → List ℕ
+explanation_lines words opening e = flat_map (unmade_line words opening) e.unmade.items ++ flat_map (reason_lines words opening) e.reasons.items ++ obstacle_lines opening e.obstacle
 
 -- the lines that explain why the call of a thread on a line was denied
-abbrev pub explanation_text : ℕ → ℕ → Explanation → List ℕ
-explanation_text line thread e = explanation_lines (opening_text line thread e.act) e
+abbrev pub explanation_text : Words → ℕ → ℕ → Explanation → List ℕ
+explanation_text words line thread e = explanation_lines words (opening_text words line thread e.act) e

@@ -1,36 +1,46 @@
 //! The words for what a denied call tried, and for what was in its way.
 ghost use Rattle.std.specs.Prelude.{◌≡◌, ◌++◌, OnOk};
-ghost use Rattle.histar_raw_explain.specs.Texts.{act_text, not_linked_text, object_word, obstacle_text, plain_text, too_long_text};
+ghost use Rattle.histar_raw_explain.specs.Texts.{act_text, not_linked_text, object_text, obstacle_text, plain_text, too_long_text};
 
+use crate::wording::Wording;
 use histar_explain::{Act, Obstacle};
 use histar_object::ObjId;
 use histar_rawtext::push_number;
 use std::alloc::AllocError;
 
 /// Adds a verb and an object.
-fn push_object(text: &mut Vec<u8>, verb: &str, object: ObjId) -> Result<(), AllocError>
-    ensures { OnOk result (text.new.items ≡ text.old.items ++ object_word verb.now object) }
+fn push_object<V: Wording>(
+    text: &mut Vec<u8>,
+    words: &V,
+    verb: &str,
+    object: ObjId,
+) -> Result<(), AllocError>
+    ensures { OnOk result (text.new.items ≡ text.old.items ++ object_text (V.words words.now) verb.now object) }
 {
     text.extend_from_slice(verb.as_bytes())?;
-    text.extend_from_slice(b" object ")?;
-    push_number(text, object.number())
+    text.extend_from_slice(b" ")?;
+    words.push_object(text, object)
 }
 
 /// Adds what a denied call tried.
-pub(crate) fn push_act(text: &mut Vec<u8>, act: Act) -> Result<(), AllocError>
-    ensures { OnOk result (text.new.items ≡ text.old.items ++ act_text act) }
+pub(crate) fn push_act<V: Wording>(
+    text: &mut Vec<u8>,
+    words: &V,
+    act: Act,
+) -> Result<(), AllocError>
+    ensures { OnOk result (text.new.items ≡ text.old.items ++ act_text (V.words words.now) act) }
 {
     match act {
         Act::Call => text.extend_from_slice(b"call"),
-        Act::Use(object) => push_object(text, "use", object),
-        Act::Observe(object) => push_object(text, "observe", object),
-        Act::Modify(object) => push_object(text, "modify", object),
-        Act::Enter(gate) => push_object(text, "enter", gate),
+        Act::Use(object) => push_object(text, words, "use", object),
+        Act::Observe(object) => push_object(text, words, "observe", object),
+        Act::Modify(object) => push_object(text, words, "modify", object),
+        Act::Enter(gate) => push_object(text, words, "enter", gate),
         Act::EnterWith(gate) => {
-            push_object(text, "enter", gate)?;
+            push_object(text, words, "enter", gate)?;
             text.extend_from_slice(b" with those labels")
         }
-        Act::Write(segment) => push_object(text, "write", segment),
+        Act::Write(segment) => push_object(text, words, "write", segment),
         Act::TakeLabel => text.extend_from_slice(b"take that label"),
         Act::TakeClearance => text.extend_from_slice(b"take that clearance"),
         Act::MakeCategory => text.extend_from_slice(b"make that category"),

@@ -6,6 +6,8 @@ mod act_texts;
 mod lines;
 mod party_texts;
 mod session;
+mod wording;
 
 pub use lines::write_explanation;
 pub use session::explain_raw_script;
+pub use wording::{ByNumber, Wording};

@@ -1,10 +1,11 @@
 //! The lines of an explanation.
 ghost use Rattle.std.specs.Prelude.{◌≡◌, ◌++◌, IfOk, OnOk};
 ghost use Rattle.std.specs.List.{flat_map};
-ghost use Rattle.histar_raw_explain.specs.Texts.{opening_text, category_text, unmade_line, place_text, but_text, spared_text, elsewhere_text, every_text, difference_line, elsewhere_line, reason_lines, obstacle_lines, explanation_lines, explanation_text};
+ghost use Rattle.histar_raw_explain.specs.Texts.{opening_text, unmade_line, place_text, but_text, spared_text, elsewhere_text, every_text, difference_line, elsewhere_line, reason_lines, obstacle_lines, explanation_lines, explanation_text};
 
 use crate::act_texts::{push_act, push_obstacle};
 use crate::party_texts::push_excess;
+use crate::wording::Wording;
 use histar_explain::{Act, Difference, Explanation, Obstacle, Reason};
 use histar_label::{Category, Level};
 use histar_object::ObjId;
@@ -13,70 +14,80 @@ use std::alloc::{AllocError, Global};
 
 /// Returns what each line of an explanation begins with: a question mark and the number of the call's
 /// line, the thread, and what it may not do.
-fn opening(alloc: Global, line: u32, thread: ObjId, act: Act) -> Result<Vec<u8>, AllocError>
-    ensures { IfOk result (λ text. text.items ≡ opening_text line thread act) }
+fn opening<V: Wording>(
+    alloc: Global,
+    words: &V,
+    line: u32,
+    thread: ObjId,
+    act: Act,
+) -> Result<Vec<u8>, AllocError>
+    ensures { IfOk result (λ text. text.items ≡ opening_text (V.words words.now) line thread act) }
 {
     let mut text = Vec::from_slice(alloc, b"?".as_slice())?;
     push_number(&mut text, u64::from(line))?;
-    text.extend_from_slice(b" thread ")?;
-    push_number(&mut text, thread.number())?;
+    text.extend_from_slice(b" ")?;
+    words.push_thread(&mut text, thread)?;
     text.extend_from_slice(b" may not ")?;
-    push_act(&mut text, act)?;
+    push_act(&mut text, words, act)?;
     text.extend_from_slice(b": ")?;
     Ok(text)
 }
 
-/// Adds a category.
-fn push_category(text: &mut Vec<u8>, category: Category) -> Result<(), AllocError>
-    ensures { OnOk result (text.new.items ≡ text.old.items ++ category_text category) }
-{
-    text.extend_from_slice(b"category ")?;
-    push_number(text, category.number())
-}
-
 /// Adds the line of a category that was never made.
-fn push_unmade(text: &mut Vec<u8>, opening: &[u8], category: Category) -> Result<(), AllocError>
-    ensures { OnOk result (text.new.items ≡ text.old.items ++ unmade_line opening.now category) }
+fn push_unmade<V: Wording>(
+    text: &mut Vec<u8>,
+    words: &V,
+    opening: &[u8],
+    category: Category,
+) -> Result<(), AllocError>
+    ensures { OnOk result (text.new.items ≡ text.old.items ++ unmade_line (V.words words.now) opening.now category) }
 {
     text.extend_from_slice(opening)?;
-    push_category(text, category)?;
+    words.push_category(text, category)?;
     text.extend_from_slice(b" was never made\n")
 }
 
 /// Adds the lines of the categories that were never made.
-fn push_all_unmade(
+fn push_all_unmade<V: Wording>(
     text: &mut Vec<u8>,
+    words: &V,
     opening: &[u8],
     unmade: &[Category],
 ) -> Result<(), AllocError>
-    ensures { OnOk result (text.new.items ≡ text.old.items ++ flat_map (unmade_line opening.now) unmade.now) }
+    ensures { OnOk result (text.new.items ≡ text.old.items ++ flat_map (unmade_line (V.words words.now) opening.now) unmade.now) }
 {
     for category in unmade {
-        push_unmade(text, opening, *category)?;
+        push_unmade(text, words, opening, *category)?;
     }
     Ok(())
 }
 
 /// Adds the beginning of the line of a category.
-fn push_place(text: &mut Vec<u8>, opening: &[u8], category: Category) -> Result<(), AllocError>
-    ensures { OnOk result (text.new.items ≡ text.old.items ++ place_text opening.now category) }
+fn push_place<V: Wording>(
+    text: &mut Vec<u8>,
+    words: &V,
+    opening: &[u8],
+    category: Category,
+) -> Result<(), AllocError>
+    ensures { OnOk result (text.new.items ≡ text.old.items ++ place_text (V.words words.now) opening.now category) }
 {
     text.extend_from_slice(opening)?;
     text.extend_from_slice(b"at ")?;
-    push_category(text, category)?;
+    words.push_category(text, category)?;
     text.extend_from_slice(b" ")
 }
 
 /// Adds the line of a category at which a reason's comparison fails.
-fn push_difference(
+fn push_difference<V: Wording>(
     text: &mut Vec<u8>,
+    words: &V,
     opening: &[u8],
     reason: &Reason,
     difference: Difference,
 ) -> Result<(), AllocError>
-    ensures { OnOk result (text.new.items ≡ text.old.items ++ difference_line opening.now reason.now.lower reason.now.upper difference) }
+    ensures { OnOk result (text.new.items ≡ text.old.items ++ difference_line (V.words words.now) opening.now reason.now.lower reason.now.upper difference) }
 {
-    push_place(text, opening, difference.category)?;
+    push_place(text, words, opening, difference.category)?;
     push_excess(
         text,
         reason.lower,
@@ -88,89 +99,122 @@ fn push_difference(
 }
 
 /// Adds the lines of the categories at which a reason's comparison fails and that a label lists.
-fn push_differences(text: &mut Vec<u8>, opening: &[u8], reason: &Reason) -> Result<(), AllocError>
+fn push_differences<V: Wording>(
+    text: &mut Vec<u8>,
+    words: &V,
+    opening: &[u8],
+    reason: &Reason,
+) -> Result<(), AllocError>
     ensures { OnOk result (text.new.items ≡ text.old.items
-        ++ flat_map (difference_line opening.now reason.now.lower reason.now.upper) reason.now.named.items) }
+        ++ flat_map (difference_line (V.words words.now) opening.now reason.now.lower reason.now.upper) reason.now.named.items) }
 {
     for difference in &reason.named {
-        push_difference(text, opening, reason, *difference)?;
+        push_difference(text, words, opening, reason, *difference)?;
     }
     Ok(())
 }
 
 /// Adds the numbers of the categories that are spared, each with a space before it.
-fn push_spared(text: &mut Vec<u8>, spared: &[Difference]) -> Result<(), AllocError>
-    ensures { OnOk result (text.new.items ≡ text.old.items ++ flat_map spared_text spared.now) }
+fn push_spared<V: Wording>(
+    text: &mut Vec<u8>,
+    words: &V,
+    spared: &[Difference],
+) -> Result<(), AllocError>
+    ensures { OnOk result (text.new.items ≡ text.old.items ++ flat_map (spared_text (V.words words.now)) spared.now) }
 {
     for difference in spared {
         text.extend_from_slice(b" ")?;
-        push_number(text, difference.category.number())?;
+        words.push_listed(text, difference.category)?;
     }
     Ok(())
 }
 
 /// Adds that a reason speaks of all other categories but those that are spared.
-fn push_but(text: &mut Vec<u8>, spared: &[Difference]) -> Result<(), AllocError>
-    ensures { OnOk result (text.new.items ≡ text.old.items ++ but_text spared.now) }
+fn push_but<V: Wording>(
+    text: &mut Vec<u8>,
+    words: &V,
+    spared: &[Difference],
+) -> Result<(), AllocError>
+    ensures { OnOk result (text.new.items ≡ text.old.items ++ but_text (V.words words.now) spared.now) }
 {
     text.extend_from_slice(b"other category but")?;
-    push_spared(text, spared)
+    push_spared(text, words, spared)
 }
 
 /// Adds which categories a reason speaks of at last: all that no label lists, or all others but those
 /// that are spared.
 #[tactic(auto, unfolding(crate::specs::Texts::elsewhere_text))]
-fn push_elsewhere(text: &mut Vec<u8>, spared: &[Difference]) -> Result<(), AllocError>
-    ensures { OnOk result (text.new.items ≡ text.old.items ++ elsewhere_text spared.now) }
+fn push_elsewhere<V: Wording>(
+    text: &mut Vec<u8>,
+    words: &V,
+    spared: &[Difference],
+) -> Result<(), AllocError>
+    ensures { OnOk result (text.new.items ≡ text.old.items ++ elsewhere_text (V.words words.now) spared.now) }
 {
     if spared.is_empty() {
         text.extend_from_slice(b"category that neither lists")
     } else {
-        push_but(text, spared)
+        push_but(text, words, spared)
     }
 }
 
 /// Adds the beginning of the line of all other categories.
-fn push_every(text: &mut Vec<u8>, opening: &[u8], spared: &[Difference]) -> Result<(), AllocError>
-    ensures { OnOk result (text.new.items ≡ text.old.items ++ every_text opening.now spared.now) }
+fn push_every<V: Wording>(
+    text: &mut Vec<u8>,
+    words: &V,
+    opening: &[u8],
+    spared: &[Difference],
+) -> Result<(), AllocError>
+    ensures { OnOk result (text.new.items ≡ text.old.items ++ every_text (V.words words.now) opening.now spared.now) }
 {
     text.extend_from_slice(opening)?;
     text.extend_from_slice(b"at every ")?;
-    push_elsewhere(text, spared)?;
+    push_elsewhere(text, words, spared)?;
     text.extend_from_slice(b" ")
 }
 
 /// Adds the last line of a reason, where its comparison fails for the defaults of both labels.
-fn push_elsewhere_line(
+fn push_elsewhere_line<V: Wording>(
     text: &mut Vec<u8>,
+    words: &V,
     opening: &[u8],
     reason: &Reason,
 ) -> Result<(), AllocError>
     ensures { OnOk result (text.new.items ≡ text.old.items
-        ++ elsewhere_line opening.now reason.now.lower reason.now.upper reason.now.spared.items reason.now.elsewhere) }
+        ++ elsewhere_line (V.words words.now) opening.now reason.now.lower reason.now.upper reason.now.spared.items reason.now.elsewhere) }
 {
     let Some((lower, upper)) = reason.elsewhere else {
         return Ok(());
     };
-    push_every(text, opening, reason.spared.as_slice())?;
+    push_every(text, words, opening, reason.spared.as_slice())?;
     push_excess(text, reason.lower, reason.upper, lower, upper)?;
     text.extend_from_slice(b"\n")
 }
 
 /// Adds the lines of a reason.
-fn push_reason(text: &mut Vec<u8>, opening: &[u8], reason: &Reason) -> Result<(), AllocError>
-    ensures { OnOk result (text.new.items ≡ text.old.items ++ reason_lines opening.now reason.now) }
+fn push_reason<V: Wording>(
+    text: &mut Vec<u8>,
+    words: &V,
+    opening: &[u8],
+    reason: &Reason,
+) -> Result<(), AllocError>
+    ensures { OnOk result (text.new.items ≡ text.old.items ++ reason_lines (V.words words.now) opening.now reason.now) }
 {
-    push_differences(text, opening, reason)?;
-    push_elsewhere_line(text, opening, reason)
+    push_differences(text, words, opening, reason)?;
+    push_elsewhere_line(text, words, opening, reason)
 }
 
 /// Adds the lines of reasons.
-fn push_reasons(text: &mut Vec<u8>, opening: &[u8], reasons: &[Reason]) -> Result<(), AllocError>
-    ensures { OnOk result (text.new.items ≡ text.old.items ++ flat_map (reason_lines opening.now) reasons.now) }
+fn push_reasons<V: Wording>(
+    text: &mut Vec<u8>,
+    words: &V,
+    opening: &[u8],
+    reasons: &[Reason],
+) -> Result<(), AllocError>
+    ensures { OnOk result (text.new.items ≡ text.old.items ++ flat_map (reason_lines (V.words words.now) opening.now) reasons.now) }
 {
     for reason in reasons {
-        push_reason(text, opening, reason)?;
+        push_reason(text, words, opening, reason)?;
     }
     Ok(())
 }
@@ -192,19 +236,26 @@ fn push_obstacle_line(
 }
 
 /// Writes the lines that explain why the call of a thread on a line was denied.
-pub fn write_explanation(
+pub fn write_explanation<V: Wording>(
     alloc: Global,
+    words: &V,
     line: u32,
     thread: ObjId,
     explanation: &Explanation,
 ) -> Result<Vec<u8>, AllocError>
-    ensures { IfOk result (λ text. text.items ≡ explanation_text line thread explanation.now) }
+    ensures { IfOk result (λ text. text.items ≡ explanation_text (V.words words.now) line thread explanation.now) }
 {
-    let opening = opening(alloc, line, thread, explanation.act)?;
+    let opening = opening(alloc, words, line, thread, explanation.act)?;
     let mut text = Vec::new(alloc);
-    push_all_unmade(&mut text, opening.as_slice(), explanation.unmade.as_slice())?;
+    push_all_unmade(
+        &mut text,
+        words,
+        opening.as_slice(),
+        explanation.unmade.as_slice(),
+    )?;
     push_reasons(
         &mut text,
+        words,
         opening.as_slice(),
         explanation.reasons.as_slice(),
     )?;

@@ -7,6 +7,7 @@ ghost use Rattle.histar_raw_session.specs.Answers.{AnswersCall, AnswersCalls, Be
 ghost use Rattle.histar_raw_explain.specs.Explained.{ExplainsLast, ExplainsOne, ExplainsCalls, ExplainsAnswered, BeginsExplaining, RunsExplained};
 
 use crate::lines::write_explanation;
+use crate::wording::ByNumber;
 use histar_devices::{Sink, Source, read_input, write_bytes};
 use histar_explain::explain;
 use histar_label::{LabelStore, OutOfMemory, PlainStore};
@@ -129,5 +130,5 @@ fn explain_last<S: LabelStore + Drop>(
         return Ok(Vec::new(alloc));
     };
     let explanation = explain(alloc, kernel, entry.thread, &entry.call, denied)?;
-    write_explanation(alloc, entry.line, entry.thread, &explanation)
+    write_explanation(alloc, &ByNumber, entry.line, entry.thread, &explanation)
 }
