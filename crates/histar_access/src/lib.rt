@@ -7,4 +7,4 @@ mod session;
 mod table;
 
 pub use cells::Cell;
-pub use session::access;
+pub use session::{access, make_calls};

@@ -70,7 +70,7 @@ fn access_text<W: Sink>(
 }
 
 /// Has the machine do the calls on the lines before one, in their order, or all.
-fn make_calls<S: LabelStore + Drop>(
+pub fn make_calls<S: LabelStore + Drop>(
     alloc: Global,
     machine: &mut Machine<S>,
     calls: Vec<CallLine>,
