@@ -14,7 +14,7 @@ use Rattle.histar_tree.specs.declared.tree.TreeNode.{TreeNode}
 use Rattle.histar_trust.specs.Findings.{Runner, class_there, classes_to, node_at, runner_of, running_node}
 
 -- one item more
-kept_more : {X Y : Type 0} (h : X → Option Y) (xs : List X) (i : ℕ) (x : X) → i < length xs → x ≡ get_or xs i x
+pub kept_more : {X Y : Type 0} (h : X → Option Y) (xs : List X) (i : ℕ) (x : X) → i < length xs → x ≡ get_or xs i x
     → filter_map h (take (i + 1) xs) ≡ filter_map h (take i xs) ++ cons_option (h x) []
 kept_more h xs i x within is =
     ap (filter_map h) (take_more xs i x within) ∙ filter_map-append h (take i xs) (get_or xs i x ∷ [])
@@ -25,14 +25,11 @@ mapped_option None = refl
 mapped_option (Some m) = refl
 
 -- one member more, where the process runs
-pub members_more : (ms new : List Member) (o : Option Member) (processes : List ProcessNode) (i : ℕ) (node : ProcessNode)
-    → map runner_of ms ≡ filter_map running_node (take i processes) → option_map runner_of o ≡ running_node node
-    → i < length processes → node ≡ get_or processes i node → new ≡ ms ++ cons_option o []
-    → map runner_of new ≡ filter_map running_node (take (i + 1) processes)
-members_more ms new o processes i node before one within is pushed =
+pub members_more : (ms : List Member) (o : Option Member) {new : List Member} {was now : List Runner} {r : Option Runner} → map runner_of ms ≡ was
+    → option_map runner_of o ≡ r → now ≡ was ++ cons_option r [] → new ≡ ms ++ cons_option o [] → map runner_of new ≡ now
+members_more ms o before one kept pushed =
     ap (map runner_of) pushed ∙ map-append runner_of ms (cons_option o [])
-    ∙ (λ j. before j ++ (mapped_option o ∙ ap (λ (x : Option Runner). cons_option x []) one) j)
-    ∙ sym (kept_more running_node processes i node within is)
+    ∙ (λ j. before j ++ (mapped_option o ∙ ap (λ (x : Option Runner). cons_option x []) one) j) ∙ sym kept
 
 -- one name more
 named_suc : (users : List User) (i : ℕ) (name : Name) → slice_get users i ≡ Some (called name)
@@ -49,7 +46,8 @@ names_more users i name new old e before pushed =
     ∙ ap (λ n. take n (map (λ (u : User). u.name) users)) (let s : suc i ≡ i + 1 = omega arith in s)
 
 -- the classes to a path are that of what is there, and those to its directory
-pub classes_rest : (tree : List TreeNode) (names : Path) → 1 ≤ length names → classes_to tree names ≡ class_there (node_at names tree) ++ classes_to tree (drop 1 names)
+pub classes_rest : (tree : List TreeNode) (names : Path) → 1 ≤ length names → classes_to tree names
+    ≡ class_there (node_at names tree) ++ classes_to tree (drop 1 names)
 classes_rest tree [] some = absurd (omega (arith, some))
 classes_rest tree (n ∷ d) some = refl
 

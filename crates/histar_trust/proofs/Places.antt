@@ -104,7 +104,8 @@ module _ (s : State) (category : Categories) where
 module _ (session : Session) (s : State) (f : Flat) (l : Laid session s f) (tree : List TreeNode)
     (each : (q : Path) → AreAlike s l.category q (node_at q tree) (get f.files q)) where
   -- what the tree has where the flat state has something
-  pub found_at : (q : Path) (there : Node) → get f.files q ≡ Some there → (node : TreeNode) × (node_at q tree ≡ Some node) × IsAt s l.category q node there
+  pub found_at : (q : Path) (there : Node) → get f.files q ≡ Some there → (node : TreeNode) × (node_at q tree ≡ Some node)
+      × IsAt s l.category q node there
   found_at q there at = by (node_at q tree) refl (subst (AreAlike s l.category q (node_at q tree)) at (each q))
     where
       by : (o : Option TreeNode) → node_at q tree ≡ o → AreAlike s l.category q (node_at q tree) (Some there)
@@ -112,7 +113,8 @@ module _ (session : Session) (s : State) (f : Flat) (l : Laid session s f) (tree
       by None e h = absurd (subst (λ (x : Option TreeNode). AreAlike s l.category q x (Some there)) e h)
       by (Some node) e h = (node, e, subst (λ (x : Option TreeNode). AreAlike s l.category q x (Some there)) e h)
 
-  class_is : (q : Path) (there : Node) → get f.files q ≡ Some there → class_there (node_at q tree) ≡ class_by_number (number_of l.category) there.class ∷ []
+  class_is : (q : Path) (there : Node) → get f.files q ≡ Some there → class_there (node_at q tree)
+      ≡ class_by_number (number_of l.category) there.class ∷ []
   class_is q there at =
       let found = found_at q there at in
       ap class_there found.1 ∙ ap (λ c. class_flat c ∷ []) found.2.class ∙ ap (λ c. c ∷ []) (same_class l.category there.class)
@@ -126,11 +128,14 @@ module _ (session : Session) (s : State) (f : Flat) (l : Laid session s f) (tree
       let e : flat_class c ∷ [] ≡ class_by_number (number_of l.category) there.class ∷ [] = same ∙ class_is [] there at in
       (ap (option_map (λ (n : Node). class_by_number (number_of l.category) n.class)) at ∙ ap Some (sym (ap (first_of_list (flat_class c)) e)), refl)
   classes_are [] there at (c ∷ d ∷ classes) same =
-      absurd (let e : flat_class c ∷ flat_class d ∷ map flat_class classes ≡ class_by_number (number_of l.category) there.class ∷ [] = same ∙ class_is [] there at in cc)
+      absurd (let e : flat_class c ∷ flat_class d ∷ map flat_class classes ≡ class_by_number (number_of l.category) there.class ∷ [] = same
+      ∙ class_is [] there at in cc)
   classes_are (n ∷ above) there at [] same =
-      absurd (let e : [] ≡ class_by_number (number_of l.category) there.class ∷ classes_to tree above = same ∙ ap (λ cs. cs ++ classes_to tree above) (class_is (n ∷ above) there at) in cc)
+      absurd (let e : [] ≡ class_by_number (number_of l.category) there.class ∷ classes_to tree above = same
+      ∙ ap (λ cs. cs ++ classes_to tree above) (class_is (n ∷ above) there at) in cc)
   classes_are (n ∷ above) there at (c ∷ classes) same =
-      let e : flat_class c ∷ map flat_class classes ≡ class_by_number (number_of l.category) there.class ∷ classes_to tree above = same ∙ ap (λ cs. cs ++ classes_to tree above) (class_is (n ∷ above) there at) in
+      let e : flat_class c ∷ map flat_class classes ≡ class_by_number (number_of l.category) there.class ∷ classes_to tree above = same
+      ∙ ap (λ cs. cs ++ classes_to tree above) (class_is (n ∷ above) there at) in
       let parent = node_there (get f.files above) (parent_is_dir session s f l n above there at) in (
         ap (option_map (λ (x : Node). class_by_number (number_of l.category) x.class)) at ∙ ap Some (sym (ap (first_of_list (flat_class c)) e)),
         classes_are above parent.0 parent.1 classes (ap rest_of_list e),

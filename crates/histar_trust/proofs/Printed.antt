@@ -29,10 +29,12 @@ calls_answered session f (c ∷ calls) = ap (λ (cs : List CallLine). c ∷ cs) 
 -- the texts of two lists of answers
 texts_both : (first later : List Answered) → answers_text (first ++ later) ≡ answers_text first ++ answers_text later
 texts_both [] later = refl
-texts_both (a ∷ first) later = ap (λ t. answer_text a ++ t) (texts_both first later) ∙ sym (append_assoc (answer_text a) (answers_text first) (answers_text later))
+texts_both (a ∷ first) later = ap (λ t. answer_text a ++ t) (texts_both first later)
+    ∙ sym (append_assoc (answer_text a) (answers_text first) (answers_text later))
 
 -- one after another
-mapped_twice : (answers : List Answered) → map (λ (a : Answered). reply_text a.reply) answers ≡ map reply_text (map (λ (a : Answered). a.reply) answers)
+mapped_twice : (answers : List Answered) → map (λ (a : Answered). reply_text a.reply) answers
+    ≡ map reply_text (map (λ (a : Answered). a.reply) answers)
 mapped_twice [] = refl
 mapped_twice (a ∷ answers) = ap (λ ts. reply_text a.reply ∷ ts) (mapped_twice answers)
 
@@ -40,7 +42,8 @@ module _ (options : Options) (session : Session) (class : Class) (path : Path) (
   abbrev f : Flat
   f = state_met session class path before
 
-  module _ (script : Reading) (writer : ProcName) (bytes : List ℕ) (calls : List CallLine) (is : WritesBehind session class path before script writer bytes calls) where
+  module _ (script : Reading) (writer : ProcName) (bytes : List ℕ) (calls : List CallLine)
+      (is : WritesBehind session class path before script writer bytes calls) where
     abbrev behind : List Answered
     behind = answered_from session (flat_after session f writer (Write path bytes)) calls
 
@@ -61,7 +64,8 @@ module _ (options : Options) (session : Session) (class : Class) (path : Path) (
       first = first;
       all_calls =
           is.calls_are ∙ sym (
-          ap (λ (cs : List CallLine). cs ++ calls) (calls_both (meaning session before) ∙ ap (λ (cs : List CallLine). cs ++ own.call ∷ []) (calls_answered session (boot session) before))
+          ap (λ (cs : List CallLine). cs ++ calls)
+          (calls_both (meaning session before) ∙ ap (λ (cs : List CallLine). cs ++ own.call ∷ []) (calls_answered session (boot session) before))
           ∙ append_assoc before (own.call ∷ []) calls);
       these_calls = calls_answered session (flat_after session f writer (Write path bytes)) calls;
       text =
@@ -85,6 +89,8 @@ outsiders_read_the_same options text other one two is_one is_two session class p
   other_prints = prints options session class path before two writer other_bytes others b;
   alike =
       texts_are options session class path before one writer bytes calls a
-      ∙ ap (map reply_text) (what_is_written_stays_secret session (state_met session class path before) (before, refl) path class file writer bytes other_bytes a.writes b.writes calls others same)
+      ∙ ap (map reply_text)
+      (what_is_written_stays_secret session (state_met session class path before)
+      (before, refl) path class file writer bytes other_bytes a.writes b.writes calls others same)
       ∙ sym (texts_are options session class path before two writer other_bytes others b);
 }

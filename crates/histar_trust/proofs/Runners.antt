@@ -80,9 +80,11 @@ module _ (f : Flat) (category : Categories) where
       one None e = tt
       one (Some p) e = (e, tt)
 
-      kids : ((name : ProcName) → AllOf Runs (running_from levels f name)) → (ns : List ℕ) → AllOf Runs (flat_map (λ n. running_from levels f (n ∷ me)) ns)
+      kids : ((name : ProcName) → AllOf Runs (running_from levels f name)) → (ns : List ℕ)
+          → AllOf Runs (flat_map (λ n. running_from levels f (n ∷ me)) ns)
       kids each [] = tt
-      kids each (n ∷ ns) = all_both Runs (running_from levels f (n ∷ me)) (flat_map (λ k. running_from levels f (k ∷ me)) ns) (each (n ∷ me)) (kids each ns)
+      kids each (n ∷ ns) = all_both Runs (running_from levels f (n ∷ me)) (flat_map (λ k. running_from levels f (k ∷ me)) ns)
+          (each (n ∷ me)) (kids each ns)
 
       by : (o : Option Process) → f.processes me ≡ o → ((name : ProcName) → AllOf Runs (running_from levels f name))
           → AllOf Runs (and_children (λ n. running_from levels f (n ∷ me)) me o)
@@ -108,11 +110,13 @@ module _ (f : Flat) (category : Categories) where
   kept true a c ps cs e es = λ i. e i ∷ es i
   kept false a c ps cs e es = es
 
-  mapped_member : (b : Bool) (m : Member) (ms : List Member) → map with_user (if b then m ∷ ms else ms) ≡ (if b then with_user m ∷ map with_user ms else map with_user ms)
+  mapped_member : (b : Bool) (m : Member) (ms : List Member) → map with_user (if b then m ∷ ms else ms)
+      ≡ (if b then with_user m ∷ map with_user ms else map with_user ms)
   mapped_member true m ms = refl
   mapped_member false m ms = refl
 
-  mapped_named : (b : Bool) (c : Named) (cs : List Named) → map named_user (if b then c ∷ cs else cs) ≡ (if b then named_user c ∷ map named_user cs else map named_user cs)
+  mapped_named : (b : Bool) (c : Named) (cs : List Named) → map named_user (if b then c ∷ cs else cs)
+      ≡ (if b then named_user c ∷ map named_user cs else map named_user cs)
   mapped_named true c cs = refl
   mapped_named false c cs = refl
 

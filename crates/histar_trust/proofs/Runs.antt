@@ -47,18 +47,21 @@ writes_none ReadFailed read given = refl
 writes_none WriteFailed read given = absurd given
 
 -- a machine that was booted for a script and made its calls lays out the flat state after them
-pub machine_of : (at : Option ℕ) (text : List ℕ) (script : Reading) → script_of text ≡ Ok script → (start end : MachineModel) → (session : Session) (calls : List CallLine)
-    → session ≡ script.session → calls ≡ script.calls → ShowsStart session start → ShowsAfter start end (calls_before at calls) → IsMachineOf at text end
-machine_of at text script given start end session calls session_is calls_are starts after = record {
+pub machine_of : (at : Option ℕ) (text : List ℕ) {script : Reading} {start end : MachineModel} {session : Session} {calls : List CallLine}
+    → script_of text ≡ Ok script → session ≡ script.session → calls ≡ script.calls → ShowsStart session start
+    → ShowsAfter start end (calls_before at calls) → IsMachineOf at text end
+machine_of at text {script} {start} {end} {session} {calls} given session_is calls_are starts after = record {
   script = script;
   is_read = given;
   shows =
       subst (λ (declared : Session). Shows declared end (flat_end declared (boot declared) (calls_before at script.calls))) session_is
-      (subst (λ (cs : List CallLine). Shows session end (flat_end session (boot session) (calls_before at cs))) calls_are (after session (boot session) starts));
+      (subst (λ (cs : List CallLine). Shows session end (flat_end session (boot session) (calls_before at cs))) calls_are
+      (after session (boot session) starts));
 }
 
 -- it lays out a state that calls lead to
-pub shows_reached : (at : Option ℕ) (text : List ℕ) (m : MachineModel) (is : IsMachineOf at text m) → ShowsReached is.script.session m (state_before at is.script)
+pub shows_reached : (at : Option ℕ) (text : List ℕ) (m : MachineModel) (is : IsMachineOf at text m)
+    → ShowsReached is.script.session m (state_before at is.script)
 shows_reached at text m is = record { shows = is.shows; reached = (calls_before at is.script.calls, refl) }
 
 pub has_state : (at : Option ℕ) (text : List ℕ) (m : MachineModel) → IsMachineOf at text m → HasState m
@@ -83,7 +86,10 @@ module _ (at : Option ℕ) (path : Path) where
 
   -- a text in which reading finds a fault
   pub faulty_text : (text : List ℕ) (w : Option (List ℕ)) (f : Fault) → Gives (Err f) (script_of text) → TrustText at path text w w (Err f)
-  faulty_text text w f given = record { faults = script_fault_agrees f (script_of text) given; writes = script_fault_writes f w (script_of text) given }
+  faulty_text text w f given = record {
+    faults = script_fault_agrees f (script_of text) given;
+    writes = script_fault_writes f w (script_of text) given;
+  }
 
   -- a text for which memory ran out before anything was written
   pub unwritten_text : (text : List ℕ) (w : Option (List ℕ)) → TrustText at path text w w (Err OutOfMemory)
@@ -91,7 +97,8 @@ module _ (at : Option ℕ) (path : Path) where
 
   -- ---- a machine after the calls
 
-  module _ (text : List ℕ) (m : MachineModel) (is : IsMachineOf at text m) (lines : List ℕ) (shown : ShowsTrust m path lines) (old new : Option (List ℕ)) where
+  module _ {text : List ℕ} {m : MachineModel} (is : IsMachineOf at text m) (lines : List ℕ) (shown : ShowsTrust m path lines)
+      (old new : Option (List ℕ)) where
     lines_are : lines ≡ text_before at path is.script
     lines_are = shown is.script.session (state_before at is.script) (shows_reached at text m is)
 
@@ -110,17 +117,23 @@ module _ (at : Option ℕ) (path : Path) where
   -- ---- an input that is taken
 
   -- an error of the input stops the reading
-  pub stops_reading : (e : InputError) (left rest w : Option (List ℕ)) → TakesSome left rest → RunsInput (TrustText at path) left rest w w (Err (input_fault e))
+  pub stops_reading : (e : InputError) (left rest w : Option (List ℕ)) → TakesSome left rest
+      → RunsInput (TrustText at path) left rest w w (Err (input_fault e))
   stops_reading input.OutOfMemory left rest w takes = inl (record { takes = takes; keeps = Keeps-refl w })
   stops_reading input.ReadFailed left rest w takes = record { takes = takes; keeps = Keeps-refl w }
 
   -- what was taken is run
-  pub runs_taken : (left rest old new : Option (List ℕ)) (taken text : List ℕ) (result : Answer) → TakesAll left rest taken → text ≡ taken
+  pub runs_taken : {left rest old new : Option (List ℕ)} {taken text : List ℕ} {result : Answer} → TakesAll left rest taken → text ≡ taken
       → TrustText at path text old new result → is_read_failed result ≡ false → RunsInput (TrustText at path) left rest old new result
-  runs_taken left rest old new taken text result takes same runs no_read_failed =
-      at_result result (record { taken = taken; takes = takes; runs = subst (λ (t : List ℕ). TrustText at path t old new result) same runs }) no_read_failed
+  runs_taken {left} {rest} {old} {new} {taken} {text} {result} takes same runs no_read_failed =
+      at_result result (record {
+        taken = taken;
+        takes = takes;
+        runs = subst (λ (t : List ℕ). TrustText at path t old new result) same runs;
+      }) no_read_failed
     where
-      at_result : (r : Answer) → RunsTaken (TrustText at path) left rest old new r → is_read_failed r ≡ false → RunsInput (TrustText at path) left rest old new r
+      at_result : (r : Answer) → RunsTaken (TrustText at path) left rest old new r → is_read_failed r ≡ false
+          → RunsInput (TrustText at path) left rest old new r
       at_result (Ok done) h none = h
       at_result (Err (BadScript n)) h none = h
       at_result (Err TooLong) h none = h
@@ -142,24 +155,26 @@ module _ (at : Option ℕ) (path : Path) where
       ]
 
   -- what was run is the script of the whole input
-  same_run : (input taken : List ℕ) (old new : Option (List ℕ)) (result : Answer) → script_of taken ≡ script_of input
+  same_run : (input taken : List ℕ) {old new : Option (List ℕ)} (result : Answer) → script_of taken ≡ script_of input
       → TrustText at path taken old new result → TrustText at path input old new result
-  same_run input taken old new result same runs = record {
+  same_run input taken {old} {new} result same runs = record {
     faults = subst (λ (read : Result Reading Fault). AgreesWith read result) same runs.faults;
-    writes = subst (λ (read : Result Reading Fault). MatchResult result (λ _. WritesTrust at path old new read) (WritesAtFault at path old new read)) same runs.writes;
+    writes = subst (λ (read : Result Reading Fault). MatchResult result (λ _. WritesTrust at path old new read)
+        (WritesAtFault at path old new read)) same runs.writes;
   }
 
   -- a known input that was taken was run
   taken_known : (left rest old new : Option (List ℕ)) (result : Answer) → RunsTaken (TrustText at path) left rest old new result
       → IfSome left (λ input. TrustText at path input old new result)
   taken_known None rest old new result h = tt
-  taken_known (Some input) rest old new result h = same_run input h.taken old new result (same_script input rest h.taken h.takes) h.runs
+  taken_known (Some input) rest old new result h = same_run input h.taken result (same_script input rest h.taken h.takes) h.runs
 
   -- a known input of which some was taken was run as far as that
-  stopped_known : (left rest old new : Option (List ℕ)) (result : Answer) → ((input : List ℕ) → Keeps old new → TrustText at path input old new result)
+  stopped_known : (left : Option (List ℕ)) {rest old new : Option (List ℕ)} (result : Answer)
+      → ((input : List ℕ) → Keeps old new → TrustText at path input old new result)
       → StopsReading left rest old new → IfSome left (λ input. TrustText at path input old new result)
-  stopped_known None rest old new result runs h = tt
-  stopped_known (Some input) rest old new result runs h = runs input h.keeps
+  stopped_known None result runs h = tt
+  stopped_known (Some input) result runs h = runs input h.keeps
 
   -- a known input was run
   pub input_known : (left rest old new : Option (List ℕ)) (result : Answer) → RunsInput (TrustText at path) left rest old new result
@@ -167,7 +182,9 @@ module _ (at : Option ℕ) (path : Path) where
   input_known left rest old new (Ok done) h = taken_known left rest old new (Ok done) h
   input_known left rest old new (Err (BadScript n)) h = taken_known left rest old new (Err (BadScript n)) h
   input_known left rest old new (Err TooLong) h = taken_known left rest old new (Err TooLong) h
-  input_known left rest old new (Err OutOfMemory) (inl h) = stopped_known left rest old new (Err OutOfMemory) (λ text keeps. record { faults = tt; writes = keeps }) h
+  input_known left rest old new (Err OutOfMemory) (inl h) = stopped_known left (Err OutOfMemory)
+      (λ text keeps. record { faults = tt; writes = keeps }) h
   input_known left rest old new (Err OutOfMemory) (inr h) = taken_known left rest old new (Err OutOfMemory) h
-  input_known left rest old new (Err ReadFailed) h = stopped_known left rest old new (Err ReadFailed) (λ text keeps. record { faults = tt; writes = keeps }) h
+  input_known left rest old new (Err ReadFailed) h = stopped_known left (Err ReadFailed)
+      (λ text keeps. record { faults = tt; writes = keeps }) h
   input_known left rest old new (Err WriteFailed) h = taken_known left rest old new (Err WriteFailed) h

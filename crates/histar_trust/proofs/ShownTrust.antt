@@ -83,7 +83,20 @@ same_names : (users : List User) → map (λ (u : User). u.name) (map without_pa
 same_names [] = refl
 same_names (u ∷ users) = ap (λ (names : List Name). u.name ∷ names) (same_names users)
 
-module _ (session : Session) (m : MachineModel) (f : Flat) (r : ShowsReached session m f) where
+-- the processes of a machine were found, and these members are those of them that run
+pub record AreMembers (m : MachineModel) (members : List Member) : Type 0 where
+  pub processes : List ProcessNode
+  pub are : AreProcessesIn m processes
+  pub runners : map runner_of members ≡ filter_map running_node processes
+
+-- the tree of a machine was found, with this node at the path, and these classes of that and of the directories above
+pub record IsFound (m : MachineModel) (path : Path) (node : TreeNode) (classes : List FileClass) : Type 0 where
+  pub tree : List TreeNode
+  pub is : IsTreeIn m tree
+  pub found : node_at path tree ≡ Some node
+  pub are_classes : map flat_class classes ≡ classes_to tree path
+
+module _ {session : Session} {m : MachineModel} {f : Flat} (r : ShowsReached session m f) where
   abbrev s : State
   s = state m.kernel
 
@@ -143,26 +156,27 @@ module _ (session : Session) (m : MachineModel) (f : Flat) (r : ShowsReached ses
       where
         by : (o : Option Node) → get f.files path ≡ o → codes "no entry\n" ≡ trust_text session f path
         by None e = sym (ap (text_at path) e)
-        by (Some there) e = let found = found_at session s f l tree each path there e in absurd (let both : Some found.0 ≡ None = sym found.1 ∙ none in cc)
+        by (Some there) e = let found = found_at session s f l tree each path there e in absurd
+            (let both : Some found.0 ≡ None = sym found.1 ∙ none in cc)
 
   -- ---- the processes
 
-  module _ (processes : List ProcessNode) (are : AreProcessesIn m processes) (members : List Member)
-      (runners : map runner_of members ≡ filter_map running_node processes) where
+  module _ (members : List Member) (found_members : AreMembers m members) where
     own : HasProcessesOf session s f l.category
     own = flat_states_have_their_processes session s f r.shows.lays_out named
 
-    same_processes : processes ≡ own.processes
-    same_processes = one_list session s (places_of (length session.users)) processes own.processes
-        (subst (λ (places : Places). AreProcessesOf session s places processes) r.shows.places
-        (processes_unproved session s m.places processes (subst (λ (users : Session). AreProcessesOf users s m.places processes) r.shows.users are)))
+    same_processes : found_members.processes ≡ own.processes
+    same_processes = one_list session s (places_of (length session.users)) found_members.processes own.processes
+        (subst (λ (places : Places). AreProcessesOf session s places found_members.processes) r.shows.places
+        (processes_unproved session s m.places found_members.processes
+        (subst (λ (users : Session). AreProcessesOf users s m.places found_members.processes) r.shows.users found_members.are)))
         own.are_processes
 
     -- the members are those that run
     members_are : map runner_of members ≡ map (numbered f l.category) (running_in f)
     unfolding running_in
     members_are =
-        runners ∙ ap (filter_map running_node) same_processes ∙ sym (filter_map_map running_line process_line own.processes)
+        found_members.runners ∙ ap (filter_map running_node) same_processes ∙ sym (filter_map_map running_line process_line own.processes)
         ∙ ap (filter_map running_line) own.lines ∙ runners_listed f l.category (levels_at []) []
 
     all_run : AllOf (Runs f l.category) (running_in f)
@@ -193,7 +207,8 @@ module _ (session : Session) (m : MachineModel) (f : Flat) (r : ShowsReached ses
 
         trusted_same : has_standing session.groups (flat_class class) Trusted member ≡ is_trusted session there.class f c.0
         trusted_same =
-            ap (is_same_standing Trusted) standing_is ∙ trusted_is (is_trusted session there.class f member.name) (is_confined session there.class f member.name)
+            ap (is_same_standing Trusted) standing_is
+            ∙ trusted_is (is_trusted session there.class f member.name) (is_confined session there.class f member.name)
             ∙ ap (is_trusted session there.class f) name_is
 
         confined_same : has_standing session.groups (flat_class class) Confined member ≡ is_confined session there.class f c.0
@@ -205,7 +220,8 @@ module _ (session : Session) (m : MachineModel) (f : Flat) (r : ShowsReached ses
 
         outside_same : has_standing session.groups (flat_class class) Outside member ≡ is_outsider session there.class f c.0
         outside_same =
-            ap (is_same_standing Outside) standing_is ∙ outside_is (is_trusted session there.class f member.name) (is_confined session there.class f member.name)
+            ap (is_same_standing Outside) standing_is
+            ∙ outside_is (is_trusted session there.class f member.name) (is_confined session there.class f member.name)
             ∙ ap (is_outsider session there.class f) name_is
 
       -- and is a changer where the flat state says so
@@ -215,38 +231,53 @@ module _ (session : Session) (m : MachineModel) (f : Flat) (r : ShowsReached ses
 
     -- ---- what is printed
 
+    -- the members that pass a test are the processes that pass one on their names, where the two tests agree
+    chosen : (test : Member → Bool) (of_name : ProcName → Bool)
+        → ((member : Member) (c : Named) → runner_of member ≡ numbered f l.category c → Runs f l.category c → test member ≡ of_name c.0)
+        → map with_user (filter test members) ≡ running_where session f of_name
+    chosen test of_name agree = picked f l.category test (λ c. of_name c.0) agree members (running_in f) members_are all_run
+
     module _ (path : Path) (there : Node) (at : get f.files path ≡ Some there) (class : FileClass)
         (of_class : class_by_number number there.class ≡ flat_class class) where
+      -- the members of a standing
+      abbrev has : Standing → Member → Bool
+      has = has_standing session.groups (flat_class class)
+
       -- who has which standing, and who could log in as a reader
       readers_are : shown_readers (without_passwords session) members (flat_class class) ≡ readers_text session f there.class
       readers_are = λ i.
-          process_lines (codes "trusted") (picked f l.category (has_standing session.groups (flat_class class) Trusted) (λ c. is_trusted session there.class f c.0)
-          (λ member c same runs. trusted_same member c same runs path there at class of_class) members (running_in f) members_are all_run i)
-          ++ process_lines (codes "confined") (picked f l.category (has_standing session.groups (flat_class class) Confined) (λ c. is_confined session there.class f c.0)
-          (λ member c same runs. confined_same member c same runs path there at class of_class) members (running_in f) members_are all_run i)
-          ++ process_lines (codes "outside") (picked f l.category (has_standing session.groups (flat_class class) Outside) (λ c. is_outsider session there.class f c.0)
-          (λ member c same runs. outside_same member c same runs path there at class of_class) members (running_in f) members_are all_run i)
+          process_lines (codes "trusted") (chosen (has Trusted) (is_trusted session there.class f)
+          (λ member c same runs. trusted_same member c same runs path there at class of_class) i)
+          ++ process_lines (codes "confined") (chosen (has Confined) (is_confined session there.class f)
+          (λ member c same runs. confined_same member c same runs path there at class of_class) i)
+          ++ process_lines (codes "outside") (chosen (has Outside) (is_outsider session there.class f)
+          (λ member c same runs. outside_same member c same runs path there at class of_class) i)
           ++ user_lines (codes "login") (filter (λ user. is_so.reader_login there.class class of_class user i) (same_names session.users i))
 
     -- who may change what is there, and as whom one could log in who may
     changers_are : (path : Path) (classes : List FileClass) → AreClassesTo number f path classes
         → shown_changers (without_passwords session) members classes ≡ changers_text session f path
     changers_are path classes to = λ i.
-        process_lines (codes "changer") (picked f l.category (is_shown_changer session.groups classes) (λ c. is_changer session f path c.0)
-        (λ member c same runs. changer_same member c same runs path classes to) members (running_in f) members_are all_run i)
+        process_lines (codes "changer") (chosen (is_shown_changer session.groups classes) (is_changer session f path)
+        (λ member c same runs. changer_same member c same runs path classes to) i)
         ++ user_lines (codes "changer-login") (filter (λ user. is_so.changer_login path classes to user i) (same_names session.users i))
 
     -- the class of what is there
     first_class : (path : Path) (classes : List FileClass) → AreClassesTo number f path classes → (there : Node) → get f.files path ≡ Some there
         → (c : FileClass) × (class_by_number number there.class ≡ flat_class c)
     first_class path [] to there at = absurd to
-    first_class [] (c ∷ classes) to there at =
-        (c, same_Some (class_by_number number there.class) (flat_class c) (sym (ap (option_map (λ (n : Node). class_by_number number n.class)) at) ∙ to.0))
-    first_class (n ∷ d) (c ∷ classes) to there at =
-        (c, same_Some (class_by_number number there.class) (flat_class c) (sym (ap (option_map (λ (n : Node). class_by_number number n.class)) at) ∙ to.0))
+    first_class [] (c ∷ classes) to there at = (
+      c,
+      same_Some (class_by_number number there.class) (flat_class c)
+          (sym (ap (option_map (λ (n : Node). class_by_number number n.class)) at) ∙ to.0),
+    )
+    first_class (n ∷ d) (c ∷ classes) to there at = (
+      c,
+      same_Some (class_by_number number there.class) (flat_class c)
+          (sym (ap (option_map (λ (n : Node). class_by_number number n.class)) at) ∙ to.0),
+    )
 
-    module _ (tree : List TreeNode) (is : IsTreeIn m tree) (path : Path) (node : TreeNode) (found : node_at path tree ≡ Some node) (classes : List FileClass)
-        (are_classes : map flat_class classes ≡ classes_to tree path) where
+    module _ (path : Path) (node : TreeNode) (classes : List FileClass) (seen : IsFound m path node classes) where
       module _ (there : Node) (at : get f.files path ≡ Some there) (is_at : IsAt s l.category path node there) where
         class_is : class_flat node.class ≡ class_by_number number there.class
         class_is = ap class_flat is_at.class ∙ same_class l.category there.class
@@ -255,7 +286,7 @@ module _ (session : Session) (m : MachineModel) (f : Flat) (r : ShowsReached ses
         head_is = λ i. access_line_text (record { path = is_at.path i; stat = is_at.stat i; cells = [] })
 
         to : AreClassesTo number f path classes
-        to = classes_are session s f l tree (each tree is) path there at classes are_classes
+        to = classes_are session s f l seen.tree (each seen.tree seen.is) path there at classes seen.are_classes
 
         standings_are : shown_standings (without_passwords session) members node ≡ standings_text session f there
         standings_are =
@@ -273,8 +304,10 @@ module _ (session : Session) (m : MachineModel) (f : Flat) (r : ShowsReached ses
             ∙ (λ i. head_is i ++ standings_are i ++ changers_are path classes to i)
 
       -- where the tree has something, the text is that of the flat state
-      pub something_there : head_text node ++ shown_standings m.users members node ++ shown_changers m.users members classes ≡ trust_text session f path
-      something_there = by (get f.files path) refl (subst (λ o. AreAlike s l.category path o (get f.files path)) found (each tree is path))
+      pub something_there : head_text node ++ shown_standings m.users members node ++ shown_changers m.users members classes
+          ≡ trust_text session f path
+      something_there = by (get f.files path) refl
+          (subst (λ o. AreAlike s l.category path o (get f.files path)) seen.found (each seen.tree seen.is path))
         where
           by : (o : Option Node) → get f.files path ≡ o → AreAlike s l.category path (Some node) (get f.files path)
               → head_text node ++ shown_standings m.users members node ++ shown_changers m.users members classes ≡ trust_text session f path

@@ -35,7 +35,8 @@ module _ (session : Session) (class : Class) (path : Path) (before : List CallLi
 
   -- the texts of the replies to those who are outsiders after these calls
   abbrev pub outside_texts : List Answered → List (List ℕ)
-  outside_texts answers = map (λ (a : Answered). reply_text a.reply) (filter (λ (a : Answered). is_outsider session class state_met a.call.process) answers)
+  outside_texts answers = map (λ (a : Answered). reply_text a.reply)
+      (filter (λ (a : Answered). is_outsider session class state_met a.call.process) answers)
 
 -- What `run` prints of a script: the lines of some first answers, then the lines of these, which answer these calls, and then the tree
 -- where it is asked for.
@@ -46,7 +47,8 @@ pub record PrintsBehind (options : Options) (script : Reading) (calls : List Cal
   pub text : meaning_text options script ≡ answers_text first ++ answers_text answers ++ asked_tree options (last_state script)
 
 -- The lines that `run` prints of both scripts behind the secret that was written: the replies to outsiders have the same texts in both.
-pub record PrintTheSame (options : Options) (session : Session) (class : Class) (path : Path) (before : List CallLine) (one two : Reading) (calls others : List CallLine) : Type 0 where
+pub record PrintTheSame (options : Options) (session : Session) (class : Class) (path : Path) (before : List CallLine)
+    (one two : Reading) (calls others : List CallLine) : Type 0 where
   pub answers : List Answered
   pub prints : PrintsBehind options one calls answers
   pub other_answers : List Answered

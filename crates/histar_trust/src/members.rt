@@ -28,7 +28,8 @@ pub fn processes<S: LabelStore + Drop>(
 
 /// Returns those of these processes that run.
 pub fn members_among(alloc: Global, processes: &[ProcessNode]) -> Result<Vec<Member>, AllocError>
-    ensures { IfOk result (λ members. map runner_of members.items ≡ filter_map running_node processes.now) }
+    ensures { IfOk result (λ members.
+        map runner_of members.items ≡ filter_map running_node processes.now) }
 {
     let mut members = Vec::new(alloc);
     for process in processes {

@@ -68,7 +68,8 @@ fn push_standings(
     members: &[Member],
     node: &TreeNode,
 ) -> Result<(), AllocError>
-    ensures { OnOk result (text.new.items ≡ text.old.items ++ shown_standings users.now members.now node.now) }
+    ensures { OnOk result (text.new.items
+        ≡ text.old.items ++ shown_standings users.now members.now node.now) }
 {
     if node.stat().is_directory {
         return Ok(());
@@ -96,7 +97,8 @@ fn push_readers(
     members: &[Member],
     class: &FileClass,
 ) -> Result<(), AllocError>
-    ensures { OnOk result (text.new.items ≡ text.old.items ++ shown_readers users.now members.now (flat_class class.now)) }
+    ensures { OnOk result (text.new.items
+        ≡ text.old.items ++ shown_readers users.now members.now (flat_class class.now)) }
 {
     let groups = users.groups();
     let trusted = with_standing(alloc, groups, class, Standing::Trusted, members)?;
@@ -119,7 +121,8 @@ fn push_changers(
     members: &[Member],
     classes: &[FileClass],
 ) -> Result<(), AllocError>
-    ensures { OnOk result (text.new.items ≡ text.old.items ++ shown_changers users.now members.now classes.now) }
+    ensures { OnOk result (text.new.items
+        ≡ text.old.items ++ shown_changers users.now members.now classes.now) }
 {
     let groups = users.groups();
     let changers = changers_of(alloc, groups, classes, members)?;
@@ -135,7 +138,8 @@ fn push_processes(
     word: &[u8],
     processes: &[(ProcName, Name)],
 ) -> Result<(), AllocError>
-    ensures { OnOk result (text.new.items ≡ text.old.items ++ process_lines word.now processes.now) }
+    ensures { OnOk result (text.new.items
+        ≡ text.old.items ++ process_lines word.now processes.now) }
 {
     for process in processes {
         push_process_line(text, word, &process.0, process.1)?;
@@ -150,7 +154,8 @@ fn push_process_line(
     process: &ProcName,
     user: Name,
 ) -> Result<(), AllocError>
-    ensures { OnOk result (text.new.items ≡ text.old.items ++ process_line word.now (process.now, user)) }
+    ensures { OnOk result (text.new.items
+        ≡ text.old.items ++ process_line word.now (process.now, user)) }
 {
     text.extend_from_slice(word)?;
     text.extend_from_slice(b" ")?;

@@ -32,8 +32,10 @@ pub fn trust<R: Source, W: Sink>(
     ensures nothing { IfErr result (LeavesSink writer.old writer.new) }
 
     // A device has failed exactly where its fault is the answer.
-    ensures reads { CountsFailure (R.failures reader.old) (R.failures reader.new) (is_read_failed result) }
-    ensures writes { CountsFailure (W.failures writer.old) (W.failures writer.new) (is_write_failed result) }
+    ensures reads { CountsFailure (R.failures reader.old) (R.failures reader.new)
+        (is_read_failed result) }
+    ensures writes { CountsFailure (W.failures writer.old) (W.failures writer.new)
+        (is_write_failed result) }
 
     // Whatever the source tells, bytes of it were taken, to its end but never more than 1,048,577: the fault of the script that
     // they are is answered, or exactly the text of the flat state after its calls is written.
@@ -58,8 +60,10 @@ fn trust_text<W: Sink>(
 ) -> Result<(), Fault>
     ensures nothing { IfErr result (LeavesSink writer.old writer.new) }
     ensures reads { is_read_failed result ≡ false }
-    ensures writes { CountsFailure (W.failures writer.old) (W.failures writer.new) (is_write_failed result) }
-    ensures runs { TrustText at path.now text.now (W.written writer.old) (W.written writer.new) result }
+    ensures writes { CountsFailure (W.failures writer.old) (W.failures writer.new)
+        (is_write_failed result) }
+    ensures runs { TrustText at path.now text.now (W.written writer.old) (W.written writer.new)
+        result }
 {
     let machine = machine_before(alloc, text, at)?;
     let lines = trust_lines(alloc, &machine, path)?;

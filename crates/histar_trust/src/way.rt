@@ -30,7 +30,8 @@ pub fn push_classes(
     names: &[Name],
     classes: &mut Vec<FileClass>,
 ) -> Result<(), AllocError>
-    ensures { OnOk result (map flat_class classes.new.items ≡ map flat_class classes.old.items ++ classes_to tree.now names.now) }
+    ensures { OnOk result (map flat_class classes.new.items
+        ≡ map flat_class classes.old.items ++ classes_to tree.now names.now) }
 {
     push_class(alloc, node_at(tree, names), classes)?;
     let [_, above @ ..] = names else {
@@ -45,7 +46,8 @@ fn push_class(
     there: Option<&TreeNode>,
     classes: &mut Vec<FileClass>,
 ) -> Result<(), AllocError>
-    ensures { OnOk result (map flat_class classes.new.items ≡ map flat_class classes.old.items ++ class_there (option_copied there.entry)) }
+    ensures { OnOk result (map flat_class classes.new.items
+        ≡ map flat_class classes.old.items ++ class_there (option_copied there.entry)) }
 {
     let Some(node) = there else {
         return Ok(());

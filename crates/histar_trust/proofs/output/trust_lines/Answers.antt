@@ -11,17 +11,18 @@ use Rattle.histar_trust.proofs.ShownTrust.{has_processes, has_tree, nothing_ther
 use Rattle.histar_trust.proofs.output.trust_lines.Goals as goal
 
 pub tree-requires : goal.tree-requires
-tree-requires g c = has_tree c.requires.0 c.args.machine.now c.requires.1 c.requires.2
+tree-requires g c = has_tree c.requires.2
 
 pub processes-requires : goal.processes-requires
-processes-requires g c = has_processes c.requires.0 c.args.machine.now c.requires.1 c.requires.2
+processes-requires g c = has_processes c.requires.2
 
 pub returns-in_default : goal.returns-in_default
 returns-in_default g c =
     let none : node_at c.args.path.now c.in_ok-tree.tree.items ≡ None =
     (λ i. node_at (sym c.names.ensures.names i) (sym c.as_slice.ensures.value i)) ∙ sym c.node_at.ensures ∙ ap option_copied c.in_default.is in
     made_so c.from_slice.result
-    (λ text is session f r. is ∙ nothing_there session c.args.machine.now f r c.in_ok-tree.tree.items c.in_ok-tree.ensures c.args.path.now none) c.from_slice.ensures.items
+    (λ text is session f r. is
+    ∙ nothing_there r c.in_ok-tree.tree.items c.in_ok-tree.ensures c.args.path.now none) c.from_slice.ensures.items
 
 pub returns : goal.returns
 returns g c session f r =
@@ -45,4 +46,6 @@ returns g c session f r =
     c.in_ok-push_changers.ensures
     ∙ (λ i. standings i ++ shown_changers (c.users-2.ensures i) (c.as_slice-5.ensures.value i) (c.as_slice-6.ensures.value i)) in
     changers
-    ∙ something_there session m f r c.in_ok-processes.processes.items c.in_ok-processes.ensures members runners tree c.in_ok-tree.ensures path node found classes are_classes
+    ∙ something_there r members
+    (record { processes = c.in_ok-processes.processes.items; are = c.in_ok-processes.ensures; runners = runners }) path node classes
+    (record { tree = tree; is = c.in_ok-tree.ensures; found = found; are_classes = are_classes })

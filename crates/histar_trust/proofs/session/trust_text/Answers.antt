@@ -26,9 +26,9 @@ pub returns-in_err-write_bytes-clause-runs : goal.returns-in_err-write_bytes-cla
 returns-in_err-write_bytes-clause-runs g c =
     let p = err_from_is_err_and c.from_residual-in_err-write_bytes.result c.from_residual-in_err-write_bytes.ensures.1 in
     let shown = subst (ShowsTrust c.in_ok-machine.machine c.args.path.now) (sym c.as_slice.ensures.value) c.in_ok-lines.ensures in
-    rw (p.1, p.2) (begun_text c.args.at c.args.path.now c.args.text.now c.in_ok-machine.machine c.in_ok-machine.ensures _ shown _ _ c.in_err-write_bytes.ensures.err)
+    rw (p.1, p.2) (begun_text c.args.at c.args.path.now c.in_ok-machine.ensures _ shown _ _ c.in_err-write_bytes.ensures.err)
 
 pub returns-clause-runs : goal.returns-clause-runs
 returns-clause-runs g c =
     let shown = subst (ShowsTrust c.in_ok-machine.machine c.args.path.now) (sym c.as_slice.ensures.value) c.in_ok-lines.ensures in
-    written_text c.args.at c.args.path.now c.args.text.now c.in_ok-machine.machine c.in_ok-machine.ensures _ shown _ _ c.in_ok-write_bytes.ensures.ok
+    written_text c.args.at c.args.path.now c.in_ok-machine.ensures _ shown _ _ c.in_ok-write_bytes.ensures.ok
