@@ -10,4 +10,4 @@ mod table;
 
 pub use cells::Cell;
 pub use changes::diff;
-pub use session::access;
+pub use session::{access, machine_before};

@@ -65,7 +65,7 @@ fn access_text<W: Sink>(
 
 /// Runs the script that a text is on a machine of its own, up to a line where one is given, and returns the
 /// machine.
-pub(crate) fn machine_before(
+pub fn machine_before(
     alloc: Global,
     text: &[u8],
     at: Option<u32>,

@@ -6,9 +6,9 @@ mod status;
 mod tasks;
 
 use crate::status::{Outcome, outcome_status, status};
-use crate::tasks::{access_file, check_file, diff_files, lint_file, run_file, run_raw_file};
+use crate::tasks::{access_file, check_file, diff_files, lint_file, run_file, run_raw_file, trust_file};
 use histar_command_line::{Task, read_words};
-use histar_flat::{ProcName, read_process};
+use histar_flat::{ProcName, read_path, read_process};
 use histar_script::Fault;
 use std::alloc::Global;
 use std::process::ExitCode;
@@ -38,6 +38,8 @@ enum BadWord {
     Job,
     /// The line is no number of a line.
     Line,
+    /// The path is none.
+    Path,
 }
 
 /// Reads the number of a line.
@@ -70,6 +72,10 @@ fn perform<R: Files + Input + Print>(
         }
         Task::Access(path, line) => Ok(access_file(rt, alloc, path, read_line(line)?)),
         Task::Diff(old, new, line) => Ok(diff_files(rt, alloc, old, new, read_line(line)?)),
+        Task::Trust(path, file, line) => {
+            let path = read_path(path.as_bytes()).ok_or(BadWord::Path)?;
+            Ok(trust_file(rt, alloc, &path, file, read_line(line)?))
+        }
         Task::Lint(path) => Ok(lint_file(rt, alloc, path)),
     }
 }
@@ -79,6 +85,7 @@ fn refuse_word<R: Eprint>(rt: &R, word: &BadWord) -> u8 {
     let which = match word {
         BadWord::Job => "job",
         BadWord::Line => "line",
+        BadWord::Path => "path",
     };
     let _ = eprintln!(rt; "histar: bad {which}");
     REFUSED

@@ -6,12 +6,13 @@ use histar_access::{access, diff};
 use histar_command_line::RunFlags;
 use histar_comparison::{Verdict, compare};
 use histar_devices::read_input;
-use histar_flat::ProcName;
+use histar_flat::{Path, ProcName};
 use histar_lint::lint;
 use histar_raw_explain::explain_raw_script;
 use histar_raw_session::run_raw_script;
 use histar_script::Fault;
 use histar_shell::{Options, run};
+use histar_trust::trust;
 use std::alloc::Global;
 use std::io::{self, Write};
 use std::rt::Files;
@@ -108,6 +109,20 @@ pub fn diff_files<R: Files + Input + Print>(
         }),
         writer,
     )
+}
+
+/// Prints on whom it depends what is at a path after the calls of the script in a file, or before a line.
+pub fn trust_file<R: Files + Input + Print>(
+    rt: &R,
+    alloc: Global,
+    path: &Path,
+    file: &str,
+    at: Option<u32>,
+) -> Result<Outcome, Fault> {
+    let mut reader = open(rt, file)?;
+    let mut writer = output(rt, alloc)?;
+    let done = trust(alloc, path, &mut reader, &mut writer, at);
+    finish(done.map(|_| Outcome::Done), writer)
 }
 
 /// Prints why the script in a file is bad, where it is.

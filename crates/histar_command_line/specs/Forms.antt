@@ -56,10 +56,14 @@ access_app = subcommand_app (codes "access") (option_rule (codes "LINE") (codes 
 abbrev pub diff_app : App
 diff_app = subcommand_app (codes "diff") (option_rule (codes "LINE") (codes "at") ∷ word_rule (codes "OLD") ∷ word_rule (codes "NEW") ∷ [])
 
+-- `trust [--at LINE] PATH FILE`
+abbrev pub trust_app : App
+trust_app = subcommand_app (codes "trust") (option_rule (codes "LINE") (codes "at") ∷ word_rule (codes "PATH") ∷ word_rule (codes "FILE") ∷ [])
+
 -- `lint FILE`
 abbrev pub lint_app : App
 lint_app = subcommand_app (codes "lint") (word_rule (codes "FILE") ∷ [])
 
 -- the program with its subcommands
 abbrev pub histar_app : App
-histar_app = fold with_subcommand named_app (run_app.top ∷ raw_app.top ∷ check_app.top ∷ access_app.top ∷ diff_app.top ∷ lint_app.top ∷ [])
+histar_app = fold with_subcommand named_app (run_app.top ∷ raw_app.top ∷ check_app.top ∷ access_app.top ∷ diff_app.top ∷ trust_app.top ∷ lint_app.top ∷ [])

@@ -3,7 +3,7 @@ use Rattle.std.specs.Prelude.{◌≡◌, Bool, false, List, codes, Option, None,
 use Rattle.std.specs.Str.{bytes_eq}
 use Rattle.clap.specs.Words.{Row, Text, first_of}
 use Rattle.histar_command_line.specs.declared.task.Task.{Task}
-use Rattle.histar_command_line.specs.declared.task.Task.TheVariants.{Run, Raw, Check, Access, Diff, Lint}
+use Rattle.histar_command_line.specs.declared.task.Task.TheVariants.{Run, Raw, Check, Access, Diff, Trust, Lint}
 
 -- the value of a flag that was given
 abbrev pub is_given : Option Text → Bool
@@ -21,6 +21,7 @@ subcommand (Raw file explain) = codes "raw"
 subcommand (Check job file exit_code) = codes "check"
 subcommand (Access file at) = codes "access"
 subcommand (Diff old new at) = codes "diff"
+subcommand (Trust path file at) = codes "trust"
 subcommand (Lint file) = codes "lint"
 
 -- the task has the words and the flags of its subcommand
@@ -42,6 +43,10 @@ HasArguments (Access file at) rows =
 HasArguments (Diff old new at) rows =
     (first_of (codes "OLD") rows ≡ Some old.now)
     × (first_of (codes "NEW") rows ≡ Some new.now)
+    × (option_map (λ line. line.now) at ≡ first_of (codes "LINE") rows)
+HasArguments (Trust path file at) rows =
+    (first_of (codes "PATH") rows ≡ Some path.now)
+    × (first_of (codes "FILE") rows ≡ Some file.now)
     × (option_map (λ line. line.now) at ≡ first_of (codes "LINE") rows)
 HasArguments (Lint file) rows = first_of (codes "FILE") rows ≡ Some file.now
 

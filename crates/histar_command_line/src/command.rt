@@ -22,7 +22,7 @@ const AFTER_HELP: &str = "Example:
 Exit status:
   0  it was done, or help was asked for
   1  the script or the session is bad or too long
-  2  the command line is refused, JOB is no process, or LINE is no number
+  2  the command line is refused, JOB is no process, PATH is no path, or LINE is no number
   3  out of memory
   4  FILE can't be read, or the output can't be written
   5  what was asked is not so
@@ -84,5 +84,6 @@ pub(crate) fn command<'a>(alloc: Global) -> Result<Command<'a>, AllocError>
     let histar = add(alloc, histar, &forms::check())?;
     let histar = add(alloc, histar, &forms::access())?;
     let histar = add(alloc, histar, &forms::diff())?;
+    let histar = add(alloc, histar, &forms::trust())?;
     add(alloc, histar, &forms::lint())
 }

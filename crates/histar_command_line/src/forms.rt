@@ -1,6 +1,6 @@
 //! The forms of the subcommands: their names, their arguments and their help.
 ghost use Rattle.std.specs.Prelude.{◌≡◌};
-ghost use Rattle.histar_command_line.specs.Forms.{form_app, run_app, raw_app, check_app, access_app, diff_app, lint_app};
+ghost use Rattle.histar_command_line.specs.Forms.{form_app, run_app, raw_app, check_app, access_app, diff_app, lint_app, trust_app};
 
 /// An argument of a subcommand.
 #[derive(Clone, Copy)]
@@ -131,6 +131,33 @@ prints, among others, the line
             Argument::Valued("LINE", "at", AT),
             Argument::Word("OLD", "The old script"),
             Argument::Word("NEW", "The new script"),
+        ],
+    }
+}
+
+/// Returns `trust [--at LINE] PATH FILE`.
+pub(crate) fn trust<'a>() -> Form<'a>
+    ensures { form_app result ≡ trust_app }
+{
+    Form {
+        name: "trust",
+        about: "Run a script and print on whom it depends that what is at a path stays secret, and as it is",
+        after_help: "After what is at PATH comes a line for each running process and for each user:
+  trusted PROC USER    it may read the file, and may hand on what it read
+  confined PROC USER   it may read the file, and what it writes only those read who may read the file
+  outside PROC USER    it may not read the file
+  login USER           a process that logs in as USER could read the file
+  changer PROC USER    it may write what is at PATH, or a directory on the way to it
+  changer-login USER   a process that logs in as USER could
+
+Example:
+  histar trust /tmp/letters examples/scan.histar
+prints, among others, the line
+  confined 0.1.1 alice",
+        arguments: &[
+            Argument::Valued("LINE", "at", AT),
+            Argument::Word("PATH", "The path of a file or a directory"),
+            Argument::Word("FILE", SCRIPT),
         ],
     }
 }

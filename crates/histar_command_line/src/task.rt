@@ -30,6 +30,8 @@ pub enum Task<'a> {
     Access(&'a str, Option<&'a str>),
     /// Print whose rights differ after an old script and a new one, or before the line of this number in both.
     Diff(&'a str, &'a str, Option<&'a str>),
+    /// Print on whom it depends what is at a path after a script, or before the line of this number: first the path, then the file.
+    Trust(&'a str, &'a str, Option<&'a str>),
     /// Print why the script in this file is bad, where it is.
     Lint(&'a str),
 }
@@ -82,6 +84,12 @@ fn state_task_of<'a>(matches: &ArgMatches<'a>) -> Option<Task<'a>>
         let new = diff.get_str("NEW")?;
         let at = diff.get_str("LINE");
         return Some(Task::Diff(old, new, at));
+    }
+    if let Some(trust) = matches.subcommand_matches("trust") {
+        let path = trust.get_str("PATH")?;
+        let file = trust.get_str("FILE")?;
+        let at = trust.get_str("LINE");
+        return Some(Task::Trust(path, file, at));
     }
     let lint = matches.subcommand_matches("lint")?;
     let file = lint.get_str("FILE")?;

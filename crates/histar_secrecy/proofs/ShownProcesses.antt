@@ -16,7 +16,7 @@ use Rattle.histar_secrecy.specs.Logins.{logged_in}
 use Rattle.histar_secrecy.specs.Standings.{is_bound, is_confined, is_trusted}
 use Rattle.histar_secrecy.specs.Noninterference.{ShowsStanding}
 use Rattle.histar_secrecy.specs.Changers.{may_change}
-use Rattle.histar_secrecy.specs.ShownStandings.{AreClassesTo, AreNumbered, IsOfClass, IsShownProcess, ShownIsSo, changes_one, flat_class, job_numbered, class_by_number, of_groups, shown_of, standing_in, standing_of, with_rights}
+use Rattle.histar_secrecy.specs.ShownStandings.{AreClassesTo, AreNumbered, IsOfClass, IsShownProcess, ShownIsSo, changes_one, flat_class, job_numbered, class_by_number, of_groups, member_standing, standing_in, standing_of, with_rights}
 use Rattle.histar_secrecy.proofs.Learning.{standings_are_shown}
 use Rattle.histar_secrecy.proofs.NumberedJobs.{bound_by_number, in_two_steps, named, reads_by_number, writes_by_number}
 use Rattle.histar_secrecy.proofs.Readers.{bound_parts, reads_holding}
@@ -66,11 +66,8 @@ module _ (number : ProcName → ℕ) (one : AreNumbered number) (session : Sessi
 -- a process that is shown has the standing of the one that runs
 standing_is : {number : ProcName → ℕ} (one : AreNumbered number) {session : Session} {f : Flat} {c : Class} (class : FileClass)
     → class_by_number number c ≡ flat_class class → {m : Member} {p : Process} → IsShownProcess number f m p → ShowsStanding session c f m.name p
-    → shown_of session.groups (flat_class class) m ≡ (m.name, standing_in session c f m.name)
-standing_is {number} one {session} {f} {c} class of_class {m} {p} is shown = λ i. (m.name, standing i)
-  where
-    standing : standing_of session.groups (flat_class class) (with_rights m.user m.jobs.items m.held.items) ≡ standing_in session c f m.name
-    standing =
+    → member_standing session.groups (flat_class class) m ≡ standing_in session c f m.name
+standing_is {number} one {session} {f} {c} class of_class {m} {p} is shown =
         (λ i. standing_of session.groups (sym of_class i) (shown_is number one session f is i))
         ∙
         (λ i. if reads_by_number number one session p c i then (if bound_by_number number one session c p i then Confined else Trusted) else Outside)

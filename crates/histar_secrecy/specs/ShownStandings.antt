@@ -1,5 +1,5 @@
 -- What is shown of processes and users: their standings to a file, and which are changers. Jobs are known by numbers.
-use Rattle.std.specs.Prelude.{◌≡◌, ℕ, Bool, List, [], ◌∷◌, None, Option, Some, map, option_map, if◌then◌else◌}
+use Rattle.std.specs.Prelude.{◌≡◌, ℕ, Bool, true, false, List, [], ◌∷◌, None, Option, Some, map, option_map, if◌then◌else◌}
 use Rattle.std.specs.List.{list_any}
 use Rattle.histar_flat.specs.Words.{Name, Path, ProcName}
 use Rattle.histar_flat.specs.Sessions.{Group, Session}
@@ -43,9 +43,24 @@ abbrev pub standing_of : List Group → Class → Process → Standing
 standing_of groups class p =
     if may_read (of_groups groups) p class then (if is_bound (of_groups groups) class p then Confined else Trusted) else Outside
 
--- the standing of a process, behind its name
-abbrev pub shown_of : List Group → Class → Member → ProcName × Standing
-shown_of groups class m = (m.name, standing_of groups class (with_rights m.user m.jobs.items m.held.items))
+-- the standing of a process that is shown
+abbrev pub member_standing : List Group → Class → Member → Standing
+member_standing groups class m = standing_of groups class (with_rights m.user m.jobs.items m.held.items)
+
+-- two standings are the same
+abbrev pub is_same_standing : Standing → Standing → Bool
+is_same_standing Trusted Trusted = true
+is_same_standing Confined Confined = true
+is_same_standing Outside Outside = true
+is_same_standing one other = false
+
+-- a process that is shown has this standing
+abbrev pub has_standing : List Group → Class → Standing → Member → Bool
+has_standing groups class standing m = is_same_standing standing (member_standing groups class m)
+
+-- a process that is shown, with its user
+abbrev pub with_user : Member → ProcName × Name
+with_user m = (m.name, m.user)
 
 -- a process that logs in as this user may read what is of the class
 abbrev pub is_login_reader : List Group → Class → Name → Bool
@@ -103,7 +118,7 @@ module _ (number : ProcName → ℕ) where
   pub record ShowsAState (session : Session) (f : Flat) : Type 0 where
     pub standing : IsReached session f → (path : Path) (node : Node) (class : FileClass) → get f.files path ≡ Some node
         → class_by_number node.class ≡ flat_class class → (m : Member) (p : Process) → IsShownProcess f m p
-        → shown_of session.groups (flat_class class) m ≡ (m.name, standing_in session node.class f m.name)
+        → member_standing session.groups (flat_class class) m ≡ standing_in session node.class f m.name
     pub changer : (path : Path) (classes : List FileClass) → AreClassesTo f path classes → (m : Member) (p : Process) → IsShownProcess f m p
         → is_shown_changer session.groups classes m ≡ is_changer session f path m.name
     pub reader_login : (of_class : Class) (class : FileClass) → class_by_number of_class ≡ flat_class class

@@ -1,7 +1,6 @@
 //! Who may change what is at a path.
 ghost use Rattle.std.specs.Prelude.{◌≡◌, IfOk, filter, map};
-ghost use Rattle.histar_secrecy.specs.ShownStandings.{changes_one, is_login_changer, is_shown_changer, with_rights};
-ghost use Rattle.histar_secrecy.specs.declared.standing.Member.{Member};
+ghost use Rattle.histar_secrecy.specs.ShownStandings.{changes_one, is_login_changer, is_shown_changer, with_rights, with_user};
 
 use crate::file_class::FileClass;
 use crate::rights::may_write;
@@ -9,17 +8,16 @@ use crate::standing::Member;
 use histar_flat::{Group, Name, ProcName};
 use std::alloc::{AllocError, Global};
 
-/// Returns those of these processes that may change what is at a path, where these are the classes of
-/// that and of each directory above it.
+/// Returns those of these processes that may change what is at a path, each with its user, where these are
+/// the classes of what is there and of each directory above it.
 pub fn changers_of(
     alloc: Global,
     groups: &[Group],
     classes: &[FileClass],
     members: &[Member],
-) -> Result<Vec<ProcName>, AllocError>
+) -> Result<Vec<(ProcName, Name)>, AllocError>
     ensures { IfOk result (λ v.
-        v.items ≡ map (λ (m : Member). m.name)
-        (filter (is_shown_changer groups.now classes.now) members.now)) }
+        v.items ≡ map with_user (filter (is_shown_changer groups.now classes.now) members.now)) }
 {
     members
         .iter()
@@ -27,7 +25,7 @@ pub fn changers_of(
             let jobs = member.jobs.as_slice();
             writes_one(groups, member.user, jobs, member.held.as_slice(), classes)
         })
-        .map(|member| member.name)
+        .map(|member| (member.name, member.user))
         .collect(alloc)
 }
 

@@ -10,4 +10,4 @@ mod standing;
 pub use changers::{changers_of, login_changers};
 pub use file_class::FileClass;
 pub use rights::{may_read, may_write};
-pub use standing::{Member, Standing, login_readers, trust_of};
+pub use standing::{Member, Standing, login_readers, with_standing};

@@ -1,6 +1,6 @@
 //! Who is trusted with a file, who is confined, and who is an outsider.
 ghost use Rattle.std.specs.Prelude.{◌≡◌, IfOk, filter, map};
-ghost use Rattle.histar_secrecy.specs.ShownStandings.{flat_class, is_login_reader, shown_of, standing_of, with_rights};
+ghost use Rattle.histar_secrecy.specs.ShownStandings.{flat_class, has_standing, is_login_reader, is_same_standing, member_standing, with_user};
 
 use crate::file_class::FileClass;
 use crate::rights::may_read;
@@ -30,8 +30,7 @@ pub struct Member {
 
 /// Returns the standing of a process to a file of the class.
 fn standing_of(groups: &[Group], class: &FileClass, member: &Member) -> Standing
-    ensures { result ≡ standing_of groups.now (flat_class class.now)
-        (with_rights member.now.user member.now.jobs.items member.now.held.items) }
+    ensures { result ≡ member_standing groups.now (flat_class class.now) member.now }
 {
     let jobs = member.jobs.as_slice();
     if !may_read(groups, member.user, jobs, member.held.as_slice(), class) {
@@ -43,19 +42,32 @@ fn standing_of(groups: &[Group], class: &FileClass, member: &Member) -> Standing
     }
 }
 
-/// Returns the standing of each process to a file of the class.
-pub fn trust_of(
+/// Checks whether two standings are the same.
+fn is_same(one: Standing, other: Standing) -> bool
+    ensures { result ≡ is_same_standing one other }
+{
+    match one {
+        Standing::Trusted => matches!(other, Standing::Trusted),
+        Standing::Confined => matches!(other, Standing::Confined),
+        Standing::Outside => matches!(other, Standing::Outside),
+    }
+}
+
+/// Returns those of these processes that have this standing to a file of the class, each with its user.
+pub fn with_standing(
     alloc: Global,
     groups: &[Group],
     class: &FileClass,
+    standing: Standing,
     members: &[Member],
-) -> Result<Vec<(ProcName, Standing)>, AllocError>
-    ensures { IfOk result (λ v.
-        v.items ≡ map (shown_of groups.now (flat_class class.now)) members.now) }
+) -> Result<Vec<(ProcName, Name)>, AllocError>
+    ensures { IfOk result (λ v. v.items ≡ map with_user
+        (filter (has_standing groups.now (flat_class class.now) standing) members.now)) }
 {
     members
         .iter()
-        .map(|member| (member.name, standing_of(groups, class, member)))
+        .filter(|member| is_same(standing, standing_of(groups, class, member)))
+        .map(|member| (member.name, member.user))
         .collect(alloc)
 }
 

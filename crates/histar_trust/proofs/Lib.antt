@@ -1,0 +1,6 @@
+pub mod Pieces
+pub mod Runners
+pub mod Places
+pub mod ShownTrust
+pub mod Runs
+pub mod Printed

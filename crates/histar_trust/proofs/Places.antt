@@ -1,0 +1,142 @@
+-- What a tree has at a path is what the flat state has there.
+use Rattle.std.specs.Prelude.{◌≡◌, ℕ, Bool, true, false, cond, List, [], ◌∷◌, ◌++◌, map, Option, None, Some, option_map, if◌then◌else◌, refl}
+use Rattle.std.proofs.Common.{ap, sym, ◌∙◌, subst, inl, inr}
+use Rattle.std.specs.FinMap.{find}
+use Rattle.std.specs.Ordering.{eq_by_cmp}
+use Rattle.histar_flat.specs.Words.{Path, ProcName}
+use Rattle.histar_flat.specs.PathOrder.{path_cmp, same_path}
+use Rattle.histar_flat.specs.Sessions.{Session}
+use Rattle.histar_flat.specs.Files.{get}
+use Rattle.histar_flat.specs.Classes.{Class as FlatClass}
+use Rattle.histar_flat.specs.Classes.Class.{Private as FlatPrivate, Readable as FlatReadable, Open as FlatOpen, Scratch as FlatScratch, Grouped as FlatGrouped}
+use Rattle.histar_flat.specs.FlatState.{Flat, Node, is_dir}
+use Rattle.histar_flat.proofs.FileLemmas.{same_path_found, ties}
+use Rattle.histar_object.specs.State.{State}
+use Rattle.histar_layout.specs.Listing.{is_directory}
+use Rattle.histar_refinement.specs.Categories.{Categories}
+use Rattle.histar_refinement.specs.Categories.CategoryName.{OfJob}
+use Rattle.histar_refinement.specs.NumberedClasses.{numbered_class}
+use Rattle.histar_refinement.specs.LaysOut.{Laid}
+use Rattle.histar_refinement.proofs.LinesLaid.{node_there}
+use Rattle.histar_refinement.proofs.Standing.{parent_is_dir}
+use Rattle.histar_secrecy.specs.declared.file_class.FileClass.{FileClass}
+use Rattle.histar_secrecy.specs.ShownStandings.{AreClassesTo, class_by_number, flat_class}
+use Rattle.histar_secrecy.proofs.NumberedJobs.{in_two_steps}
+use Rattle.histar_tree.specs.declared.tree.TreeNode.{TreeNode}
+use Rattle.histar_tree.specs.TreeEntries.{TreeEntry, flat_entry, tree_entry}
+use Rattle.histar_tree.specs.TreeLines.{TreeLine, flat_line, line_at, node_stat}
+use Rattle.histar_trust.specs.Findings.{class_flat, class_there, classes_to, node_at}
+use Rattle.histar_trust.specs.TrustText.{is_for_everyone}
+
+-- jobs by the numbers of their categories
+abbrev pub number_of : Categories → ProcName → ℕ
+number_of category job = category (OfJob job)
+
+-- a class with its jobs by numbers is the same, by way of the labels or at once
+pub same_class : (category : Categories) (class : FlatClass) → class_flat (numbered_class category class) ≡ class_by_number (number_of category) class
+same_class category (FlatPrivate owner) = refl
+same_class category (FlatReadable owner) = refl
+same_class category FlatOpen = refl
+same_class category (FlatScratch owner jobs) = ap (FlatScratch owner) (in_two_steps (number_of category) jobs)
+same_class category (FlatGrouped group) = refl
+
+-- it is as readable
+pub same_everyone : (category : Categories) (class : FlatClass) → is_for_everyone (class_flat (numbered_class category class)) ≡ is_for_everyone class
+same_everyone category (FlatPrivate owner) = refl
+same_everyone category (FlatReadable owner) = refl
+same_everyone category FlatOpen = refl
+same_everyone category (FlatScratch owner jobs) = refl
+same_everyone category (FlatGrouped group) = refl
+
+first_of_list : {A : Type 0} → A → List A → A
+first_of_list x [] = x
+first_of_list x (y ∷ ys) = y
+
+rest_of_list : {A : Type 0} → List A → List A
+rest_of_list [] = []
+rest_of_list (y ∷ ys) = ys
+
+module _ (s : State) (category : Categories) where
+  -- a node of the tree and what the flat state has at a path
+  pub record IsAt (q : Path) (node : TreeNode) (there : Node) : Type 0 where
+    pub path : node.path ≡ q
+    pub class : node.class ≡ numbered_class category there.class
+    pub kind : is_directory node.target ≡ is_dir there
+    pub stat : node_stat node ≡ (flat_line (q, there)).stat
+
+  -- both have something at the path, or neither has
+  abbrev pub AreAlike : Path → Option TreeNode → Option Node → Type 0
+  AreAlike q None None = Unit {0}
+  AreAlike q None (Some there) = ⊥
+  AreAlike q (Some node) None = ⊥
+  AreAlike q (Some node) (Some there) = IsAt q node there
+
+  one_alike : (q : Path) (node : TreeNode) (e : Path × Node) (found : Option TreeNode) (rest : Option Node) → node.path ≡ e.0
+      → tree_entry s node ≡ flat_entry category e → line_at s node ≡ flat_line e → AreAlike q found rest
+      → AreAlike q (if same_path q e.0 then Some node else found) (cond (eq_by_cmp path_cmp q e.0) (Some e.1) rest)
+  one_alike q node e found rest path entry line alike =
+      subst (λ b. AreAlike q (if same_path q e.0 then Some node else found) (cond b (Some e.1) rest)) (sym (ties q e.0))
+      (elim (same_path_found q e.0) [
+        | inl t ↦ subst (λ b. AreAlike q (if b then Some node else found) (cond b (Some e.1) rest)) (sym t.0) (record {
+          path = path ∙ sym t.1;
+          class = ap (λ (x : TreeEntry). x.class) entry;
+          kind = ap (λ (x : TreeEntry). x.is_directory) entry;
+          stat = ap (λ (x : TreeLine). x.stat) line;
+        })
+        | inr t ↦ subst (λ b. AreAlike q (if b then Some node else found) (cond b (Some e.1) rest)) (sym t.0) alike
+      ])
+
+  -- path by path a tree has what the entries have that show the same
+  pub alike : (q : Path) (tree : List TreeNode) (es : List (Path × Node)) → map (tree_entry s) tree ≡ map (flat_entry category) es
+      → map (line_at s) tree ≡ map flat_line es → AreAlike q (node_at q tree) (find path_cmp q es)
+  unfolding first_of_list rest_of_list
+  alike q [] [] entries lines = tt
+  alike q [] (e ∷ es) entries lines = absurd (cc)
+  alike q (node ∷ tree) [] entries lines = absurd (cc)
+  alike q (node ∷ tree) (e ∷ es) entries lines =
+      let entry : tree_entry s node ≡ flat_entry category e = ap (first_of_list (tree_entry s node)) entries in
+      let line : line_at s node ≡ flat_line e = ap (first_of_list (line_at s node)) lines in
+      let path : node.path ≡ e.0 = ap (λ (x : TreeEntry). x.path) entry in
+      let rest = alike q tree es (ap rest_of_list entries) (ap rest_of_list lines) in
+      subst (λ (p : Path). AreAlike q (if same_path q p then Some node else node_at q tree) (find path_cmp q (e ∷ es))) (sym path)
+      (one_alike q node e (node_at q tree) (find path_cmp q es) path entry line rest)
+
+module _ (session : Session) (s : State) (f : Flat) (l : Laid session s f) (tree : List TreeNode)
+    (each : (q : Path) → AreAlike s l.category q (node_at q tree) (get f.files q)) where
+  -- what the tree has where the flat state has something
+  pub found_at : (q : Path) (there : Node) → get f.files q ≡ Some there → (node : TreeNode) × (node_at q tree ≡ Some node)
+      × IsAt s l.category q node there
+  found_at q there at = by (node_at q tree) refl (subst (AreAlike s l.category q (node_at q tree)) at (each q))
+    where
+      by : (o : Option TreeNode) → node_at q tree ≡ o → AreAlike s l.category q (node_at q tree) (Some there)
+          → (node : TreeNode) × (node_at q tree ≡ Some node) × IsAt s l.category q node there
+      by None e h = absurd (subst (λ (x : Option TreeNode). AreAlike s l.category q x (Some there)) e h)
+      by (Some node) e h = (node, e, subst (λ (x : Option TreeNode). AreAlike s l.category q x (Some there)) e h)
+
+  class_is : (q : Path) (there : Node) → get f.files q ≡ Some there → class_there (node_at q tree)
+      ≡ class_by_number (number_of l.category) there.class ∷ []
+  class_is q there at =
+      let found = found_at q there at in
+      ap class_there found.1 ∙ ap (λ c. class_flat c ∷ []) found.2.class ∙ ap (λ c. c ∷ []) (same_class l.category there.class)
+
+  -- these are the classes of what is at a path and of the directories above it
+  pub classes_are : (q : Path) (there : Node) → get f.files q ≡ Some there → (classes : List FileClass) → map flat_class classes ≡ classes_to tree q
+      → AreClassesTo (number_of l.category) f q classes
+  unfolding first_of_list rest_of_list
+  classes_are [] there at [] same = absurd (let e : [] ≡ class_by_number (number_of l.category) there.class ∷ [] = same ∙ class_is [] there at in cc)
+  classes_are [] there at (c ∷ []) same =
+      let e : flat_class c ∷ [] ≡ class_by_number (number_of l.category) there.class ∷ [] = same ∙ class_is [] there at in
+      (ap (option_map (λ (n : Node). class_by_number (number_of l.category) n.class)) at ∙ ap Some (sym (ap (first_of_list (flat_class c)) e)), refl)
+  classes_are [] there at (c ∷ d ∷ classes) same =
+      absurd (let e : flat_class c ∷ flat_class d ∷ map flat_class classes ≡ class_by_number (number_of l.category) there.class ∷ [] = same
+      ∙ class_is [] there at in cc)
+  classes_are (n ∷ above) there at [] same =
+      absurd (let e : [] ≡ class_by_number (number_of l.category) there.class ∷ classes_to tree above = same
+      ∙ ap (λ cs. cs ++ classes_to tree above) (class_is (n ∷ above) there at) in cc)
+  classes_are (n ∷ above) there at (c ∷ classes) same =
+      let e : flat_class c ∷ map flat_class classes ≡ class_by_number (number_of l.category) there.class ∷ classes_to tree above = same
+      ∙ ap (λ cs. cs ++ classes_to tree above) (class_is (n ∷ above) there at) in
+      let parent = node_there (get f.files above) (parent_is_dir session s f l n above there at) in (
+        ap (option_map (λ (x : Node). class_by_number (number_of l.category) x.class)) at ∙ ap Some (sym (ap (first_of_list (flat_class c)) e)),
+        classes_are above parent.0 parent.1 classes (ap rest_of_list e),
+      )

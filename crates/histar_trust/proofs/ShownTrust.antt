@@ -1,0 +1,316 @@
+-- What is read off a machine is what the flat state says that it lays out.
+use Rattle.std.specs.Prelude.{◌≡◌, ℕ, Bool, length, true, false, not, ◌&&◌, List, [], ◌∷◌, ◌++◌, map, filter, codes, Option, None, Some, option_map, if◌then◌else◌, refl}
+use Rattle.std.specs.List.{filter_map}
+use Rattle.std.proofs.Common.{ap, sym, ◌∙◌, subst}
+use Rattle.std.proofs.lemmas.Option.{same_Some}
+use Rattle.histar_flat.specs.declared.calls.CallLine.{CallLine}
+use Rattle.histar_flat.specs.declared.calls.User.{User}
+use Rattle.histar_flat.specs.Words.{Name, Path, ProcName}
+use Rattle.histar_flat.specs.Sessions.{Session}
+use Rattle.histar_flat.specs.Files.{get}
+use Rattle.histar_flat.specs.Classes.{Class, may_read}
+use Rattle.histar_flat.specs.FlatState.{Flat, Node, is_dir}
+use Rattle.histar_flat.specs.FlatCalls.{running}
+use Rattle.histar_flat.specs.Meaning.{boot, flat_end}
+use Rattle.histar_object.specs.State.{State}
+use Rattle.histar_syscall.specs.KernelModel.{state}
+use Rattle.histar_layout.specs.UserTable.{without_password, without_passwords}
+use Rattle.histar_calls.specs.declared.places.Places.{Places}
+use Rattle.histar_login.specs.Start.{places_of}
+use Rattle.histar_refinement.specs.Categories.{CategoryName, split_category}
+use Rattle.histar_refinement.specs.Categories.CategoryName.{OfJob}
+use Rattle.histar_refinement.specs.LaysOut.{Laid}
+use Rattle.histar_rights.specs.Running.{HaveShownNames, Named, running_in}
+use Rattle.histar_rights.specs.Table.{access_line_text, line_of}
+use Rattle.histar_rights.proofs.Named.{processes_are_named}
+use Rattle.histar_secrecy.specs.declared.file_class.FileClass.{FileClass}
+use Rattle.histar_secrecy.specs.declared.standing.Member.{Member}
+use Rattle.histar_secrecy.specs.declared.standing.Standing.{Standing}
+use Rattle.histar_secrecy.specs.declared.standing.Standing.TheVariants.{Trusted, Confined, Outside}
+use Rattle.histar_secrecy.specs.Logins.{logged_in}
+use Rattle.histar_secrecy.specs.Standings.{is_bound, is_confined, is_outsider, is_trusted}
+use Rattle.histar_secrecy.specs.Noninterference.{ShowsStanding}
+use Rattle.histar_secrecy.specs.Changers.{is_changer, may_change}
+use Rattle.histar_secrecy.specs.ShownStandings.{AreClassesTo, AreNumbered, IsShownProcess, ShowsAState, class_by_number, flat_class, has_standing, is_login_changer, is_login_reader, is_same_standing, is_shown_changer, member_standing, standing_in, with_user}
+use Rattle.histar_secrecy.proofs.Learning.{standings_are_shown}
+use Rattle.histar_secrecy.proofs.ShownProcesses.{shown_is_so}
+use Rattle.histar_tree.specs.declared.process.ProcessNode.{ProcessNode}
+use Rattle.histar_tree.specs.declared.tree.TreeNode.{TreeNode}
+use Rattle.histar_tree.specs.Laws.{HasProcessesOf, HasTreeOf}
+use Rattle.histar_tree.specs.Processes.{AreProcessesOf, levels_at}
+use Rattle.histar_tree.specs.ProcessLines.{process_line}
+use Rattle.histar_tree.specs.Tree.{IsTreeOf}
+use Rattle.histar_tree.proofs.OneTree.{states_have_one_tree}
+use Rattle.histar_tree.proofs.ProcessesLaid.{flat_states_have_their_processes}
+use Rattle.histar_tree.proofs.TreeLaid.{flat_states_have_their_trees}
+use Rattle.histar_shell.specs.Ending.{HasTree, IsTreeIn}
+use Rattle.histar_shell.specs.Machine.{MachineModel}
+use Rattle.histar_shell.proofs.SameUsers.{tree_unproved}
+use Rattle.histar_access.specs.Shown.{AreProcessesIn, HasProcesses}
+use Rattle.histar_access.proofs.SameProcesses.{one_list, processes_unproved}
+use Rattle.histar_access.proofs.ShownTables.{processes_there, tree_there}
+use Rattle.histar_access.proofs.Visiting.{filter_map_map}
+use Rattle.histar_trust.specs.Findings.{HasState, ShowsReached, class_flat, classes_to, head_text, names_of, node_at, runner_of, running_node, shown_changers, shown_readers, shown_standings, those_of}
+use Rattle.histar_trust.specs.TrustText.{changers_text, is_for_everyone, process_lines, readers_text, running_where, standings_text, trust_text, user_lines, users_where}
+use Rattle.histar_trust.proofs.Places.{AreAlike, IsAt, alike, classes_are, found_at, number_of, same_class, same_everyone}
+use Rattle.histar_trust.proofs.Runners.{AllOf, Runs, each_runs, named_user, numbered, picked, runners_listed, running_line}
+
+-- ---- standings
+
+trusted_is : (t c : Bool) → is_same_standing Trusted (if t then Trusted else if c then Confined else Outside) ≡ t
+trusted_is true c = refl
+trusted_is false true = refl
+trusted_is false false = refl
+
+outside_is : (t c : Bool) → is_same_standing Outside (if t then Trusted else if c then Confined else Outside) ≡ (not t && not c)
+outside_is true c = refl
+outside_is false true = refl
+outside_is false false = refl
+
+confined_is : (t c reads bound : Bool) → t ≡ (reads && not bound) → c ≡ bound
+    → is_same_standing Confined (if t then Trusted else if c then Confined else Outside) ≡ c
+confined_is t c reads bound te ce =
+    (λ i. is_same_standing Confined (if te i then Trusted else if ce i then Confined else Outside)) ∙ by reads bound ∙ sym ce
+  where
+    by : (r b : Bool) → is_same_standing Confined (if (r && not b) then Trusted else if b then Confined else Outside) ≡ b
+    by true true = refl
+    by true false = refl
+    by false true = refl
+    by false false = refl
+
+-- the names of users have no passwords
+same_names : (users : List User) → map (λ (u : User). u.name) (map without_password users) ≡ map (λ (u : User). u.name) users
+same_names [] = refl
+same_names (u ∷ users) = ap (λ (names : List Name). u.name ∷ names) (same_names users)
+
+-- the processes of a machine were found, and these members are those of them that run
+pub record AreMembers (m : MachineModel) (members : List Member) : Type 0 where
+  pub processes : List ProcessNode
+  pub are : AreProcessesIn m processes
+  pub runners : map runner_of members ≡ filter_map running_node processes
+
+-- the tree of a machine was found, with this node at the path, and these classes of that and of the directories above
+pub record IsFound (m : MachineModel) (path : Path) (node : TreeNode) (classes : List FileClass) : Type 0 where
+  pub tree : List TreeNode
+  pub is : IsTreeIn m tree
+  pub found : node_at path tree ≡ Some node
+  pub are_classes : map flat_class classes ≡ classes_to tree path
+
+module _ {session : Session} {m : MachineModel} {f : Flat} (r : ShowsReached session m f) where
+  abbrev s : State
+  s = state m.kernel
+
+  abbrev l : Laid session s f
+  l = r.shows.lays_out.laid
+
+  abbrev number : ProcName → ℕ
+  number = number_of l.category
+
+  -- no two jobs have one number
+  one_number : AreNumbered number
+  one_number a b e = ap (λ (c : CategoryName). (split_category c).1) (l.different (OfJob a) (OfJob b) e)
+
+  is_so : ShowsAState number session f
+  is_so = shown_is_so session f number one_number
+
+  -- processes have names that can be shown
+  pub named : HaveShownNames f
+  named = subst HaveShownNames r.reached.1 (processes_are_named session r.reached.0)
+
+  -- the machine has a tree and processes
+  pub has_tree : HasTree m
+  has_tree = tree_there session m f r.shows named
+
+  pub has_processes : HasProcesses m
+  has_processes = processes_there session m f r.shows named
+
+  -- ---- a path
+
+  -- the text for a path, by what is there
+  abbrev text_at : Path → Option Node → List ℕ
+  text_at path o = elim o [
+    | None ↦ codes "no entry\n"
+    | Some node ↦ access_line_text (line_of session f [] (path, node)) ++ standings_text session f node ++ changers_text session f path
+  ]
+
+  module _ (tree : List TreeNode) (is : IsTreeIn m tree) where
+    own_tree : HasTreeOf session s f l.category
+    own_tree = flat_states_have_their_trees session s f r.shows.lays_out r.shows.shallow
+
+    own_tree_here : IsTreeIn m own_tree.tree
+    own_tree_here =
+        subst (λ (users : Session). IsTreeOf users s m.places own_tree.tree) (sym r.shows.users)
+        (tree_unproved session s m.places own_tree.tree
+        (subst (λ (places : Places). IsTreeOf session s places own_tree.tree) (sym r.shows.places) own_tree.is_tree))
+
+    same_tree : own_tree.tree ≡ tree
+    same_tree = states_have_one_tree m.users s m.places own_tree.tree tree own_tree_here is
+
+    each : (q : Path) → AreAlike s l.category q (node_at q tree) (get f.files q)
+    each q = subst (λ (t : List TreeNode). AreAlike s l.category q (node_at q t) (get f.files q)) same_tree
+        (alike s l.category q own_tree.tree f.files.entries own_tree.same own_tree.lines)
+
+    -- where nothing is in the tree, the flat state has nothing
+    pub nothing_there : (path : Path) → node_at path tree ≡ None → codes "no entry\n" ≡ trust_text session f path
+    nothing_there path none = by (get f.files path) refl
+      where
+        by : (o : Option Node) → get f.files path ≡ o → codes "no entry\n" ≡ trust_text session f path
+        by None e = sym (ap (text_at path) e)
+        by (Some there) e = let found = found_at session s f l tree each path there e in absurd
+            (let both : Some found.0 ≡ None = sym found.1 ∙ none in cc)
+
+  -- ---- the processes
+
+  module _ (members : List Member) (found_members : AreMembers m members) where
+    own : HasProcessesOf session s f l.category
+    own = flat_states_have_their_processes session s f r.shows.lays_out named
+
+    same_processes : found_members.processes ≡ own.processes
+    same_processes = one_list session s (places_of (length session.users)) found_members.processes own.processes
+        (subst (λ (places : Places). AreProcessesOf session s places found_members.processes) r.shows.places
+        (processes_unproved session s m.places found_members.processes
+        (subst (λ (users : Session). AreProcessesOf users s m.places found_members.processes) r.shows.users found_members.are)))
+        own.are_processes
+
+    -- the members are those that run
+    members_are : map runner_of members ≡ map (numbered f l.category) (running_in f)
+    unfolding running_in
+    members_are =
+        found_members.runners ∙ ap (filter_map running_node) same_processes ∙ sym (filter_map_map running_line process_line own.processes)
+        ∙ ap (filter_map running_line) own.lines ∙ runners_listed f l.category (levels_at []) []
+
+    all_run : AllOf (Runs f l.category) (running_in f)
+    unfolding running_in
+    all_run = each_runs f l.category (levels_at []) []
+
+    -- a member is the process that runs under its name
+    module _ (member : Member) (c : Named) (same : runner_of member ≡ numbered f l.category c) (runs : Runs f l.category c) where
+      name_is : member.name ≡ c.0
+      name_is = λ i. (same i).name
+
+      shown : IsShownProcess number f member c.1
+      shown = record {
+        runs = ap (λ (name : ProcName). running f name) name_is ∙ runs;
+        user = λ i. (sym same i).user;
+        jobs = λ i. (sym same i).jobs;
+        held = λ i. (sym same i).held;
+      }
+
+      -- it has the standing that the flat state says
+      module _ (path : Path) (there : Node) (at : get f.files path ≡ Some there) (class : FileClass)
+          (of_class : class_by_number number there.class ≡ flat_class class) where
+        standing_is : member_standing session.groups (flat_class class) member ≡ standing_in session there.class f member.name
+        standing_is = is_so.standing r.reached path there class at of_class member c.1 shown
+
+        by_tests : ShowsStanding session there.class f member.name c.1
+        by_tests = standings_are_shown session f r.reached path there at member.name c.1 shown.runs
+
+        trusted_same : has_standing session.groups (flat_class class) Trusted member ≡ is_trusted session there.class f c.0
+        trusted_same =
+            ap (is_same_standing Trusted) standing_is
+            ∙ trusted_is (is_trusted session there.class f member.name) (is_confined session there.class f member.name)
+            ∙ ap (is_trusted session there.class f) name_is
+
+        confined_same : has_standing session.groups (flat_class class) Confined member ≡ is_confined session there.class f c.0
+        confined_same =
+            ap (is_same_standing Confined) standing_is
+            ∙ confined_is (is_trusted session there.class f member.name) (is_confined session there.class f member.name)
+            (may_read session c.1 there.class) (is_bound session there.class c.1) by_tests.trusted by_tests.confined
+            ∙ ap (is_confined session there.class f) name_is
+
+        outside_same : has_standing session.groups (flat_class class) Outside member ≡ is_outsider session there.class f c.0
+        outside_same =
+            ap (is_same_standing Outside) standing_is
+            ∙ outside_is (is_trusted session there.class f member.name) (is_confined session there.class f member.name)
+            ∙ ap (is_outsider session there.class f) name_is
+
+      -- and is a changer where the flat state says so
+      changer_same : (path : Path) (classes : List FileClass) → AreClassesTo number f path classes
+          → is_shown_changer session.groups classes member ≡ is_changer session f path c.0
+      changer_same path classes to = is_so.changer path classes to member c.1 shown ∙ ap (is_changer session f path) name_is
+
+    -- ---- what is printed
+
+    -- the members that pass a test are the processes that pass one on their names, where the two tests agree
+    chosen : (test : Member → Bool) (of_name : ProcName → Bool)
+        → ((member : Member) (c : Named) → runner_of member ≡ numbered f l.category c → Runs f l.category c → test member ≡ of_name c.0)
+        → map with_user (filter test members) ≡ running_where session f of_name
+    chosen test of_name agree = picked f l.category test (λ c. of_name c.0) agree members (running_in f) members_are all_run
+
+    module _ (path : Path) (there : Node) (at : get f.files path ≡ Some there) (class : FileClass)
+        (of_class : class_by_number number there.class ≡ flat_class class) where
+      -- the members of a standing
+      abbrev has : Standing → Member → Bool
+      has = has_standing session.groups (flat_class class)
+
+      -- who has which standing, and who could log in as a reader
+      readers_are : shown_readers (without_passwords session) members (flat_class class) ≡ readers_text session f there.class
+      readers_are = λ i.
+          process_lines (codes "trusted") (chosen (has Trusted) (is_trusted session there.class f)
+          (λ member c same runs. trusted_same member c same runs path there at class of_class) i)
+          ++ process_lines (codes "confined") (chosen (has Confined) (is_confined session there.class f)
+          (λ member c same runs. confined_same member c same runs path there at class of_class) i)
+          ++ process_lines (codes "outside") (chosen (has Outside) (is_outsider session there.class f)
+          (λ member c same runs. outside_same member c same runs path there at class of_class) i)
+          ++ user_lines (codes "login") (filter (λ user. is_so.reader_login there.class class of_class user i) (same_names session.users i))
+
+    -- who may change what is there, and as whom one could log in who may
+    changers_are : (path : Path) (classes : List FileClass) → AreClassesTo number f path classes
+        → shown_changers (without_passwords session) members classes ≡ changers_text session f path
+    changers_are path classes to = λ i.
+        process_lines (codes "changer") (chosen (is_shown_changer session.groups classes) (is_changer session f path)
+        (λ member c same runs. changer_same member c same runs path classes to) i)
+        ++ user_lines (codes "changer-login") (filter (λ user. is_so.changer_login path classes to user i) (same_names session.users i))
+
+    -- the class of what is there
+    first_class : (path : Path) (classes : List FileClass) → AreClassesTo number f path classes → (there : Node) → get f.files path ≡ Some there
+        → (c : FileClass) × (class_by_number number there.class ≡ flat_class c)
+    first_class path [] to there at = absurd to
+    first_class [] (c ∷ classes) to there at = (
+      c,
+      same_Some (class_by_number number there.class) (flat_class c)
+          (sym (ap (option_map (λ (n : Node). class_by_number number n.class)) at) ∙ to.0),
+    )
+    first_class (n ∷ d) (c ∷ classes) to there at = (
+      c,
+      same_Some (class_by_number number there.class) (flat_class c)
+          (sym (ap (option_map (λ (n : Node). class_by_number number n.class)) at) ∙ to.0),
+    )
+
+    module _ (path : Path) (node : TreeNode) (classes : List FileClass) (seen : IsFound m path node classes) where
+      module _ (there : Node) (at : get f.files path ≡ Some there) (is_at : IsAt s l.category path node there) where
+        class_is : class_flat node.class ≡ class_by_number number there.class
+        class_is = ap class_flat is_at.class ∙ same_class l.category there.class
+
+        head_is : head_text node ≡ access_line_text (line_of session f [] (path, there))
+        head_is = λ i. access_line_text (record { path = is_at.path i; stat = is_at.stat i; cells = [] })
+
+        to : AreClassesTo number f path classes
+        to = classes_are session s f l seen.tree (each seen.tree seen.is) path there at classes seen.are_classes
+
+        standings_are : shown_standings (without_passwords session) members node ≡ standings_text session f there
+        standings_are =
+            let first = first_class path classes to there at in
+            let everyone : is_for_everyone (class_flat node.class) ≡ is_for_everyone there.class =
+            ap (λ c. is_for_everyone (class_flat c)) is_at.class ∙ same_everyone l.category there.class in
+            let readers : shown_readers (without_passwords session) members (class_flat node.class) ≡ readers_text session f there.class =
+            ap (shown_readers (without_passwords session) members) (class_is ∙ first.1) ∙ readers_are path there at first.0 first.1 in
+            λ i. if is_at.kind i then [] else if everyone i then codes "everyone\n" else readers i
+
+        whole_is : head_text node ++ shown_standings m.users members node ++ shown_changers m.users members classes
+            ≡ access_line_text (line_of session f [] (path, there)) ++ standings_text session f there ++ changers_text session f path
+        whole_is =
+            ap (λ (users : Session). head_text node ++ shown_standings users members node ++ shown_changers users members classes) r.shows.users
+            ∙ (λ i. head_is i ++ standings_are i ++ changers_are path classes to i)
+
+      -- where the tree has something, the text is that of the flat state
+      pub something_there : head_text node ++ shown_standings m.users members node ++ shown_changers m.users members classes
+          ≡ trust_text session f path
+      something_there = by (get f.files path) refl
+          (subst (λ o. AreAlike s l.category path o (get f.files path)) seen.found (each seen.tree seen.is path))
+        where
+          by : (o : Option Node) → get f.files path ≡ o → AreAlike s l.category path (Some node) (get f.files path)
+              → head_text node ++ shown_standings m.users members node ++ shown_changers m.users members classes ≡ trust_text session f path
+          by None e alike = absurd (subst (λ x. AreAlike s l.category path (Some node) x) e alike)
+          by (Some there) e alike =
+              whole_is there e (subst (λ x. AreAlike s l.category path (Some node) x) e alike) ∙ sym (ap (text_at path) e)

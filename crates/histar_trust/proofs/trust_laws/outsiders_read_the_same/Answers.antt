@@ -1,0 +1,5 @@
+use Rattle.histar_trust.proofs.Printed.{outsiders_read_the_same}
+use Rattle.histar_trust.proofs.trust_laws.outsiders_read_the_same.Goals as goal
+
+pub returns : goal.returns
+returns c = outsiders_read_the_same

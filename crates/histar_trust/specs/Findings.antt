@@ -1,0 +1,117 @@
+-- What a machine shows of the processes that run, and of what is at a path.
+use Rattle.std.specs.Prelude.{◌≡◌, ℕ, ◌++◌, List, [], ◌∷◌, Option, None, Some, codes, filter, map, if◌then◌else◌}
+use Rattle.std.specs.List.{filter_map}
+use Rattle.histar_flat.specs.declared.calls.User.{User}
+use Rattle.histar_flat.specs.Words.{Name, Path, ProcName}
+use Rattle.histar_flat.specs.PathOrder.{same_path}
+use Rattle.histar_flat.specs.Sessions.{Session}
+use Rattle.histar_flat.specs.Classes.{Class as FlatClass}
+use Rattle.histar_flat.specs.Classes.Class.{Private as FlatPrivate, Readable as FlatReadable, Open as FlatOpen, Scratch as FlatScratch, Grouped as FlatGrouped}
+use Rattle.histar_flat.specs.FlatState.{Flat}
+use Rattle.histar_rights.specs.Table.{access_line_text}
+use Rattle.histar_layout.specs.Listing.{is_directory}
+use Rattle.histar_layout.specs.declared.class.Class.{Class}
+use Rattle.histar_layout.specs.declared.class.Class.TheVariants.{Private, Readable, Open, Scratch, Group}
+use Rattle.histar_secrecy.specs.declared.file_class.FileClass.{FileClass}
+use Rattle.histar_secrecy.specs.declared.standing.Member.{Member}
+use Rattle.histar_secrecy.specs.declared.standing.Standing.{Standing}
+use Rattle.histar_secrecy.specs.declared.standing.Standing.TheVariants.{Trusted, Confined, Outside}
+use Rattle.histar_secrecy.specs.Noninterference.{IsReached}
+use Rattle.histar_secrecy.specs.ShownStandings.{flat_class, has_standing, is_login_changer, is_login_reader, is_shown_changer, job_numbered, with_user}
+use Rattle.histar_tree.specs.declared.process.Life.{Life}
+use Rattle.histar_tree.specs.declared.process.Life.TheVariants.{Running, Exited}
+use Rattle.histar_tree.specs.declared.process.ProcessNode.{ProcessNode}
+use Rattle.histar_tree.specs.declared.tree.TreeNode.{TreeNode}
+use Rattle.histar_tree.specs.TreeLines.{node_stat}
+use Rattle.histar_shell.specs.Machine.{MachineModel}
+use Rattle.histar_shell.specs.Meaning.{Shows}
+use Rattle.histar_trust.specs.TrustText.{is_for_everyone, process_lines, trust_text, user_lines}
+
+-- a process that runs: its user, the jobs that it is in, and those that it holds, by the numbers of their categories
+pub record Runner : Type 0 where
+  pub name : ProcName
+  pub user : Name
+  pub jobs : List ℕ
+  pub held : List ℕ
+
+-- what is shown of a member
+abbrev pub runner_of : Member → Runner
+runner_of m = record { name = m.name; user = m.user; jobs = m.jobs.items; held = m.held.items }
+
+-- a process of this name in these jobs, where it runs
+abbrev pub living : ProcName → List ℕ → Life → Option Runner
+living name jobs (Running user held) = Some (record { name = name; user = user; jobs = jobs; held = held })
+living name jobs (Exited number) = None
+
+-- what is shown of a process, where it runs
+abbrev pub running_node : ProcessNode → Option Runner
+running_node node = living node.name node.chain node.life
+
+-- the names of users
+abbrev pub names_of : Session → List Name
+names_of session = map (λ (u : User). u.name) session.users
+
+-- what a tree has at a path
+abbrev pub node_at : Path → List TreeNode → Option TreeNode
+node_at path [] = None
+node_at path (node ∷ tree) = if same_path path node.path then Some node else node_at path tree
+
+-- a class as the flat rules have it, with each job by the number of its category
+abbrev pub class_flat : Class → FlatClass
+class_flat (Private owner) = FlatPrivate owner
+class_flat (Readable owner) = FlatReadable owner
+class_flat Open = FlatOpen
+class_flat (Scratch owner jobs) = FlatScratch owner (map job_numbered jobs)
+class_flat (Group group) = FlatGrouped group
+
+-- the class of what is there
+abbrev pub class_there : Option TreeNode → List FlatClass
+class_there None = []
+class_there (Some node) = class_flat node.class ∷ []
+
+-- the classes of what a tree has at a path, and at each directory above it
+abbrev pub classes_to : List TreeNode → Path → List FlatClass
+classes_to tree [] = class_there (node_at [] tree)
+classes_to tree (n ∷ d) = class_there (node_at (n ∷ d) tree) ++ classes_to tree d
+
+module _ (session : Session) (members : List Member) where
+  -- those of the processes that have this standing to a file of the class
+  abbrev pub those_of : FlatClass → Standing → List (ProcName × Name)
+  those_of class standing = map with_user (filter (has_standing session.groups class standing) members)
+
+  -- who has which standing to a file of the class, as it is printed
+  abbrev pub shown_readers : FlatClass → List ℕ
+  shown_readers class =
+      process_lines (codes "trusted") (those_of class Trusted)
+      ++ process_lines (codes "confined") (those_of class Confined)
+      ++ process_lines (codes "outside") (those_of class Outside)
+      ++ user_lines (codes "login") (filter (is_login_reader session.groups class) (names_of session))
+
+  -- and what is printed of a file or a directory of a tree
+  abbrev pub shown_standings : TreeNode → List ℕ
+  shown_standings node =
+      let class = class_flat node.class in
+      if is_directory node.target then [] else if is_for_everyone class then codes "everyone\n" else shown_readers class
+
+  -- who may change what is of the first of these classes, and lies in directories of the others, as it is printed
+  abbrev pub shown_changers : List FileClass → List ℕ
+  shown_changers classes =
+      process_lines (codes "changer") (map with_user (filter (is_shown_changer session.groups classes) members))
+      ++ user_lines (codes "changer-login") (filter (is_login_changer session.groups classes) (names_of session))
+
+-- the line of a file or a directory, with no process
+abbrev pub head_text : TreeNode → List ℕ
+head_text node = access_line_text (record { path = node.path; stat = node_stat node; cells = [] })
+
+-- a machine lays out a flat state that calls lead to
+pub record ShowsReached (session : Session) (m : MachineModel) (f : Flat) : Type 0 where
+  pub shows : Shows session m f
+  pub reached : IsReached session f
+
+-- a machine lays out some such state
+abbrev pub HasState : MachineModel → Type 0
+HasState m = (session : Session) × (f : Flat) × ShowsReached session m f
+
+-- whatever such state a machine lays out, this is the text of that for the path
+abbrev pub ShowsTrust : MachineModel → Path → List ℕ → Type 0
+ShowsTrust m path text = (session : Session) (f : Flat) → ShowsReached session m f → text ≡ trust_text session f path

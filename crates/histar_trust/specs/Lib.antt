@@ -1,0 +1,4 @@
+pub mod TrustText
+pub mod Findings
+pub mod Session
+pub mod Printed

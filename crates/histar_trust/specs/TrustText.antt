@@ -1,0 +1,72 @@
+-- On whom it depends what is at a path: the text of a flat state.
+use Rattle.std.specs.Prelude.{ℕ, Bool, true, false, List, [], ◌∷◌, ◌++◌, None, Some, codes, filter, map, if◌then◌else◌}
+use Rattle.std.specs.List.{flat_map}
+use Rattle.histar_flat.specs.declared.calls.User.{User}
+use Rattle.histar_flat.specs.Words.{Name, Path, ProcName}
+use Rattle.histar_flat.specs.Sessions.{Session}
+use Rattle.histar_flat.specs.Files.{get}
+use Rattle.histar_flat.specs.Classes.{Class, may_read}
+use Rattle.histar_flat.specs.Classes.Class.{Readable, Open}
+use Rattle.histar_flat.specs.FlatState.{Flat, Node, is_dir}
+use Rattle.histar_flat.specs.Texts.{process_text}
+use Rattle.histar_rights.specs.Running.{Named, running_in}
+use Rattle.histar_rights.specs.Table.{access_line_text, line_of}
+use Rattle.histar_secrecy.specs.Logins.{logged_in}
+use Rattle.histar_secrecy.specs.Standings.{is_confined, is_outsider, is_trusted}
+use Rattle.histar_secrecy.specs.Changers.{is_changer, may_change}
+
+-- a word, a process and its user on a line
+abbrev pub process_line : List ℕ → ProcName × Name → List ℕ
+process_line word p = word ++ codes " " ++ process_text p.0 ++ codes " " ++ p.1 ++ codes "\n"
+
+-- a line for each of these processes
+abbrev pub process_lines : List ℕ → List (ProcName × Name) → List ℕ
+process_lines word ps = flat_map (process_line word) ps
+
+-- a word and a user on a line
+abbrev pub user_line : List ℕ → Name → List ℕ
+user_line word user = word ++ codes " " ++ user ++ codes "\n"
+
+-- a line for each of these users
+abbrev pub user_lines : List ℕ → List Name → List ℕ
+user_lines word users = flat_map (user_line word) users
+
+-- each process may read what is of the class: it is readable or open
+abbrev pub is_for_everyone : Class → Bool
+is_for_everyone (Readable owner) = true
+is_for_everyone Open = true
+is_for_everyone class = false
+
+module _ (session : Session) (f : Flat) where
+  -- the processes that run and whose names pass the test, in the order of names, each with its user
+  abbrev pub running_where : (ProcName → Bool) → List (ProcName × Name)
+  running_where test = map (λ (c : Named). (c.0, c.1.user)) (filter (λ (c : Named). test c.0) (running_in f))
+
+  -- the users that are declared and pass the test, in the order of the script
+  abbrev pub users_where : (Name → Bool) → List Name
+  users_where test = filter test (map (λ (u : User). u.name) session.users)
+
+  -- who is trusted with what is of the class, who is confined, who is an outsider, and who could log in as a reader
+  abbrev pub readers_text : Class → List ℕ
+  readers_text class =
+      process_lines (codes "trusted") (running_where (is_trusted session class f))
+      ++ process_lines (codes "confined") (running_where (is_confined session class f))
+      ++ process_lines (codes "outside") (running_where (is_outsider session class f))
+      ++ user_lines (codes "login") (users_where (λ user. may_read session (logged_in user) class))
+
+  -- of a directory nothing, and of a file `everyone` where each process may read it, and else who has which standing
+  abbrev pub standings_text : Node → List ℕ
+  standings_text node = if is_dir node then [] else if is_for_everyone node.class then codes "everyone\n" else readers_text node.class
+
+  -- who may change what is at the path, and as whom one could log in who may
+  abbrev pub changers_text : Path → List ℕ
+  changers_text path =
+      process_lines (codes "changer") (running_where (is_changer session f path))
+      ++ user_lines (codes "changer-login") (users_where (λ user. may_change session f (logged_in user) path))
+
+  -- `no entry` where nothing is at the path; else its line of the table of rights with no process, the standings, and the changers
+  abbrev pub trust_text : Path → List ℕ
+  trust_text path = elim (get f.files path) [
+    | None ↦ codes "no entry\n"
+    | Some node ↦ access_line_text (line_of session f [] (path, node)) ++ standings_text node ++ changers_text path
+  ]

@@ -1,0 +1,78 @@
+//! The processes that run, and the users.
+ghost use Rattle.std.specs.Prelude.{◌≡◌, IfOk, IfSome, IsNone, map, option_map, OnOk, Some};
+ghost use Rattle.std.specs.List.{filter_map};
+ghost use Rattle.histar_access.specs.Shown.{AreProcessesIn, HasProcesses};
+ghost use Rattle.histar_trust.specs.Findings.{names_of, runner_of, running_node};
+
+use histar_flat::Name;
+use histar_label::{Category, LabelStore};
+use histar_layout::UserTable;
+use histar_secrecy::Member;
+use histar_shell::Machine;
+use histar_tree::{Life, ProcessNode, procs_of};
+use std::alloc::{AllocError, Global};
+
+/// Returns the processes of a machine, in the order of their names.
+pub fn processes<S: LabelStore + Drop>(
+    alloc: Global,
+    machine: &Machine<S>,
+) -> Result<Vec<ProcessNode>, AllocError>
+    requires { HasProcesses machine.now }
+    ensures { IfOk result (λ processes. AreProcessesIn machine.now processes.items) }
+{
+    match procs_of(alloc, machine.kernel(), machine.places(), machine.users())? {
+        Some(processes) => Ok(processes),
+        None => unreachable!(),
+    }
+}
+
+/// Returns those of these processes that run.
+pub fn members_among(alloc: Global, processes: &[ProcessNode]) -> Result<Vec<Member>, AllocError>
+    ensures { IfOk result (λ members.
+        map runner_of members.items ≡ filter_map running_node processes.now) }
+{
+    let mut members = Vec::new(alloc);
+    for process in processes {
+        if let Some(member) = member_of(alloc, process)? {
+            members.push(member)?;
+        }
+    }
+    Ok(members)
+}
+
+/// Returns a process with its user and its jobs, where it runs.
+fn member_of(alloc: Global, process: &ProcessNode) -> Result<Option<Member>, AllocError>
+    ensures { IfOk result (λ member. option_map runner_of member ≡ running_node process.now) }
+{
+    let Life::Running { user, held } = &process.life else {
+        return Ok(None);
+    };
+    Ok(Some(Member {
+        name: process.name,
+        user: *user,
+        jobs: numbers(alloc, process.chain.as_slice())?,
+        held: numbers(alloc, held.as_slice())?,
+    }))
+}
+
+/// Returns the numbers of categories.
+pub fn numbers(alloc: Global, categories: &[Category]) -> Result<Vec<u64>, AllocError>
+    ensures { IfOk result (λ numbers. numbers.items ≡ categories.now) }
+{
+    let mut numbers = Vec::with_capacity(alloc, categories.len())?;
+    for category in categories {
+        numbers.push(category.number())?;
+    }
+    Ok(numbers)
+}
+
+/// Returns the names of the users, in their order.
+pub fn user_names(alloc: Global, users: &UserTable) -> Result<Vec<Name>, AllocError>
+    ensures { IfOk result (λ names. names.items ≡ names_of users.now) }
+{
+    let mut names = Vec::with_capacity(alloc, users.len())?;
+    for place in 0..users.len() {
+        names.push(users.name_at(place))?;
+    }
+    Ok(names)
+}

@@ -1,0 +1,179 @@
+//! The lines on who has to be trusted.
+ghost use Rattle.std.specs.Prelude.{◌≡◌, ◌++◌, IfOk, OnOk};
+ghost use Rattle.histar_secrecy.specs.ShownStandings.{flat_class};
+ghost use Rattle.histar_trust.specs.Findings.{HasState, ShowsTrust, head_text, shown_changers, shown_readers, shown_standings};
+ghost use Rattle.histar_trust.specs.TrustText.{is_for_everyone, process_line, process_lines, user_lines};
+
+use crate::members::{members_among, processes, user_names};
+use crate::way::{file_class, node_at, push_classes};
+use histar_flat::{Name, Path, ProcName};
+use histar_label::LabelStore;
+use histar_layout::UserTable;
+use histar_secrecy::{
+    FileClass, Member, Standing, changers_of, login_changers, login_readers, with_standing,
+};
+use histar_shell::{Machine, push_path, push_process, push_stat};
+use histar_tree::TreeNode;
+use std::alloc::{AllocError, Global};
+
+/// Returns the lines on what is at a path of a machine.
+///
+/// The tree and the processes are gone through once, and then the tree once more for each directory on the
+/// way to the path, of which there are eight at most.
+pub fn trust_lines<S: LabelStore + Drop>(
+    alloc: Global,
+    machine: &Machine<S>,
+    path: &Path,
+) -> Result<Vec<u8>, AllocError>
+    requires { HasState machine.now }
+    ensures { IfOk result (λ text. ShowsTrust machine.now path.now text.items) }
+{
+    let tree = machine.tree(alloc)?;
+    let Some(node) = node_at(tree.as_slice(), path.names()) else {
+        return Vec::from_slice(alloc, b"no entry\n");
+    };
+    let mut classes = Vec::new(alloc);
+    push_classes(alloc, tree.as_slice(), path.names(), &mut classes)?;
+    let processes = processes(alloc, machine)?;
+    let members = members_among(alloc, processes.as_slice())?;
+    let mut text = Vec::new(alloc);
+    push_head(&mut text, node)?;
+    push_standings(alloc, &mut text, machine.users(), members.as_slice(), node)?;
+    push_changers(
+        alloc,
+        &mut text,
+        machine.users(),
+        members.as_slice(),
+        classes.as_slice(),
+    )?;
+    Ok(text)
+}
+
+/// Adds the line of a file or a directory: its path, its kind, its owner and its mode.
+fn push_head(text: &mut Vec<u8>, node: &TreeNode) -> Result<(), AllocError>
+    ensures { OnOk result (text.new.items ≡ text.old.items ++ head_text node.now) }
+{
+    push_path(text, &node.path)?;
+    text.extend_from_slice(b" ")?;
+    push_stat(text, node.stat())?;
+    text.extend_from_slice(b"\n")
+}
+
+/// Adds what is known of who may read a file: a line for each process by its standing, and for each user who
+/// could log in as a reader, or one line where each process may read it. Of a directory nothing is added.
+fn push_standings(
+    alloc: Global,
+    text: &mut Vec<u8>,
+    users: &UserTable,
+    members: &[Member],
+    node: &TreeNode,
+) -> Result<(), AllocError>
+    ensures { OnOk result (text.new.items
+        ≡ text.old.items ++ shown_standings users.now members.now node.now) }
+{
+    if node.stat().is_directory {
+        return Ok(());
+    }
+    let class = file_class(alloc, &node.class)?;
+    if is_for_everyone(&class) {
+        return text.extend_from_slice(b"everyone\n");
+    }
+    push_readers(alloc, text, users, members, &class)
+}
+
+/// Checks whether each process may read a file of the class.
+fn is_for_everyone(class: &FileClass) -> bool
+    ensures { result ≡ is_for_everyone (flat_class class.now) }
+{
+    matches!(class, FileClass::Readable(_) | FileClass::Open)
+}
+
+/// Adds a line for each process by its standing to a file of the class, and for each user who could log in as
+/// a reader.
+fn push_readers(
+    alloc: Global,
+    text: &mut Vec<u8>,
+    users: &UserTable,
+    members: &[Member],
+    class: &FileClass,
+) -> Result<(), AllocError>
+    ensures { OnOk result (text.new.items
+        ≡ text.old.items ++ shown_readers users.now members.now (flat_class class.now)) }
+{
+    let groups = users.groups();
+    let trusted = with_standing(alloc, groups, class, Standing::Trusted, members)?;
+    push_processes(text, b"trusted", trusted.as_slice())?;
+    let confined = with_standing(alloc, groups, class, Standing::Confined, members)?;
+    push_processes(text, b"confined", confined.as_slice())?;
+    let outside = with_standing(alloc, groups, class, Standing::Outside, members)?;
+    push_processes(text, b"outside", outside.as_slice())?;
+    let names = user_names(alloc, users)?;
+    let readers = login_readers(alloc, groups, class, names.as_slice())?;
+    push_users(text, b"login", readers.as_slice())
+}
+
+/// Adds a line for each process that may change what is of the first of these classes and lies in directories
+/// of the others, and for each user as whom one could log in who may.
+fn push_changers(
+    alloc: Global,
+    text: &mut Vec<u8>,
+    users: &UserTable,
+    members: &[Member],
+    classes: &[FileClass],
+) -> Result<(), AllocError>
+    ensures { OnOk result (text.new.items
+        ≡ text.old.items ++ shown_changers users.now members.now classes.now) }
+{
+    let groups = users.groups();
+    let changers = changers_of(alloc, groups, classes, members)?;
+    push_processes(text, b"changer", changers.as_slice())?;
+    let names = user_names(alloc, users)?;
+    let logins = login_changers(alloc, groups, classes, names.as_slice())?;
+    push_users(text, b"changer-login", logins.as_slice())
+}
+
+/// Adds a line for each process: the word, the process and its user.
+fn push_processes(
+    text: &mut Vec<u8>,
+    word: &[u8],
+    processes: &[(ProcName, Name)],
+) -> Result<(), AllocError>
+    ensures { OnOk result (text.new.items
+        ≡ text.old.items ++ process_lines word.now processes.now) }
+{
+    for process in processes {
+        push_process_line(text, word, &process.0, process.1)?;
+    }
+    Ok(())
+}
+
+/// Adds the line of a process: the word, the process and its user.
+fn push_process_line(
+    text: &mut Vec<u8>,
+    word: &[u8],
+    process: &ProcName,
+    user: Name,
+) -> Result<(), AllocError>
+    ensures { OnOk result (text.new.items
+        ≡ text.old.items ++ process_line word.now (process.now, user)) }
+{
+    text.extend_from_slice(word)?;
+    text.extend_from_slice(b" ")?;
+    push_process(text, process)?;
+    text.extend_from_slice(b" ")?;
+    text.extend_from_slice(user.as_bytes())?;
+    text.extend_from_slice(b"\n")
+}
+
+/// Adds a line for each user: the word and the user's name.
+fn push_users(text: &mut Vec<u8>, word: &[u8], users: &[Name]) -> Result<(), AllocError>
+    ensures { OnOk result (text.new.items ≡ text.old.items ++ user_lines word.now users.now) }
+{
+    for user in users {
+        text.extend_from_slice(word)?;
+        text.extend_from_slice(b" ")?;
+        text.extend_from_slice(user.as_bytes())?;
+        text.extend_from_slice(b"\n")?;
+    }
+    Ok(())
+}

@@ -1,0 +1,67 @@
+//! Who has to be trusted after the calls of a script, from bytes to bytes.
+ghost use Rattle.std.specs.Prelude.{◌≡◌, false, IfErr, IfSome};
+ghost use Rattle.histar_devices.specs.Device.{CountsFailure};
+ghost use Rattle.histar_script.specs.Runs.{LeavesSink, is_read_failed, is_write_failed, RunsInput};
+ghost use Rattle.histar_trust.specs.Session.{TrustText};
+
+use crate::output::trust_lines;
+use histar_access::machine_before;
+use histar_devices::{Sink, Source, read_input, write_bytes};
+use histar_flat::Path;
+use histar_script::Fault;
+use std::alloc::Global;
+
+/// Reads a script, runs it on a machine of its own, and writes on whom it depends that what is at a path stays
+/// secret, and on whom that it stays as it is. With a line number the calls on lines before that one are run,
+/// and else all.
+///
+/// The whole script is read and checked before the first call. It doesn't flush the sink.
+pub fn trust<R: Source, W: Sink>(
+    alloc: Global,
+    path: &Path,
+    reader: &mut R,
+    writer: &mut W,
+    at: Option<u32>,
+) -> Result<(), Fault>
+    // After a bad script, one that is too long and a failed read the sink is as it was.
+    ensures nothing { IfErr result (LeavesSink writer.old writer.new) }
+
+    // A device has failed exactly where its fault is the answer.
+    ensures reads { CountsFailure (R.failures reader.old) (R.failures reader.new)
+        (is_read_failed result) }
+    ensures writes { CountsFailure (W.failures writer.old) (W.failures writer.new)
+        (is_write_failed result) }
+
+    // Whatever the source tells, bytes of it were taken, to its end but never more than 1,048,577: the fault of the script that
+    // they are is answered, or exactly the text of the flat state after its calls is written.
+    ensures runs { RunsInput (TrustText at path.now) (R.left reader.old) (R.left reader.new)
+        (W.written writer.old) (W.written writer.new) result }
+
+    // So where the input is known, this is the text of the script of the whole input.
+    ensures known { IfSome (R.left reader.old) (λ input.
+        TrustText at path.now input (W.written writer.old) (W.written writer.new) result) }
+{
+    let input = read_input(alloc, reader)?;
+    trust_text(alloc, input.as_slice(), path, writer, at)
+}
+
+/// Writes the lines on what is at a path after the calls of the script that a text is.
+fn trust_text<W: Sink>(
+    alloc: Global,
+    text: &[u8],
+    path: &Path,
+    writer: &mut W,
+    at: Option<u32>,
+) -> Result<(), Fault>
+    ensures nothing { IfErr result (LeavesSink writer.old writer.new) }
+    ensures reads { is_read_failed result ≡ false }
+    ensures writes { CountsFailure (W.failures writer.old) (W.failures writer.new)
+        (is_write_failed result) }
+    ensures runs { TrustText at path.now text.now (W.written writer.old) (W.written writer.new)
+        result }
+{
+    let machine = machine_before(alloc, text, at)?;
+    let lines = trust_lines(alloc, &machine, path)?;
+    write_bytes(writer, lines.as_slice())?;
+    Ok(())
+}

@@ -1,0 +1,72 @@
+//! What is at a path, and the directories above it.
+ghost use Rattle.std.specs.Prelude.{◌≡◌, ◌++◌, IfOk, map, OnOk};
+ghost use Rattle.std.specs.Option.{option_copied};
+ghost use Rattle.histar_secrecy.specs.ShownStandings.{flat_class};
+ghost use Rattle.histar_trust.specs.Findings.{class_flat, class_there, classes_to, node_at};
+
+use crate::members::numbers;
+use histar_flat::Name;
+use histar_layout::Class;
+use histar_secrecy::FileClass;
+use histar_tree::TreeNode;
+use std::alloc::{AllocError, Global};
+
+/// Returns what a tree has at the path of these names, of which the last stands first.
+pub fn node_at<'a>(tree: &'a [TreeNode], names: &[Name]) -> Option<&'a TreeNode>
+    ensures { option_copied result ≡ node_at names.now tree.now }
+{
+    for node in tree {
+        if names == node.path.names() {
+            return Some(node);
+        }
+    }
+    None
+}
+
+/// Adds the class of what a tree has at the path of these names, and then that of each directory above.
+pub fn push_classes(
+    alloc: Global,
+    tree: &[TreeNode],
+    names: &[Name],
+    classes: &mut Vec<FileClass>,
+) -> Result<(), AllocError>
+    ensures { OnOk result (map flat_class classes.new.items
+        ≡ map flat_class classes.old.items ++ classes_to tree.now names.now) }
+{
+    push_class(alloc, node_at(tree, names), classes)?;
+    let [_, above @ ..] = names else {
+        return Ok(());
+    };
+    push_classes(alloc, tree, above, classes)
+}
+
+/// Adds the class of what is there, if something is.
+fn push_class(
+    alloc: Global,
+    there: Option<&TreeNode>,
+    classes: &mut Vec<FileClass>,
+) -> Result<(), AllocError>
+    ensures { OnOk result (map flat_class classes.new.items
+        ≡ map flat_class classes.old.items ++ class_there (option_copied there.entry)) }
+{
+    let Some(node) = there else {
+        return Ok(());
+    };
+    let class = file_class(alloc, &node.class)?;
+    Ok(classes.push(class)?)
+}
+
+/// Returns a class, with each of its jobs by the number of its category.
+pub fn file_class(alloc: Global, class: &Class) -> Result<FileClass, AllocError>
+    ensures { IfOk result (λ of_file. flat_class of_file ≡ class_flat class.now) }
+{
+    Ok(match class {
+        Class::Private(owner) => FileClass::Private(*owner),
+        Class::Readable(owner) => FileClass::Readable(*owner),
+        Class::Open => FileClass::Open,
+        Class::Scratch(owner, jobs) => {
+            FileClass::Scratch(*owner, numbers(alloc, jobs.as_slice())?)
+        }
+        Class::Group(group) => FileClass::Grouped(*group),
+    })
+}
