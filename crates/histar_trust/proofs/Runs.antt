@@ -1,6 +1,6 @@
 -- What `trust` says, put together from what its parts say.
-use Rattle.std.proofs.Common.{◌≡◌, ℕ, ◌<◌, true, false, ltb, List, [], ◌++◌, length, Option, Some, None, Result, Ok, Err, refl, sym, ap, subst, ◌∙◌, arith, rules, tests, append-nil, inl, inr}
-use Rattle.std.specs.Prelude.{IfErr, IfSome, IsOk, MatchResult, is_ok}
+use Rattle.std.proofs.Common.{◌≡◌, ℕ, ◌<◌, true, false, ltb, List, ◌++◌, length, Option, Some, None, Result, Ok, Err, refl, sym, ap, subst, ◌∙◌, arith, rules, tests, append-nil, inl, inr}
+use Rattle.std.specs.Prelude.{IfSome, MatchResult, is_ok}
 use Rattle.std.specs.Io.KnownBytes.{Appends, Keeps}
 use Rattle.std.proofs.lemmas.Bool.{cases_lt, false≢true}
 use Rattle.std.proofs.lemmas.List.{length-append}
@@ -19,13 +19,13 @@ use Rattle.histar_script.specs.Script.{Reading}
 use Rattle.histar_script.specs.Outcome.{Gives, input_fault}
 use Rattle.histar_script.specs.Lines.{most_script_bytes}
 use Rattle.histar_script.specs.Reading.{script_of}
-use Rattle.histar_script.specs.Runs.{LeavesSink, StopsReading, is_read_failed, is_write_failed, RunsTaken, RunsInput}
+use Rattle.histar_script.specs.Runs.{StopsReading, is_read_failed, is_write_failed, RunsTaken, RunsInput}
 use Rattle.histar_shell.specs.Machine.{MachineModel}
 use Rattle.histar_shell.specs.Meaning.{Shows, ShowsStart}
 use Rattle.histar_shell.specs.Outcome.{AgreesWith, IsFaultAt}
 use Rattle.histar_access.specs.Session.{ShowsAfter, calls_before, state_before}
 use Rattle.histar_trust.specs.Findings.{HasState, ShowsReached, ShowsTrust}
-use Rattle.histar_trust.specs.Session.{BeginsTrust, IsMachineOf, TrustText, WritesAtFault, WritesTrust, text_before}
+use Rattle.histar_trust.specs.Session.{IsMachineOf, TrustText, WritesAtFault, WritesTrust, text_before}
 
 -- what it answers
 abbrev Answer : Type 0

@@ -1,5 +1,5 @@
 -- What is written of a script that was read: the text of the flat state before a line, or after all.
-use Rattle.std.specs.Prelude.{◌≡◌, ℕ, ◌⊎◌, List, Option, Result, Ok, Err, MatchResult}
+use Rattle.std.specs.Prelude.{◌≡◌, ℕ, List, Option, Result, Ok, Err, MatchResult}
 use Rattle.std.specs.Io.KnownBytes.{Appends, Keeps}
 use Rattle.histar_devices.specs.Writing.{AppendsFront}
 use Rattle.histar_flat.specs.Words.{Path}
@@ -7,7 +7,7 @@ use Rattle.histar_script.specs.Script.{Reading}
 use Rattle.histar_script.specs.Outcome.{Gives}
 use Rattle.histar_script.specs.Reading.{script_of}
 use Rattle.histar_script.specs.declared.fault.Fault.{Fault}
-use Rattle.histar_script.specs.declared.fault.Fault.TheVariants.{OutOfMemory, WriteFailed}
+use Rattle.histar_script.specs.declared.fault.Fault.TheVariants.{WriteFailed}
 use Rattle.histar_shell.specs.Machine.{MachineModel}
 use Rattle.histar_shell.specs.Meaning.{Shows}
 use Rattle.histar_shell.specs.Outcome.{AgreesWith}
