@@ -9,9 +9,8 @@ use Rattle.histar_flat.specs.declared.calls.User.{User}
 use Rattle.histar_flat.specs.Words.{Name, Path}
 use Rattle.histar_layout.specs.UserTable.{called}
 use Rattle.histar_secrecy.specs.declared.standing.Member.{Member}
-use Rattle.histar_tree.specs.declared.process.ProcessNode.{ProcessNode}
 use Rattle.histar_tree.specs.declared.tree.TreeNode.{TreeNode}
-use Rattle.histar_trust.specs.Findings.{Runner, class_there, classes_to, node_at, runner_of, running_node}
+use Rattle.histar_trust.specs.Findings.{Runner, class_there, classes_to, node_at, runner_of}
 
 -- one item more
 pub kept_more : {X Y : Type 0} (h : X → Option Y) (xs : List X) (i : ℕ) (x : X) → i < length xs → x ≡ get_or xs i x

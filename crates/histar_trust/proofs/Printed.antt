@@ -1,10 +1,8 @@
 -- What `run` prints to outsiders depends on no secret that is written to a file.
 use Rattle.std.specs.Prelude.{◌≡◌, ℕ, List, [], ◌∷◌, ◌++◌, filter, map, refl}
-use Rattle.std.specs.List.{flat_map}
 use Rattle.std.proofs.Common.{ap, sym, ◌∙◌, append_assoc}
 use Rattle.histar_flat.specs.declared.calls.CallLine.{CallLine}
 use Rattle.histar_flat.specs.declared.calls.UnixCall.TheVariants.{Write}
-use Rattle.histar_flat.specs.declared.replies.Reply.{Reply}
 use Rattle.histar_flat.specs.Words.{Path, ProcName}
 use Rattle.histar_flat.specs.Sessions.{Session}
 use Rattle.histar_flat.specs.Classes.{Class}
@@ -18,7 +16,7 @@ use Rattle.histar_secrecy.specs.Standings.{is_outsider}
 use Rattle.histar_secrecy.proofs.WrittenSecrets.{what_is_written_stays_secret}
 use Rattle.histar_shell.specs.declared.session.Options.{Options}
 use Rattle.histar_shell.specs.Answers.{answer_text, answers_text, calls_of}
-use Rattle.histar_shell.specs.Meaning.{asked_tree, last_state, meaning_text}
+use Rattle.histar_shell.specs.Meaning.{asked_tree, last_state}
 use Rattle.histar_trust.specs.Printed.{OutsidersReadTheSame, PrintsBehind, WritesBehind, outside_texts, state_met, writing}
 
 -- the calls that are answered are those that were made

@@ -3,15 +3,13 @@ use Rattle.std.specs.Prelude.{◌≡◌, ℕ, Bool, length, true, false, not, �
 use Rattle.std.specs.List.{filter_map}
 use Rattle.std.proofs.Common.{ap, sym, ◌∙◌, subst}
 use Rattle.std.proofs.lemmas.Option.{same_Some}
-use Rattle.histar_flat.specs.declared.calls.CallLine.{CallLine}
 use Rattle.histar_flat.specs.declared.calls.User.{User}
 use Rattle.histar_flat.specs.Words.{Name, Path, ProcName}
 use Rattle.histar_flat.specs.Sessions.{Session}
 use Rattle.histar_flat.specs.Files.{get}
-use Rattle.histar_flat.specs.Classes.{Class, may_read}
-use Rattle.histar_flat.specs.FlatState.{Flat, Node, is_dir}
+use Rattle.histar_flat.specs.Classes.{may_read}
+use Rattle.histar_flat.specs.FlatState.{Flat, Node}
 use Rattle.histar_flat.specs.FlatCalls.{running}
-use Rattle.histar_flat.specs.Meaning.{boot, flat_end}
 use Rattle.histar_object.specs.State.{State}
 use Rattle.histar_syscall.specs.KernelModel.{state}
 use Rattle.histar_layout.specs.UserTable.{without_password, without_passwords}
@@ -27,11 +25,10 @@ use Rattle.histar_secrecy.specs.declared.file_class.FileClass.{FileClass}
 use Rattle.histar_secrecy.specs.declared.standing.Member.{Member}
 use Rattle.histar_secrecy.specs.declared.standing.Standing.{Standing}
 use Rattle.histar_secrecy.specs.declared.standing.Standing.TheVariants.{Trusted, Confined, Outside}
-use Rattle.histar_secrecy.specs.Logins.{logged_in}
 use Rattle.histar_secrecy.specs.Standings.{is_bound, is_confined, is_outsider, is_trusted}
 use Rattle.histar_secrecy.specs.Noninterference.{ShowsStanding}
-use Rattle.histar_secrecy.specs.Changers.{is_changer, may_change}
-use Rattle.histar_secrecy.specs.ShownStandings.{AreClassesTo, AreNumbered, IsShownProcess, ShowsAState, class_by_number, flat_class, has_standing, is_login_changer, is_login_reader, is_same_standing, is_shown_changer, member_standing, standing_in, with_user}
+use Rattle.histar_secrecy.specs.Changers.{is_changer}
+use Rattle.histar_secrecy.specs.ShownStandings.{AreClassesTo, AreNumbered, IsShownProcess, ShowsAState, class_by_number, flat_class, has_standing, is_same_standing, is_shown_changer, member_standing, standing_in, with_user}
 use Rattle.histar_secrecy.proofs.Learning.{standings_are_shown}
 use Rattle.histar_secrecy.proofs.ShownProcesses.{shown_is_so}
 use Rattle.histar_tree.specs.declared.process.ProcessNode.{ProcessNode}
@@ -50,10 +47,10 @@ use Rattle.histar_access.specs.Shown.{AreProcessesIn, HasProcesses}
 use Rattle.histar_access.proofs.SameProcesses.{one_list, processes_unproved}
 use Rattle.histar_access.proofs.ShownTables.{processes_there, tree_there}
 use Rattle.histar_access.proofs.Visiting.{filter_map_map}
-use Rattle.histar_trust.specs.Findings.{HasState, ShowsReached, class_flat, classes_to, head_text, names_of, node_at, runner_of, running_node, shown_changers, shown_readers, shown_standings, those_of}
-use Rattle.histar_trust.specs.TrustText.{changers_text, is_for_everyone, process_lines, readers_text, running_where, standings_text, trust_text, user_lines, users_where}
+use Rattle.histar_trust.specs.Findings.{ShowsReached, class_flat, classes_to, head_text, node_at, runner_of, running_node, shown_changers, shown_readers, shown_standings}
+use Rattle.histar_trust.specs.TrustText.{changers_text, is_for_everyone, process_lines, readers_text, running_where, standings_text, trust_text, user_lines}
 use Rattle.histar_trust.proofs.Places.{AreAlike, IsAt, alike, classes_are, found_at, number_of, same_class, same_everyone}
-use Rattle.histar_trust.proofs.Runners.{AllOf, Runs, each_runs, named_user, numbered, picked, runners_listed, running_line}
+use Rattle.histar_trust.proofs.Runners.{AllOf, Runs, each_runs, numbered, picked, runners_listed, running_line}
 
 -- ---- standings
 

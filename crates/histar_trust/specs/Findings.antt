@@ -1,6 +1,5 @@
 -- What a machine shows of the processes that run, and of what is at a path.
 use Rattle.std.specs.Prelude.{◌≡◌, ℕ, ◌++◌, List, [], ◌∷◌, Option, None, Some, codes, filter, map, if◌then◌else◌}
-use Rattle.std.specs.List.{filter_map}
 use Rattle.histar_flat.specs.declared.calls.User.{User}
 use Rattle.histar_flat.specs.Words.{Name, Path, ProcName}
 use Rattle.histar_flat.specs.PathOrder.{same_path}
@@ -17,7 +16,7 @@ use Rattle.histar_secrecy.specs.declared.standing.Member.{Member}
 use Rattle.histar_secrecy.specs.declared.standing.Standing.{Standing}
 use Rattle.histar_secrecy.specs.declared.standing.Standing.TheVariants.{Trusted, Confined, Outside}
 use Rattle.histar_secrecy.specs.Noninterference.{IsReached}
-use Rattle.histar_secrecy.specs.ShownStandings.{flat_class, has_standing, is_login_changer, is_login_reader, is_shown_changer, job_numbered, with_user}
+use Rattle.histar_secrecy.specs.ShownStandings.{has_standing, is_login_changer, is_login_reader, is_shown_changer, job_numbered, with_user}
 use Rattle.histar_tree.specs.declared.process.Life.{Life}
 use Rattle.histar_tree.specs.declared.process.Life.TheVariants.{Running, Exited}
 use Rattle.histar_tree.specs.declared.process.ProcessNode.{ProcessNode}

@@ -1,5 +1,5 @@
 //! The processes that run, and the users.
-ghost use Rattle.std.specs.Prelude.{◌≡◌, IfOk, IfSome, IsNone, map, option_map, OnOk, Some};
+ghost use Rattle.std.specs.Prelude.{◌≡◌, IfOk, map, option_map, Some};
 ghost use Rattle.std.specs.List.{filter_map};
 ghost use Rattle.histar_access.specs.Shown.{AreProcessesIn, HasProcesses};
 ghost use Rattle.histar_trust.specs.Findings.{names_of, runner_of, running_node};

@@ -32,8 +32,8 @@ pub fn trust<R: Source, W: Sink>(
     ensures writes { CountsFailure (W.failures writer.old) (W.failures writer.new)
         (is_write_failed result) }
 
-    // Whatever the source tells, bytes of it were taken, to its end but never more than 1,048,577: the fault of the script that
-    // they are is answered, or exactly the text of the flat state after its calls is written.
+    // Whatever is known of the source, bytes of it were taken, to its end but never more than 1,048,577: the fault of the script
+    // that they are is answered, or exactly the text of the flat state after its calls is written.
     ensures runs { RunsInput (TrustText at path.now) (R.left reader.old) (R.left reader.new)
         (W.written writer.old) (W.written writer.new) result }
 

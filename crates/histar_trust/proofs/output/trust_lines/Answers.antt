@@ -1,10 +1,7 @@
-use Rattle.std.proofs.Common.{◌≡◌, List, ◌++◌, sym, ap, ◌∙◌, subst}
-use Rattle.std.specs.Prelude.{Option, Some, None, map, option_copied}
+use Rattle.std.proofs.Common.{◌≡◌, List, ◌++◌, sym, ap, ◌∙◌}
+use Rattle.std.specs.Prelude.{Some, None, map, option_copied}
 use Rattle.std.specs.List.{filter_map}
-use Rattle.histar_flat.specs.Words.{Path}
 use Rattle.histar_secrecy.specs.ShownStandings.{flat_class}
-use Rattle.histar_tree.specs.declared.process.ProcessNode.{ProcessNode}
-use Rattle.histar_tree.specs.declared.tree.TreeNode.{TreeNode}
 use Rattle.histar_trust.specs.Findings.{classes_to, head_text, node_at, running_node, shown_changers, shown_standings}
 use Rattle.histar_trust.proofs.Pieces.{made_so}
 use Rattle.histar_trust.proofs.ShownTrust.{has_processes, has_tree, nothing_there, something_there}
