@@ -6,7 +6,9 @@ mod status;
 mod tasks;
 
 use crate::status::{Outcome, outcome_status, status};
-use crate::tasks::{access_file, check_file, diff_files, lint_file, run_file, run_raw_file, trust_file};
+use crate::tasks::{
+    access_file, check_file, diff_files, lint_file, run_file, run_raw_file, trust_file,
+};
 use histar_command_line::{Task, read_words};
 use histar_flat::{ProcName, read_path, read_process};
 use histar_script::Fault;

@@ -60,20 +60,12 @@ module _ (options : Options) (session : Session) (class : Class) (path : Path) (
     prints : PrintsBehind options script calls behind
     prints = record {
       first = first;
-      all_calls =
-          is.calls_are ∙ sym (
-          ap (λ (cs : List CallLine). cs ++ calls)
-          (calls_both (meaning session before) ∙ ap (λ (cs : List CallLine). cs ++ own.call ∷ []) (calls_answered session (boot session) before))
-          ∙ append_assoc before (own.call ∷ []) calls);
+      meant = meaning_is;
       these_calls = calls_answered session (flat_after session f writer (Write path bytes)) calls;
       text =
           ap (λ (answers : List Answered). answers_text answers ++ asked_tree options (last_state script)) meaning_is
           ∙ ap (λ t. t ++ asked_tree options (last_state script)) (texts_both first behind);
     }
-      where
-        calls_both : (answers : List Answered) → calls_of (answers ++ own ∷ []) ≡ calls_of answers ++ own.call ∷ []
-        calls_both [] = refl
-        calls_both (a ∷ answers) = ap (λ (cs : List CallLine). a.call ∷ cs) (calls_both answers)
 
     texts_are : outside_texts session class path before behind
         ≡ map reply_text (map (λ (a : Answered). a.reply) (filter (λ (a : Answered). is_outsider session class f a.call.process) behind))

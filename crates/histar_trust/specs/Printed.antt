@@ -6,7 +6,7 @@ use Rattle.histar_flat.specs.Words.{Path, ProcName}
 use Rattle.histar_flat.specs.Sessions.{Session}
 use Rattle.histar_flat.specs.Classes.{Class}
 use Rattle.histar_flat.specs.FlatState.{Flat}
-use Rattle.histar_flat.specs.Meaning.{Answered, boot, flat_end}
+use Rattle.histar_flat.specs.Meaning.{Answered, boot, flat_end, meaning}
 use Rattle.histar_flat.specs.Texts.{reply_text}
 use Rattle.histar_script.specs.Script.{Reading}
 use Rattle.histar_script.specs.Reading.{script_of}
@@ -38,11 +38,11 @@ module _ (session : Session) (class : Class) (path : Path) (before : List CallLi
   outside_texts answers = map (λ (a : Answered). reply_text a.reply)
       (filter (λ (a : Answered). is_outsider session class state_met a.call.process) answers)
 
--- What `run` prints of a script: the lines of some first answers, then the lines of these, which answer these calls, and then the tree
--- where it is asked for.
+-- These answers, to these calls, are the last ones of a script's meaning; and `run` prints of the script the lines of the first answers,
+-- then the lines of these, and then the tree where it is asked for.
 pub record PrintsBehind (options : Options) (script : Reading) (calls : List CallLine) (answers : List Answered) : Type 0 where
   pub first : List Answered
-  pub all_calls : script.calls ≡ calls_of first ++ calls
+  pub meant : meaning script.session script.calls ≡ first ++ answers
   pub these_calls : calls_of answers ≡ calls
   pub text : meaning_text options script ≡ answers_text first ++ answers_text answers ++ asked_tree options (last_state script)
 
