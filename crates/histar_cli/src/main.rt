@@ -14,6 +14,7 @@ use histar_devices::read_input;
 use histar_flat::{ProcName, read_process};
 use histar_raw_explain::explain_raw_script;
 use histar_raw_session::run_raw_script;
+use histar_run_explain::explain_script;
 use histar_script::Fault;
 use histar_shell::{Counted, Options, run};
 use std::alloc::Global;
@@ -55,6 +56,21 @@ fn run_file<R: Files + Print>(
     let mut writer = Counted::new(output);
     let ran = run(alloc, &mut reader, &mut writer, options);
     finish(ran.map(|_trace| ()), writer.into_inner())
+}
+
+/// Runs the script in a file, prints what it is asked for, and then why raw calls were denied.
+fn explain_file<R: Files + Print>(
+    rt: &R,
+    alloc: Global,
+    path: &str,
+    options: Options,
+) -> Result<(), Fault> {
+    let file = fs::open(rt, path).map_err(|_| Fault::ReadFailed)?;
+    let output = BufWriter::new(alloc, io::writer(rt)).map_err(|_| Fault::OutOfMemory)?;
+    let mut reader = Counted::new(file);
+    let mut writer = Counted::new(output);
+    let ran = explain_script(alloc, &mut reader, &mut writer, options);
+    finish(ran, writer.into_inner())
 }
 
 /// Runs the raw session in a file, and prints what its calls are answered, and if it is asked for why some were denied.

@@ -77,7 +77,7 @@ module _ (declared : Session) where
       (session_means rows session.0 (flat_after declared f a.call.process a.call.call) answers end session.2 line.shows can.1)
 
 -- the raw calls of boot
-record IsBootTrace (session : Session) (m : MachineModel) : Type 0 where
+pub record IsBootTrace (session : Session) (m : MachineModel) : Type 0 where
   pub entries : List TraceEntry
   pub trace : m.kernel.trace ≡ entries
   pub run : IsRun empty_state entries (state m.kernel)
@@ -91,7 +91,7 @@ booted_traced session kernel booted =
     let entries = entries_of booted.first.line boot_thread_number granted.0 in
     subst (λ (es : List TraceEntry). IsRun empty_state es (state kernel)) (sym (part.trace ∙ ap (λ (es : List TraceEntry). es ++ entries) booted.no_trace)) (subst (λ (s : State). IsRun s entries (state kernel)) booted.empty part.run)
 
-boot_trace : (session : Session) (m : MachineModel) → IsBooted session m.kernel → IsBootTrace session m
+pub boot_trace : (session : Session) (m : MachineModel) → IsBooted session m.kernel → IsBootTrace session m
 boot_trace session m booted =
     let granted = granted_run boot_thread_number booted.first m.kernel (boot_calls session) booted.made in
     let part = chain_run boot_thread_number booted.first m.kernel granted.0 granted.1 in
@@ -161,7 +161,7 @@ module _ (rows : LinesAreRows) (script : Reading) (declared : IsDeclared script.
 
   module _ (options : Options) where
     -- the replies, and then what stands behind them
-    whole_is : (old replied : Option (List ℕ)) (end : MachineModel) (answered : AnswersCalls start end old replied script.calls) (ending : List ℕ) → IsEnding options end ending → (trace : List TraceEntry) → trace ≡ end.kernel.trace
+    pub whole_is : (old replied : Option (List ℕ)) (end : MachineModel) (answered : AnswersCalls start end old replied script.calls) (ending : List ℕ) → IsEnding options end ending → (trace : List TraceEntry) → trace ≡ end.kernel.trace
         → answers_text answered.answers ++ ending ≡ meaning_text options script ++ asked_trace options trace
     whole_is old replied end answered ending ends trace recorded =
         let of_trace = asked_trace options trace in
@@ -194,11 +194,11 @@ module _ (rows : LinesAreRows) (script : Reading) (declared : IsDeclared script.
     front_can (c ∷ front) rest h = (h.0, front_can front rest h.1)
 
     -- a beginning of a text is one of a longer text
-    longer_front : (old new : Option (List ℕ)) (text more : List ℕ) → AppendsFront old new text → AppendsFront old new (text ++ more)
+    pub longer_front : (old new : Option (List ℕ)) (text more : List ℕ) → AppendsFront old new text → AppendsFront old new (text ++ more)
     longer_front old new text more h = (h.0 ++ more, record { front = h.1.front; parts = ap (λ (t : List ℕ). t ++ more) h.1.parts ∙ append_assoc h.1.front h.0 more; appended = h.1.appended })
 
     -- the first lines were answered
-    answers_begin : (old new : Option (List ℕ)) → BeginsAnswers start old new script.calls → AppendsFront old new (meaning_text options script)
+    pub answers_begin : (old new : Option (List ℕ)) → BeginsAnswers start old new script.calls → AppendsFront old new (meaning_text options script)
     answers_begin old new begun =
         let front = calls_of begun.answers in
         let these : AreScriptable front = front_can front begun.rest (subst AreScriptable begun.parts can) in

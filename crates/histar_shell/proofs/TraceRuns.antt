@@ -21,10 +21,10 @@ use Rattle.histar_shell.specs.Machine.{IsTraced, Makes}
 use Rattle.histar_shell.proofs.RowRuns.{run_after}
 
 -- the kernel came from the old to the new by a run, which is the new end of its trace
-record GoesBy (old new : KernelModel) : Type 0 where
-  entries : List TraceEntry
-  trace : new.trace ≡ old.trace ++ entries
-  run : IsRun (state old) entries (state new)
+pub record GoesBy (old new : KernelModel) : Type 0 where
+  pub entries : List TraceEntry
+  pub trace : new.trace ≡ old.trace ++ entries
+  pub run : IsRun (state old) entries (state new)
 
 -- by nothing
 by_nothing : (old new : KernelModel) → IsUnchanged old new → GoesBy old new
@@ -57,7 +57,7 @@ begun (Lists bytes next) old new t (inl same) = by_nothing old new same
 begun (Lists bytes next) old new t (inr runs) = begun (next runs.0) old new t runs.2
 begun Stops old new t runs = by_nothing old new runs
 
-by_program : (p : Program) (old new : KernelModel) (t : ℕ) (result : Result Reply Stopped) → Runs p old new t result → GoesBy old new
+pub by_program : (p : Program) (old new : KernelModel) (t : ℕ) (result : Result Reply Stopped) → Runs p old new t result → GoesBy old new
 unfolding Runs
 by_program p old new t (Ok reply) runs = completed p old new t reply runs
 by_program p old new t (Err stopped) runs = begun p old new t runs

@@ -117,7 +117,7 @@ fn answer_calls<S: LabelStore + Drop, W: Sink>(
 }
 
 /// Has the machine do one call, and writes its line.
-fn answer_call<S: LabelStore + Drop, W: Sink>(
+pub fn answer_call<S: LabelStore + Drop, W: Sink>(
     alloc: Global,
     machine: &mut Machine<S>,
     call: CallLine,
