@@ -10,6 +10,7 @@ use histar_flat::{Path, ProcName};
 use histar_lint::lint;
 use histar_raw_explain::explain_raw_script;
 use histar_raw_session::run_raw_script;
+use histar_run_explain::explain_script;
 use histar_script::Fault;
 use histar_shell::{Options, run};
 use histar_trust::trust;
@@ -30,8 +31,12 @@ pub fn run_file<R: Files + Input + Print>(
     };
     let mut reader = open(rt, path)?;
     let mut writer = output(rt, alloc)?;
-    let done = run(alloc, &mut reader, &mut writer, options);
-    finish(done.map(|_trace| Outcome::Done), writer)
+    let done = if flags.explain {
+        explain_script(alloc, &mut reader, &mut writer, options)
+    } else {
+        run(alloc, &mut reader, &mut writer, options).map(|_trace| ())
+    };
+    finish(done.map(|_| Outcome::Done), writer)
 }
 
 /// Runs the raw session in a file, and prints what its calls are answered, and if it is asked for why some were denied.

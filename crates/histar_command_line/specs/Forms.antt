@@ -36,9 +36,9 @@ named_app = let app = new_app (codes "histar") in record app { top = record app.
 abbrev pub subcommand_app : Text → List Rule → App
 subcommand_app name arguments = fold with_rule (new_app name) arguments
 
--- `run [--tree] [--trace] FILE`
+-- `run [--tree] [--trace] [--explain] FILE`
 abbrev pub run_app : App
-run_app = subcommand_app (codes "run") (flag_rule (codes "tree") ∷ flag_rule (codes "trace") ∷ word_rule (codes "FILE") ∷ [])
+run_app = subcommand_app (codes "run") (flag_rule (codes "tree") ∷ flag_rule (codes "trace") ∷ flag_rule (codes "explain") ∷ word_rule (codes "FILE") ∷ [])
 
 -- `raw [--explain] FILE`
 abbrev pub raw_app : App

@@ -30,6 +30,7 @@ HasArguments (Run file flags) rows =
     (first_of (codes "FILE") rows ≡ Some file.now)
     × (flags.tree ≡ is_set (codes "tree") rows)
     × (flags.trace ≡ is_set (codes "trace") rows)
+    × (flags.explain ≡ is_set (codes "explain") rows)
 HasArguments (Raw file explain) rows =
     (first_of (codes "FILE") rows ≡ Some file.now)
     × (explain ≡ is_set (codes "explain") rows)

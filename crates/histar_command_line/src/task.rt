@@ -14,6 +14,8 @@ use std::alloc::Global;
 pub struct RunFlags {
     pub tree: bool,
     pub trace: bool,
+    /// Why each denied raw call was denied.
+    pub explain: bool,
 }
 
 /// What the program is to do: the subcommand with its words and its flags.
@@ -54,7 +56,13 @@ fn task_of<'a>(matches: &ArgMatches<'a>) -> Option<Task<'a>>
         let file = run.get_str("FILE")?;
         let tree = is_set(run, "tree");
         let trace = is_set(run, "trace");
-        return Some(Task::Run(file, RunFlags { tree, trace }));
+        let explain = is_set(run, "explain");
+        let flags = RunFlags {
+            tree,
+            trace,
+            explain,
+        };
+        return Some(Task::Run(file, flags));
     }
     if let Some(raw) = matches.subcommand_matches("raw") {
         let file = raw.get_str("FILE")?;

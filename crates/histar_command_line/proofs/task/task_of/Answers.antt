@@ -15,6 +15,7 @@ returns-in-Some c =
         sym (c.in_ok-file.ensures ∙ first_value-rows found (codes "FILE")),
         c.is_set-tree.ensures ∙ ap is_given (first_value-rows found (codes "tree")),
         c.is_set-trace.ensures ∙ ap is_given (first_value-rows found (codes "trace")),
+        c.is_set-explain.ensures ∙ ap is_given (first_value-rows found (codes "explain")),
       ),
     )
 
@@ -26,7 +27,7 @@ returns-in-Some-subcommand_matches c =
       matched c.args.matches.now (codes "raw") (rows_of found) (m.ensures.found.0 refl) m.ensures.rows,
       (
         sym (c.in_ok-file-2.ensures ∙ first_value-rows found (codes "FILE")),
-        c.is_set-explain.ensures ∙ ap is_given (first_value-rows found (codes "explain")),
+        c.is_set-explain-in-Some-subcommand_matches.ensures ∙ ap is_given (first_value-rows found (codes "explain")),
       ),
     )
 

@@ -1,0 +1,9 @@
+pub mod Parts
+pub mod Finding
+pub mod AllProcesses
+pub mod Replays
+pub mod Turns
+pub mod Scripts
+pub mod TextRuns
+pub mod NamedCategories
+pub mod NamedObjects

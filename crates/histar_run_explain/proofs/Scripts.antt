@@ -1,0 +1,166 @@
+-- A script whose lines were answered and explained, against its meaning.
+use Rattle.std.proofs.Common.{◌≡◌, ℕ, List, [], ◌∷◌, ◌++◌, length, Option, Result, Ok, Err, refl, sym, ap, ◌∙◌, subst, inl, inr, ◌⊎◌, append-nil, append_assoc}
+use Rattle.std.proofs.lemmas.List.{append_cancel_left}
+use Rattle.std.specs.Io.KnownBytes.{Appends}
+use Rattle.std.proofs.KnownBytes.{Appends-trans}
+use Rattle.histar_devices.specs.Writing.{AppendsFront}
+use Rattle.histar_flat.specs.declared.calls.CallLine.{CallLine}
+use Rattle.histar_flat.specs.Sessions.{Session}
+use Rattle.histar_flat.specs.FlatState.{Flat}
+use Rattle.histar_flat.specs.FlatCalls.{flat_after}
+use Rattle.histar_flat.specs.Meaning.{boot, Answered}
+use Rattle.histar_object.specs.State.{State, empty_state}
+use Rattle.histar_script.specs.Script.{Reading, IsDeclared}
+use Rattle.histar_syscall.specs.declared.trace.TraceEntry.{TraceEntry}
+use Rattle.histar_syscall.specs.KernelModel.{state}
+use Rattle.histar_syscall.specs.Runs.{IsRun}
+use Rattle.histar_calls.specs.declared.places.Places.{Places}
+use Rattle.histar_layout.specs.UserTable.{without_passwords}
+use Rattle.histar_login.specs.Start.{places_of}
+use Rattle.histar_refinement.specs.LaysOut.{LaysOut}
+use Rattle.histar_rows.specs.Rows.{AreRows}
+use Rattle.histar_shell.specs.Answers.{answers_text, calls_of}
+use Rattle.histar_shell.specs.AnsweredCalls.{AnswersCalls, BeginsAnswers}
+use Rattle.histar_shell.specs.Ending.{AppendsEnding, BeginsTheEnding, asked_trace}
+use Rattle.histar_shell.specs.Machine.{MachineModel, IsStart}
+use Rattle.histar_shell.specs.Meaning.{Shows, IsMeantTrace, meaning_text}
+use Rattle.histar_shell.specs.declared.session.Options.{Options}
+use Rattle.histar_shell.proofs.AnswerLemmas.{front_after}
+use Rattle.histar_shell.proofs.CallRows.{lines_are_rows}
+use Rattle.histar_shell.proofs.LineMeanings.{line_follows}
+use Rattle.histar_shell.proofs.RowRuns.{run_after, rows_run}
+use Rattle.histar_shell.proofs.SessionMeanings.{boot_trace, whole_is, longer_front, answers_begin}
+use Rattle.histar_shell.proofs.Starts.{start_is_laid, start_shows}
+use Rattle.histar_shell.proofs.Users.{AreScriptable}
+use Rattle.histar_run_explain.specs.Clues.{clue_of}
+use Rattle.histar_run_explain.specs.Entries.{ExplainsEntries}
+use Rattle.histar_run_explain.specs.NamedWords.{words_at}
+use Rattle.histar_run_explain.specs.Session.{ExplainsInTurn, ExplainsCalls, ExplainsLine}
+use Rattle.histar_run_explain.specs.Run.{words_of, ExplainsRows, ExplainsTrace, ExplainsAs}
+use Rattle.histar_run_explain.proofs.Turns.{answers_calls}
+
+-- what the lines have done, from a machine that shows a flat state on
+record IsExplainedSession (session : Session) (m : MachineModel) (f : Flat) (calls : List CallLine) (text : List ℕ) (end : MachineModel) : Type 0 where
+  entries : List TraceEntry
+  trace : end.kernel.trace ≡ m.kernel.trace ++ entries
+  rows : ExplainsRows session (state m.kernel) f calls entries text (state end.kernel)
+
+-- the words of a machine are those of what it shows
+words_shown : (session : Session) (m mid : MachineModel) (g : Flat) (asked : CallLine) (entries : List TraceEntry) (lines : List ℕ) → Shows session mid g → (one : ExplainsLine m mid asked lines) → one.entries ≡ entries
+    → ExplainsEntries (words_of session (state mid.kernel) asked) (state m.kernel) entries lines (state mid.kernel)
+words_shown session m mid g asked entries lines shows one same =
+    subst (λ (places : Places). ExplainsEntries (words_at (without_passwords session) places (state mid.kernel) (clue_of asked.process asked.call)) (state m.kernel) entries lines (state mid.kernel)) shows.places
+    (subst (λ (users : Session). ExplainsEntries (words_at users mid.places (state mid.kernel) (clue_of asked.process asked.call)) (state m.kernel) entries lines (state mid.kernel)) shows.users
+    (subst (λ (es : List TraceEntry). ExplainsEntries (words_at mid.users mid.places (state mid.kernel) (clue_of asked.process asked.call)) (state m.kernel) es lines (state mid.kernel)) same one.explained))
+
+session_explained : (session : Session) (m : MachineModel) (f : Flat) (answers : List Answered) (text : List ℕ) (end : MachineModel) → ExplainsInTurn m answers text end → Shows session m f → AreScriptable (calls_of answers)
+    → IsExplainedSession session m f (calls_of answers) text end
+session_explained session m f [] text end h shows can = record {
+  entries = [];
+  trace = ap (λ (x : MachineModel). x.kernel.trace) h.1 ∙ sym (append-nil m.kernel.trace);
+  rows = (refl, h.0, ap (λ (x : MachineModel). state x.kernel) h.1);
+}
+session_explained session m f (a ∷ answers) text end h shows can =
+    let line = line_follows lines_are_rows m h.0 a.call.line a.call.process a.call.call (Ok a.reply) can.0 h.3 session f shows in
+    let later = session_explained session h.0 (flat_after session f a.call.process a.call.call) answers h.2 end h.6 line.shows can.1 in
+    let same : h.4.entries ≡ line.entries = append_cancel_left m.kernel.trace h.4.entries line.entries (sym h.4.trace ∙ line.trace) in
+    record {
+      entries = line.entries ++ later.entries;
+      trace = later.trace ∙ ap (λ (es : List TraceEntry). es ++ later.entries) line.trace ∙ append_assoc m.kernel.trace line.entries later.entries;
+      rows = (
+        line.entries,
+        later.entries,
+        state h.0.kernel,
+        h.1,
+        h.2,
+        refl,
+        h.5,
+        line.row,
+        words_shown session m h.0 (flat_after session f a.call.process a.call.call) a.call line.entries h.1 line.shows h.4 same,
+        later.rows,
+      );
+    }
+
+-- explained rows are rows
+rows_explained : (session : Session) (s : State) (f : Flat) (calls : List CallLine) (entries : List TraceEntry) (text : List ℕ) (end : State) → ExplainsRows session s f calls entries text end → AreRows session s f calls entries end
+rows_explained session s f [] entries text end h = (h.0, h.2)
+rows_explained session s f (asked ∷ more) entries text end h =
+    (h.0, h.1, h.2, h.5, h.7, rows_explained session h.2 (flat_after session f asked.process asked.call) more h.1 h.4 end h.9)
+
+module _ (script : Reading) (declared : IsDeclared script.session) (can : AreScriptable script.calls) (start : MachineModel) (starts : IsStart script.session start) where
+  module _ (old replied : Option (List ℕ)) (end : MachineModel) (text : List ℕ) (all : ExplainsCalls start end old replied script.calls text) where
+    abbrev answered : AnswersCalls start end old replied script.calls
+    answered = answers_calls start end old replied script.calls text all
+
+    -- the trace of the machine is explained
+    trace_explained : ExplainsTrace script end.kernel.trace text
+    trace_explained =
+        let these : AreScriptable (calls_of all.answers) = subst AreScriptable (sym all.each) can in
+        let explained = session_explained script.session start (boot script.session) all.answers text end all.in_turn (start_shows script.session declared start starts) these in
+        let rows : ExplainsRows script.session (state start.kernel) (boot script.session) script.calls explained.entries text (state end.kernel) =
+        subst (λ (calls : List CallLine). ExplainsRows script.session (state start.kernel) (boot script.session) calls explained.entries text (state end.kernel)) all.each explained.rows in
+        let of_lines = rows_explained script.session (state start.kernel) (boot script.session) script.calls explained.entries text (state end.kernel) rows in
+        let of_boot = boot_trace script.session start starts.booted in
+        let parts : end.kernel.trace ≡ of_boot.entries ++ explained.entries = explained.trace ∙ ap (λ (es : List TraceEntry). es ++ explained.entries) of_boot.trace in
+        record {
+          recorded = record {
+            of_boot = of_boot.entries;
+            of_lines = explained.entries;
+            parts = parts;
+            start = state start.kernel;
+            boot_run = of_boot.run;
+            boot_own = of_boot.own;
+            boot_lays_out = subst (λ (s : State). LaysOut script.session s (boot script.session)) (sym starts.state) (start_is_laid script.session declared);
+            end = state end.kernel;
+            rows = of_lines;
+            run = subst (λ (es : List TraceEntry). IsRun empty_state es (state end.kernel)) (sym parts)
+                (run_after empty_state (state start.kernel) (state end.kernel) of_boot.entries explained.entries of_boot.run
+                (rows_run script.session (state start.kernel) (boot script.session) script.calls explained.entries (state end.kernel) of_lines));
+          };
+          rows = rows;
+        }
+
+    module _ (options : Options) where
+      -- what `run` writes
+      abbrev run_text : List ℕ
+      run_text = meaning_text options script ++ asked_trace options end.kernel.trace
+
+      -- what stands behind the replies was written too
+      run_written : (mid : Option (List ℕ)) → AppendsEnding options end replied mid → Appends old mid run_text
+      run_written mid ending =
+          subst (Appends old mid) (whole_is lines_are_rows script declared can start starts options old replied end answered ending.0 ending.1 end.kernel.trace refl)
+          (Appends-trans old replied mid (answers_text all.answers) ending.0 all.written ending.2)
+
+      -- and then the explanations
+      pub all_explained : (mid new : Option (List ℕ)) → AppendsEnding options end replied mid → Appends mid new text → ExplainsAs (Appends old new) options script
+      all_explained mid new ending written = record {
+        trace = end.kernel.trace;
+        explanations = text;
+        explains = trace_explained;
+        written = Appends-trans old mid new run_text text (run_written mid ending) written;
+      }
+
+      -- or a beginning of them
+      pub front_explained : (mid new : Option (List ℕ)) → AppendsEnding options end replied mid → AppendsFront mid new text → ExplainsAs (AppendsFront old new) options script
+      front_explained mid new ending begun = record {
+        trace = end.kernel.trace;
+        explanations = text;
+        explains = trace_explained;
+        written = subst (AppendsFront old new) (ap (λ (l : List ℕ). run_text ++ l) (append-nil text)) (front_after old mid new run_text text [] (run_written mid ending) begun);
+      }
+
+      -- or a beginning of what stands behind the replies
+      pub ending_begun : (new : Option (List ℕ)) → BeginsTheEnding options end replied new → ExplainsAs (AppendsFront old new) options script
+      ending_begun new begun = record {
+        trace = end.kernel.trace;
+        explanations = text;
+        explains = trace_explained;
+        written = longer_front lines_are_rows script declared can start starts options old new run_text text
+            (subst (AppendsFront old new)
+            (ap (λ (l : List ℕ). answers_text all.answers ++ l) (append-nil begun.0) ∙ whole_is lines_are_rows script declared can start starts options old replied end answered begun.0 begun.1 end.kernel.trace refl)
+            (front_after old replied new (answers_text all.answers) begun.0 [] all.written begun.2));
+      }
+
+  -- the first lines were answered
+  pub replies_begun : (options : Options) (old new : Option (List ℕ)) → BeginsAnswers start old new script.calls → AppendsFront old new (meaning_text options script)
+  replies_begun options old new begun = answers_begin lines_are_rows script declared can start starts options old new begun

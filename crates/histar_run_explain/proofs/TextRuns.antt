@@ -1,0 +1,200 @@
+-- What `explain_script` says, put together from what its parts say.
+use Rattle.std.proofs.Common.{◌≡◌, ℕ, ◌<◌, true, false, ltb, List, [], ◌++◌, length, Option, Some, None, Result, Ok, Err, refl, sym, ap, subst, ◌∙◌, arith, rules, tests, append-nil, inl, inr}
+use Rattle.std.specs.Prelude.{Bool, IfErr, IfSome, IsOk, MatchResult, OnErr, OnOk, is_ok}
+use Rattle.std.specs.Io.KnownBytes.{Appends, Keeps}
+use Rattle.std.proofs.lemmas.Bool.{cases_lt, false≢true}
+use Rattle.std.proofs.lemmas.List.{length-append}
+use Rattle.std.proofs.KnownBytes.{Keeps-refl}
+use Rattle.histar_devices.specs.declared.input.InputError.{InputError}
+use Rattle.histar_devices.specs.declared.input.InputError.TheVariants as input
+use Rattle.histar_devices.specs.Input.{most_taken, TakesAll, TakesSome}
+use Rattle.histar_devices.specs.Writing.{AppendsFront}
+use Rattle.histar_flat.specs.declared.calls.CallLine.{CallLine}
+use Rattle.histar_flat.specs.Sessions.{Session}
+use Rattle.histar_syscall.specs.KernelModel.{KernelModel, state}
+use Rattle.histar_script.specs.declared.fault.Fault.{Fault}
+use Rattle.histar_script.specs.declared.fault.Fault.TheVariants.{BadScript, TooLong, OutOfMemory, ReadFailed, WriteFailed}
+use Rattle.histar_script.specs.Script.{Reading}
+use Rattle.histar_script.specs.Outcome.{Gives, input_fault}
+use Rattle.histar_script.specs.Lines.{most_script_bytes}
+use Rattle.histar_script.specs.Reading.{script_of}
+use Rattle.histar_script.specs.Runs.{IsOutputFault, LeavesSink, StopsReading, is_read_failed, RunsTaken, RunsInput}
+use Rattle.histar_shell.proofs.RunLemmas.{sink_called}
+use Rattle.histar_shell.specs.AnsweredCalls.{BeginsAnswers}
+use Rattle.histar_shell.specs.Ending.{AppendsEnding, BeginsTheEnding, HasTree}
+use Rattle.histar_shell.specs.Machine.{MachineModel, IsStart, IsTraced}
+use Rattle.histar_shell.specs.Outcome.{AgreesWith, IsFaultAt}
+use Rattle.histar_shell.specs.declared.session.Options.{Options}
+use Rattle.histar_shell.proofs.CallRows.{lines_are_rows}
+use Rattle.histar_shell.proofs.SessionMeanings.{booted_traced, tree_at_last}
+use Rattle.histar_shell.proofs.Users.{script_says}
+use Rattle.histar_run_explain.specs.Session.{ExplainsCalls}
+use Rattle.histar_run_explain.specs.Run.{ExplainsText, ExplainsScript, BeginsExplained, ExplainsAtFault}
+use Rattle.histar_run_explain.proofs.Turns.{answers_calls}
+use Rattle.histar_run_explain.proofs.Scripts.{all_explained, front_explained, ending_begun, replies_begun}
+
+-- what it answers
+abbrev Answer : Type 0
+Answer = Result (Unit {0}) Fault
+
+-- no read failed where the fault is one of the output
+pub no_read_failed : (f : Fault) → IsOutputFault f → is_read_failed {A = Unit {0}} (Err f) ≡ false
+no_read_failed (BadScript n) fault = refl
+no_read_failed TooLong fault = refl
+no_read_failed OutOfMemory fault = refl
+no_read_failed ReadFailed fault = absurd fault
+no_read_failed WriteFailed fault = refl
+
+-- what writing answers says that no read failed
+pub no_read_fails : (r : Answer) → IfErr r IsOutputFault → is_read_failed r ≡ false
+no_read_fails (Ok done) h = refl
+no_read_fails (Err f) h = no_read_failed f h
+
+-- and of the sink
+pub sink_after : {W : Type 0} (old new : W) (r : Answer) → IfErr r IsOutputFault → IfErr r (LeavesSink old new)
+sink_after old new (Ok done) h = tt
+sink_after old new (Err f) h = sink_called old new f h
+
+module _ (options : Options) where
+  -- ---- a text that is a script or none
+
+  -- what reading the script answers is the fault in it, or out of memory
+  script_fault_agrees : (f : Fault) (read : Result Reading Fault) → Gives (Err f) read → IsFaultAt read f
+  script_fault_agrees (BadScript n) read given = given
+  script_fault_agrees TooLong read given = given
+  script_fault_agrees OutOfMemory read given = tt
+  script_fault_agrees ReadFailed read given = absurd given
+  script_fault_agrees WriteFailed read given = absurd given
+
+  -- and nothing was written then
+  script_fault_writes : (f : Fault) (w : Option (List ℕ)) (read : Result Reading Fault) → Gives (Err f) read → ExplainsAtFault options w w read f
+  script_fault_writes (BadScript n) w read given = Keeps-refl w
+  script_fault_writes TooLong w read given = Keeps-refl w
+  script_fault_writes OutOfMemory w read given = inl (Keeps-refl w)
+  script_fault_writes ReadFailed w read given = absurd given
+  script_fault_writes WriteFailed w read given = absurd given
+
+  -- a text in which reading finds a fault
+  pub faulty_text : (text : List ℕ) (w : Option (List ℕ)) (f : Fault) → Gives (Err f) (script_of text) → ExplainsText options text w w (Err f)
+  faulty_text text w f given = record { faults = script_fault_agrees f (script_of text) given; writes = script_fault_writes f w (script_of text) given }
+
+  -- a text for which memory ran out before anything was written
+  pub unwritten_text : (text : List ℕ) (w : Option (List ℕ)) → ExplainsText options text w w (Err OutOfMemory)
+  unwritten_text text w = record { faults = tt; writes = inl (Keeps-refl w) }
+
+  -- ---- a script whose machine was booted
+
+  module _ (text : List ℕ) (script : Reading) (given : script_of text ≡ Ok script) (session : Session) (session_is : session ≡ script.session) (calls : List CallLine) (calls_are : calls ≡ script.calls)
+      (start : MachineModel) (starts : IsStart session start) where
+    started : IsStart script.session start
+    started = subst (λ (s : Session). IsStart s start) session_is starts
+
+    -- its trace is a run
+    pub start_traced : IsTraced start.kernel
+    start_traced = booted_traced session start.kernel starts.booted
+
+    -- a beginning was written
+    begins : (f : Fault) (old new : Option (List ℕ)) → IsOutputFault f → BeginsExplained options old new (script_of text) → ExplainsText options text old new (Err f)
+    begins (BadScript n) old new h b = absurd h
+    begins TooLong old new h b = absurd h
+    begins OutOfMemory old new h b = record { faults = tt; writes = inr b }
+    begins ReadFailed old new h b = absurd h
+    begins WriteFailed old new h b = record { faults = ap is_ok given; writes = b }
+
+    -- the first lines were answered
+    pub begun_replies : (f : Fault) (old new : Option (List ℕ)) → IsOutputFault f → BeginsAnswers start old new calls → ExplainsText options text old new (Err f)
+    begun_replies f old new h b =
+        let says = script_says text script given in
+        let these = subst (λ (cs : List CallLine). BeginsAnswers start old new cs) calls_are b in
+        begins f old new h (record { script = script; is_read = given; begun = inl (replies_begun script says.0 says.1 start started options old new these) })
+
+    module _ (old replied : Option (List ℕ)) (end : MachineModel) (lines : List ℕ) (all : ExplainsCalls start end old replied calls lines) where
+      all_lines : ExplainsCalls start end old replied script.calls lines
+      all_lines = subst (λ (cs : List CallLine). ExplainsCalls start end old replied cs lines) calls_are all
+
+      -- all lines were, so the machine has a tree
+      pub has_tree : HasTree end
+      has_tree = tree_at_last lines_are_rows text script given start end started calls calls_are old replied (answers_calls start end old replied calls lines all)
+
+      -- and a beginning of what stands behind the replies was written
+      pub begun_ending : (f : Fault) (new : Option (List ℕ)) → IsOutputFault f → BeginsTheEnding options end replied new → ExplainsText options text old new (Err f)
+      begun_ending f new h b =
+          let says = script_says text script given in
+          begins f old new h (record { script = script; is_read = given; begun = inr (ending_begun script says.0 says.1 start started old replied end lines all_lines options new b) })
+
+      -- or all that, and a beginning of the explanations
+      pub begun_explanations : (f : Fault) (mid new : Option (List ℕ)) → IsOutputFault f → AppendsEnding options end replied mid → AppendsFront mid new lines → ExplainsText options text old new (Err f)
+      begun_explanations f mid new h ending b =
+          let says = script_says text script given in
+          begins f old new h (record { script = script; is_read = given; begun = inr (front_explained script says.0 says.1 start started old replied end lines all_lines options mid new ending b) })
+
+      -- or all of them
+      pub explained_text : (mid new : Option (List ℕ)) → AppendsEnding options end replied mid → Appends mid new lines → ExplainsText options text old new (Ok tt)
+      explained_text mid new ending written =
+          let says = script_says text script given in
+          record { faults = ap is_ok given; writes = record { script = script; is_read = given; explained = all_explained script says.0 says.1 start started old replied end lines all_lines options mid new ending written } }
+
+      -- so it is, whatever writing the explanations answers
+      pub last_written : (mid new : Option (List ℕ)) (bytes : List ℕ) → bytes ≡ lines → (r : Answer) → AppendsEnding options end replied mid → OnOk r (Appends mid new bytes) → OnErr r (AppendsFront mid new bytes) → IfErr r IsOutputFault → ExplainsText options text old new r
+      last_written mid new bytes same (Ok done) ending a b h = explained_text mid new ending (subst (Appends mid new) same a)
+      last_written mid new bytes same (Err f) ending a b h = begun_explanations f mid new h ending (subst (AppendsFront mid new) same b)
+
+  -- ---- an input that is taken
+
+  -- an error of the input stops the reading
+  pub stops_reading : (e : InputError) (left rest w : Option (List ℕ)) → TakesSome left rest → RunsInput (ExplainsText options) left rest w w (Err (input_fault e))
+  stops_reading input.OutOfMemory left rest w takes = inl (record { takes = takes; keeps = Keeps-refl w })
+  stops_reading input.ReadFailed left rest w takes = record { takes = takes; keeps = Keeps-refl w }
+
+  -- what was taken is run
+  pub runs_taken : (left rest old new : Option (List ℕ)) (taken text : List ℕ) (result : Answer) → TakesAll left rest taken → text ≡ taken → ExplainsText options text old new result → is_read_failed result ≡ false → RunsInput (ExplainsText options) left rest old new result
+  runs_taken left rest old new taken text result takes same runs no_read_failed =
+      at_result result (record { taken = taken; takes = takes; runs = subst (λ (t : List ℕ). ExplainsText options t old new result) same runs }) no_read_failed
+    where
+      at_result : (r : Answer) → RunsTaken (ExplainsText options) left rest old new r → is_read_failed r ≡ false → RunsInput (ExplainsText options) left rest old new r
+      at_result (Ok done) h none = h
+      at_result (Err (BadScript n)) h none = h
+      at_result (Err TooLong) h none = h
+      at_result (Err OutOfMemory) h none = inr h
+      at_result (Err ReadFailed) h none = absurd (false≢true (sym none))
+      at_result (Err WriteFailed) h none = h
+
+  -- a text of more bytes than a script may have is too long
+  long_is : (text : List ℕ) → most_script_bytes < length text → script_of text ≡ Err TooLong
+  long_is text lt = let e : ltb most_script_bytes (length text) ≡ true = search (rules, tests) in rw e refl
+
+  -- what was taken says what the whole input says
+  same_script : (input : List ℕ) (rest : Option (List ℕ)) (taken : List ℕ) → TakesAll (Some input) rest taken → script_of taken ≡ script_of input
+  same_script input None taken takes = absurd takes.consumed
+  same_script input (Some rest) taken takes =
+      elim (cases_lt (length taken) most_taken) [
+        | inl lt ↦ sym (ap script_of (takes.consumed ∙ ap (λ (l : List ℕ). taken ++ l) (takes.ended lt) ∙ append-nil taken))
+        | inr le ↦ long_is taken (omega arith) ∙ sym (long_is input (omega (arith, ap length takes.consumed, length-append taken rest)))
+      ]
+
+  -- what was run is the script of the whole input
+  same_run : (input taken : List ℕ) (old new : Option (List ℕ)) (result : Answer) → script_of taken ≡ script_of input → ExplainsText options taken old new result → ExplainsText options input old new result
+  same_run input taken old new result same runs = record {
+    faults = subst (λ (read : Result Reading Fault). AgreesWith read result) same runs.faults;
+    writes = subst (λ (read : Result Reading Fault). MatchResult result (λ _. ExplainsScript options old new read) (ExplainsAtFault options old new read)) same runs.writes;
+  }
+
+  -- a known input that was taken was run
+  taken_known : (left rest old new : Option (List ℕ)) (result : Answer) → RunsTaken (ExplainsText options) left rest old new result → IfSome left (λ input. ExplainsText options input old new result)
+  taken_known None rest old new result h = tt
+  taken_known (Some input) rest old new result h = same_run input h.taken old new result (same_script input rest h.taken h.takes) h.runs
+
+  -- a known input of which some was taken was run as far as that
+  stopped_known : (left rest old new : Option (List ℕ)) (result : Answer) → ((input : List ℕ) → Keeps old new → ExplainsText options input old new result) → StopsReading left rest old new → IfSome left (λ input. ExplainsText options input old new result)
+  stopped_known None rest old new result runs h = tt
+  stopped_known (Some input) rest old new result runs h = runs input h.keeps
+
+  -- a known input was run
+  pub input_known : (left rest old new : Option (List ℕ)) (result : Answer) → RunsInput (ExplainsText options) left rest old new result → IfSome left (λ input. ExplainsText options input old new result)
+  input_known left rest old new (Ok done) h = taken_known left rest old new (Ok done) h
+  input_known left rest old new (Err (BadScript n)) h = taken_known left rest old new (Err (BadScript n)) h
+  input_known left rest old new (Err TooLong) h = taken_known left rest old new (Err TooLong) h
+  input_known left rest old new (Err OutOfMemory) (inl h) = stopped_known left rest old new (Err OutOfMemory) (λ text keeps. record { faults = tt; writes = inl keeps }) h
+  input_known left rest old new (Err OutOfMemory) (inr h) = taken_known left rest old new (Err OutOfMemory) h
+  input_known left rest old new (Err ReadFailed) h = stopped_known left rest old new (Err ReadFailed) (λ text keeps. record { faults = tt; writes = keeps }) h
+  input_known left rest old new (Err WriteFailed) h = taken_known left rest old new (Err WriteFailed) h

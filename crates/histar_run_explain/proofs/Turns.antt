@@ -1,0 +1,168 @@
+-- A machine answers call lines in turn, and each is explained.
+use Rattle.std.proofs.Common.{◌≡◌, ℕ, ◌≤◌, Bool, true, false, List, [], ◌∷◌, ◌++◌, length, map, drop, Option, None, Some, Result, Ok, Err, refl, sym, ap, ◌∙◌, subst, inl, inr, append-nil, append_assoc, arith}
+use Rattle.std.proofs.lemmas.List.{length-append}
+use Rattle.std.proofs.lemmas.Grind.{flat_map-append}
+use Rattle.std.proofs.KnownBytes.{Appends-trans, Appends-nil}
+use Rattle.std.specs.Prelude.{IfOk, OnOk}
+use Rattle.std.specs.Global.{Vec}
+use Rattle.std.specs.Io.KnownBytes.{Appends}
+use Rattle.histar_devices.proofs.WritingLemmas.{whole_front}
+use Rattle.histar_flat.specs.declared.calls.CallLine.{CallLine}
+use Rattle.histar_flat.specs.declared.calls.UnixCall.{UnixCall}
+use Rattle.histar_flat.specs.declared.replies.Reply.{Reply}
+use Rattle.histar_flat.specs.Meaning.{Answered}
+use Rattle.histar_flat.specs.Words.{ProcName}
+use Rattle.histar_object.specs.State.{State, empty_state}
+use Rattle.histar_process.specs.declared.caller.Caller.{Caller}
+use Rattle.histar_process.specs.Caller.{caller_at}
+use Rattle.histar_syscall.specs.declared.trace.TraceEntry.{TraceEntry}
+use Rattle.histar_syscall.specs.KernelModel.{KernelModel, state}
+use Rattle.histar_syscall.specs.Runs.{IsRun}
+use Rattle.histar_shell.specs.Answers.{answer_text, answers_text, calls_of}
+use Rattle.histar_shell.specs.AnsweredCalls.{AnswersInTurn, AnswersCall, AnswersCalls, BeginsAnswer}
+use Rattle.histar_shell.specs.Machine.{MachineModel, AnswersFound, AnswersIf, AnswersLine, IsTraced, on_line, program_of}
+use Rattle.histar_shell.proofs.AnswerLemmas.{calls_more}
+use Rattle.histar_shell.proofs.TraceRuns.{GoesBy, by_program}
+use Rattle.histar_raw_explain.specs.Texts.{Words}
+use Rattle.histar_run_explain.specs.declared.clues.Clue.{Clue}
+use Rattle.histar_run_explain.specs.Clues.{clue_of}
+use Rattle.histar_run_explain.specs.NamedWords.{words_at}
+use Rattle.histar_run_explain.specs.Entries.{ExplainsEntries, IsRunFrom, EndsAsRun}
+use Rattle.histar_run_explain.specs.Session.{words_after, ExplainsLine, ExplainsInTurn, ExplainsCall, ExplainsCalls}
+
+-- what stands behind a list
+dropped : (front back : List TraceEntry) → drop (length front) (front ++ back) ≡ back
+dropped [] back = refl
+dropped (e ∷ front) back = dropped front back
+
+-- ---- the entries of a line
+
+-- a line that is answered has a run, which is the new end of the trace
+line_goes : (old new : MachineModel) (line : ℕ) (me : ProcName) (call : UnixCall) (reply : Reply) → AnswersLine old new line me call (Ok reply) → GoesBy old.kernel new.kernel
+line_goes old new line me call reply h = by old.is_stopped h
+  where
+    found : (o : Option Caller) → AnswersFound o old new line me call (Ok reply) → GoesBy old.kernel new.kernel
+    found None k = record { entries = []; trace = ap (λ (m : MachineModel). m.kernel.trace) k.1 ∙ sym (append-nil old.kernel.trace); run = ap (λ (m : MachineModel). state m.kernel) k.1 }
+    found (Some caller) k =
+        let goes = by_program (program_of old.users old.places me caller call) (on_line line old.kernel) new.kernel caller.thread (Ok reply) k.made in
+        record { entries = goes.entries; trace = goes.trace; run = goes.run }
+
+    by : (b : Bool) → AnswersIf b old new line me call (Ok reply) → GoesBy old.kernel new.kernel
+    by true k = absurd cc
+    by false k = found (caller_at (state old.kernel) old.places.home me) k
+
+module _ (old new : MachineModel) (a b : Option (List ℕ)) (asked : CallLine) (one : AnswersCall old new a b asked) (trace : List TraceEntry) (same : trace ≡ new.kernel.trace) where
+  goes : GoesBy old.kernel new.kernel
+  goes = line_goes old new asked.line asked.process asked.call one.reply one.answered
+
+  -- the trace has only grown
+  pub grown : length old.kernel.trace ≤ length trace
+  grown = omega (arith, ap length (same ∙ goes.trace), length-append old.kernel.trace goes.entries)
+
+  -- by the entries behind what was there
+  new_end : (n : ℕ) → n ≡ length old.kernel.trace → drop n trace ≡ goes.entries
+  new_end n is = (λ i. drop (is i) ((same ∙ goes.trace) i)) ∙ dropped old.kernel.trace goes.entries
+
+  module _ (n : ℕ) (is : n ≡ length old.kernel.trace) (first : State) (at : first ≡ state old.kernel) where
+    run_on : IsRun first (drop n trace) (state new.kernel)
+    run_on = subst (λ (s : State). IsRun s (drop n trace) (state new.kernel)) (sym at) (subst (λ (es : List TraceEntry). IsRun (state old.kernel) es (state new.kernel)) (sym (new_end n is)) goes.run)
+
+    pub runs_on : IsRunFrom first (drop n trace)
+    runs_on = (state new.kernel, run_on)
+
+    -- a second kernel comes to the same state
+    pub same_end : (last : State) → EndsAsRun first (drop n trace) last → last ≡ state new.kernel
+    same_end last ends = ends (state new.kernel) run_on
+
+    -- and its explanations are those of the line
+    pub line_explained : (last : State) (lines : List ℕ) → EndsAsRun first (drop n trace) last → ExplainsEntries (words_after new asked) first (drop n trace) lines last → ExplainsCall old new a b asked lines
+    line_explained last lines ends explained = record {
+      answered = one;
+      explained = record {
+        entries = goes.entries;
+        trace = goes.trace;
+        explained = subst (λ (s : State). ExplainsEntries (words_after new asked) s goes.entries lines (state new.kernel)) at
+            (subst (λ (s : State). ExplainsEntries (words_after new asked) first goes.entries lines s) (same_end last ends)
+            (subst (λ (es : List TraceEntry). ExplainsEntries (words_after new asked) first es lines last) (new_end n is) explained));
+      };
+    }
+
+    -- also where the words are by what the line names
+    pub line_said : (last : State) (clue : Clue) (lines : List ℕ) → clue ≡ clue_of asked.process asked.call → EndsAsRun first (drop n trace) last
+        → ExplainsEntries (words_at new.users new.places (state new.kernel) clue) first (drop n trace) lines last → ExplainsCall old new a b asked lines
+    line_said last clue lines named ends explained =
+        line_explained last lines ends (subst (λ (x : Clue). ExplainsEntries (words_at new.users new.places (state new.kernel) x) first (drop n trace) lines last) named explained)
+
+-- a line that was answered has begun to be
+pub line_begins : (old new : MachineModel) (a b : Option (List ℕ)) (asked : CallLine) → AnswersCall old new a b asked → BeginsAnswer old new a b asked
+line_begins old new a b asked one = record { outcome = Ok one.reply; answered = one.answered; written = whole_front a b _ one.written }
+
+-- the same entries are explained, and end so
+pub entries_are : {E : Type 0} (r : Result (Vec ℕ) E) (words : Words) (s last : State) (es fs : List TraceEntry) → es ≡ fs → IfOk r (λ (text : Vec ℕ). ExplainsEntries words s es text.items last) → IfOk r (λ (text : Vec ℕ). ExplainsEntries words s fs text.items last)
+entries_are r words s last es fs same h = subst (λ (l : List TraceEntry). IfOk r (λ (text : Vec ℕ). ExplainsEntries words s l text.items last)) same h
+
+pub ends_are : {X E : Type 0} (r : Result X E) (s last : State) (es fs : List TraceEntry) → es ≡ fs → OnOk r (EndsAsRun s es last) → OnOk r (EndsAsRun s fs last)
+ends_are r s last es fs same h = subst (λ (l : List TraceEntry). OnOk r (EndsAsRun s l last)) same h
+
+-- ---- boot
+
+module _ (k : KernelModel) (traced : IsTraced k) (first : State) (empty : first ≡ empty_state) (trace : List TraceEntry) (same : trace ≡ k.trace) where
+  boot_run : IsRun first trace (state k)
+  boot_run = subst (λ (s : State). IsRun s trace (state k)) (sym empty) (subst (λ (es : List TraceEntry). IsRun empty_state es (state k)) (sym same) traced)
+
+  -- the trace of boot is a run from the empty kernel
+  pub boot_runs : IsRunFrom first trace
+  boot_runs = (state k, boot_run)
+
+  -- and a second kernel comes to the same state by it
+  pub boot_end : (last : State) → EndsAsRun first trace last → last ≡ state k
+  boot_end last ends = ends (state k) boot_run
+
+-- ---- lines in turn
+
+-- a machine that explains in turn answers in turn
+pub answers_in_turn : (m : MachineModel) (answers : List Answered) (text : List ℕ) (end : MachineModel) → ExplainsInTurn m answers text end → AnswersInTurn m answers end
+answers_in_turn m [] text end h = h.1
+answers_in_turn m (a ∷ answers) text end h = (h.0, h.3, answers_in_turn h.0 answers h.2 end h.6)
+
+abbrev pub answers_calls : (m end : MachineModel) (a b : Option (List ℕ)) (calls : List CallLine) (text : List ℕ) → ExplainsCalls m end a b calls text → AnswersCalls m end a b calls
+answers_calls m end a b calls text h = record { answers = h.answers; each = h.each; in_turn = answers_in_turn m h.answers text end h.in_turn; written = h.written }
+
+-- no line
+pub explains_none : (m : MachineModel) (a : Option (List ℕ)) → ExplainsCalls m m a a [] []
+explains_none m a = record { answers = []; each = refl; in_turn = (refl, refl); written = Appends-nil a }
+
+turn_more : (first mid last : MachineModel) (answers : List Answered) (a : Answered) (text lines : List ℕ) → ExplainsInTurn first answers text mid → AnswersLine mid last a.call.line a.call.process a.call.call (Ok a.reply) → ExplainsLine mid last a.call lines
+    → ExplainsInTurn first (answers ++ a ∷ []) (text ++ lines) last
+turn_more first mid last [] a text lines done answered explained = (
+  last,
+  lines,
+  [],
+  subst (λ (m : MachineModel). AnswersLine m last a.call.line a.call.process a.call.call (Ok a.reply)) done.1 answered,
+  subst (λ (m : MachineModel). ExplainsLine m last a.call lines) done.1 explained,
+  ap (λ (l : List ℕ). l ++ lines) done.0 ∙ sym (append-nil lines),
+  (refl, refl),
+)
+turn_more first mid last (b ∷ answers) a text lines done answered explained = (
+  done.0,
+  done.1,
+  done.2 ++ lines,
+  done.3,
+  done.4,
+  ap (λ (l : List ℕ). l ++ lines) done.5 ∙ append_assoc done.1 done.2 lines,
+  turn_more done.0 mid last answers a done.2 lines done.6 answered explained,
+)
+
+-- the text of one more answer
+text_more : (answers : List Answered) (a : Answered) → answers_text (answers ++ a ∷ []) ≡ answers_text answers ++ answer_text a
+text_more answers a = flat_map-append answer_text answers (a ∷ []) ∙ ap (λ (l : List ℕ). answers_text answers ++ l) (append-nil (answer_text a))
+
+-- one line more
+pub explains_more : (first mid last : MachineModel) (a b c : Option (List ℕ)) (calls : List CallLine) (call : CallLine) (text lines : List ℕ) → ExplainsCalls first mid a b calls text → ExplainsCall mid last b c call lines → ExplainsCalls first last a c (calls ++ call ∷ []) (text ++ lines)
+explains_more first mid last a b c calls call text lines done one =
+    let next : Answered = record { call = call; reply = one.answered.reply } in record {
+      answers = done.answers ++ next ∷ [];
+      each = calls_more done.answers next ∙ ap (λ (l : List CallLine). l ++ call ∷ []) done.each;
+      in_turn = turn_more first mid last done.answers next text lines done.in_turn one.answered.answered one.explained;
+      written = subst (Appends a c) (sym (text_more done.answers next)) (Appends-trans a b c (answers_text done.answers) (answer_text next) done.written one.answered.written);
+    }

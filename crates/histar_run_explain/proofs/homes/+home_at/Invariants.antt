@@ -1,0 +1,5 @@
+use Rattle.std.proofs.Common.{length}
+use Rattle.histar_run_explain.proofs.homes.+home_at.Given as goal
+
+abbrev pub decreases-home_at : goal.decreases-home_at
+decreases-home_at g l = length l.numbers.now

@@ -1,0 +1,5 @@
+use Rattle.histar_run_explain.proofs.NamedCategories.{purposes_are_right}
+use Rattle.histar_run_explain.proofs.laws.purposes_are_right.Goals as goal
+
+pub returns : goal.returns
+returns c = purposes_are_right

@@ -1,0 +1,5 @@
+use Rattle.std.proofs.Common.{length}
+use Rattle.histar_run_explain.proofs.purposes.+purpose_up.Given as goal
+
+abbrev pub decreases-purpose_up : goal.decreases-purpose_up
+decreases-purpose_up g l = length l.numbers.now

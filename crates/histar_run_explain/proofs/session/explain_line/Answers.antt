@@ -1,0 +1,14 @@
+use Rattle.std.proofs.Common.{◌∙◌, sym, ap, drop, subst}
+use Rattle.histar_syscall.specs.KernelModel.{state}
+use Rattle.histar_run_explain.specs.Entries.{IsRunFrom, EndsAsRun}
+use Rattle.histar_run_explain.proofs.Turns.{entries_are, ends_are}
+use Rattle.histar_run_explain.proofs.session.explain_line.Goals as goal
+
+pub explain_entries-requires : goal.explain_entries-requires
+explain_entries-requires g c = subst (IsRunFrom (state c.args.second.now)) (sym (c.entries_behind.ensures ∙ ap (drop c.args.before) c.trace.ensures)) c.requires.run
+
+pub returns-clause-explained : goal.returns-clause-explained
+returns-clause-explained g c = entries_are c.explain_entries.result _ _ _ _ _ (c.entries_behind.ensures ∙ ap (drop c.args.before) c.trace.ensures) c.explain_entries.ensures.explained
+
+pub returns-clause-ends : goal.returns-clause-ends
+returns-clause-ends g c = ends_are c.explain_entries.result _ _ _ _ (c.entries_behind.ensures ∙ ap (drop c.args.before) c.trace.ensures) c.explain_entries.ensures.ends

@@ -1,0 +1,75 @@
+-- A run of a script with explanations, against the script's meaning.
+use Rattle.std.specs.Prelude.{◌≡◌, ℕ, ◌⊎◌, List, [], ◌∷◌, ◌++◌, length, Option, Result, Ok, MatchResult}
+use Rattle.std.specs.Io.KnownBytes.{Appends, Keeps}
+use Rattle.histar_devices.specs.Writing.{AppendsFront}
+use Rattle.histar_flat.specs.declared.calls.CallLine.{CallLine}
+use Rattle.histar_flat.specs.Sessions.{Session}
+use Rattle.histar_flat.specs.FlatState.{Flat}
+use Rattle.histar_flat.specs.FlatCalls.{flat_after}
+use Rattle.histar_flat.specs.Meaning.{boot}
+use Rattle.histar_object.specs.State.{State}
+use Rattle.histar_script.specs.Script.{Reading}
+use Rattle.histar_script.specs.Reading.{script_of}
+use Rattle.histar_script.specs.declared.fault.Fault.{Fault}
+use Rattle.histar_script.specs.declared.fault.Fault.TheVariants.{OutOfMemory, WriteFailed}
+use Rattle.histar_syscall.specs.declared.trace.TraceEntry.{TraceEntry}
+use Rattle.histar_layout.specs.UserTable.{without_passwords}
+use Rattle.histar_login.specs.Start.{places_of}
+use Rattle.histar_rows.specs.Rows.{IsRow}
+use Rattle.histar_shell.specs.declared.session.Options.{Options}
+use Rattle.histar_shell.specs.Ending.{asked_trace}
+use Rattle.histar_shell.specs.Meaning.{IsMeantTrace, meaning_text}
+use Rattle.histar_shell.specs.Outcome.{AgreesWith}
+use Rattle.histar_raw_explain.specs.Texts.{Words}
+use Rattle.histar_run_explain.specs.Clues.{clue_of}
+use Rattle.histar_run_explain.specs.Entries.{ExplainsEntries}
+use Rattle.histar_run_explain.specs.NamedWords.{words_at}
+
+-- how the state after a line names what the line's explanations speak of
+abbrev pub words_of : Session → State → CallLine → Words
+words_of session after asked = words_at (without_passwords session) (places_of (length session.users)) after (clue_of asked.process asked.call)
+
+-- The lines of a script, one after another, from a state that lays out this flat state: each is the row of its call, and the text
+-- explains each denied entry of it at the state before the entry, in the words of the state after the line.
+abbrev pub ExplainsRows : Session → State → Flat → List CallLine → List TraceEntry → List ℕ → State → Type 0
+ExplainsRows session s f [] entries text end = (entries ≡ []) × (text ≡ []) × (end ≡ s)
+ExplainsRows session s f (asked ∷ more) entries text end =
+    (own : List TraceEntry) × (later : List TraceEntry) × (mid : State) × (lines : List ℕ) × (rest : List ℕ)
+    × (entries ≡ own ++ later) × (text ≡ lines ++ rest)
+    × IsRow session s f asked own mid × ExplainsEntries (words_of session mid asked) s own lines mid
+    × ExplainsRows session mid (flat_after session f asked.process asked.call) more later rest end
+
+-- the trace is one of the script's meaning, and the text explains each denied entry of its lines
+pub record ExplainsTrace (script : Reading) (trace : List TraceEntry) (text : List ℕ) : Type 0 where
+  pub recorded : IsMeantTrace script trace
+  pub rows : ExplainsRows script.session recorded.start (boot script.session) script.calls recorded.of_lines text recorded.end
+
+-- What `run` writes, and then the explanations, was written as far as `Writes` says.
+pub record ExplainsAs (Writes : List ℕ → Type 0) (options : Options) (script : Reading) : Type 0 where
+  pub trace : List TraceEntry
+  pub explanations : List ℕ
+  pub explains : ExplainsTrace script trace explanations
+  pub written : Writes ((meaning_text options script ++ asked_trace options trace) ++ explanations)
+
+-- the reading is of a script, and what `run` writes was written, and then the explanations
+pub record ExplainsScript (options : Options) (old new : Option (List ℕ)) (read : Result Reading Fault) : Type 0 where
+  pub script : Reading
+  pub is_read : read ≡ Ok script
+  pub explained : ExplainsAs (Appends old new) options script
+
+-- the reading is of a script, and a beginning of that was written
+pub record BeginsExplained (options : Options) (old new : Option (List ℕ)) (read : Result Reading Fault) : Type 0 where
+  pub script : Reading
+  pub is_read : read ≡ Ok script
+  pub begun : AppendsFront old new (meaning_text options script) ⊎ ExplainsAs (AppendsFront old new) options script
+
+-- where memory runs out and at a failed write a beginning was written, and at the other faults nothing
+abbrev pub ExplainsAtFault : Options → Option (List ℕ) → Option (List ℕ) → Result Reading Fault → Fault → Type 0
+ExplainsAtFault options old new read OutOfMemory = Keeps old new ⊎ BeginsExplained options old new read
+ExplainsAtFault options old new read WriteFailed = BeginsExplained options old new read
+ExplainsAtFault options old new read fault = Keeps old new
+
+-- The text was run and explained: the fault of the script is answered, or what `run` writes was written, and then the explanations.
+pub record ExplainsText (options : Options) (text : List ℕ) (old new : Option (List ℕ)) (result : Result (Unit {0}) Fault) : Type 0 where
+  pub faults : AgreesWith (script_of text) result
+  pub writes : MatchResult result (λ _. ExplainsScript options old new (script_of text)) (ExplainsAtFault options old new (script_of text))

@@ -1,0 +1,57 @@
+//! What a line names.
+ghost use Rattle.std.specs.Prelude.{◌≡◌};
+ghost use Rattle.histar_run_explain.specs.Clues.{clue_of, path_named, process_named};
+
+use histar_flat::{Path, ProcName, UnixCall};
+
+/// What a line names: objects and categories are looked for at these.
+#[derive(Clone, Copy)]
+pub(crate) struct Clue {
+    /// The process that makes the call.
+    pub(crate) caller: ProcName,
+    /// The process that the call names.
+    pub(crate) named: ProcName,
+    /// The path that the call names.
+    pub(crate) path: Path,
+}
+
+/// Returns the path that a call names, or `/`.
+fn path_named(call: &UnixCall) -> Path
+    ensures { result ≡ path_named call.now }
+{
+    match call {
+        UnixCall::Create(path, _) | UnixCall::Mkdir(path, _) => path.path(),
+        UnixCall::Write(path, _) | UnixCall::Append(path, _) => path.path(),
+        UnixCall::Rename(path, _) => path.path(),
+        UnixCall::Read(path) => path.path(),
+        UnixCall::List(path) => path.path(),
+        UnixCall::Stat(path) => path.path(),
+        UnixCall::Unlink(path) => path.path(),
+        UnixCall::Rmdir(path) => path.path(),
+        UnixCall::Rmtree(path) => path.path(),
+        UnixCall::Wrap(path) => path.path(),
+        _ => Path::root(),
+    }
+}
+
+/// Returns the process that a call names, or the one that makes it.
+fn process_named(caller: &ProcName, call: &UnixCall) -> ProcName
+    ensures { result ≡ process_named caller.now call.now }
+{
+    match call {
+        UnixCall::Status(name) => *name,
+        UnixCall::Kill(name) => *name,
+        _ => *caller,
+    }
+}
+
+/// Returns what a line names.
+pub(crate) fn clue_of(caller: &ProcName, call: &UnixCall) -> Clue
+    ensures { result ≡ clue_of caller.now call.now }
+{
+    Clue {
+        caller: *caller,
+        named: process_named(caller, call),
+        path: path_named(call),
+    }
+}

@@ -1,0 +1,16 @@
+//! Runs of scripts with explanations: what `run` of `histar_shell` writes, and behind it why each denied raw
+//! call was denied, with names.
+//!
+//! [`laws`] says what the names amount to.
+#![tactic(auto)]
+
+mod clues;
+mod homes;
+pub mod laws;
+mod named_words;
+mod purposes;
+mod replaying;
+mod session;
+mod standing;
+
+pub use session::explain_script;

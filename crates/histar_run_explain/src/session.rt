@@ -1,0 +1,188 @@
+//! A run with explanations, from bytes to bytes.
+ghost use Rattle.std.specs.Prelude.{◌≡◌, ◌≤◌, drop, length, false, IfErr, IfOk, IfSome, OnOk, OnErr};
+ghost use Rattle.std.specs.Io.KnownBytes.{Appends};
+ghost use Rattle.histar_devices.specs.Device.{CountsFailure};
+ghost use Rattle.histar_devices.specs.Writing.{AppendsFront};
+ghost use Rattle.histar_script.specs.Runs.{IsOutputFault, LeavesSink, RunsInput, is_read_failed, is_write_failed};
+ghost use Rattle.histar_syscall.specs.KernelModel.{state};
+ghost use Rattle.histar_shell.specs.AnsweredCalls.{BeginsAnswer, BeginsAnswers};
+ghost use Rattle.histar_shell.specs.Machine.{IsTraced};
+ghost use Rattle.histar_run_explain.specs.Entries.{EndsAsRun, ExplainsEntries, IsRunFrom};
+ghost use Rattle.histar_run_explain.specs.NamedWords.{words_at};
+ghost use Rattle.histar_run_explain.specs.Session.{ExplainsCall, ExplainsCalls};
+ghost use Rattle.histar_run_explain.specs.Run.{ExplainsText};
+
+use crate::clues::{Clue, clue_of};
+use crate::named_words::Names;
+use crate::replaying::explain_entries;
+use histar_devices::{Sink, Source, read_input, write_bytes};
+use histar_flat::CallLine;
+use histar_label::{InternStore, LabelStore, OutOfMemory};
+use histar_raw_explain::ByNumber;
+use histar_script::{Fault, read_script};
+use histar_shell::{Machine, Options, answer_call, write_ending};
+use histar_syscall::{Kernel, TraceEntry};
+use std::alloc::Global;
+
+/// How many answers of label comparisons each of the two kernels remembers.
+const REMEMBERED_ANSWERS: usize = 256;
+
+/// Runs a script as `run` does, and writes behind all that was asked for why each denied raw call was denied.
+///
+/// The raw calls of a line are made once more on a second kernel, which so comes to the state before each of
+/// them. The explanations are kept until all else is written. It doesn't flush the sink.
+pub fn explain_script<R: Source, W: Sink>(
+    alloc: Global,
+    reader: &mut R,
+    writer: &mut W,
+    options: Options,
+) -> Result<(), Fault>
+    // After a bad script, one that is too long and a failed read the sink is as it was.
+    ensures nothing { IfErr result (LeavesSink writer.old writer.new) }
+
+    // A device has failed exactly where its fault is the answer.
+    ensures reads { CountsFailure (R.failures reader.old) (R.failures reader.new) (is_read_failed result) }
+    ensures writes { CountsFailure (W.failures writer.old) (W.failures writer.new) (is_write_failed result) }
+
+    // Whatever the source says, bytes of it were taken, to its end but never more than 1,048,577: the fault of the script that they
+    // are is answered, or exactly the text of its meaning is written, and then where it is asked for a trace of that meaning, and
+    // then exactly the explanations of the denied calls of that trace, each at the state before its call.
+    ensures runs { RunsInput (ExplainsText options) (R.left reader.old) (R.left reader.new) (W.written writer.old) (W.written writer.new) result }
+
+    // So where the input is known, the script of the whole input was run and explained.
+    ensures known { IfSome (R.left reader.old) (λ input. ExplainsText options input (W.written writer.old) (W.written writer.new) result) }
+{
+    let input = read_input(alloc, reader)?;
+    explain_text(alloc, input.as_slice(), writer, options)
+}
+
+/// Runs and explains the script that a text is.
+fn explain_text<W: Sink>(
+    alloc: Global,
+    text: &[u8],
+    writer: &mut W,
+    options: Options,
+) -> Result<(), Fault>
+    ensures nothing { IfErr result (LeavesSink writer.old writer.new) }
+    ensures reads { is_read_failed result ≡ false }
+    ensures writes { CountsFailure (W.failures writer.old) (W.failures writer.new) (is_write_failed result) }
+    ensures runs { ExplainsText options text.now (W.written writer.old) (W.written writer.new) result }
+{
+    let store = InternStore::new(alloc, REMEMBERED_ANSWERS)?;
+    let script = read_script(alloc, text)?;
+    let (session, calls) = script.into_parts();
+    let Ok(mut machine) = Machine::boot(alloc, store, session) else {
+        return Err(Fault::OutOfMemory);
+    };
+    let mut second = second_kernel(alloc, &machine)?;
+    let explanations = answer_calls(alloc, &mut machine, &mut second, calls, writer)?;
+    write_ending(alloc, &machine, writer, options)?;
+    write_explanations(writer, explanations.as_slice())
+}
+
+/// Writes the explanations.
+fn write_explanations<W: Sink>(writer: &mut W, text: &[u8]) -> Result<(), Fault>
+    ensures ok { OnOk result (Appends (W.written writer.old) (W.written writer.new) text.now) }
+    ensures err { OnErr result (AppendsFront (W.written writer.old) (W.written writer.new) text.now) }
+    ensures faults { IfErr result IsOutputFault }
+    ensures count { CountsFailure (W.failures writer.old) (W.failures writer.new) (is_write_failed result) }
+{
+    write_bytes(writer, text)?;
+    Ok(())
+}
+
+/// Returns a second kernel, which has made the raw calls of boot once more.
+fn second_kernel<S: LabelStore + Drop>(
+    alloc: Global,
+    machine: &Machine<S>,
+) -> Result<Kernel<InternStore>, OutOfMemory>
+    requires { IsTraced machine.now.kernel }
+    ensures { IfOk result (λ kernel. state kernel ≡ state machine.now.kernel) }
+{
+    let store = InternStore::new(alloc, REMEMBERED_ANSWERS)?;
+    let mut kernel = Kernel::new(alloc, store)?;
+    explain_entries(alloc, &mut kernel, &ByNumber, machine.trace())?;
+    Ok(kernel)
+}
+
+/// Has the machine do the calls in their order, writes a line for each, and returns the explanations of the
+/// raw calls that were denied.
+fn answer_calls<S: LabelStore + Drop, T: LabelStore + Drop, W: Sink>(
+    alloc: Global,
+    machine: &mut Machine<S>,
+    second: &mut Kernel<T>,
+    calls: Vec<CallLine>,
+    writer: &mut W,
+) -> Result<Vec<u8>, Fault>
+    requires { state second.old ≡ state machine.old.kernel }
+    ensures ok { IfOk result (λ text. ExplainsCalls machine.old machine.new (W.written writer.old) (W.written writer.new) calls.items text.items) }
+    ensures err { OnErr result (BeginsAnswers machine.old (W.written writer.old) (W.written writer.new) calls.items) }
+    ensures faults { IfErr result IsOutputFault }
+    ensures count { CountsFailure (W.failures writer.old) (W.failures writer.new) (is_write_failed result) }
+{
+    let mut explanations = Vec::new(alloc);
+    'calls: for call in calls {
+        let lines = answer_and_explain(alloc, machine, second, call, writer)?;
+        explanations.extend_from_slice(lines.as_slice())?;
+    }
+    Ok(explanations)
+}
+
+/// Has the machine do one call, writes its line, and returns the lines that explain its raw calls that were
+/// denied.
+fn answer_and_explain<S: LabelStore + Drop, T: LabelStore + Drop, W: Sink>(
+    alloc: Global,
+    machine: &mut Machine<S>,
+    second: &mut Kernel<T>,
+    call: CallLine,
+    writer: &mut W,
+) -> Result<Vec<u8>, Fault>
+    requires { state second.old ≡ state machine.old.kernel }
+    ensures ok { IfOk result (λ lines. ExplainsCall machine.old machine.new (W.written writer.old) (W.written writer.new) call lines.items) }
+    ensures same { OnOk result (state second.new ≡ state machine.new.kernel) }
+    ensures err { OnErr result (BeginsAnswer machine.old machine.new (W.written writer.old) (W.written writer.new) call) }
+    ensures faults { IfErr result IsOutputFault }
+    ensures count { CountsFailure (W.failures writer.old) (W.failures writer.new) (is_write_failed result) }
+{
+    let clue = clue_of(&call.process, &call.call);
+    let before = machine.trace().len();
+    answer_call(alloc, machine, call, writer)?;
+    Ok(explain_line(alloc, machine, second, &clue, before)?)
+}
+
+/// Returns what stands in a trace behind so many entries.
+fn entries_behind(trace: &[TraceEntry], before: usize) -> &[TraceEntry]
+    requires { before ≤ length trace.now }
+    ensures { result.now ≡ drop before trace.now }
+{
+    let (_, entries) = trace.split_at(before);
+    entries
+}
+
+/// Has a second kernel make the raw calls of a line once more, those behind so many entries of the machine's trace, and returns
+/// the lines that explain those that were denied.
+fn explain_line<S: LabelStore + Drop, T: LabelStore + Drop>(
+    alloc: Global,
+    machine: &Machine<S>,
+    second: &mut Kernel<T>,
+    clue: &Clue,
+    before: usize,
+) -> Result<Vec<u8>, OutOfMemory>
+    requires within { before ≤ length machine.now.kernel.trace }
+    requires run { IsRunFrom (state second.old) (drop before machine.now.kernel.trace) }
+    ensures explained { IfOk result (λ lines. ExplainsEntries (words_at machine.now.users machine.now.places (state machine.now.kernel) clue.now)
+        (state second.old) (drop before machine.now.kernel.trace) lines.items (state second.new)) }
+    ensures ends { OnOk result (EndsAsRun (state second.old) (drop before machine.now.kernel.trace) (state second.new)) }
+{
+    let names = Names {
+        alloc,
+        machine,
+        clue: *clue,
+    };
+    explain_entries(
+        alloc,
+        second,
+        &names,
+        entries_behind(machine.trace(), before),
+    )
+}
