@@ -11,11 +11,12 @@ use crate::task::{Task, read_words};
 use histar_access::access;
 use histar_comparison::compare;
 use histar_devices::read_input;
-use histar_flat::{ProcName, read_process};
+use histar_flat::{Path, ProcName, read_path, read_process};
 use histar_raw_explain::explain_raw_script;
 use histar_raw_session::run_raw_script;
 use histar_script::Fault;
 use histar_shell::{Counted, Options, run};
+use histar_trust::trust;
 use std::alloc::Global;
 use std::io::{BufWriter, Write};
 use std::process::ExitCode;
@@ -130,6 +131,37 @@ enum BadWord {
     Job,
     /// The line is no number of a line.
     Line,
+    /// The path is no path.
+    Path,
+}
+
+/// Prints on whom it depends what is at a path after the calls of the script in a file, or before a line. It
+/// opens no file where the word is no path.
+fn trust_file<R: Files + Print>(
+    rt: &R,
+    alloc: Global,
+    path: &str,
+    file: &str,
+    at: Option<u32>,
+) -> Result<Result<(), Fault>, BadWord> {
+    let path = read_path(path.as_bytes()).ok_or(BadWord::Path)?;
+    Ok(print_trust(rt, alloc, &path, file, at))
+}
+
+/// Prints on whom it depends what is at a path.
+fn print_trust<R: Files + Print>(
+    rt: &R,
+    alloc: Global,
+    path: &Path,
+    file: &str,
+    at: Option<u32>,
+) -> Result<(), Fault> {
+    let file = fs::open(rt, file).map_err(|_| Fault::ReadFailed)?;
+    let output = BufWriter::new(alloc, io::writer(rt)).map_err(|_| Fault::OutOfMemory)?;
+    let mut reader = Counted::new(file);
+    let mut writer = Counted::new(output);
+    let ran = trust(alloc, path, &mut reader, &mut writer, at);
+    finish(ran, writer.into_inner())
 }
 
 /// Does a task. It does nothing, and opens no file, where a word of it can't be read.
@@ -158,6 +190,7 @@ fn refuse_word<R: Eprint>(rt: &R, word: &BadWord) -> u8 {
     let which = match word {
         BadWord::Job => "job",
         BadWord::Line => "line",
+        BadWord::Path => "path",
     };
     let _ = eprintln!(rt; "histar: bad {which}");
     REFUSED
