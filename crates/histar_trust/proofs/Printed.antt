@@ -72,7 +72,7 @@ module _ (options : Options) (session : Session) (class : Class) (path : Path) (
     texts_are = mapped_twice (filter (λ (a : Answered). is_outsider session class f a.call.process) behind)
 
 pub outsiders_read_the_same : OutsidersReadTheSame
-outsiders_read_the_same options text other one two is_one is_two session class path before file writer bytes other_bytes calls others a b same = record {
+outsiders_read_the_same options text other one two _ _ session class path before file writer bytes other_bytes calls others a b same = record {
   answers = behind options session class path before one writer bytes calls a;
   prints = prints options session class path before one writer bytes calls a;
   other_answers = behind options session class path before two writer other_bytes others b;
