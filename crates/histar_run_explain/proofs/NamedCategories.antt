@@ -1,9 +1,9 @@
 -- In a state that lays out a flat state what a category is said to be for is what it is for.
-use Rattle.std.proofs.Common.{◌≡◌, ℕ, zero, suc, ◌+◌, ◌*◌, ◌-◌, ◌/◌, ◌%◌, ◌<◌, ◌≤◌, ◌==◌, Bool, true, false, ◌&&◌, ◌||◌, cond, List, [], ◌∷◌, length, Option, None, Some, refl, sym, ap, ◌∙◌, subst, inl, inr, ◌⊎◌, if◌then◌else◌, arith, tests, rules}
+use Rattle.std.proofs.Common.{◌≡◌, ℕ, ◌+◌, ◌*◌, ◌-◌, ◌%◌, ◌<◌, ◌≤◌, ◌==◌, Bool, true, false, ◌&&◌, ◌||◌, cond, List, [], ◌∷◌, length, Option, None, Some, refl, sym, ap, ◌∙◌, subst, inl, inr, if◌then◌else◌, arith}
 use Rattle.std.specs.Prelude.{map, not, nat_le, nat_lt, is_some, option_map, option_and_then}
 use Rattle.std.specs.List.{find}
 use Rattle.std.proofs.lemmas.Bool.{true≢false}
-use Rattle.std.proofs.lemmas.Bool.Decides.{eqb_tells, nat_tests}
+use Rattle.std.proofs.lemmas.Bool.Decides.{nat_tests}
 use Rattle.std.proofs.lemmas.List.{length-map}
 use Rattle.std.proofs.lemmas.Option.{none-some, same_Some}
 use Rattle.std.proofs.Math.Bool.{or-false}
@@ -11,11 +11,10 @@ use Rattle.histar_flat.specs.Words.{ProcName}
 use Rattle.histar_flat.specs.Sessions.{Session, has}
 use Rattle.histar_flat.specs.Classes.{Process}
 use Rattle.histar_flat.specs.FlatState.{Flat}
-use Rattle.histar_label.specs.Levels.{Levels, level_of}
+use Rattle.histar_label.specs.Levels.{Levels}
 use Rattle.histar_object.specs.Objects.{label_there}
 use Rattle.histar_object.specs.State.{State}
 use Rattle.histar_layout.specs.Jobs.{is_three}
-use Rattle.histar_layout.specs.Labelling.{guarded_by}
 use Rattle.histar_layout.specs.Status.{ProcessStatus}
 use Rattle.histar_layout.specs.UserTable.{without_password, without_passwords}
 use Rattle.histar_layout.proofs.LabelLevels.{at_guarded, guarded_level}
@@ -28,7 +27,7 @@ use Rattle.histar_tree.specs.declared.process.ProcessNode.{ProcessNode}
 use Rattle.histar_tree.specs.Processes.{levels_at, processes_at}
 use Rattle.histar_refinement.specs.Addresses.{same_step, home_address}
 use Rattle.histar_refinement.specs.Addresses.Step.{Inside, Runner}
-use Rattle.histar_refinement.specs.Categories.{CategoryName, CategoryName as names, Categories, IsUsed, among}
+use Rattle.histar_refinement.specs.Categories.{CategoryName, CategoryName as names, IsUsed, among}
 use Rattle.histar_refinement.specs.Expected.{home_object, inside_object, expected}
 use Rattle.histar_refinement.specs.Guards.{guard_label}
 use Rattle.histar_refinement.specs.Labels.{process_guard, inside_guard}
@@ -41,11 +40,10 @@ use Rattle.histar_refinement.proofs.Moving.{at_number}
 use Rattle.histar_refinement.proofs.Places.{asked_home, asked_inside}
 use Rattle.histar_refinement.proofs.StatusFound.{numbered_home, numbered_runner}
 use Rattle.histar_refinement.proofs.Steps.{step_tests_equality}
-use Rattle.histar_run_explain.specs.declared.clues.Clue.{Clue}
 use Rattle.histar_run_explain.specs.declared.purposes.Purpose.{Purpose}
-use Rattle.histar_run_explain.specs.declared.purposes.Purpose.TheVariants.{Boot, Reads, Writes, ReadsProcess, WritesProcess, Job}
-use Rattle.histar_run_explain.specs.Purposes.{or_else, owner_in, pair_purpose, boot_purpose, outer_label, inner_label, has_zero, has_three, is_own_secret, begins_job, is_one_of, purpose_by, purpose_up, purpose_among, purpose_somewhere, purpose_of}
-use Rattle.histar_run_explain.specs.Laws.{BeginsJob, IsPurposeOf, PurposesAreRight, reads_of, writes_of}
+use Rattle.histar_run_explain.specs.declared.purposes.Purpose.TheVariants.{Reads, Writes, ReadsProcess, WritesProcess, Job}
+use Rattle.histar_run_explain.specs.Purposes.{owner_in, pair_purpose, boot_purpose, outer_label, inner_label, has_zero, has_three, is_own_secret, begins_job, is_one_of, purpose_by, purpose_up, purpose_among, purpose_somewhere}
+use Rattle.histar_run_explain.specs.Laws.{IsPurposeOf, PurposesAreRight}
 use Rattle.histar_run_explain.proofs.Parts.{either_there, step_there, tested, both}
 
 -- ---- levels of what is guarded

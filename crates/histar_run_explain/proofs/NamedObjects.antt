@@ -1,12 +1,11 @@
 -- In a state that lays out a flat state what an object is said to be is what it is.
-use Rattle.std.proofs.Common.{◌≡◌, ◌≢◌, ℕ, ◌+◌, ◌*◌, ◌-◌, ◌/◌, ◌%◌, ◌<◌, ◌≤◌, ◌==◌, Bool, true, false, ◌&&◌, ◌||◌, cond, List, [], ◌∷◌, length, Option, None, Some, refl, sym, ap, ◌∙◌, subst, inl, inr, ◌⊎◌, if◌then◌else◌, arith}
+use Rattle.std.proofs.Common.{◌≡◌, ◌≢◌, ℕ, ◌+◌, ◌*◌, ◌-◌, ◌/◌, ◌%◌, ◌<◌, ◌≤◌, ◌==◌, Bool, true, false, ◌&&◌, ◌||◌, cond, [], ◌∷◌, length, Option, None, Some, refl, sym, ap, ◌∙◌, subst, inl, inr, if◌then◌else◌, arith}
 use Rattle.std.specs.Prelude.{not, nat_le, nat_lt, is_some, option_map, option_and_then}
-use Rattle.std.specs.FinMap as map
 use Rattle.std.proofs.lemmas.Bool.{true≢false}
 use Rattle.std.proofs.lemmas.Bool.Decides.{nat_tests}
 use Rattle.std.proofs.lemmas.List.{length-map}
 use Rattle.std.proofs.lemmas.Option.{none-some, same_Some}
-use Rattle.histar_flat.specs.Words.{Name, Path, ProcName}
+use Rattle.histar_flat.specs.Words.{Path, ProcName}
 use Rattle.histar_flat.specs.Sessions.{Session}
 use Rattle.histar_flat.specs.Files.{get}
 use Rattle.histar_flat.specs.Classes.{Class, Process}
@@ -15,7 +14,6 @@ use Rattle.histar_flat.specs.FlatState.Content.{Dir, File}
 use Rattle.histar_object.specs.Objects.{bytes_in}
 use Rattle.histar_object.specs.State.{State}
 use Rattle.histar_layout.specs.Found.{found_in}
-use Rattle.histar_layout.specs.Status.{ProcessStatus}
 use Rattle.histar_layout.specs.UserTable.{without_password, without_passwords}
 use Rattle.histar_layout.specs.declared.entry.Target.{Target}
 use Rattle.histar_layout.specs.declared.entry.Target.TheVariants as targets
@@ -23,9 +21,9 @@ use Rattle.histar_layout.proofs.LookingUp.{found_in_directory}
 use Rattle.histar_calls.specs.declared.places.Home.{Home as Where}
 use Rattle.histar_calls.specs.declared.places.Places.{Places}
 use Rattle.histar_login.specs.Start.{places_of}
-use Rattle.histar_process.specs.Caller.{home_at, status_at}
+use Rattle.histar_process.specs.Caller.{home_at}
 use Rattle.histar_refinement.specs.Addresses.{address_of, home_address, table_number, first_left}
-use Rattle.histar_refinement.specs.Addresses.Step.{Left, Slash, Listing, Status, Inside, Runner}
+use Rattle.histar_refinement.specs.Addresses.Step.{Left, Slash, Listing, Inside, Runner}
 use Rattle.histar_refinement.specs.Directories.{directory_of, target_for}
 use Rattle.histar_refinement.specs.LaysOut.{Laid}
 use Rattle.histar_refinement.specs.Laws.{StandsFor}
@@ -36,10 +34,9 @@ use Rattle.histar_refinement.proofs.LinesLaid.{holds_directory}
 use Rattle.histar_refinement.proofs.Standing.{root_is_dir}
 use Rattle.histar_refinement.proofs.StatusFound.{numbered_home, numbered_status, numbered_runner}
 use Rattle.histar_tree.proofs.TreeLaid.{led_to_directory, led_to_file}
-use Rattle.histar_run_explain.specs.declared.clues.Clue.{Clue}
 use Rattle.histar_run_explain.specs.declared.standing.Standing.{Standing}
-use Rattle.histar_run_explain.specs.declared.standing.Standing.TheVariants.{Root, Password, Gate, Users, At, Part}
-use Rattle.histar_run_explain.specs.Standing.{users_own, left_standing, listing_in, target_at, is_target, path_up, is_inside, is_part, process_up, at_path, of_process, standing_of}
+use Rattle.histar_run_explain.specs.declared.standing.Standing.TheVariants.{Password, Gate, Users}
+use Rattle.histar_run_explain.specs.Standing.{users_own, left_standing, listing_in, target_at, is_target, path_up, is_inside, is_part, process_up, at_path, of_process}
 use Rattle.histar_run_explain.specs.Laws.{IsLeft, IsPartOf, StandsAs, StandingsAreRight}
 use Rattle.histar_run_explain.proofs.Parts.{either_there, step_there, tested, both, one_of}
 

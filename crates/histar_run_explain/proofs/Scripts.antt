@@ -1,5 +1,5 @@
 -- A script whose lines were answered and explained, against its meaning.
-use Rattle.std.proofs.Common.{◌≡◌, ℕ, List, [], ◌∷◌, ◌++◌, length, Option, Result, Ok, Err, refl, sym, ap, ◌∙◌, subst, inl, inr, ◌⊎◌, append-nil, append_assoc}
+use Rattle.std.proofs.Common.{◌≡◌, ℕ, List, [], ◌∷◌, ◌++◌, Option, Ok, refl, sym, ap, ◌∙◌, subst, append-nil, append_assoc}
 use Rattle.std.proofs.lemmas.List.{append_cancel_left}
 use Rattle.std.specs.Io.KnownBytes.{Appends}
 use Rattle.std.proofs.KnownBytes.{Appends-trans}
@@ -16,14 +16,13 @@ use Rattle.histar_syscall.specs.KernelModel.{state}
 use Rattle.histar_syscall.specs.Runs.{IsRun}
 use Rattle.histar_calls.specs.declared.places.Places.{Places}
 use Rattle.histar_layout.specs.UserTable.{without_passwords}
-use Rattle.histar_login.specs.Start.{places_of}
 use Rattle.histar_refinement.specs.LaysOut.{LaysOut}
 use Rattle.histar_rows.specs.Rows.{AreRows}
 use Rattle.histar_shell.specs.Answers.{answers_text, calls_of}
 use Rattle.histar_shell.specs.AnsweredCalls.{AnswersCalls, BeginsAnswers}
 use Rattle.histar_shell.specs.Ending.{AppendsEnding, BeginsTheEnding, asked_trace}
 use Rattle.histar_shell.specs.Machine.{MachineModel, IsStart}
-use Rattle.histar_shell.specs.Meaning.{Shows, IsMeantTrace, meaning_text}
+use Rattle.histar_shell.specs.Meaning.{Shows, meaning_text}
 use Rattle.histar_shell.specs.declared.session.Options.{Options}
 use Rattle.histar_shell.proofs.AnswerLemmas.{front_after}
 use Rattle.histar_shell.proofs.CallRows.{lines_are_rows}

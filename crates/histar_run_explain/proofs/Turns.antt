@@ -1,5 +1,5 @@
 -- A machine answers call lines in turn, and each is explained.
-use Rattle.std.proofs.Common.{◌≡◌, ℕ, ◌≤◌, Bool, true, false, List, [], ◌∷◌, ◌++◌, length, map, drop, Option, None, Some, Result, Ok, Err, refl, sym, ap, ◌∙◌, subst, inl, inr, append-nil, append_assoc, arith}
+use Rattle.std.proofs.Common.{◌≡◌, ℕ, ◌≤◌, Bool, true, false, List, [], ◌∷◌, ◌++◌, length, drop, Option, None, Some, Result, Ok, refl, sym, ap, ◌∙◌, subst, append-nil, append_assoc, arith}
 use Rattle.std.proofs.lemmas.List.{length-append}
 use Rattle.std.proofs.lemmas.Grind.{flat_map-append}
 use Rattle.std.proofs.KnownBytes.{Appends-trans, Appends-nil}
@@ -18,7 +18,7 @@ use Rattle.histar_process.specs.Caller.{caller_at}
 use Rattle.histar_syscall.specs.declared.trace.TraceEntry.{TraceEntry}
 use Rattle.histar_syscall.specs.KernelModel.{KernelModel, state}
 use Rattle.histar_syscall.specs.Runs.{IsRun}
-use Rattle.histar_shell.specs.Answers.{answer_text, answers_text, calls_of}
+use Rattle.histar_shell.specs.Answers.{answer_text, answers_text}
 use Rattle.histar_shell.specs.AnsweredCalls.{AnswersInTurn, AnswersCall, AnswersCalls, BeginsAnswer}
 use Rattle.histar_shell.specs.Machine.{MachineModel, AnswersFound, AnswersIf, AnswersLine, IsTraced, on_line, program_of}
 use Rattle.histar_shell.proofs.AnswerLemmas.{calls_more}

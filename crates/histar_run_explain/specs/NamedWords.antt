@@ -1,5 +1,5 @@
 -- How the explanation of a denied call of a script names what it speaks of.
-use Rattle.std.specs.Prelude.{ℕ, List, ◌++◌, Option, None, Some, codes, decimal}
+use Rattle.std.specs.Prelude.{ℕ, List, Option, None, Some}
 use Rattle.histar_flat.specs.Sessions.{Session}
 use Rattle.histar_flat.specs.Texts.{process_text}
 use Rattle.histar_object.specs.State.{State}

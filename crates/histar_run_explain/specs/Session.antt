@@ -1,13 +1,11 @@
 -- A machine answers call lines, and its denied raw calls are explained.
-use Rattle.std.specs.Prelude.{◌≡◌, ℕ, ◌⊎◌, List, [], ◌∷◌, ◌++◌, Option, Result, Ok, MatchResult}
-use Rattle.std.specs.Io.KnownBytes.{Appends, Keeps}
-use Rattle.histar_devices.specs.Writing.{AppendsFront}
+use Rattle.std.specs.Prelude.{◌≡◌, ℕ, List, [], ◌∷◌, ◌++◌, Option, Ok}
+use Rattle.std.specs.Io.KnownBytes.{Appends}
 use Rattle.histar_flat.specs.declared.calls.CallLine.{CallLine}
-use Rattle.histar_flat.specs.declared.replies.Reply.{Reply}
 use Rattle.histar_flat.specs.Meaning.{Answered}
 use Rattle.histar_syscall.specs.declared.trace.TraceEntry.{TraceEntry}
 use Rattle.histar_syscall.specs.KernelModel.{state}
-use Rattle.histar_shell.specs.Answers.{answers_text, calls_of, line_text}
+use Rattle.histar_shell.specs.Answers.{answers_text, calls_of}
 use Rattle.histar_shell.specs.AnsweredCalls.{AnswersCall}
 use Rattle.histar_shell.specs.Machine.{MachineModel, AnswersLine}
 use Rattle.histar_raw_explain.specs.Texts.{Words}

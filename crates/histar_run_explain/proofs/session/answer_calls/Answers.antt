@@ -4,7 +4,7 @@ use Rattle.std.proofs.lemmas.Iterator.Adapters.{YieldsList-from_vec}
 use Rattle.std.proofs.lemmas.Iterator.Consumers.{YieldsList-so_far, YieldsList-turn}
 use Rattle.histar_shell.proofs.AnswerLemmas.{begins_more, parts_at}
 use Rattle.histar_raw_explain.proofs.Errors.{on_err}
-use Rattle.histar_run_explain.proofs.Turns.{answers_calls, explains_none, explains_more, line_begins}
+use Rattle.histar_run_explain.proofs.Turns.{answers_calls, explains_more, line_begins}
 use Rattle.histar_run_explain.proofs.session.answer_calls.Goals as goal
 
 pub calls-preserved : goal.calls-preserved

@@ -1,6 +1,6 @@
 use Rattle.std.proofs.Common.{◌∙◌, sym, ap, drop, subst}
 use Rattle.histar_syscall.specs.KernelModel.{state}
-use Rattle.histar_run_explain.specs.Entries.{IsRunFrom, EndsAsRun}
+use Rattle.histar_run_explain.specs.Entries.{IsRunFrom}
 use Rattle.histar_run_explain.proofs.Turns.{entries_are, ends_are}
 use Rattle.histar_run_explain.proofs.session.explain_line.Goals as goal
 
