@@ -68,12 +68,12 @@ standing_is : {number : ProcName → ℕ} (one : AreNumbered number) {session : 
     → class_by_number number c ≡ flat_class class → {m : Member} {p : Process} → IsShownProcess number f m p → ShowsStanding session c f m.name p
     → member_standing session.groups (flat_class class) m ≡ standing_in session c f m.name
 standing_is {number} one {session} {f} {c} class of_class {m} {p} is shown =
-        (λ i. standing_of session.groups (sym of_class i) (shown_is number one session f is i))
-        ∙
-        (λ i. if reads_by_number number one session p c i then (if bound_by_number number one session c p i then Confined else Trusted) else Outside)
-        ∙ by_tests (may_read session p c) (is_bound session c p) (is_trusted session c f m.name)
-        (is_confined session c f m.name) shown.trusted shown.confined
-        (λ b. reads_holding session p c (bound_parts session c p b).1)
+    (λ i. standing_of session.groups (sym of_class i) (shown_is number one session f is i))
+    ∙
+    (λ i. if reads_by_number number one session p c i then (if bound_by_number number one session c p i then Confined else Trusted) else Outside)
+    ∙ by_tests (may_read session p c) (is_bound session c p) (is_trusted session c f m.name)
+    (is_confined session c f m.name) shown.trusted shown.confined
+    (λ b. reads_holding session p c (bound_parts session c p b).1)
 
 pub shown_is_so : ShownIsSo
 unfolding shown_is standing_is changes_is
