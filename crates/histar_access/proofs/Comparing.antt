@@ -1,5 +1,6 @@
 -- What `diff` says, put together from what its parts say.
-use Rattle.std.proofs.Common.{◌≡◌, ℕ, true, false, List, [], ◌∷◌, length, Option, Some, None, Result, Ok, Err, refl, sym, ap, subst, ◌∙◌, arith, inl, inr}
+use Rattle.std.proofs.Common.{◌≡◌, ℕ, true, false, List, [], ◌∷◌, length, Option, Some, None, Result, Ok, Err, refl, sym, ap, subst, ◌∙◌}
+use Rattle.std.proofs.Common.{arith, inl, inr}
 use Rattle.std.specs.Prelude.{◌↔◌, ◌==◌, Bool, IfSome, IsOk, MatchResult, is_ok}
 use Rattle.std.specs.Io.KnownBytes.{Appends, Keeps}
 use Rattle.std.proofs.lemmas.Bool.{false≢true}
@@ -24,7 +25,9 @@ use Rattle.histar_diff.specs.Texts.{differences_text}
 use Rattle.histar_diff.proofs.Changes.{differences_are_changes}
 use Rattle.histar_diff.proofs.ShownTables.{shown_tables_rise}
 use Rattle.histar_shell.specs.Machine.{MachineModel}
-use Rattle.histar_access.specs.Diff.{AreChangesOf, BeginsChanges, ChangesAtFault, ComparesInputs, ComparesTaken, ComparesTexts, CountsOneFailure, Inputs, IsFaultOf, IsTableOf, Scripts, StopsAtInput, both_read, scripts_of, WritesChanges}
+use Rattle.histar_access.specs.Diff.{AreChangesOf, BeginsChanges, ChangesAtFault, ComparesInputs, ComparesTaken, ComparesTexts}
+use Rattle.histar_access.specs.Diff.{CountsOneFailure, Inputs, IsFaultOf, IsTableOf, Scripts, StopsAtInput, both_read, scripts_of}
+use Rattle.histar_access.specs.Diff.{WritesChanges}
 use Rattle.histar_access.specs.RightsTable.{ShowsTable}
 use Rattle.histar_access.specs.Session.{IsMachineOf, calls_before, state_before}
 use Rattle.histar_access.proofs.Runs.{same_script}

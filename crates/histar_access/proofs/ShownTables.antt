@@ -48,7 +48,8 @@ use Rattle.histar_access.proofs.Matching.{AreMatched, tree_labelled, tree_matche
 use Rattle.histar_access.proofs.Runners.{line_runner, runners_listed}
 use Rattle.histar_access.proofs.SameProcesses.{one_list, processes_proved, processes_unproved}
 use Rattle.histar_access.proofs.Tables.{flat_below, lines_matched, map_twice, start, table_lines, value, zipped, zipped_values}
-use Rattle.histar_access.proofs.Visiting.{Visitor, cell_by, cells_are, filter_map_map, named_are, named_by, named_of, running_listed, start_cell, visitors}
+use Rattle.histar_access.proofs.Visiting.{Visitor, cell_by, cells_are, filter_map_map, named_are, named_by, named_of, running_listed}
+use Rattle.histar_access.proofs.Visiting.{start_cell, visitors}
 
 module _ (session : Session) (s : State) (f : Flat) (l : Laid session s f) where
   -- the paths are a tree

@@ -1,5 +1,6 @@
 -- Each bad line breaks a rule.
-use Rattle.std.proofs.Common.{◌≡◌, ℕ, ◌+◌, Bool, true, false, cond, eqb, List, [], ◌∷◌, ◌++◌, length, codes, Option, Some, None, ◌||◌, ◌&&◌, ◌⊎◌, inl, inr, refl, sym, ap, ◌∙◌, subst, arith}
+use Rattle.std.proofs.Common.{◌≡◌, ℕ, ◌+◌, Bool, true, false, cond, eqb, List, [], ◌∷◌, ◌++◌, length, codes, Option, Some, None, ◌||◌}
+use Rattle.std.proofs.Common.{◌&&◌, ◌⊎◌, inl, inr, refl, sym, ap, ◌∙◌, subst, arith}
 use Rattle.std.specs.Prelude.{not, is_some, is_none, unwrap_or, nat_lt, nat_le}
 use Rattle.std.specs.List.{list_all}
 use Rattle.std.specs.Option.{option_and_then, option_map_or}
@@ -13,11 +14,14 @@ use Rattle.histar_script.specs.declared.items.Item.{Item}
 use Rattle.histar_script.specs.declared.items.Item.TheVariants as items
 use Rattle.histar_script.specs.Lines.{is_plain, is_plain_byte, most_line_bytes}
 use Rattle.histar_script.specs.Script.{Reading, is_declared_call}
-use Rattle.histar_script.specs.Reading.{are_distinct, are_users, call_item, call_of, group_item, group_of, has_user, is_empty, item_of, members_of, takes_call, takes_group, takes_user, user_item, user_of, with_item, with_line, words_item}
+use Rattle.histar_script.specs.Reading.{are_distinct, are_users, call_item, call_of, group_item, group_of, has_user, is_empty, item_of}
+use Rattle.histar_script.specs.Reading.{members_of, takes_call, takes_group, takes_user, user_item, user_of, with_item, with_line}
+use Rattle.histar_script.specs.Reading.{words_item}
 use Rattle.histar_lint.specs.Lines.{Rule, after_word, begins_with, byte_rules, ends_with, has_comment, rest_of, unprintable_from, word_of, word_rules}
 use Rattle.histar_lint.specs.declared.shapes.Shape.{Shape}
 use Rattle.histar_lint.specs.Calls.{call_word_rules, has_too_little, has_too_much, shape_named, shape_rules}
-use Rattle.histar_lint.specs.Rules.{call_place_rules, group_place_rules, group_word_rules, has_stranger, has_twin, is_taken, is_undeclared, kind_rules, rules_for, sentence, user_place_rules, user_word_rules}
+use Rattle.histar_lint.specs.Rules.{call_place_rules, group_place_rules, group_word_rules, has_stranger, has_twin, is_taken, is_undeclared}
+use Rattle.histar_lint.specs.Rules.{kind_rules, rules_for, sentence, user_place_rules, user_word_rules}
 use Rattle.histar_lint.specs.Laws.{EachBadLineBreaksOne}
 use Rattle.histar_lint.proofs.Rules.{some_broken, or_first, or_second, is_said, in_front, behind, none_at}
 

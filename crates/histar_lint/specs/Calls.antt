@@ -1,11 +1,13 @@
 -- The rules for the words of a call.
-use Rattle.std.specs.Prelude.{ℕ, Bool, true, false, ◌==◌, List, [], ◌∷◌, ◌++◌, codes, length, Option, None, Some, is_none, is_some, nat_eq, map, option_map, if◌then◌else◌}
+use Rattle.std.specs.Prelude.{ℕ, Bool, true, false, ◌==◌, List, [], ◌∷◌, ◌++◌, codes, length, Option, None, Some, is_none, is_some, nat_eq}
+use Rattle.std.specs.Prelude.{map, option_map, if◌then◌else◌}
 use Rattle.std.specs.Option.{option_map_or}
 use Rattle.std.specs.Str.{bytes_eq}
 use Rattle.strsim.specs.Edits.{levenshtein_row}
 use Rattle.histar_flat.specs.Words.{name_of, password_of, path_of, process_of, status_of}
 use Rattle.histar_flat.specs.Modes.{mode_of}
-use Rattle.histar_script.specs.CallForms.{Argument, CallForm, a_path, a_mode, any_bytes, a_name, a_password, a_process, a_number, alone, one, two, call_forms}
+use Rattle.histar_script.specs.CallForms.{Argument, CallForm, a_path, a_mode, any_bytes, a_name, a_password, a_process, a_number, alone}
+use Rattle.histar_script.specs.CallForms.{one, two, call_forms}
 use Rattle.histar_script.specs.Reading.{call_of, form_word}
 use Rattle.histar_lint.specs.declared.shapes.Kind.{Kind}
 use Rattle.histar_lint.specs.declared.shapes.Kind.TheVariants as kinds

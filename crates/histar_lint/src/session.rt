@@ -30,10 +30,12 @@ pub fn lint<R: Source, W: Sink>(
     ensures writes { CountsFailure (W.failures writer.old) (W.failures writer.new) (is_write_failed result) }
 
     // Whatever the source gives, bytes of it were taken, to its end but never more than 1,048,577, and linted.
-    ensures runs { RunsInput (Lints file.now) (R.left reader.old) (R.left reader.new) (W.written writer.old) (W.written writer.new) result }
+    ensures runs { RunsInput (Lints file.now) (R.left reader.old) (R.left reader.new)
+        (W.written writer.old) (W.written writer.new) result }
 
     // So where the input is known, the whole input was linted.
-    ensures known { IfSome (R.left reader.old) (λ input. Lints file.now input (W.written writer.old) (W.written writer.new) result) }
+    ensures known { IfSome (R.left reader.old) (λ input. Lints file.now input
+        (W.written writer.old) (W.written writer.new) result) }
 {
     let input = read_input(alloc, reader)?;
     lint_text(alloc, file, input.as_slice(), writer)

@@ -10,7 +10,9 @@ use Rattle.histar_explain.specs.declared.explanations.Obstacle.TheVariants as ob
 use Rattle.histar_explain.specs.declared.explanations.Explanation.{Explanation}
 use Rattle.histar_explain.specs.declared.reasons.Difference.{Difference}
 use Rattle.histar_explain.specs.declared.reasons.Party.{Party}
-use Rattle.histar_explain.specs.declared.reasons.Party.TheVariants.{Thread, Object, GateClearance, VerifyLabel, LabelAsked, ClearanceAsked, ThreadClearance, ThreadClearanceAndLabel, Floor, Clearances, AnySegment, AnyContainer}
+use Rattle.histar_explain.specs.declared.reasons.Party.TheVariants.{Thread, Object, GateClearance, VerifyLabel, LabelAsked, ClearanceAsked}
+use Rattle.histar_explain.specs.declared.reasons.Party.TheVariants.{ThreadClearance, ThreadClearanceAndLabel, Floor, Clearances}
+use Rattle.histar_explain.specs.declared.reasons.Party.TheVariants.{AnySegment, AnyContainer}
 use Rattle.histar_explain.specs.declared.reasons.Reason.{Reason}
 
 -- how threads, objects and categories are written, and categories in a list of several

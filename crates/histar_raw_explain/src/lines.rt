@@ -85,7 +85,8 @@ fn push_difference<V: Wording>(
     reason: &Reason,
     difference: Difference,
 ) -> Result<(), AllocError>
-    ensures { OnOk result (text.new.items ≡ text.old.items ++ difference_line (V.words words.now) opening.now reason.now.lower reason.now.upper difference) }
+    ensures { OnOk result (text.new.items ≡ text.old.items
+        ++ difference_line (V.words words.now) opening.now reason.now.lower reason.now.upper difference) }
 {
     push_place(text, words, opening, difference.category)?;
     push_excess(
@@ -211,7 +212,8 @@ fn push_reasons<V: Wording>(
     opening: &[u8],
     reasons: &[Reason],
 ) -> Result<(), AllocError>
-    ensures { OnOk result (text.new.items ≡ text.old.items ++ flat_map (reason_lines (V.words words.now) opening.now) reasons.now) }
+    ensures { OnOk result (text.new.items ≡ text.old.items
+        ++ flat_map (reason_lines (V.words words.now) opening.now) reasons.now) }
 {
     for reason in reasons {
         push_reason(text, words, opening, reason)?;
