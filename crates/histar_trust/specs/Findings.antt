@@ -5,7 +5,8 @@ use Rattle.histar_flat.specs.Words.{Name, Path, ProcName}
 use Rattle.histar_flat.specs.PathOrder.{same_path}
 use Rattle.histar_flat.specs.Sessions.{Session}
 use Rattle.histar_flat.specs.Classes.{Class as FlatClass}
-use Rattle.histar_flat.specs.Classes.Class.{Private as FlatPrivate, Readable as FlatReadable, Open as FlatOpen, Scratch as FlatScratch, Grouped as FlatGrouped}
+use Rattle.histar_flat.specs.Classes.Class.{Private as FlatPrivate, Readable as FlatReadable, Open as FlatOpen, Scratch as FlatScratch}
+use Rattle.histar_flat.specs.Classes.Class.{Grouped as FlatGrouped}
 use Rattle.histar_flat.specs.FlatState.{Flat}
 use Rattle.histar_rights.specs.Table.{access_line_text}
 use Rattle.histar_layout.specs.Listing.{is_directory}
