@@ -1,7 +1,8 @@
 -- What a line names, by which objects and categories are named in turn.
 use Rattle.std.specs.Prelude.{[]}
 use Rattle.histar_flat.specs.declared.calls.UnixCall.{UnixCall}
-use Rattle.histar_flat.specs.declared.calls.UnixCall.TheVariants.{Create, Mkdir, Write, Append, Read, List, Stat, Unlink, Rmdir, Rmtree, Rename, Status, Kill, Wrap}
+use Rattle.histar_flat.specs.declared.calls.UnixCall.TheVariants.{Create, Mkdir, Write, Append, Read, List, Stat, Unlink, Rmdir, Rmtree}
+use Rattle.histar_flat.specs.declared.calls.UnixCall.TheVariants.{Rename, Status, Kill, Wrap}
 use Rattle.histar_flat.specs.Words.{Path, ProcName}
 use Rattle.histar_run_explain.specs.declared.clues.Clue.{Clue}
 

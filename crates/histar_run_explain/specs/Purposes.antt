@@ -1,5 +1,6 @@
 -- What a category is for, as the numbers that boot gave and the labels of the containers of processes say.
-use Rattle.std.specs.Prelude.{ℕ, ◌+◌, ◌*◌, ◌-◌, ◌/◌, ◌%◌, ◌==◌, Bool, false, ◌&&◌, not, nat_le, nat_lt, List, [], ◌∷◌, ◌++◌, length, Option, None, Some, is_some, option_map, slice_get, codes, if◌then◌else◌}
+use Rattle.std.specs.Prelude.{ℕ, ◌+◌, ◌*◌, ◌-◌, ◌/◌, ◌%◌, ◌==◌, Bool, false, ◌&&◌, not, nat_le, nat_lt, List, [], ◌∷◌, ◌++◌, length}
+use Rattle.std.specs.Prelude.{Option, None, Some, is_some, option_map, slice_get, codes, if◌then◌else◌}
 use Rattle.std.specs.List.{find}
 use Rattle.histar_flat.specs.Words.{Name, ProcName}
 use Rattle.histar_flat.specs.Texts.{process_text}

@@ -1,5 +1,6 @@
 -- What an object is: what boot left, what stands at a path, or a part of a process.
-use Rattle.std.specs.Prelude.{ℕ, ◌+◌, ◌*◌, ◌-◌, ◌/◌, ◌%◌, ◌==◌, Bool, false, ◌&&◌, ◌||◌, not, nat_le, nat_lt, List, [], ◌∷◌, ◌++◌, length, Option, None, Some, is_some, codes, if◌then◌else◌}
+use Rattle.std.specs.Prelude.{ℕ, ◌+◌, ◌*◌, ◌-◌, ◌/◌, ◌%◌, ◌==◌, Bool, false, ◌&&◌, ◌||◌, not, nat_le, nat_lt, List, [], ◌∷◌, ◌++◌, length}
+use Rattle.std.specs.Prelude.{Option, None, Some, is_some, codes, if◌then◌else◌}
 use Rattle.histar_flat.specs.Words.{Path, ProcName}
 use Rattle.histar_flat.specs.Texts.{path_text, process_text}
 use Rattle.histar_flat.specs.Sessions.{Session}
