@@ -93,7 +93,8 @@ impl Replies {
         process: &ProcName,
         reply: &Reply,
     ) -> Result<(), AllocError>
-        ensures { OnOk result (self.new ≡ record self.old { shown = shown_by job.now self.old.shown line process.now reply.now }) }
+        ensures { OnOk result (self.new ≡ record self.old
+            { shown = shown_by job.now self.old.shown line process.now reply.now }) }
     {
         if is_outsider(job, process) {
             let text = Bytes::from_vec(reply_text(alloc, reply)?);

@@ -40,7 +40,8 @@ fn reached_from<L>(
 ) -> Result<Vec<ObjId>, AllocError>
     requires tree { AreTree (objects_of table.now) }
     requires linked { IsTrue (set.contains (links_in (objects_of table.now container)) object) }
-    ensures { IfOk result (λ v. (q : ℕ) → (is_member nat_eq v.items q ≡ true) ↔ Reached (objects_of table.now) object q) }
+    ensures { IfOk result (λ v. (q : ℕ) → (is_member nat_eq v.items q ≡ true)
+        ↔ Reached (objects_of table.now) object q) }
 {
     let mut list = Vec::new(alloc);
     list.push(object)?;

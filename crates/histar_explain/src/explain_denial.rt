@@ -54,7 +54,8 @@ fn reasons<S: LabelStore + Drop>(
     call: &RawCall,
     denied: Denied,
 ) -> Result<Vec<Reason>, OutOfMemory>
-    ensures { IfOk result (λ reasons. AllZip IsReasonOf (tests (state kernel.now) thread call.now denied) reasons.items) }
+    ensures { IfOk result (λ reasons. AllZip IsReasonOf
+        (tests (state kernel.now) thread call.now denied) reasons.items) }
 {
     let ones = Label::new(alloc, Level::L1);
     let own = label_in(kernel, thread, &ones);

@@ -173,7 +173,8 @@ pub(crate) fn clear_reasons(
     clearance: &Label,
     own_clearance: &Label,
 ) -> Result<Vec<Reason>, OutOfMemory>
-    ensures { IfOk result (λ reasons. AllZip IsReasonOf (clearing own.now clearance.now own_clearance.now) reasons.items) }
+    ensures { IfOk result (λ reasons. AllZip IsReasonOf
+        (clearing own.now clearance.now own_clearance.now) reasons.items) }
 {
     let above = own_clearance.join(&owning_high(alloc, own)?)?;
     let first = below(alloc, Party::Thread, own, Party::ClearanceAsked, clearance)?;
@@ -195,7 +196,8 @@ pub(crate) fn span_reasons(
     clearance: &Label,
     own_clearance: &Label,
 ) -> Result<Vec<Reason>, OutOfMemory>
-    ensures { IfOk result (λ reasons. AllZip IsReasonOf (in_span own.now label.now clearance.now own_clearance.now) reasons.items) }
+    ensures { IfOk result (λ reasons. AllZip IsReasonOf
+        (in_span own.now label.now clearance.now own_clearance.now) reasons.items) }
 {
     let first = below(alloc, Party::Thread, own, Party::LabelAsked, label)?;
     let second = below(

@@ -16,7 +16,8 @@ pub fn make_gate<S: LabelStore + Drop>(
     clearance: &Label,
     entry: Entry,
 ) -> Result<ObjId, Refusal>
-    ensures { Decides objects.old objects.new thread (calls.MakeGate container label.now clearance.now entry) result (IsNextNumber objects.old) }
+    ensures { Decides objects.old objects.new thread
+        (calls.MakeGate container label.now clearance.now entry) result (IsNextNumber objects.old) }
 {
     objects.check_new_owner(thread, container, label, clearance)?;
     let number = objects.next_object();

@@ -129,7 +129,8 @@ fn argument_sentence(
     text: &[u8],
     shape: Shape,
 ) -> Result<Option<Vec<u8>>, AllocError>
-    ensures { IfOk result (λ said. option_map (λ text. text.items) said ≡ first_sentence (argument_rules text.now shape)) }
+    ensures { IfOk result (λ said. option_map (λ text. text.items) said
+        ≡ first_sentence (argument_rules text.now shape)) }
 {
     if has_too_much(text, shape) || has_too_little(text, shape) {
         let said = usage_text(alloc, split_word(text).0, shape)?;
@@ -148,7 +149,8 @@ pub(crate) fn call_word_sentence(
     process: &[u8],
     text: &[u8],
 ) -> Result<Option<Vec<u8>>, AllocError>
-    ensures { IfOk result (λ said. option_map (λ text. text.items) said ≡ first_sentence (call_word_rules process.now text.now)) }
+    ensures { IfOk result (λ said. option_map (λ text. text.items) said
+        ≡ first_sentence (call_word_rules process.now text.now)) }
 {
     if read_process(process).is_none() {
         let said = Vec::from_slice(alloc, kind_text(Kind::Process).as_bytes())?;

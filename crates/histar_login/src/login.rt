@@ -21,7 +21,8 @@ use std::alloc::{AllocError, Global};
 /// The label and the clearance of a process's thread as a user who owns the categories of these users and
 /// groups: it owns these and the process's own.
 fn user_labels(alloc: Global, caller: &Caller, owners: &[u8]) -> Result<(Label, Label), AllocError>
-    ensures { IfOk result (λ own. (own.0 ≡ user_label caller.now owners.now) × (own.1 ≡ user_clearance caller.now owners.now)) }
+    ensures { IfOk result (λ own. (own.0 ≡ user_label caller.now owners.now)
+        × (own.1 ≡ user_clearance caller.now owners.now)) }
 {
     let categories = categories_of(alloc, owners, true)?;
     let owned = joined(alloc, &[caller.read, caller.write], categories.as_slice())?;
@@ -125,7 +126,8 @@ fn login_as<S: LabelStore + Drop>(
     owners: &[u8],
     password: Password,
 ) -> Result<Reply, Ending>
-    ensures { Runs (login_as_program caller.now number owners.now password) kernel.old kernel.new caller.now.thread (settled result) }
+    ensures { Runs (login_as_program caller.now number owners.now password) kernel.old kernel.new
+        caller.now.thread (settled result) }
 {
     let thread = caller.thread;
     let (own, most) = kernel.own_label(thread)?;

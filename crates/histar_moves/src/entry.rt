@@ -59,7 +59,8 @@ impl FoundEntry {
     /// The entries with this one under another name.
     pub fn renamed(self, alloc: Global, name: &Name) -> Result<Dir, AllocError>
         requires { map.get self.entries self.name ≡ Some self.target }
-        ensures { IfOk result (λ entries. entries ≡ map.insert (map.remove self.entries self.name) name.now self.target) }
+        ensures { IfOk result (λ entries. entries
+            ≡ map.insert (map.remove self.entries self.name) name.now self.target) }
     {
         let FoundEntry {
             mut entries,

@@ -89,7 +89,8 @@ fn make_guarded<S: LabelStore + Drop>(
     secret: &[Category],
     write: Category,
 ) -> Result<ObjId, Ending>
-    ensures { RunsPart (ask (calls.MakeContainer container (guarded_by secret.now (write ∷ [])))) kernel.old kernel.new thread result }
+    ensures { RunsPart (ask (calls.MakeContainer container (guarded_by secret.now (write ∷ []))))
+        kernel.old kernel.new thread result }
 {
     let label = guarded_by(alloc, secret, &[write])?;
     let made = kernel.make_container(alloc, thread, container, label)?;

@@ -43,7 +43,8 @@ fn spawn_child<S: LabelStore + Drop>(
     name: &ProcName,
     caller: &Caller,
 ) -> Result<Reply, Ending>
-    ensures { Runs (spawn_program users.now name.now caller.now.home) kernel.old kernel.new caller.now.thread (settled result) }
+    ensures { Runs (spawn_program users.now name.now caller.now.home) kernel.old kernel.new
+        caller.now.thread (settled result) }
 {
     let (home, thread) = (&caller.home, caller.thread);
     let Segment { head, bytes } = room_for_child(alloc, kernel, thread, name, home)?;

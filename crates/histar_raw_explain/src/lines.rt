@@ -54,7 +54,8 @@ fn push_all_unmade<V: Wording>(
     opening: &[u8],
     unmade: &[Category],
 ) -> Result<(), AllocError>
-    ensures { OnOk result (text.new.items ≡ text.old.items ++ flat_map (unmade_line (V.words words.now) opening.now) unmade.now) }
+    ensures { OnOk result (text.new.items ≡ text.old.items
+        ++ flat_map (unmade_line (V.words words.now) opening.now) unmade.now) }
 {
     for category in unmade {
         push_unmade(text, words, opening, *category)?;

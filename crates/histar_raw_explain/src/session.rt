@@ -37,10 +37,12 @@ pub fn explain_raw_script<R: Source, W: Sink>(
     // Whatever the source says, the run took bytes of it, to its end but never more than 1,048,577, and ran the session that
     // these are: their fault is answered, or exactly the lines of the outcomes that the rules give are written, and then
     // exactly the explanations of the denied calls, each at the state before its call.
-    ensures runs { RunsInput RunsExplained (R.left reader.old) (R.left reader.new) (W.written writer.old) (W.written writer.new) result }
+    ensures runs { RunsInput RunsExplained (R.left reader.old) (R.left reader.new)
+        (W.written writer.old) (W.written writer.new) result }
 
     // So where the input is known, the session of the whole input was run.
-    ensures known { IfSome (R.left reader.old) (λ input. RunsExplained input (W.written writer.old) (W.written writer.new) result) }
+    ensures known { IfSome (R.left reader.old)
+        (λ input. RunsExplained input (W.written writer.old) (W.written writer.new) result) }
 {
     let input = read_input(alloc, reader)?;
     explain_text(alloc, input.as_slice(), writer)
@@ -66,8 +68,10 @@ fn explain_calls<S: LabelStore + Drop, W: Sink>(
     calls: Vec<RawLine>,
     writer: &mut W,
 ) -> Result<(), Fault>
-    ensures ok { OnOk result (ExplainsAnswered (state kernel.old) (state kernel.new) (W.written writer.old) (W.written writer.new) calls.items) }
-    ensures err { OnErr result (BeginsExplaining (state kernel.old) (W.written writer.old) (W.written writer.new) calls.items) }
+    ensures ok { OnOk result (ExplainsAnswered (state kernel.old) (state kernel.new)
+        (W.written writer.old) (W.written writer.new) calls.items) }
+    ensures err { OnErr result (BeginsExplaining (state kernel.old) (W.written writer.old)
+        (W.written writer.new) calls.items) }
     ensures faults { IfErr result IsOutputFault }
     ensures count { CountsFailure (W.failures writer.old) (W.failures writer.new) (is_write_failed result) }
 {
@@ -84,9 +88,12 @@ fn answer_calls<S: LabelStore + Drop, W: Sink>(
     calls: Vec<RawLine>,
     writer: &mut W,
 ) -> Result<Vec<u8>, Fault>
-    ensures answered { OnOk result (AnswersCalls (state kernel.old) (state kernel.new) (W.written writer.old) (W.written writer.new) calls.items) }
-    ensures explained { IfOk result (λ text. ExplainsCalls (state kernel.old) calls.items text.items (state kernel.new)) }
-    ensures err { OnErr result (BeginsAnswers (state kernel.old) (W.written writer.old) (W.written writer.new) calls.items) }
+    ensures answered { OnOk result (AnswersCalls (state kernel.old) (state kernel.new)
+        (W.written writer.old) (W.written writer.new) calls.items) }
+    ensures explained { IfOk result (λ text. ExplainsCalls (state kernel.old) calls.items text.items
+        (state kernel.new)) }
+    ensures err { OnErr result (BeginsAnswers (state kernel.old) (W.written writer.old)
+        (W.written writer.new) calls.items) }
     ensures faults { IfErr result IsOutputFault }
     ensures count { CountsFailure (W.failures writer.old) (W.failures writer.new) (is_write_failed result) }
 {
@@ -106,9 +113,11 @@ fn answer_and_explain<S: LabelStore + Drop, W: Sink>(
     asked: RawLine,
     writer: &mut W,
 ) -> Result<Vec<u8>, Fault>
-    ensures answered { OnOk result (AnswersCall (state kernel.old) (state kernel.new) (W.written writer.old) (W.written writer.new) asked) }
+    ensures answered { OnOk result (AnswersCall (state kernel.old) (state kernel.new)
+        (W.written writer.old) (W.written writer.new) asked) }
     ensures explained { IfOk result (λ lines. ExplainsOne (state kernel.old) (state kernel.new) asked lines.items) }
-    ensures err { OnErr result (BeginsAnswer (state kernel.old) (state kernel.new) (W.written writer.old) (W.written writer.new) asked) }
+    ensures err { OnErr result (BeginsAnswer (state kernel.old) (state kernel.new)
+        (W.written writer.old) (W.written writer.new) asked) }
     ensures faults { IfErr result IsOutputFault }
     ensures count { CountsFailure (W.failures writer.old) (W.failures writer.new) (is_write_failed result) }
 {

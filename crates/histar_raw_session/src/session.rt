@@ -33,10 +33,12 @@ pub fn run_raw_script<R: Source, W: Sink>(
 
     // Whatever the source tells, the run took bytes of it, to its end but never more than 1,048,577, and ran the session that
     // these are: their fault is answered, or exactly the lines of the outcomes that the rules give are written.
-    ensures runs { RunsInput RunsSession (R.left reader.old) (R.left reader.new) (W.written writer.old) (W.written writer.new) result }
+    ensures runs { RunsInput RunsSession (R.left reader.old) (R.left reader.new)
+        (W.written writer.old) (W.written writer.new) result }
 
     // So where the input is known, the session of the whole input was run.
-    ensures known { IfSome (R.left reader.old) (λ input. RunsSession input (W.written writer.old) (W.written writer.new) result) }
+    ensures known { IfSome (R.left reader.old)
+        (λ input. RunsSession input (W.written writer.old) (W.written writer.new) result) }
 {
     let input = read_input(alloc, reader)?;
     run_text(alloc, input.as_slice(), writer)
@@ -61,8 +63,10 @@ fn answer_calls<S: LabelStore + Drop, W: Sink>(
     calls: Vec<RawLine>,
     writer: &mut W,
 ) -> Result<(), Fault>
-    ensures ok { OnOk result (AnswersCalls (state kernel.old) (state kernel.new) (W.written writer.old) (W.written writer.new) calls.items) }
-    ensures err { OnErr result (BeginsAnswers (state kernel.old) (W.written writer.old) (W.written writer.new) calls.items) }
+    ensures ok { OnOk result (AnswersCalls (state kernel.old) (state kernel.new)
+        (W.written writer.old) (W.written writer.new) calls.items) }
+    ensures err { OnErr result (BeginsAnswers (state kernel.old) (W.written writer.old)
+        (W.written writer.new) calls.items) }
     ensures faults { IfErr result IsOutputFault }
     ensures count { CountsFailure (W.failures writer.old) (W.failures writer.new) (is_write_failed result) }
 {
@@ -79,9 +83,11 @@ pub fn answer_call<S: LabelStore + Drop, W: Sink>(
     asked: RawLine,
     writer: &mut W,
 ) -> Result<(), Fault>
-    ensures ok { OnOk result (AnswersCall (state kernel.old) (state kernel.new) (W.written writer.old) (W.written writer.new) asked) }
+    ensures ok { OnOk result (AnswersCall (state kernel.old) (state kernel.new)
+        (W.written writer.old) (W.written writer.new) asked) }
     ensures made { OnOk result (IsMadeOnLine kernel.old asked kernel.new) }
-    ensures err { OnErr result (BeginsAnswer (state kernel.old) (state kernel.new) (W.written writer.old) (W.written writer.new) asked) }
+    ensures err { OnErr result (BeginsAnswer (state kernel.old) (state kernel.new)
+        (W.written writer.old) (W.written writer.new) asked) }
     ensures faults { IfErr result IsOutputFault }
     ensures count { CountsFailure (W.failures writer.old) (W.failures writer.new) (is_write_failed result) }
 {

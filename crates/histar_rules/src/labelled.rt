@@ -55,7 +55,8 @@ impl<S: LabelStore + Drop> LabelledObjects<S> {
     /// No objects, with the numbers that the next object and the next category get.
     pub fn new(alloc: Global, store: S, next_object: u64, next_category: u64) -> Self
         requires { 0 < next_object }
-        ensures { state_of result ≡ record { objects = no_objects; next_object = next_object; next_category = next_category } }
+        ensures { state_of result ≡ record
+            { objects = no_objects; next_object = next_object; next_category = next_category } }
     {
         LabelledObjects {
             store,
@@ -68,7 +69,8 @@ impl<S: LabelStore + Drop> LabelledObjects<S> {
     /// Keeps an object under the next number that no container links: the root container.
     pub fn push(&mut self, label: Label, kind: Kind<Label>) -> Result<(), AllocError>
         requires { self.old.next_object < greatest }
-        ensures ok { OnOk result (state_of self.new ≡ with_next (state_of self.old) (record { label = label; kind = kind })) }
+        ensures ok { OnOk result (state_of self.new
+            ≡ with_next (state_of self.old) (record { label = label; kind = kind })) }
         ensures counted { OnOk result (self.new.next_object ≡ self.old.next_object + 1) }
         ensures err { OnErr result (state_of self.new ≡ state_of self.old) }
     {
@@ -289,7 +291,8 @@ impl<S: LabelStore + Drop> LabelledObjects<S> {
         container: ObjId,
         segment: ObjId,
     ) -> Result<Bytes, Refusal>
-        ensures answer { FailsAtUnlessExhausted (check (state_of self.old) thread (calls.Read container segment)) result }
+        ensures answer { FailsAtUnlessExhausted
+            (check (state_of self.old) thread (calls.Read container segment)) result }
         ensures bytes { IfOk result (AreBytesOf self.old segment) }
         ensures unchanged { self.new ≡ self.old }
     {
@@ -306,7 +309,8 @@ impl<S: LabelStore + Drop> LabelledObjects<S> {
         keep: u32,
         bytes: &Bytes,
     ) -> Result<(), Denied>
-        ensures answer { FailsAt (check (state_of self.old) thread (calls.Write container segment keep bytes.now)) result }
+        ensures answer { FailsAt (check (state_of self.old) thread
+            (calls.Write container segment keep bytes.now)) result }
         ensures unchanged { self.new ≡ self.old }
     {
         write_in(
@@ -358,7 +362,8 @@ impl<S: LabelStore + Drop> LabelledObjects<S> {
         kind: Kind<Label>,
     ) -> Result<(), AllocError>
         requires { self.old.next_object < greatest }
-        ensures ok { OnOk result (state_of self.new ≡ with_object (state_of self.old) container (record { label = label; kind = kind })) }
+        ensures ok { OnOk result (state_of self.new
+            ≡ with_object (state_of self.old) container (record { label = label; kind = kind })) }
         ensures err { OnErr result (state_of self.new ≡ state_of self.old) }
     {
         add_in(
@@ -398,7 +403,8 @@ impl<S: LabelStore + Drop> LabelledObjects<S> {
 
     /// Gives a thread another clearance.
     pub fn set_clearance(&mut self, thread: ObjId, clearance: Label) -> Result<(), AllocError>
-        ensures ok { OnOk result (state_of self.new ≡ with_changed (state_of self.old) thread (with_clearance clearance)) }
+        ensures ok { OnOk result (state_of self.new
+            ≡ with_changed (state_of self.old) thread (with_clearance clearance)) }
         ensures err { OnErr result (state_of self.new ≡ state_of self.old) }
     {
         set_clearance_in(&mut self.store, &mut self.table, thread, clearance)
@@ -467,7 +473,8 @@ fn push_in<S: LabelStore>(
     ensures stand { AllStand (S.labels store.new) (objects_of table.new) }
     ensures ok { OnOk result (objects_shown (S.labels store.new) table.new
         ≡ put (objects_shown (S.labels store.old) table.old) number (record { label = label; kind = kind })) }
-    ensures err { OnErr result (objects_shown (S.labels store.new) table.new ≡ objects_shown (S.labels store.old) table.old) }
+    ensures err { OnErr result (objects_shown (S.labels store.new) table.new
+        ≡ objects_shown (S.labels store.old) table.old) }
 {
     let kind = put_kind(store, kind)?;
     let label = store.put(label)?;
@@ -488,7 +495,8 @@ fn add_in<S: LabelStore>(
     ensures stand { AllStand (S.labels store.new) (objects_of table.new) }
     ensures ok { OnOk result (objects_shown (S.labels store.new) table.new
         ≡ with_new (objects_shown (S.labels store.old) table.old) container number (record { label = label; kind = kind })) }
-    ensures err { OnErr result (objects_shown (S.labels store.new) table.new ≡ objects_shown (S.labels store.old) table.old) }
+    ensures err { OnErr result (objects_shown (S.labels store.new) table.new
+        ≡ objects_shown (S.labels store.old) table.old) }
 {
     let kind = put_kind(store, kind)?;
     let label = store.put(label)?;
@@ -506,7 +514,8 @@ fn set_label_in<S: LabelStore>(
     ensures stand { AllStand (S.labels store.new) (objects_of table.new) }
     ensures ok { OnOk result (objects_shown (S.labels store.new) table.new
         ≡ changed_at (objects_shown (S.labels store.old) table.old) object (with_label label)) }
-    ensures err { OnErr result (objects_shown (S.labels store.new) table.new ≡ objects_shown (S.labels store.old) table.old) }
+    ensures err { OnErr result (objects_shown (S.labels store.new) table.new
+        ≡ objects_shown (S.labels store.old) table.old) }
 {
     let label = store.put(label)?;
     if let Some(found) = table.get_mut(object) {
@@ -526,7 +535,8 @@ fn set_clearance_in<S: LabelStore>(
     ensures stand { AllStand (S.labels store.new) (objects_of table.new) }
     ensures ok { OnOk result (objects_shown (S.labels store.new) table.new
         ≡ changed_at (objects_shown (S.labels store.old) table.old) object (with_clearance clearance)) }
-    ensures err { OnErr result (objects_shown (S.labels store.new) table.new ≡ objects_shown (S.labels store.old) table.old) }
+    ensures err { OnErr result (objects_shown (S.labels store.new) table.new
+        ≡ objects_shown (S.labels store.old) table.old) }
 {
     let clearance = store.put(clearance)?;
     if let Some(found) = table.get_mut(object) {
@@ -559,7 +569,8 @@ fn set_own_in<S: LabelStore>(
     ensures stand { AllStand (S.labels store.new) (objects_of table.new) }
     ensures ok { OnOk result (objects_shown (S.labels store.new) table.new
         ≡ put (objects_shown (S.labels store.old) table.old) thread (thread_of label clearance)) }
-    ensures err { OnErr result (objects_shown (S.labels store.new) table.new ≡ objects_shown (S.labels store.old) table.old) }
+    ensures err { OnErr result (objects_shown (S.labels store.new) table.new
+        ≡ objects_shown (S.labels store.old) table.old) }
 {
     let clearance = store.put(clearance)?;
     let label = store.put(label)?;

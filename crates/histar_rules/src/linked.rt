@@ -57,7 +57,8 @@ pub(crate) fn read_in<'t, S: LabelStore>(
     segment: ObjId,
 ) -> Result<&'t Bytes, Denied>
     requires { AllStand (S.labels store.old) (objects_of table.now) }
-    ensures answer { FailsAt (check (state_shown (S.labels store.old) table.now) thread (calls.Read container segment)) result }
+    ensures answer { FailsAt (check (state_shown (S.labels store.old) table.now) thread
+        (calls.Read container segment)) result }
     ensures bytes { IfOk result (λ bytes. bytes_there (objects_of table.now segment) ≡ Some bytes.now) }
     ensures unchanged { S.labels store.new ≡ S.labels store.old }
 {
@@ -100,7 +101,8 @@ pub(crate) fn write_in<S: LabelStore>(
     bytes: &Bytes,
 ) -> Result<(), Denied>
     requires { AllStand (S.labels store.old) (objects_of table.now) }
-    ensures answer { FailsAt (check (state_shown (S.labels store.old) table.now) thread (calls.Write container segment keep bytes.now)) result }
+    ensures answer { FailsAt (check (state_shown (S.labels store.old) table.now) thread
+        (calls.Write container segment keep bytes.now)) result }
     ensures unchanged { S.labels store.new ≡ S.labels store.old }
 {
     let found = linked_in(store, table, thread, container, segment)?;
@@ -118,7 +120,8 @@ pub(crate) fn unlink_in<S: LabelStore>(
     object: ObjId,
 ) -> Result<(), Denied>
     requires { AllStand (S.labels store.old) (objects_of table.now) }
-    ensures answer { FailsAt (check (state_shown (S.labels store.old) table.now) thread (calls.Unlink container object)) result }
+    ensures answer { FailsAt (check (state_shown (S.labels store.old) table.now) thread
+        (calls.Unlink container object)) result }
     ensures unchanged { S.labels store.new ≡ S.labels store.old }
 {
     let found = linked_in(store, table, thread, container, object)?;
@@ -138,7 +141,8 @@ pub(crate) fn label_in<S: LabelStore>(
     object: ObjId,
 ) -> Result<Option<S::Id>, Denied>
     requires { AllStand (S.labels store.old) (objects_of table.now) }
-    ensures answer { FailsAt (check (state_shown (S.labels store.old) table.now) thread (calls.LabelOf container object)) result }
+    ensures answer { FailsAt (check (state_shown (S.labels store.old) table.now) thread
+        (calls.LabelOf container object)) result }
     ensures label { IfOk result (λ label. label ≡ label_there (objects_of table.now object)) }
     ensures unchanged { S.labels store.new ≡ S.labels store.old }
 {

@@ -67,8 +67,10 @@ pub(crate) fn observed_in<'t, S: LabelStore>(
 ) -> Result<Observed<'t, S::Id>, Denied>
     requires { AllStand (S.labels store.old) (objects_of table.now) }
     ensures answer { FailsAt (no_container (state_shown (S.labels store.old) table.now) thread container) result }
-    ensures thread { IfOk result (λ found. objects_of table.now thread ≡ Some (thread_of found.own found.own_clearance)) }
-    ensures container { IfOk result (λ found. objects_of table.now container ≡ Some (container_of found.label found.links.now)) }
+    ensures thread { IfOk result (λ found. objects_of table.now thread
+        ≡ Some (thread_of found.own found.own_clearance)) }
+    ensures container { IfOk result (λ found. objects_of table.now container
+        ≡ Some (container_of found.label found.links.now)) }
     ensures unchanged { S.labels store.new ≡ S.labels store.old }
 {
     let Some((own, own_clearance)) = thread_in(table, thread) else {
@@ -96,7 +98,8 @@ pub(crate) fn modified_in<'t, S: LabelStore>(
 ) -> Result<Observed<'t, S::Id>, Denied>
     requires { AllStand (S.labels store.old) (objects_of table.now) }
     ensures answer { FailsAt (no_making (state_shown (S.labels store.old) table.now) thread container) result }
-    ensures thread { IfOk result (λ found. objects_of table.now thread ≡ Some (thread_of found.own found.own_clearance)) }
+    ensures thread { IfOk result (λ found. objects_of table.now thread
+        ≡ Some (thread_of found.own found.own_clearance)) }
     ensures unchanged { S.labels store.new ≡ S.labels store.old }
 {
     let found = observed_in(store, table, thread, container)?;
@@ -128,7 +131,8 @@ pub(crate) fn new_in<S: LabelStore>(
     size: usize,
 ) -> Result<(), Denied>
     requires { AllStand (S.labels store.old) (objects_of table.now) }
-    ensures answer { FailsAt (no_new (state_with (S.labels store.old) table.now next) thread container label.now size) result }
+    ensures answer { FailsAt (no_new (state_with (S.labels store.old) table.now next) thread
+        container label.now size) result }
     ensures unchanged { S.labels store.new ≡ S.labels store.old }
 {
     let found = modified_in(store, table, thread, container)?;
@@ -147,7 +151,8 @@ pub(crate) fn new_owner_in<S: LabelStore>(
     clearance: &Label,
 ) -> Result<(), Denied>
     requires { AllStand (S.labels store.old) (objects_of table.now) }
-    ensures answer { FailsAt (no_new_owner (state_with (S.labels store.old) table.now next) thread container label.now clearance.now) result }
+    ensures answer { FailsAt (no_new_owner (state_with (S.labels store.old) table.now next) thread
+        container label.now clearance.now) result }
     ensures unchanged { S.labels store.new ≡ S.labels store.old }
 {
     let found = modified_in(store, table, thread, container)?;
@@ -165,8 +170,10 @@ pub(crate) fn linked_in<'t, S: LabelStore>(
 ) -> Result<Observed<'t, S::Id>, Denied>
     requires { AllStand (S.labels store.old) (objects_of table.now) }
     ensures answer { FailsAt (no_link (state_shown (S.labels store.old) table.now) thread container object) result }
-    ensures thread { IfOk result (λ found. objects_of table.now thread ≡ Some (thread_of found.own found.own_clearance)) }
-    ensures container { IfOk result (λ found. objects_of table.now container ≡ Some (container_of found.label found.links.now)) }
+    ensures thread { IfOk result (λ found. objects_of table.now thread
+        ≡ Some (thread_of found.own found.own_clearance)) }
+    ensures container { IfOk result (λ found. objects_of table.now container
+        ≡ Some (container_of found.label found.links.now)) }
     ensures unchanged { S.labels store.new ≡ S.labels store.old }
 {
     let found = observed_in(store, table, thread, container)?;

@@ -33,7 +33,8 @@ pub fn in_range(own: &Label, own_clearance: &Label, label: &Label) -> bool
 
 /// Whether a label and a clearance above it lie between a thread's own label and its clearance.
 pub(crate) fn in_span(own: &Label, own_clearance: &Label, label: &Label, clearance: &Label) -> bool
-    ensures { result ≡ (is_below own.now label.now && is_below label.now clearance.now && is_below clearance.now own_clearance.now) }
+    ensures { result ≡ (is_below own.now label.now && is_below label.now clearance.now && is_below
+        clearance.now own_clearance.now) }
 {
     own.below(label) && label.below(clearance) && clearance.below(own_clearance)
 }

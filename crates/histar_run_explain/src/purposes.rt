@@ -258,7 +258,8 @@ pub(crate) fn purpose_of<S: LabelStore + Drop>(
     clue: &Clue,
     category: Category,
 ) -> Result<Option<Purpose>, AllocError>
-    ensures { IfOk result (λ purpose. purpose ≡ purpose_of machine.now.users machine.now.places (state machine.now.kernel) clue.now category) }
+    ensures { IfOk result (λ purpose. purpose
+        ≡ purpose_of machine.now.users machine.now.places (state machine.now.kernel) clue.now category) }
 {
     let (kernel, places) = (machine.kernel(), machine.places());
     if let Some(purpose) = boot_purpose(owners(machine.users()), category) {

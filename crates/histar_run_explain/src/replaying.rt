@@ -39,7 +39,8 @@ fn explain_outcome<S: LabelStore + Drop, V: Wording>(
     words: &V,
     entry: &TraceEntry,
 ) -> Result<Vec<u8>, OutOfMemory>
-    ensures { IfOk result (λ lines. ExplainsOutcome (V.words words.now) (state kernel.now) entry.now entry.now.denied lines.items) }
+    ensures { IfOk result (λ lines. ExplainsOutcome (V.words words.now) (state kernel.now) entry.now
+        entry.now.denied lines.items) }
 {
     let Some(denied) = entry.denied else {
         return Ok(Vec::new(alloc));
@@ -57,7 +58,8 @@ pub(crate) fn explain_entries<S: LabelStore + Drop, V: Wording>(
     entries: &[TraceEntry],
 ) -> Result<Vec<u8>, OutOfMemory>
     requires { IsRunFrom (state kernel.old) entries.now }
-    ensures explained { IfOk result (λ text. ExplainsEntries (V.words words.now) (state kernel.old) entries.now text.items (state kernel.new)) }
+    ensures explained { IfOk result (λ text. ExplainsEntries (V.words words.now) (state kernel.old)
+        entries.now text.items (state kernel.new)) }
     ensures ends { OnOk result (EndsAsRun (state kernel.old) entries.now (state kernel.new)) }
 {
     let mut text = Vec::new(alloc);

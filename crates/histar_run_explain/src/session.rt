@@ -47,10 +47,12 @@ pub fn explain_script<R: Source, W: Sink>(
     // Whatever the source says, bytes of it were taken, to its end but never more than 1,048,577: the fault of the script that they
     // are is answered, or exactly the text of its meaning is written, and then where it is asked for a trace of that meaning, and
     // then exactly the explanations of the denied calls of that trace, each at the state before its call.
-    ensures runs { RunsInput (ExplainsText options) (R.left reader.old) (R.left reader.new) (W.written writer.old) (W.written writer.new) result }
+    ensures runs { RunsInput (ExplainsText options) (R.left reader.old) (R.left reader.new)
+        (W.written writer.old) (W.written writer.new) result }
 
     // So where the input is known, the script of the whole input was run and explained.
-    ensures known { IfSome (R.left reader.old) (λ input. ExplainsText options input (W.written writer.old) (W.written writer.new) result) }
+    ensures known { IfSome (R.left reader.old)
+        (λ input. ExplainsText options input (W.written writer.old) (W.written writer.new) result) }
 {
     let input = read_input(alloc, reader)?;
     explain_text(alloc, input.as_slice(), writer, options)
@@ -115,7 +117,8 @@ fn answer_calls<S: LabelStore + Drop, T: LabelStore + Drop, W: Sink>(
     writer: &mut W,
 ) -> Result<Vec<u8>, Fault>
     requires { state second.old ≡ state machine.old.kernel }
-    ensures ok { IfOk result (λ text. ExplainsCalls machine.old machine.new (W.written writer.old) (W.written writer.new) calls.items text.items) }
+    ensures ok { IfOk result (λ text. ExplainsCalls machine.old machine.new (W.written writer.old)
+        (W.written writer.new) calls.items text.items) }
     ensures err { OnErr result (BeginsAnswers machine.old (W.written writer.old) (W.written writer.new) calls.items) }
     ensures faults { IfErr result IsOutputFault }
     ensures count { CountsFailure (W.failures writer.old) (W.failures writer.new) (is_write_failed result) }
@@ -138,9 +141,11 @@ fn answer_and_explain<S: LabelStore + Drop, T: LabelStore + Drop, W: Sink>(
     writer: &mut W,
 ) -> Result<Vec<u8>, Fault>
     requires { state second.old ≡ state machine.old.kernel }
-    ensures ok { IfOk result (λ lines. ExplainsCall machine.old machine.new (W.written writer.old) (W.written writer.new) call lines.items) }
+    ensures ok { IfOk result (λ lines. ExplainsCall machine.old machine.new (W.written writer.old)
+        (W.written writer.new) call lines.items) }
     ensures same { OnOk result (state second.new ≡ state machine.new.kernel) }
-    ensures err { OnErr result (BeginsAnswer machine.old machine.new (W.written writer.old) (W.written writer.new) call) }
+    ensures err { OnErr result (BeginsAnswer machine.old machine.new (W.written writer.old)
+        (W.written writer.new) call) }
     ensures faults { IfErr result IsOutputFault }
     ensures count { CountsFailure (W.failures writer.old) (W.failures writer.new) (is_write_failed result) }
 {
@@ -172,7 +177,8 @@ fn explain_line<S: LabelStore + Drop, T: LabelStore + Drop>(
     requires run { IsRunFrom (state second.old) (drop before machine.now.kernel.trace) }
     ensures explained { IfOk result (λ lines. ExplainsEntries (words_at machine.now.users machine.now.places (state machine.now.kernel) clue.now)
         (state second.old) (drop before machine.now.kernel.trace) lines.items (state second.new)) }
-    ensures ends { OnOk result (EndsAsRun (state second.old) (drop before machine.now.kernel.trace) (state second.new)) }
+    ensures ends { OnOk result (EndsAsRun (state second.old) (drop before machine.now.kernel.trace)
+        (state second.new)) }
 {
     let names = Names {
         alloc,

@@ -155,7 +155,8 @@ pub fn read_script(alloc: Global, text: &[u8]) -> Result<Script, Fault>
     // What is read is a script of the grammar.
     ensures found { IfOk result (IsScript text.now) }
     // A script of the grammar within the limits is read, unless memory runs out.
-    ensures only { (script : Reading) → too_long text.now ≡ false → IsScript text.now script → Gives result (Ok script) }
+    ensures only { (script : Reading) → too_long text.now ≡ false → IsScript text.now script
+        → Gives result (Ok script) }
     // The users and the groups are those of a script.
     ensures declared { IfOk result (λ script. IsDeclared script.session) }
     // The numbers of the calls rise, and are numbers of lines.

@@ -65,7 +65,8 @@ fn write_nodes<S: LabelStore + Drop, W: Sink>(
     nodes: &[TreeNode],
     writer: &mut W,
 ) -> Result<(), Fault>
-    ensures ok { OnOk result (Appends (W.written writer.old) (W.written writer.new) (tree_text (lines_at (state machine.now.kernel) nodes.now))) }
+    ensures ok { OnOk result (Appends (W.written writer.old) (W.written writer.new)
+        (tree_text (lines_at (state machine.now.kernel) nodes.now))) }
     ensures err { OnErr result (AppendsFront (W.written writer.old) (W.written writer.new)
         (tree_text (lines_at (state machine.now.kernel) nodes.now))) }
     ensures faults { IfErr result IsOutputFault }
@@ -87,7 +88,8 @@ fn write_trace<W: Sink>(
     options: Options,
 ) -> Result<(), Fault>
     ensures ok { OnOk result (Appends (W.written writer.old) (W.written writer.new) (asked_trace options entries.now)) }
-    ensures err { OnErr result (AppendsFront (W.written writer.old) (W.written writer.new) (asked_trace options entries.now)) }
+    ensures err { OnErr result (AppendsFront (W.written writer.old) (W.written writer.new)
+        (asked_trace options entries.now)) }
     ensures faults { IfErr result IsOutputFault }
     ensures count { CountsFailure (W.failures writer.old) (W.failures writer.new) (is_write_failed result) }
 {

@@ -181,7 +181,8 @@ pub fn node_text(
     stat: Stat,
     bytes: &[u8],
 ) -> Result<Vec<u8>, AllocError>
-    ensures { IfOk result (λ text. text.items ≡ node_text (record { path = path.now; stat = stat; bytes = bytes.now })) }
+    ensures { IfOk result (λ text. text.items
+        ≡ node_text (record { path = path.now; stat = stat; bytes = bytes.now })) }
 {
     let is_directory = stat.is_directory;
     let mut text = Vec::new(alloc);
@@ -202,7 +203,8 @@ pub fn tree_line(
     stat: Stat,
     bytes: &[u8],
 ) -> Result<Vec<u8>, AllocError>
-    ensures { IfOk result (λ line. line.items ≡ tree_line_text (record { path = path.now; stat = stat; bytes = bytes.now })) }
+    ensures { IfOk result (λ line. line.items
+        ≡ tree_line_text (record { path = path.now; stat = stat; bytes = bytes.now })) }
 {
     let mut line = node_text(alloc, path, stat, bytes)?;
     line.extend_from_slice(b"\n")?;

@@ -47,10 +47,12 @@ pub fn run<R: Source, W: Sink>(
     // Whatever the source tells, the run took bytes of it, to its end but never more than 1,048,577, and ran the script that
     // these are: their fault is answered, or exactly the text of the script's meaning is written, and behind it where it is asked
     // for the trace that is answered, which is that of the meaning, line by line.
-    ensures runs { RunsInput (RunsText options) (R.left reader.old) (R.left reader.new) (W.written writer.old) (W.written writer.new) result }
+    ensures runs { RunsInput (RunsText options) (R.left reader.old) (R.left reader.new)
+        (W.written writer.old) (W.written writer.new) result }
 
     // So where the input is known, the script of the whole input was run.
-    ensures known { IfSome (R.left reader.old) (λ input. RunsText options input (W.written writer.old) (W.written writer.new) result) }
+    ensures known { IfSome (R.left reader.old)
+        (λ input. RunsText options input (W.written writer.old) (W.written writer.new) result) }
 {
     let store = InternStore::new(alloc, REMEMBERED_ANSWERS)?;
     run_with(alloc, store, reader, writer, options)
@@ -68,8 +70,10 @@ pub fn run_with<S: LabelStore + Drop, R: Source, W: Sink>(
     ensures nothing { IfErr result (LeavesSink writer.old writer.new) }
     ensures reads { CountsFailure (R.failures reader.old) (R.failures reader.new) (is_read_failed result) }
     ensures writes { CountsFailure (W.failures writer.old) (W.failures writer.new) (is_write_failed result) }
-    ensures runs { RunsInput (RunsText options) (R.left reader.old) (R.left reader.new) (W.written writer.old) (W.written writer.new) result }
-    ensures known { IfSome (R.left reader.old) (λ input. RunsText options input (W.written writer.old) (W.written writer.new) result) }
+    ensures runs { RunsInput (RunsText options) (R.left reader.old) (R.left reader.new)
+        (W.written writer.old) (W.written writer.new) result }
+    ensures known { IfSome (R.left reader.old)
+        (λ input. RunsText options input (W.written writer.old) (W.written writer.new) result) }
 {
     let input = read_input(alloc, reader)?;
     run_text(alloc, store, input.as_slice(), writer, options)
@@ -105,7 +109,8 @@ fn answer_calls<S: LabelStore + Drop, W: Sink>(
     calls: Vec<CallLine>,
     writer: &mut W,
 ) -> Result<(), Fault>
-    ensures ok { OnOk result (AnswersCalls machine.old machine.new (W.written writer.old) (W.written writer.new) calls.items) }
+    ensures ok { OnOk result (AnswersCalls machine.old machine.new (W.written writer.old)
+        (W.written writer.new) calls.items) }
     ensures err { OnErr result (BeginsAnswers machine.old (W.written writer.old) (W.written writer.new) calls.items) }
     ensures faults { IfErr result IsOutputFault }
     ensures count { CountsFailure (W.failures writer.old) (W.failures writer.new) (is_write_failed result) }
@@ -124,7 +129,8 @@ pub fn answer_call<S: LabelStore + Drop, W: Sink>(
     writer: &mut W,
 ) -> Result<(), Fault>
     ensures ok { OnOk result (AnswersCall machine.old machine.new (W.written writer.old) (W.written writer.new) call) }
-    ensures err { OnErr result (BeginsAnswer machine.old machine.new (W.written writer.old) (W.written writer.new) call) }
+    ensures err { OnErr result (BeginsAnswer machine.old machine.new (W.written writer.old)
+        (W.written writer.new) call) }
     ensures faults { IfErr result IsOutputFault }
     ensures count { CountsFailure (W.failures writer.old) (W.failures writer.new) (is_write_failed result) }
 {

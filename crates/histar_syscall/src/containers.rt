@@ -18,7 +18,8 @@ pub fn label_of<S: LabelStore + Drop>(
     object: ObjId,
 ) -> Result<Label, Refusal>
     requires { AreTree (objects_of objects.old.objects) }
-    ensures { Decides objects.old objects.new thread (calls.LabelOf container object) result (IsLabelOf objects.old object) }
+    ensures { Decides objects.old objects.new thread (calls.LabelOf container object) result
+        (IsLabelOf objects.old object) }
 {
     objects.label_of(thread, container, object)
 }
@@ -31,7 +32,8 @@ pub fn make_container<S: LabelStore + Drop>(
     container: ObjId,
     label: &Label,
 ) -> Result<ObjId, Refusal>
-    ensures { Decides objects.old objects.new thread (calls.MakeContainer container label.now) result (IsNextNumber objects.old) }
+    ensures { Decides objects.old objects.new thread (calls.MakeContainer container label.now)
+        result (IsNextNumber objects.old) }
 {
     objects.check_new(thread, container, label, 0)?;
     let number = objects.next_object();

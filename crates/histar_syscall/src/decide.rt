@@ -25,7 +25,8 @@ pub fn decide<S: LabelStore + Drop>(
     reading: Reading,
 ) -> Result<Answer, Refusal>
     requires { AreTree (objects_of objects.old.objects) }
-    ensures { Decides objects.old objects.new thread call.now result (IsRightAnswer reading (state_of objects.old) thread call.now) }
+    ensures { Decides objects.old objects.new thread call.now result
+        (IsRightAnswer reading (state_of objects.old) thread call.now) }
 {
     match call {
         RawCall::MakeCategory => Ok(Answer::Category(make_category(objects, thread)?)),

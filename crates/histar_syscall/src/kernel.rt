@@ -95,7 +95,8 @@ impl<S: LabelStore + Drop> Kernel<S> {
     /// Makes one raw call of any kind.
     #[inline(always)]
     pub fn call(&mut self, alloc: Global, thread: ObjId, call: RawCall) -> Result<Answer, Refusal>
-        ensures answered { Answered self.old self.new thread call result (λ a. raw_answer (state self.old) thread call ≡ Some a) }
+        ensures answered { Answered self.old self.new thread call result
+            (λ a. raw_answer (state self.old) thread call ≡ Some a) }
 
         // The objects of every kernel are sound.
         ensures sound { IsSound (state self.old) × IsSound (state self.new) }
@@ -112,7 +113,8 @@ impl<S: LabelStore + Drop> Kernel<S> {
         call: RawCall,
         reading: Reading,
     ) -> Result<Answer, Refusal>
-        ensures answered { Answered self.old self.new thread call result (IsRightAnswer reading (state self.old) thread call) }
+        ensures answered { Answered self.old self.new thread call result
+            (IsRightAnswer reading (state self.old) thread call) }
         ensures sound { IsSound (state self.old) × IsSound (state self.new) }
     {
         self.trace.reserve(1)?;
@@ -123,7 +125,8 @@ impl<S: LabelStore + Drop> Kernel<S> {
 
     /// Makes a category. The thread owns it from then on, and may give anyone level 3 there.
     pub fn make_category(&mut self, thread: ObjId) -> Result<Category, Refusal>
-        ensures { Answered self.old self.new thread calls.MakeCategory result (λ category. category ≡ self.old.kept.next_category) }
+        ensures { Answered self.old self.new thread calls.MakeCategory result
+            (λ category. category ≡ self.old.kept.next_category) }
     {
         let answer = self.call(self.alloc, thread, RawCall::MakeCategory)?;
         Ok(answer.into_category())
@@ -165,7 +168,8 @@ impl<S: LabelStore + Drop> Kernel<S> {
         label: Label,
         bytes: Bytes,
     ) -> Result<ObjId, Refusal>
-        ensures { Answered self.old self.new thread (calls.MakeSegment container label bytes) result (IsNextNumber self.old.kept) }
+        ensures { Answered self.old self.new thread (calls.MakeSegment container label bytes) result
+            (IsNextNumber self.old.kept) }
     {
         let label = HandedLabel::new(alloc, label)?;
         let call = RawCall::MakeSegment(container, label, bytes);
@@ -180,7 +184,8 @@ impl<S: LabelStore + Drop> Kernel<S> {
         container: ObjId,
         label: Label,
     ) -> Result<ObjId, Refusal>
-        ensures { Answered self.old self.new thread (calls.MakeContainer container label) result (IsNextNumber self.old.kept) }
+        ensures { Answered self.old self.new thread (calls.MakeContainer container label) result
+            (IsNextNumber self.old.kept) }
     {
         let label = HandedLabel::new(alloc, label)?;
         let call = RawCall::MakeContainer(container, label);
@@ -196,7 +201,8 @@ impl<S: LabelStore + Drop> Kernel<S> {
         label: Label,
         clearance: Label,
     ) -> Result<ObjId, Refusal>
-        ensures { Answered self.old self.new thread (calls.MakeThread container label clearance) result (IsNextNumber self.old.kept) }
+        ensures { Answered self.old self.new thread (calls.MakeThread container label clearance)
+            result (IsNextNumber self.old.kept) }
     {
         let label = HandedLabel::new(self.alloc, label)?;
         let clearance = HandedLabel::new(self.alloc, clearance)?;
@@ -214,7 +220,8 @@ impl<S: LabelStore + Drop> Kernel<S> {
         clearance: Label,
         entry: Entry,
     ) -> Result<ObjId, Refusal>
-        ensures { Answered self.old self.new thread (calls.MakeGate container label clearance entry) result (IsNextNumber self.old.kept) }
+        ensures { Answered self.old self.new thread (calls.MakeGate container label clearance entry)
+            result (IsNextNumber self.old.kept) }
     {
         let label = HandedLabel::new(self.alloc, label)?;
         let clearance = HandedLabel::new(self.alloc, clearance)?;
@@ -233,7 +240,8 @@ impl<S: LabelStore + Drop> Kernel<S> {
         clearance: Label,
         shown: Label,
     ) -> Result<Entry, Refusal>
-        ensures { Answered self.old self.new thread (calls.Enter container gate wanted clearance shown) result (IsEntryOf self.old.kept gate) }
+        ensures { Answered self.old self.new thread
+            (calls.Enter container gate wanted clearance shown) result (IsEntryOf self.old.kept gate) }
     {
         let wanted = HandedLabel::new(self.alloc, wanted)?;
         let clearance = HandedLabel::new(self.alloc, clearance)?;
@@ -320,7 +328,8 @@ impl<S: LabelStore + Drop> Kernel<S> {
         container: ObjId,
         segment: ObjId,
     ) -> Result<Bytes, Refusal>
-        ensures { Answered self.old self.new thread (calls.Read container segment) result (AreBytesOf self.old.kept segment) }
+        ensures { Answered self.old self.new thread (calls.Read container segment) result
+            (AreBytesOf self.old.kept segment) }
     {
         let call = RawCall::Read(container, segment);
         Ok(self.call(alloc, thread, call)?.into_bytes())
@@ -364,7 +373,8 @@ impl<S: LabelStore + Drop> Kernel<S> {
         container: ObjId,
         object: ObjId,
     ) -> Result<Label, Refusal>
-        ensures { Answered self.old self.new thread (calls.LabelOf container object) result (IsLabelOf self.old.kept object) }
+        ensures { Answered self.old self.new thread (calls.LabelOf container object) result
+            (IsLabelOf self.old.kept object) }
     {
         let call = RawCall::LabelOf(container, object);
         Ok(self.call(self.alloc, thread, call)?.into_label())

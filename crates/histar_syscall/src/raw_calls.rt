@@ -21,8 +21,10 @@ pub fn run_raw<S: LabelStore + Drop>(
     calls: &[(ObjId, RawCall)],
 ) -> Result<(), OutOfMemory>
     ensures all { OnOk result (MadeAll kernel.old calls.now kernel.new) }
-    ensures beginning { OnErr result ((made : ℕ) × (made < length calls.now) × MadeAll kernel.old (take made calls.now) kernel.new) }
-    ensures confined { (v : ℕ) → AreConfined (state kernel.old) v calls.now → visible (state kernel.new) v ≡ visible (state kernel.old) v }
+    ensures beginning { OnErr result ((made : ℕ) × (made < length calls.now)
+        × MadeAll kernel.old (take made calls.now) kernel.new) }
+    ensures confined { (v : ℕ) → AreConfined (state kernel.old) v calls.now
+        → visible (state kernel.new) v ≡ visible (state kernel.old) v }
 {
     for asked in calls {
         make(alloc, kernel, asked.0, &asked.1)?;

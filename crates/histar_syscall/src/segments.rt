@@ -20,7 +20,8 @@ pub fn make_segment<S: LabelStore + Drop>(
     label: &Label,
     bytes: &Bytes,
 ) -> Result<ObjId, Refusal>
-    ensures { Decides objects.old objects.new thread (calls.MakeSegment container label.now bytes.now) result (IsNextNumber objects.old) }
+    ensures { Decides objects.old objects.new thread
+        (calls.MakeSegment container label.now bytes.now) result (IsNextNumber objects.old) }
 {
     objects.check_new(thread, container, label, bytes.len())?;
     let number = objects.next_object();
@@ -61,7 +62,8 @@ pub fn write<S: LabelStore + Drop>(
     keep: u32,
     bytes: &Bytes,
 ) -> Result<(), Refusal>
-    ensures { Decides objects.old objects.new thread (calls.Write container segment keep bytes.now) result (λ _. Unit {0}) }
+    ensures { Decides objects.old objects.new thread (calls.Write container segment keep bytes.now)
+        result (λ _. Unit {0}) }
 {
     objects.check_write(thread, container, segment, keep, bytes)?;
     objects.splice(alloc, segment, keep, bytes)?;

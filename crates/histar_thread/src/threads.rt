@@ -45,7 +45,8 @@ pub fn make_category<S: LabelStore + Drop>(
     objects: &mut LabelledObjects<S>,
     thread: ObjId,
 ) -> Result<Category, Refusal>
-    ensures { Decides objects.old objects.new thread calls.MakeCategory result (λ category. category ≡ objects.old.next_category) }
+    ensures { Decides objects.old objects.new thread calls.MakeCategory result
+        (λ category. category ≡ objects.old.next_category) }
 {
     let (label, clearance) = check_make_category(objects, thread)?;
     let category = Category::new(objects.next_category());
@@ -129,7 +130,8 @@ pub fn make_thread<S: LabelStore + Drop>(
     label: &Label,
     clearance: &Label,
 ) -> Result<ObjId, Refusal>
-    ensures { Decides objects.old objects.new thread (calls.MakeThread container label.now clearance.now) result (IsNextNumber objects.old) }
+    ensures { Decides objects.old objects.new thread
+        (calls.MakeThread container label.now clearance.now) result (IsNextNumber objects.old) }
 {
     objects.check_new_owner(thread, container, label, clearance)?;
     let number = objects.next_object();

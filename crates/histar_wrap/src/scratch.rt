@@ -57,7 +57,8 @@ fn make_or_give_back<S: LabelStore + Drop>(
     above: ObjId,
     label: Label,
 ) -> Result<ObjId, Ending>
-    ensures runs { RunsPart (ask_or_give_back (own.now, most.now) (calls.MakeContainer above label)) kernel.old kernel.new thread result }
+    ensures runs { RunsPart (ask_or_give_back (own.now, most.now) (calls.MakeContainer above label))
+        kernel.old kernel.new thread result }
     ensures number { IfOk result (λ container. 0 < container) }
 {
     let refusal = match kernel.make_container(alloc, thread, above, label) {

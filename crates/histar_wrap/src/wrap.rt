@@ -34,7 +34,8 @@ pub fn wrap<S: LabelStore + Drop>(
     caller: &Caller,
     path: &[Name],
 ) -> Result<Reply, Stopped>
-    ensures { Runs (wrap_program users.now places.now name.now caller.now.home path.now) kernel.old kernel.new caller.now.thread result }
+    ensures { Runs (wrap_program users.now places.now name.now caller.now.home path.now) kernel.old
+        kernel.new caller.now.thread result }
 {
     settle(start_job(alloc, kernel, places, users, name, caller, path))
 }
@@ -48,7 +49,8 @@ fn start_job<S: LabelStore + Drop>(
     caller: &Caller,
     path: &[Name],
 ) -> Result<Reply, Ending>
-    ensures { Runs (wrap_program users.now places.now name.now caller.now.home path.now) kernel.old kernel.new caller.now.thread (settled result) }
+    ensures { Runs (wrap_program users.now places.now name.now caller.now.home path.now) kernel.old
+        kernel.new caller.now.thread (settled result) }
 {
     let (home, thread) = (&caller.home, caller.thread);
     let Segment { head, bytes } = room_for_child(alloc, kernel, thread, name, home)?;
