@@ -1,9 +1,10 @@
 -- The command line as `clap` reads it, by the forms of the subcommands.
-use Rattle.std.specs.Prelude.{true, List, [], ◌∷◌, Some, codes, fold, map}
+use Rattle.std.specs.Prelude.{true, false, List, [], ◌∷◌, Some, codes, fold, map}
+use Rattle.clap.specs.Lexer.{usize_max}
 use Rattle.clap.specs.Words.{App, Rule, Text, new_app, new_rule, with_rule, with_subcommand}
 use Rattle.clap.specs.declared.builder.action.ArgAction.TheVariants.{Set, SetTrue}
 use Rattle.histar_command_line.specs.declared.forms.Argument.{Argument}
-use Rattle.histar_command_line.specs.declared.forms.Argument.TheVariants.{Flag, Word, Valued}
+use Rattle.histar_command_line.specs.declared.forms.Argument.TheVariants.{Flag, Word, Unless, Words, Valued}
 use Rattle.histar_command_line.specs.declared.forms.Form.{Form}
 
 -- a flag of this name
@@ -14,6 +15,14 @@ flag_rule name = record (new_rule name) { long = Some name; action = Some SetTru
 abbrev pub word_rule : Text → Rule
 word_rule name = record (new_rule name) { required = true }
 
+-- a word of this name, which another rule requires
+abbrev pub unless_rule : Text → Rule
+unless_rule name = record (new_rule name) { is_free = false }
+
+-- one word of this name or more
+abbrev pub words_rule : Text → Rule
+words_rule name = record (new_rule name) { required = true; range = Some (record { start_inclusive = 1; end_inclusive = usize_max }) }
+
 -- a word of this name behind a flag
 abbrev pub option_rule : Text → Text → Rule
 option_rule name flag = record (new_rule name) { long = Some flag; action = Some Set }
@@ -22,6 +31,8 @@ option_rule name flag = record (new_rule name) { long = Some flag; action = Some
 abbrev pub argument_rule : Argument → Rule
 argument_rule (Flag name help) = flag_rule name.now
 argument_rule (Word name help) = word_rule name.now
+argument_rule (Unless name flag help) = unless_rule name.now
+argument_rule (Words name help) = words_rule name.now
 argument_rule (Valued name flag help) = option_rule name.now flag.now
 
 -- a subcommand of a form
@@ -38,15 +49,17 @@ subcommand_app name arguments = fold with_rule (new_app name) arguments
 
 -- `run [--tree] [--trace] [--explain] FILE`
 abbrev pub run_app : App
-run_app = subcommand_app (codes "run") (flag_rule (codes "tree") ∷ flag_rule (codes "trace") ∷ flag_rule (codes "explain") ∷ word_rule (codes "FILE") ∷ [])
+run_app = subcommand_app (codes "run")
+    (flag_rule (codes "tree") ∷ flag_rule (codes "trace") ∷ flag_rule (codes "explain") ∷ word_rule (codes "FILE") ∷ [])
 
 -- `raw [--explain] FILE`
 abbrev pub raw_app : App
 raw_app = subcommand_app (codes "raw") (flag_rule (codes "explain") ∷ word_rule (codes "FILE") ∷ [])
 
--- `check [--exit-code] JOB FILE`
+-- `check [--why] [--all] [--exit-code] JOB [FILE]`
 abbrev pub check_app : App
-check_app = subcommand_app (codes "check") (flag_rule (codes "exit-code") ∷ word_rule (codes "JOB") ∷ word_rule (codes "FILE") ∷ [])
+check_app = subcommand_app (codes "check")
+    (flag_rule (codes "why") ∷ flag_rule (codes "all") ∷ flag_rule (codes "exit-code") ∷ word_rule (codes "JOB") ∷ unless_rule (codes "FILE") ∷ [])
 
 -- `access [--at LINE] FILE`
 abbrev pub access_app : App
@@ -60,10 +73,15 @@ diff_app = subcommand_app (codes "diff") (option_rule (codes "LINE") (codes "at"
 abbrev pub trust_app : App
 trust_app = subcommand_app (codes "trust") (option_rule (codes "LINE") (codes "at") ∷ word_rule (codes "PATH") ∷ word_rule (codes "FILE") ∷ [])
 
--- `lint FILE`
+-- `lint [--raw] FILE`
 abbrev pub lint_app : App
-lint_app = subcommand_app (codes "lint") (word_rule (codes "FILE") ∷ [])
+lint_app = subcommand_app (codes "lint") (flag_rule (codes "raw") ∷ word_rule (codes "FILE") ∷ [])
+
+-- `test FILE..`
+abbrev pub test_app : App
+test_app = subcommand_app (codes "test") (words_rule (codes "FILE") ∷ [])
 
 -- the program with its subcommands
 abbrev pub histar_app : App
-histar_app = fold with_subcommand named_app (run_app.top ∷ raw_app.top ∷ check_app.top ∷ access_app.top ∷ diff_app.top ∷ trust_app.top ∷ lint_app.top ∷ [])
+histar_app = fold with_subcommand named_app
+    (run_app.top ∷ raw_app.top ∷ check_app.top ∷ access_app.top ∷ diff_app.top ∷ trust_app.top ∷ lint_app.top ∷ test_app.top ∷ [])

@@ -1,9 +1,10 @@
 -- What the words of a command line ask for.
-use Rattle.std.specs.Prelude.{◌≡◌, Bool, false, List, codes, Option, None, Some, option_map}
+use Rattle.std.specs.Prelude.{◌≡◌, Bool, true, false, List, codes, map, Option, None, Some, option_map}
 use Rattle.std.specs.Str.{bytes_eq}
-use Rattle.clap.specs.Words.{Row, Text, first_of}
+use Rattle.clap.specs.Words.{Row, Text, all_of, first_of}
+use Rattle.histar_command_line.specs.declared.task.CheckFlags.{CheckFlags}
 use Rattle.histar_command_line.specs.declared.task.Task.{Task}
-use Rattle.histar_command_line.specs.declared.task.Task.TheVariants.{Run, Raw, Check, Access, Diff, Trust, Lint}
+use Rattle.histar_command_line.specs.declared.task.Task.TheVariants.{Run, Raw, Check, CheckAll, Access, Diff, Trust, Lint, Test}
 
 -- the value of a flag that was given
 abbrev pub is_given : Option Text → Bool
@@ -18,11 +19,17 @@ is_set name rows = is_given (first_of name rows)
 abbrev pub subcommand : Task → Text
 subcommand (Run file flags) = codes "run"
 subcommand (Raw file explain) = codes "raw"
-subcommand (Check job file exit_code) = codes "check"
+subcommand (Check job file flags) = codes "check"
+subcommand (CheckAll file flags) = codes "check"
 subcommand (Access file at) = codes "access"
 subcommand (Diff old new at) = codes "diff"
 subcommand (Trust path file at) = codes "trust"
-subcommand (Lint file) = codes "lint"
+subcommand (Lint file is_raw) = codes "lint"
+subcommand (Test files) = codes "test"
+
+-- the flags of a comparison
+abbrev pub HasFlags : CheckFlags → List Row → Type 0
+HasFlags flags rows = (flags.why ≡ is_set (codes "why") rows) × (flags.exit_code ≡ is_set (codes "exit-code") rows)
 
 -- the task has the words and the flags of its subcommand
 abbrev pub HasArguments : Task → List Row → Type 0
@@ -34,10 +41,16 @@ HasArguments (Run file flags) rows =
 HasArguments (Raw file explain) rows =
     (first_of (codes "FILE") rows ≡ Some file.now)
     × (explain ≡ is_set (codes "explain") rows)
-HasArguments (Check job file exit_code) rows =
-    (first_of (codes "JOB") rows ≡ Some job.now)
+HasArguments (Check job file flags) rows =
+    (is_set (codes "all") rows ≡ false)
+    × (first_of (codes "JOB") rows ≡ Some job.now)
     × (first_of (codes "FILE") rows ≡ Some file.now)
-    × (exit_code ≡ is_set (codes "exit-code") rows)
+    × HasFlags flags rows
+HasArguments (CheckAll file flags) rows =
+    (is_set (codes "all") rows ≡ true)
+    × (first_of (codes "JOB") rows ≡ Some file.now)
+    × (first_of (codes "FILE") rows ≡ None)
+    × HasFlags flags rows
 HasArguments (Access file at) rows =
     (first_of (codes "FILE") rows ≡ Some file.now)
     × (option_map (λ line. line.now) at ≡ first_of (codes "LINE") rows)
@@ -49,8 +62,15 @@ HasArguments (Trust path file at) rows =
     (first_of (codes "PATH") rows ≡ Some path.now)
     × (first_of (codes "FILE") rows ≡ Some file.now)
     × (option_map (λ line. line.now) at ≡ first_of (codes "LINE") rows)
-HasArguments (Lint file) rows = first_of (codes "FILE") rows ≡ Some file.now
+HasArguments (Lint file is_raw) rows =
+    (first_of (codes "FILE") rows ≡ Some file.now)
+    × (is_raw ≡ is_set (codes "raw") rows)
+HasArguments (Test files) rows = all_of (codes "FILE") rows ≡ Some (map (λ file. file.now) files.items)
 
 -- this is the task of the subcommand that was matched, with its words and its flags
 abbrev pub IsTaskOf : Task → Option (Text × List Row) → Type 0
 IsTaskOf task matched = (rows : List Row) × (matched ≡ Some (subcommand task, rows)) × HasArguments task rows
+
+-- this is a task of `check` with its words and its flags
+abbrev pub IsCheckOf : Task → List Row → Type 0
+IsCheckOf task rows = (subcommand task ≡ codes "check") × HasArguments task rows

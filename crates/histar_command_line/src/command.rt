@@ -30,21 +30,28 @@ Exit status:
 A FILE that is - is standard input.";
 
 /// Returns an argument, as `clap` reads it.
-fn arg_of<'a>(alloc: Global, argument: Argument<'a>) -> Arg<'a>
-    ensures rule { rule_of result ≡ argument_rule argument.entry }
-    ensures local { result.global ≡ false }
+fn arg_of<'a>(alloc: Global, argument: Argument<'a>) -> Result<Arg<'a>, AllocError>
+    ensures rule { IfOk result (λ arg. rule_of arg ≡ argument_rule argument.entry) }
+    ensures local { IfOk result (λ arg. arg.global ≡ false) }
 {
-    match argument {
+    Ok(match argument {
         Argument::Flag(name, help) => Arg::new(alloc, name)
             .long(name)
             .action(ArgAction::SetTrue)
             .help(help),
         Argument::Word(name, help) => Arg::new(alloc, name).required(true).help(help),
+        Argument::Unless(name, flag, help) => Arg::new(alloc, name)
+            .help(help)
+            .required_unless_present(flag)?,
+        Argument::Words(name, help) => Arg::new(alloc, name)
+            .required(true)
+            .num_args(1..)
+            .help(help),
         Argument::Valued(name, flag, help) => Arg::new(alloc, name)
             .long(flag)
             .action(ArgAction::Set)
             .help(help),
-    }
+    })
 }
 
 /// Returns a subcommand, as `clap` reads and explains it.
@@ -56,7 +63,8 @@ fn subcommand_of<'a>(alloc: Global, form: &Form<'a>) -> Result<Command<'a>, Allo
         .about(form.about)
         .after_help(form.after_help);
     'arguments: for argument in form.arguments {
-        command = command.arg(arg_of(alloc, *argument))?;
+        let arg = arg_of(alloc, *argument)?;
+        command = command.arg(arg)?;
     }
     Ok(command)
 }
@@ -85,5 +93,6 @@ pub(crate) fn command<'a>(alloc: Global) -> Result<Command<'a>, AllocError>
     let histar = add(alloc, histar, &forms::access())?;
     let histar = add(alloc, histar, &forms::diff())?;
     let histar = add(alloc, histar, &forms::trust())?;
-    add(alloc, histar, &forms::lint())
+    let histar = add(alloc, histar, &forms::lint())?;
+    add(alloc, histar, &forms::test())
 }

@@ -1,6 +1,6 @@
 //! The forms of the subcommands: their names, their arguments and their help.
 ghost use Rattle.std.specs.Prelude.{◌≡◌};
-ghost use Rattle.histar_command_line.specs.Forms.{form_app, run_app, raw_app, check_app, access_app, diff_app, lint_app, trust_app};
+ghost use Rattle.histar_command_line.specs.Forms.{form_app, run_app, raw_app, check_app, access_app, diff_app, lint_app, test_app, trust_app};
 
 /// An argument of a subcommand.
 #[derive(Clone, Copy)]
@@ -9,6 +9,10 @@ pub enum Argument<'a> {
     Flag(&'a str, &'a str),
     /// A word that has to be there: its name, and what it is.
     Word(&'a str, &'a str),
+    /// A word that has to be there unless a flag is: its name, the name of the flag, and what it is.
+    Unless(&'a str, &'a str, &'a str),
+    /// One word or more: their name, and what they are.
+    Words(&'a str, &'a str),
     /// A word behind a flag: its name, the name of the flag, and what it is.
     Valued(&'a str, &'a str, &'a str),
 }
@@ -67,7 +71,7 @@ pub(crate) fn raw<'a>() -> Form<'a>
     }
 }
 
-/// Returns `check [--exit-code] JOB FILE`.
+/// Returns `check [--why] [--all] [--exit-code] JOB [FILE]`.
 pub(crate) fn check<'a>() -> Form<'a>
     ensures { form_app result ≡ check_app }
 {
@@ -79,11 +83,21 @@ pub(crate) fn check<'a>() -> Form<'a>
 prints
   same
 
+With --why what each run prints there stands behind a difference, the run with the job first:
+  line 14: ok j/ | ok
+
+With --all the one word is FILE, and each job that the script starts has a line:
+  histar check --all examples/scan.histar
+prints
+  0.1.1 same
+
 Exit status: 0; with --exit-code it is 5 for anything but same",
         arguments: &[
+            Argument::Flag("why", "Print both replies, or both lines of the tree, where the runs differ"),
+            Argument::Flag("all", "Leave out each job that the script starts, one after another"),
             Argument::Flag("exit-code", "End with status 5 unless the answer is `same`"),
-            Argument::Word("JOB", "The job: the name of its first process"),
-            Argument::Word("FILE", SCRIPT),
+            Argument::Word("JOB", "The job: the name of its first process; with --all the script"),
+            Argument::Unless("FILE", "all", SCRIPT),
         ],
     }
 }
@@ -163,7 +177,7 @@ prints, among others, the line
     }
 }
 
-/// Returns `lint FILE`.
+/// Returns `lint [--raw] FILE`.
 pub(crate) fn lint<'a>() -> Form<'a>
     ensures { form_app result ≡ lint_app }
 {
@@ -178,6 +192,30 @@ Example:
   histar lint examples/lint/no_mode.histar
 prints
   examples/lint/no_mode.histar:4: the call is `PROC create PATH MODE`",
-        arguments: &[Argument::Word("FILE", SCRIPT)],
+        arguments: &[
+            Argument::Flag("raw", "FILE is a session of raw calls"),
+            Argument::Word("FILE", "The script, or the session of raw calls"),
+        ],
+    }
+}
+
+/// Returns `test FILE..`.
+pub(crate) fn test<'a>() -> Form<'a>
+    ensures { form_app result ≡ test_app }
+{
+    Form {
+        name: "test",
+        about: "Run scripts and compare the replies with those that they expect",
+        after_help: "A comment that begins with `#= ` says what the call line before it is to be answered:
+  0.1 read /tmp/diary
+  #= EACCES
+
+The output has the form of the Test Anything Protocol: the number of expectations, and a line for each.
+
+Exit status: 0 where all are met, 5 where one is not
+
+Example:
+  histar test examples/sessions/a_secret.histar",
+        arguments: &[Argument::Words("FILE", "The scripts, with what they expect")],
     }
 }

@@ -1,13 +1,13 @@
 //! What the command line asks for.
 ghost use Rattle.std.specs.Prelude.{◌≡◌, IfOk, IfSome, map};
-ghost use Rattle.clap.specs.Words.{first_value, found_of, subcommand_of, subcommand_rows_of};
+ghost use Rattle.clap.specs.Words.{first_value, found_of, rows_of, subcommand_of, subcommand_rows_of};
 ghost use Rattle.histar_command_line.specs.Forms.{histar_app};
-ghost use Rattle.histar_command_line.specs.Tasks.{IsTaskOf, is_given};
+ghost use Rattle.histar_command_line.specs.Tasks.{IsCheckOf, IsTaskOf, is_given};
 
 use crate::command::command;
 use clap::error::ErrorKind;
 use clap::{ArgMatches, Error};
-use std::alloc::Global;
+use std::alloc::{AllocError, Global};
 
 /// What a run is asked for beside the replies.
 #[derive(Clone, Copy)]
@@ -18,24 +18,36 @@ pub struct RunFlags {
     pub explain: bool,
 }
 
-/// What the program is to do: the subcommand with its words and its flags.
+/// What a comparison is asked for beside the verdict.
 #[derive(Clone, Copy)]
+pub struct CheckFlags {
+    /// What each run prints where they differ.
+    pub why: bool,
+    /// Whether the status says what was found.
+    pub exit_code: bool,
+}
+
+/// What the program is to do: the subcommand with its words and its flags.
+#[derive(Drop)]
 pub enum Task<'a> {
     /// Run the script in this file, and print what is asked for beside the replies.
     Run(&'a str, RunFlags),
     /// Run the session of raw calls in this file, and explain why calls were denied, if that is asked for.
     Raw(&'a str, bool),
-    /// Compare the script in a file with the one without a job: first the job, then the file; and whether the status says what
-    /// was found.
-    Check(&'a str, &'a str, bool),
+    /// Compare the script in a file with the one without a job: first the job, then the file.
+    Check(&'a str, &'a str, CheckFlags),
+    /// Compare the script in this file with the one without each job that it starts.
+    CheckAll(&'a str, CheckFlags),
     /// Print who may do what after the script in this file, or before the line of this number.
     Access(&'a str, Option<&'a str>),
     /// Print whose rights differ after an old script and a new one, or before the line of this number in both.
     Diff(&'a str, &'a str, Option<&'a str>),
     /// Print on whom it depends what is at a path after a script, or before the line of this number: first the path, then the file.
     Trust(&'a str, &'a str, Option<&'a str>),
-    /// Print why the script in this file is bad, where it is.
-    Lint(&'a str),
+    /// Print why the script in this file is bad, where it is; or the session of raw calls, if it is one.
+    Lint(&'a str, bool),
+    /// Compare the replies to the scripts in these files with those that they expect.
+    Test(Vec<&'a str>),
 }
 
 /// Checks whether a flag was given: its value is `true` then.
@@ -70,12 +82,24 @@ fn task_of<'a>(matches: &ArgMatches<'a>) -> Option<Task<'a>>
         return Some(Task::Raw(file, explain));
     }
     if let Some(check) = matches.subcommand_matches("check") {
-        let job = check.get_str("JOB")?;
-        let file = check.get_str("FILE")?;
-        let exit_code = is_set(check, "exit-code");
-        return Some(Task::Check(job, file, exit_code));
+        return check_task_of(check);
     }
     state_task_of(matches)
+}
+
+/// Returns the task of the words and flags of `check`. With `--all` its one word is the file.
+fn check_task_of<'a>(check: &ArgMatches<'a>) -> Option<Task<'a>>
+    ensures { IfSome result (λ task. IsCheckOf task (rows_of (found_of check.now))) }
+{
+    let word = check.get_str("JOB")?;
+    let why = is_set(check, "why");
+    let exit_code = is_set(check, "exit-code");
+    let flags = CheckFlags { why, exit_code };
+    match (is_set(check, "all"), check.get_str("FILE")) {
+        (true, None) => Some(Task::CheckAll(word, flags)),
+        (false, Some(file)) => Some(Task::Check(word, file, flags)),
+        _ => None,
+    }
 }
 
 /// Returns the task of a subcommand that was matched which looks at a script or at a state.
@@ -101,7 +125,22 @@ fn state_task_of<'a>(matches: &ArgMatches<'a>) -> Option<Task<'a>>
     }
     let lint = matches.subcommand_matches("lint")?;
     let file = lint.get_str("FILE")?;
-    Some(Task::Lint(file))
+    let raw = is_set(lint, "raw");
+    Some(Task::Lint(file, raw))
+}
+
+/// Returns the task of `test`, if it was matched.
+fn test_task_of<'a>(alloc: Global, matches: &ArgMatches<'a>) -> Result<Option<Task<'a>>, AllocError>
+    ensures { IfOk result (λ found. IfSome found (λ task. IsTaskOf task (subcommand_rows_of matches.now))) }
+{
+    let Some(test) = matches.subcommand_matches("test") else {
+        return Ok(None);
+    };
+    let Some(files) = test.get_strs("FILE") else {
+        return Ok(None);
+    };
+    let files = Vec::from_slice(alloc, files)?;
+    Ok(Some(Task::Test(files)))
 }
 
 /// Returns the task that the words name, the program's own name first.
@@ -113,8 +152,11 @@ pub fn read_words<'a>(alloc: Global, words: &'a [&'a str]) -> Result<Task<'a>, E
 {
     let mut command = command(alloc)?;
     let matches = command.try_get_matches_from_mut(words)?;
+    if let Some(task) = test_task_of(alloc, &matches)? {
+        return Ok(task);
+    }
     let Some(task) = task_of(&matches) else {
-        return Err(command.error(ErrorKind::MissingSubcommand, "no subcommand")?);
+        return Err(command.error(ErrorKind::MissingRequiredArgument, "words that don't fit together")?);
     };
     Ok(task)
 }

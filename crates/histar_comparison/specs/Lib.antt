@@ -1,3 +1,5 @@
 pub mod Replies
 pub mod Observation
 pub mod Compared
+pub mod Explained
+pub mod Jobs

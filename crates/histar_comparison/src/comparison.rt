@@ -37,7 +37,7 @@ pub fn compare(alloc: Global, text: &[u8], job: &ProcName) -> Result<Verdict, Fa
 }
 
 /// What is found in what two runs show.
-fn find_difference(first: &Observation, second: &Observation) -> Verdict
+pub(crate) fn find_difference(first: &Observation, second: &Observation) -> Verdict
     ensures { result ≡ difference first.now second.now }
 {
     let replies = &first.replies;

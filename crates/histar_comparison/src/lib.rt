@@ -2,8 +2,12 @@
 #![tactic(auto)]
 
 mod comparison;
+mod explained;
+mod jobs;
 mod observation;
 mod replies;
 
 pub use comparison::compare;
+pub use explained::{Explained, explain_comparison};
 pub use histar_isolation::Verdict;
+pub use jobs::{JobVerdict, compare_all};

@@ -18,4 +18,5 @@ returns c =
     let with_access = c.in_ok-histar-5.ensures ∙ ap₂ with_subcommand with_check (ap top c.access.ensures) in
     let with_diff = c.in_ok-histar-6.ensures ∙ ap₂ with_subcommand with_access (ap top c.diff.ensures) in
     let with_trust = c.in_ok-histar-7.ensures ∙ ap₂ with_subcommand with_diff (ap top c.trust.ensures) in
-    IfOk-weaker c.add-7.result _ _ (λ r added. added ∙ ap₂ with_subcommand with_trust (ap top c.lint.ensures)) c.add-7.ensures
+    let with_lint = c.in_ok-histar-8.ensures ∙ ap₂ with_subcommand with_trust (ap top c.lint.ensures) in
+    IfOk-weaker c.add-8.result _ _ (λ r added. added ∙ ap₂ with_subcommand with_lint (ap top c.test.ensures)) c.add-8.ensures

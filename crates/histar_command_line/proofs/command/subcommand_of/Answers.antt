@@ -1,4 +1,4 @@
-use Rattle.std.proofs.Common.{◌≡◌, false, sym, subst, ap, ◌∙◌}
+use Rattle.std.proofs.Common.{sym, subst, ap, ◌∙◌}
 use Rattle.std.specs.Prelude.{fold, map}
 use Rattle.std.proofs.lemmas.List.{take_more, take_all}
 use Rattle.clap.specs.declared.builder.command.Command.TheOpen.{Command-F}
@@ -22,7 +22,7 @@ arguments-preserved c =
     let arguments = c.args.form.now.arguments.now in
     let bare = new_app c.args.form.now.name.now in
     subst (Has c.in_ok-command.command bare) (sym (take_more arguments c.arguments.argument-index _ c.arguments-test.true))
-    (has_more c.arguments.command c.in_ok-command.command c.arg_of.result bare _ _ c.arguments.invariant c.in_ok-command.ensures c.arg_of.ensures.rule c.arg_of.ensures.local)
+    (has_more c.arguments.command c.in_ok-command.command c.in_ok-arg.arg bare _ _ c.arguments.invariant c.in_ok-command.ensures c.in_ok-arg.ensures.rule c.in_ok-arg.ensures.local)
 
 pub returns-clause-app : goal.returns-clause-app
 returns-clause-app c =

@@ -1,6 +1,7 @@
-use Rattle.std.proofs.Common.{refl, sym, ◌∙◌, codes}
+use Rattle.std.proofs.Common.{refl, sym, ap, ◌∙◌, codes}
 use Rattle.clap.specs.Words.{rows_of, found_of}
 use Rattle.clap.proofs.WalkLemmas.{first_value-rows}
+use Rattle.histar_command_line.specs.Tasks.{is_given}
 use Rattle.histar_command_line.proofs.Matches.{matched}
 use Rattle.histar_command_line.proofs.task.state_task_of.Goals as goal
 
@@ -48,5 +49,8 @@ returns c =
     let found = found_of m.lint.now in (
       rows_of found,
       matched c.args.matches.now (codes "lint") (rows_of found) (m.ensures.found.0 refl) m.ensures.rows,
-      sym (c.in_ok-file-3.ensures ∙ first_value-rows found (codes "FILE")),
+      (
+        sym (c.in_ok-file-3.ensures ∙ first_value-rows found (codes "FILE")),
+        c.is_set-raw.ensures ∙ ap is_given (first_value-rows found (codes "raw")),
+      ),
     )

@@ -1,5 +1,6 @@
-use Rattle.std.proofs.Common.{refl, sym, ap, ◌∙◌, codes}
-use Rattle.clap.specs.Words.{rows_of, found_of}
+use Rattle.std.proofs.Common.{Some, refl, sym, ap, ◌∙◌, codes}
+use Rattle.std.proofs.lemmas.Option.{IfSome_then}
+use Rattle.clap.specs.Words.{Text, rows_of, found_of}
 use Rattle.clap.proofs.WalkLemmas.{first_value-rows}
 use Rattle.histar_command_line.specs.Tasks.{is_given}
 use Rattle.histar_command_line.proofs.Matches.{matched}
@@ -34,12 +35,7 @@ returns-in-Some-subcommand_matches c =
 pub returns-in-Some-subcommand_matches-2 : goal.returns-in-Some-subcommand_matches-2
 returns-in-Some-subcommand_matches-2 c =
     let m = c.in-Some-subcommand_matches-2 in
-    let found = found_of m.check.now in (
-      rows_of found,
-      matched c.args.matches.now (codes "check") (rows_of found) (m.ensures.found.0 refl) m.ensures.rows,
-      (
-        sym (c.in_ok-job.ensures ∙ first_value-rows found (codes "JOB")),
-        sym (c.in_ok-file-3.ensures ∙ first_value-rows found (codes "FILE")),
-        c.is_set-exit_code.ensures ∙ ap is_given (first_value-rows found (codes "exit-code")),
-      ),
-    )
+    let found = found_of m.check.now in
+    let named = matched c.args.matches.now (codes "check") (rows_of found) (m.ensures.found.0 refl) m.ensures.rows in
+    IfSome_then c.check_task_of.result c.check_task_of.ensures
+    (λ task is. (rows_of found, named ∙ ap (λ (name : Text). Some (name, rows_of found)) (sym is.0), is.1))

@@ -1,0 +1,81 @@
+-- A verdict, and what each of the two runs prints where they differ.
+use Rattle.std.specs.Prelude.{ℕ, List, [], ◌∷◌, ◌++◌, codes, Result, Ok, Err, ◌==◌, if◌then◌else◌}
+use Rattle.histar_flat.specs.declared.calls.CallLine.{CallLine}
+use Rattle.histar_flat.specs.Words.{Path, ProcName}
+use Rattle.histar_flat.specs.PathOrder.{same}
+use Rattle.histar_flat.specs.Sessions.{Session}
+use Rattle.histar_flat.specs.Texts.{reply_text}
+use Rattle.histar_flat.specs.Meaning.{Answered, boot, flat_end, meaning, without}
+use Rattle.histar_isolation.specs.declared.replies.ShownReply.{ShownReply}
+use Rattle.histar_isolation.specs.declared.verdict.Verdict.{Verdict}
+use Rattle.histar_isolation.specs.declared.verdict.Verdict.TheVariants.{Same, NoJob, Line, Tree}
+use Rattle.histar_isolation.specs.Comparison.{outsiders, verdict}
+use Rattle.histar_isolation.specs.Trees.{PathText, tree_lines}
+use Rattle.histar_isolation.specs.VerdictText.{verdict_text}
+use Rattle.histar_script.specs.declared.fault.Fault.{Fault}
+use Rattle.histar_script.specs.Script.{Reading}
+use Rattle.histar_script.specs.Reading.{script_of}
+use Rattle.histar_comparison.specs.declared.explained.Explained.{Explained}
+use Rattle.histar_comparison.specs.Observation.{ObservationModel}
+
+-- the text of the reply to line n
+abbrev pub reply_on : ℕ → List Answered → List ℕ
+reply_on n [] = []
+reply_on n (a ∷ answers) = if a.call.line == n then reply_text a.reply else reply_on n answers
+
+-- what is printed of a path, among the lines of a tree; nothing where the path is not there
+abbrev pub line_at_path : Path → List PathText → List ℕ
+line_at_path q [] = []
+line_at_path q (line ∷ lines) = if same line.0 q then line.1 else line_at_path q lines
+
+-- what a run of these calls prints of what a verdict names: an outsider's reply, or a line of the tree at the end
+abbrev pub printed_of : ProcName → Session → List CallLine → Verdict → List ℕ
+printed_of job session calls Same = []
+printed_of job session calls NoJob = []
+printed_of job session calls (Line n) = reply_on n (outsiders job (meaning session calls))
+printed_of job session calls (Tree q) = line_at_path q (tree_lines (flat_end session (boot session) calls))
+
+-- the verdict of a script, with what each run prints of what it names
+abbrev pub explained : ProcName → Reading → Explained
+explained job script = let found = verdict script.session script.calls job in record {
+  verdict = found;
+  with_job = printed_of job script.session script.calls found;
+  without_job = printed_of job script.session (without job script.calls) found;
+}
+
+-- the same of the script that a text is, or the fault in it
+abbrev pub explanation_of : ProcName → Result Reading Fault → Result Explained Fault
+explanation_of job (Ok script) = Ok (explained job script)
+explanation_of job (Err fault) = Err fault
+
+-- what is found in a text, and printed where the runs differ
+abbrev pub explanation : ProcName → List ℕ → Result Explained Fault
+explanation job text = explanation_of job (script_of text)
+
+-- the text of the reply to line n, among the replies that were kept
+abbrev pub kept_on : ℕ → List ShownReply → List ℕ
+kept_on n [] = []
+kept_on n (reply ∷ replies) = if reply.line == n then reply.text else kept_on n replies
+
+-- what was seen of what a verdict names
+abbrev pub seen_of : ObservationModel → Verdict → List ℕ
+seen_of seen Same = []
+seen_of seen NoJob = []
+seen_of seen (Line n) = kept_on n seen.replies.shown
+seen_of seen (Tree q) = line_at_path q seen.tree
+
+-- what one run prints, or the word `nothing`
+abbrev pub side_text : List ℕ → List ℕ
+side_text [] = codes "nothing"
+side_text (b ∷ bs) = b ∷ bs
+
+-- both sides of a difference: the run with the job, a bar, and the run without it
+abbrev pub sides_text : Verdict → List ℕ → List ℕ → List ℕ
+sides_text Same with_job without_job = []
+sides_text NoJob with_job without_job = []
+sides_text (Line n) with_job without_job = codes ": " ++ side_text with_job ++ codes " | " ++ side_text without_job
+sides_text (Tree q) with_job without_job = codes ": " ++ side_text with_job ++ codes " | " ++ side_text without_job
+
+-- the line of a verdict, with both sides where the runs differ
+abbrev pub explained_text : Explained → List ℕ
+explained_text e = verdict_text e.verdict ++ sides_text e.verdict e.with_job e.without_job ++ codes "\n"

@@ -1,0 +1,66 @@
+-- The jobs that a script starts, each with its verdict.
+use Rattle.std.specs.Prelude.{◌≡◌, ℕ, Bool, true, false, List, [], ◌∷◌, ◌++◌, codes, map, Option, None, Some, Result, Ok, Err}
+use Rattle.std.specs.List.{filter_map}
+use Rattle.std.specs.Global.{Vec}
+use Rattle.histar_flat.specs.declared.calls.CallLine.{CallLine}
+use Rattle.histar_flat.specs.declared.calls.UnixCall.{UnixCall}
+use Rattle.histar_flat.specs.declared.calls.UnixCall.TheVariants.{Wrap}
+use Rattle.histar_flat.specs.declared.replies.Reply.{Reply}
+use Rattle.histar_flat.specs.declared.replies.Reply.TheVariants.{Child}
+use Rattle.histar_flat.specs.Words.{ProcName}
+use Rattle.histar_flat.specs.Meaning.{Answered, meaning}
+use Rattle.histar_flat.specs.Texts.{process_text}
+use Rattle.histar_isolation.specs.declared.verdict.Verdict.{Verdict}
+use Rattle.histar_isolation.specs.Comparison.{verdict}
+use Rattle.histar_isolation.specs.VerdictText.{verdict_text}
+use Rattle.histar_script.specs.declared.fault.Fault.{Fault}
+use Rattle.histar_script.specs.Outcome.{Gives}
+use Rattle.histar_script.specs.Script.{Reading}
+use Rattle.histar_script.specs.Reading.{script_of}
+use Rattle.histar_shell.specs.Machine.{MachineModel}
+use Rattle.histar_shell.specs.AnsweredCalls.{AnswersInTurn}
+use Rattle.histar_shell.specs.Answers.{calls_of}
+use Rattle.histar_comparison.specs.declared.jobs.JobVerdict.{JobVerdict}
+
+-- the call wraps a job
+abbrev pub is_wrap : UnixCall → Bool
+is_wrap (Wrap q) = true
+is_wrap call = false
+
+-- the job that a reply starts, where its call wraps one: the reply is the name of the first process
+abbrev pub job_started : Bool → Reply → Option ProcName
+job_started true (Child name) = Some name
+job_started wraps reply = None
+
+-- the jobs that these answers start, in their order
+abbrev pub jobs_started : List Answered → List ProcName
+jobs_started answers = filter_map (λ a. job_started (is_wrap a.call.call) a.reply) answers
+
+-- a job of a script with its verdict
+abbrev pub job_verdict : Reading → ProcName → JobVerdict
+job_verdict script job = record { job = job; verdict = verdict script.session script.calls job }
+
+-- each job that a script starts, with its verdict
+abbrev pub job_verdicts : Reading → List JobVerdict
+job_verdicts script = map (job_verdict script) (jobs_started (meaning script.session script.calls))
+
+-- the same of the script that a text is, or the fault in it
+abbrev pub verdicts_of : Result Reading Fault → Result (List JobVerdict) Fault
+verdicts_of (Ok script) = Ok (job_verdicts script)
+verdicts_of (Err fault) = Err fault
+
+-- the answer is these verdicts, unless memory ran out
+abbrev pub GivesVerdicts : Result (Vec JobVerdict) Fault → Result (List JobVerdict) Fault → Type 0
+GivesVerdicts (Ok verdicts) found = Gives (Ok verdicts.items) found
+GivesVerdicts (Err fault) found = Gives {A = List JobVerdict} (Err fault) found
+
+-- the machine answered these call lines, one after another, and the jobs that they started were kept
+pub record KeepsJobs (before after : MachineModel) (old new : List ProcName) (calls : List CallLine) : Type 0 where
+  pub answers : List Answered
+  pub each : calls_of answers ≡ calls
+  pub in_turn : AnswersInTurn before answers after
+  pub kept : new ≡ old ++ jobs_started answers
+
+-- the line of a job: its first process, and its verdict
+abbrev pub job_text : JobVerdict → List ℕ
+job_text j = process_text j.job ++ codes " " ++ verdict_text j.verdict ++ codes "\n"

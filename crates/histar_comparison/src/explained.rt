@@ -1,0 +1,121 @@
+//! A verdict, with what each of two runs prints where they differ.
+ghost use Rattle.std.specs.Prelude.{◌≡◌, ◌++◌, codes, IfOk, IsErrOf, IsTrue, OnOk};
+ghost use Rattle.histar_comparison.specs.Explained.{explained_text, explanation, kept_on, line_at_path, seen_of, side_text, sides_text};
+ghost use Rattle.histar_script.specs.Lines.{is_too_long as too_long};
+ghost use Rattle.histar_script.specs.Outcome.{Gives};
+
+use crate::comparison::find_difference;
+use crate::observation::{Observation, observe};
+use histar_base::Bytes;
+use histar_flat::{Path, ProcName};
+use histar_isolation::{ShownReply, Verdict};
+use histar_script::{Fault, read_script};
+use std::alloc::{AllocError, Global};
+
+/// What is found where two runs are compared, with what each prints there.
+#[derive(Drop)]
+pub struct Explained {
+    pub verdict: Verdict,
+    /// What the run with the job prints where they differ: the reply, or the line of the tree. It is empty where the
+    /// runs don't differ, and where the path is in the other tree alone.
+    pub with_job: Bytes,
+    /// What the run without the job prints there.
+    pub without_job: Bytes,
+}
+
+/// Compares two runs of a script as `compare` does, and returns beside the verdict what each run prints where
+/// they differ.
+pub fn explain_comparison(
+    alloc: Global,
+    text: &[u8],
+    job: &ProcName,
+) -> Result<Explained, Fault>
+    ensures exact { Gives result (explanation job.now text.now) }
+    ensures long { IsTrue (too_long text.now) → IsErrOf result Fault.TooLong }
+{
+    let script = read_script(alloc, text)?;
+    let first = observe(alloc, script, job)?;
+    if !first.replies.is_started() {
+        return Ok(Explained {
+            verdict: Verdict::NoJob,
+            with_job: Bytes::new(alloc),
+            without_job: Bytes::new(alloc),
+        });
+    }
+    let rest = read_script(alloc, text)?.without(job);
+    let second = observe(alloc, rest, job)?;
+    let verdict = find_difference(&first, &second);
+    Ok(Explained {
+        verdict,
+        with_job: printed(alloc, &first, &verdict)?,
+        without_job: printed(alloc, &second, &verdict)?,
+    })
+}
+
+/// Returns what was printed of what a verdict names.
+fn printed(alloc: Global, seen: &Observation, verdict: &Verdict) -> Result<Bytes, AllocError>
+    ensures { IfOk result (λ text. text ≡ seen_of seen.now verdict.now) }
+{
+    match verdict {
+        Verdict::Same | Verdict::NoJob => Ok(Bytes::new(alloc)),
+        Verdict::Line(line) => reply_on(alloc, seen.replies.shown(), *line),
+        Verdict::Tree(path) => line_at(alloc, seen.tree.as_slice(), path),
+    }
+}
+
+/// Returns the text of the reply to a line, or nothing where there is none.
+fn reply_on(alloc: Global, replies: &[ShownReply], line: u32) -> Result<Bytes, AllocError>
+    ensures { IfOk result (λ text. text ≡ kept_on line replies.now) }
+{
+    for reply in replies {
+        if reply.line == line {
+            return reply.text.copy(alloc);
+        }
+    }
+    Ok(Bytes::new(alloc))
+}
+
+/// Returns what is printed of a path, or nothing where it is not in the tree.
+fn line_at(alloc: Global, tree: &[(Path, Bytes)], path: &Path) -> Result<Bytes, AllocError>
+    ensures { IfOk result (λ text. text ≡ line_at_path path.now tree.now) }
+{
+    for line in tree {
+        if line.0 == *path {
+            return line.1.copy(alloc);
+        }
+    }
+    Ok(Bytes::new(alloc))
+}
+
+impl Explained {
+    /// Returns the line of the verdict, with what each run prints where they differ, the one with the job
+    /// first.
+    pub fn line(&self, alloc: Global) -> Result<Vec<u8>, AllocError>
+        ensures { IfOk result (λ line. line.items ≡ explained_text self.now) }
+    {
+        let mut line = format!(in alloc; "{}", self.verdict)?.into_bytes();
+        if matches!(self.verdict, Verdict::Line(_) | Verdict::Tree(_)) {
+            push_sides(&mut line, self.with_job.as_slice(), self.without_job.as_slice())?;
+        }
+        line.extend_from_slice(b"\n")?;
+        Ok(line)
+    }
+}
+
+/// Adds both sides of a difference to a line.
+fn push_sides(line: &mut Vec<u8>, with_job: &[u8], without_job: &[u8]) -> Result<(), AllocError>
+    ensures { OnOk result (line.new.items ≡ line.old.items ++ codes ": "
+        ++ side_text with_job.now ++ codes " | " ++ side_text without_job.now) }
+{
+    line.extend_from_slice(b": ")?;
+    line.extend_from_slice(side(with_job))?;
+    line.extend_from_slice(b" | ")?;
+    line.extend_from_slice(side(without_job))
+}
+
+/// Returns what one run prints, or the word `nothing`.
+fn side(text: &[u8]) -> &[u8]
+    ensures { result.now ≡ side_text text.now }
+{
+    if text.is_empty() { b"nothing" } else { text }
+}
