@@ -7,7 +7,8 @@ mod tasks;
 
 use crate::status::{Outcome, outcome_status, status};
 use crate::tasks::{
-    access_file, check_file, diff_files, lint_file, run_file, run_raw_file, trust_file,
+    access_file, check_each_job, check_file, diff_files, lint_file, run_file, run_raw_file,
+    test_files, trust_file,
 };
 use histar_command_line::{Task, read_words};
 use histar_flat::{ProcName, read_path, read_process};
@@ -69,16 +70,16 @@ fn perform<R: Files + Input + Print>(
     match task {
         Task::Run(path, flags) => Ok(run_file(rt, alloc, path, flags)),
         Task::Raw(path, explain) => Ok(run_raw_file(rt, alloc, path, explain)),
-        Task::Check(job, path, exit_code) => {
-            Ok(check_file(rt, alloc, &read_job(job)?, path, exit_code))
-        }
+        Task::Check(job, path, flags) => Ok(check_file(rt, alloc, &read_job(job)?, path, flags)),
+        Task::CheckAll(path, flags) => Ok(check_each_job(rt, alloc, path, flags)),
         Task::Access(path, line) => Ok(access_file(rt, alloc, path, read_line(line)?)),
         Task::Diff(old, new, line) => Ok(diff_files(rt, alloc, old, new, read_line(line)?)),
         Task::Trust(path, file, line) => {
             let path = read_path(path.as_bytes()).ok_or(BadWord::Path)?;
             Ok(trust_file(rt, alloc, &path, file, read_line(line)?))
         }
-        Task::Lint(path) => Ok(lint_file(rt, alloc, path)),
+        Task::Lint(path, is_raw) => Ok(lint_file(rt, alloc, path, is_raw)),
+        Task::Test(files) => Ok(test_files(rt, alloc, files.as_slice())),
     }
 }
 

@@ -3,8 +3,8 @@
 use crate::files::{finish, open, output};
 use crate::status::Outcome;
 use histar_access::{access, diff};
-use histar_command_line::RunFlags;
-use histar_comparison::{Verdict, compare};
+use histar_command_line::{CheckFlags, RunFlags};
+use histar_comparison::{Verdict, compare, compare_all, explain_comparison};
 use histar_devices::read_input;
 use histar_flat::{Path, ProcName};
 use histar_lint::lint;
@@ -56,27 +56,68 @@ pub fn run_raw_file<R: Files + Input + Print>(
     finish(done.map(|_| Outcome::Done), writer)
 }
 
-/// Compares the script in a file with the script without a job, and prints what is found.
+/// Prints what differs for outsiders where the script in a file is run without a job.
 pub fn check_file<R: Files + Input + Print>(
     rt: &R,
     alloc: Global,
     job: &ProcName,
     path: &str,
-    exit_code: bool,
+    flags: CheckFlags,
 ) -> Result<Outcome, Fault> {
     let mut reader = open(rt, path)?;
     let input = read_input(alloc, &mut reader)?;
-    let verdict = compare(alloc, input.as_slice(), job)?;
-    let line = format!(in alloc; "{verdict}\n")?;
-    let mut output = io::writer(rt);
-    output
-        .write_all(line.as_bytes())
-        .map_err(|_| Fault::WriteFailed)?;
-    output.flush().map_err(|_| Fault::WriteFailed)?;
-    if exit_code && !matches!(verdict, Verdict::Same) {
-        return Ok(Outcome::NotSo);
+    let (line, verdict) = compared(alloc, input.as_slice(), job, flags.why)?;
+    print_text(rt, line.as_slice())?;
+    Ok(is_so(!flags.exit_code || matches!(verdict, Verdict::Same)))
+}
+
+/// Returns what is printed of a comparison, and its verdict.
+fn compared(
+    alloc: Global,
+    text: &[u8],
+    job: &ProcName,
+    why: bool,
+) -> Result<(Vec<u8>, Verdict), Fault> {
+    if why {
+        let found = explain_comparison(alloc, text, job)?;
+        return Ok((found.line(alloc, true)?, found.verdict));
     }
-    Ok(Outcome::Done)
+    let verdict = compare(alloc, text, job)?;
+    let line = format!(in alloc; "{verdict}\n")?;
+    Ok((line.into_bytes(), verdict))
+}
+
+/// Prints what differs for outsiders where the script in a file is run without each job that it starts.
+pub fn check_each_job<R: Files + Input + Print>(
+    rt: &R,
+    alloc: Global,
+    path: &str,
+    flags: CheckFlags,
+) -> Result<Outcome, Fault> {
+    let mut reader = open(rt, path)?;
+    let input = read_input(alloc, &mut reader)?;
+    let verdicts = compare_all(alloc, input.as_slice())?;
+    let mut text = Vec::new(alloc);
+    let mut are_same = true;
+    for verdict in &verdicts {
+        let line = verdict.line(alloc, flags.why)?;
+        text.extend_from_slice(line.as_slice())?;
+        are_same = are_same && matches!(verdict.found.verdict, Verdict::Same);
+    }
+    print_text(rt, text.as_slice())?;
+    Ok(is_so(!flags.exit_code || are_same))
+}
+
+/// Writes a text to standard output, and flushes it.
+fn print_text<R: Print>(rt: &R, text: &[u8]) -> Result<(), Fault> {
+    let mut output = io::writer(rt);
+    output.write_all(text).map_err(|_| Fault::WriteFailed)?;
+    output.flush().map_err(|_| Fault::WriteFailed)
+}
+
+/// Returns the outcome of a task that says whether something is so.
+fn is_so(holds: bool) -> Outcome {
+    if holds { Outcome::Done } else { Outcome::NotSo }
 }
 
 /// Prints who may do what after the calls of the script in a file, or before a line.
@@ -104,16 +145,7 @@ pub fn diff_files<R: Files + Input + Print>(
     let mut new_reader = open(rt, new)?;
     let mut writer = output(rt, alloc)?;
     let done = diff(alloc, &mut old_reader, &mut new_reader, &mut writer, at);
-    finish(
-        done.map(|is_same| {
-            if is_same {
-                Outcome::Done
-            } else {
-                Outcome::NotSo
-            }
-        }),
-        writer,
-    )
+    finish(done.map(is_so), writer)
 }
 
 /// Prints on whom it depends what is at a path after the calls of the script in a file, or before a line.

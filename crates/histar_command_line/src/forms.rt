@@ -93,10 +93,19 @@ prints
 
 Exit status: 0; with --exit-code it is 5 for anything but same",
         arguments: &[
-            Argument::Flag("why", "Print both replies, or both lines of the tree, where the runs differ"),
-            Argument::Flag("all", "Leave out each job that the script starts, one after another"),
+            Argument::Flag(
+                "why",
+                "Print both replies, or both lines of the tree, where the runs differ",
+            ),
+            Argument::Flag(
+                "all",
+                "Leave out each job that the script starts, one after another",
+            ),
             Argument::Flag("exit-code", "End with status 5 unless the answer is `same`"),
-            Argument::Word("JOB", "The job: the name of its first process; with --all the script"),
+            Argument::Word(
+                "JOB",
+                "The job: the name of its first process; with --all the script",
+            ),
             Argument::Unless("FILE", "all", SCRIPT),
         ],
     }

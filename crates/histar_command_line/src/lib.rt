@@ -7,4 +7,4 @@ mod command;
 mod forms;
 mod task;
 
-pub use task::{RunFlags, Task, read_words};
+pub use task::{CheckFlags, RunFlags, Task, read_words};

@@ -156,7 +156,10 @@ pub fn read_words<'a>(alloc: Global, words: &'a [&'a str]) -> Result<Task<'a>, E
         return Ok(task);
     }
     let Some(task) = task_of(&matches) else {
-        return Err(command.error(ErrorKind::MissingRequiredArgument, "words that don't fit together")?);
+        return Err(command.error(
+            ErrorKind::MissingRequiredArgument,
+            "words that don't fit together",
+        )?);
     };
     Ok(task)
 }

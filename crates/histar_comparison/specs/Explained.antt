@@ -1,5 +1,5 @@
 -- A verdict, and what each of the two runs prints where they differ.
-use Rattle.std.specs.Prelude.{ℕ, List, [], ◌∷◌, ◌++◌, codes, Result, Ok, Err, ◌==◌, if◌then◌else◌}
+use Rattle.std.specs.Prelude.{ℕ, Bool, true, false, List, [], ◌∷◌, ◌++◌, codes, Result, Ok, Err, ◌==◌, if◌then◌else◌}
 use Rattle.histar_flat.specs.declared.calls.CallLine.{CallLine}
 use Rattle.histar_flat.specs.Words.{Path, ProcName}
 use Rattle.histar_flat.specs.PathOrder.{same}
@@ -76,6 +76,7 @@ sides_text NoJob with_job without_job = []
 sides_text (Line n) with_job without_job = codes ": " ++ side_text with_job ++ codes " | " ++ side_text without_job
 sides_text (Tree q) with_job without_job = codes ": " ++ side_text with_job ++ codes " | " ++ side_text without_job
 
--- the line of a verdict, with both sides where the runs differ
-abbrev pub explained_text : Explained → List ℕ
-explained_text e = verdict_text e.verdict ++ sides_text e.verdict e.with_job e.without_job ++ codes "\n"
+-- the line of a verdict: alone, or with both sides where the runs differ
+abbrev pub found_text : Bool → Explained → List ℕ
+found_text true e = verdict_text e.verdict ++ sides_text e.verdict e.with_job e.without_job ++ codes "\n"
+found_text false e = verdict_text e.verdict ++ codes "\n"

@@ -10,9 +10,6 @@ use Rattle.histar_flat.specs.declared.replies.Reply.TheVariants.{Child}
 use Rattle.histar_flat.specs.Words.{ProcName}
 use Rattle.histar_flat.specs.Meaning.{Answered, meaning}
 use Rattle.histar_flat.specs.Texts.{process_text}
-use Rattle.histar_isolation.specs.declared.verdict.Verdict.{Verdict}
-use Rattle.histar_isolation.specs.Comparison.{verdict}
-use Rattle.histar_isolation.specs.VerdictText.{verdict_text}
 use Rattle.histar_script.specs.declared.fault.Fault.{Fault}
 use Rattle.histar_script.specs.Outcome.{Gives}
 use Rattle.histar_script.specs.Script.{Reading}
@@ -21,6 +18,7 @@ use Rattle.histar_shell.specs.Machine.{MachineModel}
 use Rattle.histar_shell.specs.AnsweredCalls.{AnswersInTurn}
 use Rattle.histar_shell.specs.Answers.{calls_of}
 use Rattle.histar_comparison.specs.declared.jobs.JobVerdict.{JobVerdict}
+use Rattle.histar_comparison.specs.Explained.{explained, found_text}
 
 -- the call wraps a job
 abbrev pub is_wrap : UnixCall → Bool
@@ -36,9 +34,9 @@ job_started wraps reply = None
 abbrev pub jobs_started : List Answered → List ProcName
 jobs_started answers = filter_map (λ a. job_started (is_wrap a.call.call) a.reply) answers
 
--- a job of a script with its verdict
+-- a job of a script with its verdict, and what each run prints where they differ
 abbrev pub job_verdict : Reading → ProcName → JobVerdict
-job_verdict script job = record { job = job; verdict = verdict script.session script.calls job }
+job_verdict script job = record { job = job; found = explained job script }
 
 -- each job that a script starts, with its verdict
 abbrev pub job_verdicts : Reading → List JobVerdict
@@ -61,6 +59,6 @@ pub record KeepsJobs (before after : MachineModel) (old new : List ProcName) (ca
   pub in_turn : AnswersInTurn before answers after
   pub kept : new ≡ old ++ jobs_started answers
 
--- the line of a job: its first process, and its verdict
-abbrev pub job_text : JobVerdict → List ℕ
-job_text j = process_text j.job ++ codes " " ++ verdict_text j.verdict ++ codes "\n"
+-- the line of a job: its first process, and what is printed of its verdict
+abbrev pub job_text : Bool → JobVerdict → List ℕ
+job_text why j = process_text j.job ++ codes " " ++ found_text why j.found

@@ -1,6 +1,6 @@
 //! A verdict, with what each of two runs prints where they differ.
 ghost use Rattle.std.specs.Prelude.{◌≡◌, ◌++◌, codes, IfOk, IsErrOf, IsTrue, OnOk};
-ghost use Rattle.histar_comparison.specs.Explained.{explained_text, explanation, kept_on, line_at_path, seen_of, side_text, sides_text};
+ghost use Rattle.histar_comparison.specs.Explained.{explanation, found_text, kept_on, line_at_path, seen_of, side_text, sides_text};
 ghost use Rattle.histar_script.specs.Lines.{is_too_long as too_long};
 ghost use Rattle.histar_script.specs.Outcome.{Gives};
 
@@ -25,11 +25,7 @@ pub struct Explained {
 
 /// Compares two runs of a script as `compare` does, and returns beside the verdict what each run prints where
 /// they differ.
-pub fn explain_comparison(
-    alloc: Global,
-    text: &[u8],
-    job: &ProcName,
-) -> Result<Explained, Fault>
+pub fn explain_comparison(alloc: Global, text: &[u8], job: &ProcName) -> Result<Explained, Fault>
     ensures exact { Gives result (explanation job.now text.now) }
     ensures long { IsTrue (too_long text.now) → IsErrOf result Fault.TooLong }
 {
@@ -88,14 +84,18 @@ fn line_at(alloc: Global, tree: &[(Path, Bytes)], path: &Path) -> Result<Bytes, 
 }
 
 impl Explained {
-    /// Returns the line of the verdict, with what each run prints where they differ, the one with the job
-    /// first.
-    pub fn line(&self, alloc: Global) -> Result<Vec<u8>, AllocError>
-        ensures { IfOk result (λ line. line.items ≡ explained_text self.now) }
+    /// Returns the line of the verdict, with what each run prints where they differ if that is asked for, the run
+    /// with the job first.
+    pub fn line(&self, alloc: Global, why: bool) -> Result<Vec<u8>, AllocError>
+        ensures { IfOk result (λ line. line.items ≡ found_text why self.now) }
     {
         let mut line = format!(in alloc; "{}", self.verdict)?.into_bytes();
-        if matches!(self.verdict, Verdict::Line(_) | Verdict::Tree(_)) {
-            push_sides(&mut line, self.with_job.as_slice(), self.without_job.as_slice())?;
+        if why && matches!(self.verdict, Verdict::Line(_) | Verdict::Tree(_)) {
+            push_sides(
+                &mut line,
+                self.with_job.as_slice(),
+                self.without_job.as_slice(),
+            )?;
         }
         line.extend_from_slice(b"\n")?;
         Ok(line)

@@ -7,9 +7,8 @@ ghost use Rattle.histar_script.specs.Lines.{is_too_long as too_long};
 ghost use Rattle.histar_script.specs.Reading.{script_of};
 ghost use Rattle.histar_script.specs.Script.{Reading};
 
-use crate::comparison::compare;
+use crate::explained::{Explained, explain_comparison};
 use histar_flat::{CallLine, ProcName, Reply, UnixCall};
-use histar_isolation::Verdict;
 use histar_label::{LabelStore, PlainStore};
 use histar_script::{Fault, Script, read_script};
 use histar_shell::{Machine, push_process};
@@ -19,18 +18,19 @@ use std::alloc::{AllocError, Global};
 #[derive(Drop)]
 pub struct JobVerdict {
     pub job: ProcName,
-    pub verdict: Verdict,
+    pub found: Explained,
 }
 
 impl JobVerdict {
-    /// Returns the line of the job.
-    pub fn line(&self, alloc: Global) -> Result<Vec<u8>, AllocError>
-        ensures { IfOk result (λ line. line.items ≡ job_text self.now) }
+    /// Returns the line of the job, with what each run prints where they differ if that is asked for.
+    pub fn line(&self, alloc: Global, why: bool) -> Result<Vec<u8>, AllocError>
+        ensures { IfOk result (λ line. line.items ≡ job_text why self.now) }
     {
         let mut line = Vec::new(alloc);
         push_process(&mut line, &self.job)?;
-        let verdict = format!(in alloc; " {}\n", self.verdict)?;
-        line.extend_from_slice(verdict.as_bytes())?;
+        line.extend_from_slice(b" ")?;
+        let found = self.found.line(alloc, why)?;
+        line.extend_from_slice(found.as_slice())?;
         Ok(line)
     }
 }
@@ -125,8 +125,8 @@ fn compare_each(alloc: Global, text: &[u8], jobs: &[ProcName]) -> Result<Vec<Job
 {
     let mut verdicts = Vec::with_capacity(alloc, jobs.len())?;
     for job in jobs {
-        let verdict = compare(alloc, text, job)?;
-        verdicts.push(JobVerdict { job: *job, verdict })?;
+        let found = explain_comparison(alloc, text, job)?;
+        verdicts.push(JobVerdict { job: *job, found })?;
     }
     Ok(verdicts)
 }

@@ -6,26 +6,30 @@ use Rattle.histar_command_line.proofs.task.check_task_of.Goals as goal
 
 pub returns-in-true-None : goal.returns-in-true-None
 returns-in-true-None c =
-    let found = found_of c.args.check.now in
-    (refl, (
-      sym (c.in-true-None.ensures ∙ ap is_given (first_value-rows found (codes "all"))),
-      sym (c.in_ok-word.ensures ∙ first_value-rows found (codes "JOB")),
-      sym (c.in-true-None.ensures' ∙ first_value-rows found (codes "FILE")),
+    let found = found_of c.args.check.now in (
+      refl,
       (
-        c.is_set-why.ensures ∙ ap is_given (first_value-rows found (codes "why")),
-        c.is_set-exit_code.ensures ∙ ap is_given (first_value-rows found (codes "exit-code")),
+        sym (c.in-true-None.ensures ∙ ap is_given (first_value-rows found (codes "all"))),
+        sym (c.in_ok-word.ensures ∙ first_value-rows found (codes "JOB")),
+        sym (c.in-true-None.ensures' ∙ first_value-rows found (codes "FILE")),
+        (
+          c.is_set-why.ensures ∙ ap is_given (first_value-rows found (codes "why")),
+          c.is_set-exit_code.ensures ∙ ap is_given (first_value-rows found (codes "exit-code")),
+        ),
       ),
-    ))
+    )
 
 pub returns-in-false-Some : goal.returns-in-false-Some
 returns-in-false-Some c =
-    let found = found_of c.args.check.now in
-    (refl, (
-      sym (c.in-false-Some.ensures ∙ ap is_given (first_value-rows found (codes "all"))),
-      sym (c.in_ok-word.ensures ∙ first_value-rows found (codes "JOB")),
-      sym (c.in-false-Some.ensures' ∙ first_value-rows found (codes "FILE")),
+    let found = found_of c.args.check.now in (
+      refl,
       (
-        c.is_set-why.ensures ∙ ap is_given (first_value-rows found (codes "why")),
-        c.is_set-exit_code.ensures ∙ ap is_given (first_value-rows found (codes "exit-code")),
+        sym (c.in-false-Some.ensures ∙ ap is_given (first_value-rows found (codes "all"))),
+        sym (c.in_ok-word.ensures ∙ first_value-rows found (codes "JOB")),
+        sym (c.in-false-Some.ensures' ∙ first_value-rows found (codes "FILE")),
+        (
+          c.is_set-why.ensures ∙ ap is_given (first_value-rows found (codes "why")),
+          c.is_set-exit_code.ensures ∙ ap is_given (first_value-rows found (codes "exit-code")),
+        ),
       ),
-    ))
+    )

@@ -12,5 +12,5 @@ returns c =
       rows_of found,
       matched c.args.matches.now (codes "test") (rows_of found) (m.ensures.found.0 refl) m.ensures.rows,
       sym (raw_values-rows found (codes "FILE")) ∙ sym c.in-Some-get_strs.ensures
-      ∙ ap (λ (files : List (Bor (List ℕ))). Some (map (λ file. file.now) files)) (sym c.in_ok-files.ensures.items),
+          ∙ ap (λ (files : List (Bor (List ℕ))). Some (map (λ file. file.now) files)) (sym c.in_ok-files.ensures.items),
     )
