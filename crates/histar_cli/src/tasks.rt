@@ -9,10 +9,12 @@ use histar_devices::read_input;
 use histar_flat::{Path, ProcName};
 use histar_lint::lint;
 use histar_raw_explain::explain_raw_script;
+use histar_raw_lint::lint_raw;
 use histar_raw_session::run_raw_script;
 use histar_run_explain::explain_script;
 use histar_script::Fault;
 use histar_shell::{Options, run};
+use histar_test::{TestFile, test};
 use histar_trust::trust;
 use std::alloc::Global;
 use std::io::{self, Write};
@@ -162,23 +164,54 @@ pub fn trust_file<R: Files + Input + Print>(
     finish(done.map(|_| Outcome::Done), writer)
 }
 
-/// Prints why the script in a file is bad, where it is.
+/// Prints why the script in a file is bad, where it is, or the session of raw calls, if it is one.
 pub fn lint_file<R: Files + Input + Print>(
     rt: &R,
     alloc: Global,
     path: &str,
+    is_raw: bool,
 ) -> Result<Outcome, Fault> {
     let mut reader = open(rt, path)?;
     let mut writer = output(rt, alloc)?;
-    let done = lint(alloc, path.as_bytes(), &mut reader, &mut writer);
-    finish(
-        done.map(|is_right| {
-            if is_right {
-                Outcome::Done
-            } else {
-                Outcome::BadScript
-            }
-        }),
-        writer,
-    )
+    let done = if is_raw {
+        lint_raw(alloc, path.as_bytes(), &mut reader, &mut writer)
+    } else {
+        lint(alloc, path.as_bytes(), &mut reader, &mut writer)
+    };
+    let right = |is_right| {
+        if is_right {
+            Outcome::Done
+        } else {
+            Outcome::BadScript
+        }
+    };
+    finish(done.map(right), writer)
+}
+
+/// Compares the replies to the scripts in files with those that they expect, and prints what is found.
+pub fn test_files<R: Files + Input + Print>(
+    rt: &R,
+    alloc: Global,
+    paths: &[&str],
+) -> Result<Outcome, Fault> {
+    let files = read_files(rt, alloc, paths)?;
+    let mut writer = output(rt, alloc)?;
+    let done = test(alloc, files.as_slice(), &mut writer);
+    finish(done.map(is_so), writer)
+}
+
+/// Reads scripts, each with the name of its file.
+fn read_files<R: Files + Input>(
+    rt: &R,
+    alloc: Global,
+    paths: &[&str],
+) -> Result<Vec<TestFile>, Fault> {
+    let mut files = Vec::with_capacity(alloc, paths.len())?;
+    for path in paths {
+        let mut reader = open(rt, path)?;
+        let name = Vec::from_slice(alloc, path.as_bytes())?;
+        let text = read_input(alloc, &mut reader)?;
+        files.push(TestFile { name, text })?;
+    }
+    Ok(files)
 }
