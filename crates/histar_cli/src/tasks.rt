@@ -15,6 +15,7 @@ use histar_run_explain::explain_script;
 use histar_script::Fault;
 use histar_shell::{Options, run};
 use histar_test::{TestFile, test};
+use histar_transcript::transcribe;
 use histar_trust::trust;
 use std::alloc::Global;
 use std::io::{self, Write};
@@ -33,7 +34,9 @@ pub fn run_file<R: Files + Input + Print>(
     };
     let mut reader = open(rt, path)?;
     let mut writer = output(rt, alloc)?;
-    let done = if flags.explain {
+    let done = if flags.calls {
+        transcribe(alloc, &mut reader, &mut writer, options, flags.explain)
+    } else if flags.explain {
         explain_script(alloc, &mut reader, &mut writer, options)
     } else {
         run(alloc, &mut reader, &mut writer, options).map(|_trace| ())

@@ -47,10 +47,10 @@ named_app = let app = new_app (codes "histar") in record app { top = record app.
 abbrev pub subcommand_app : Text → List Rule → App
 subcommand_app name arguments = fold with_rule (new_app name) arguments
 
--- `run [--tree] [--trace] [--explain] FILE`
+-- `run [--tree] [--trace] [--explain] [--calls] FILE`
 abbrev pub run_app : App
 run_app = subcommand_app (codes "run")
-    (flag_rule (codes "tree") ∷ flag_rule (codes "trace") ∷ flag_rule (codes "explain") ∷ word_rule (codes "FILE") ∷ [])
+    (flag_rule (codes "tree") ∷ flag_rule (codes "trace") ∷ flag_rule (codes "explain") ∷ flag_rule (codes "calls") ∷ word_rule (codes "FILE") ∷ [])
 
 -- `raw [--explain] FILE`
 abbrev pub raw_app : App

@@ -38,6 +38,7 @@ HasArguments (Run file flags) rows =
     × (flags.tree ≡ is_set (codes "tree") rows)
     × (flags.trace ≡ is_set (codes "trace") rows)
     × (flags.explain ≡ is_set (codes "explain") rows)
+    × (flags.calls ≡ is_set (codes "calls") rows)
 HasArguments (Raw file explain) rows =
     (first_of (codes "FILE") rows ≡ Some file.now)
     × (explain ≡ is_set (codes "explain") rows)

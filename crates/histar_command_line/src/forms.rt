@@ -34,7 +34,7 @@ const SCRIPT: &str = "The script: users, groups, and calls of processes";
 /// Where the calls end, for subcommands that look at a state in the midst of a script.
 const AT: &str = "Stop before the call on this line";
 
-/// Returns `run [--tree] [--trace] [--explain] FILE`.
+/// Returns `run [--tree] [--trace] [--explain] [--calls] FILE`.
 pub(crate) fn run<'a>() -> Form<'a>
     ensures { form_app result ≡ run_app }
 {
@@ -50,6 +50,7 @@ pub(crate) fn run<'a>() -> Form<'a>
                 "Print each raw call of the kernel, and why it was denied",
             ),
             Argument::Flag("explain", "Print why each denied raw call was denied"),
+            Argument::Flag("calls", "Print each reply behind its call"),
             Argument::Word("FILE", SCRIPT),
         ],
     }

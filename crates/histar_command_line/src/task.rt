@@ -16,6 +16,8 @@ pub struct RunFlags {
     pub trace: bool,
     /// Why each denied raw call was denied.
     pub explain: bool,
+    /// The text of its call before each reply.
+    pub calls: bool,
 }
 
 /// What a comparison is asked for beside the verdict.
@@ -69,10 +71,12 @@ fn task_of<'a>(matches: &ArgMatches<'a>) -> Option<Task<'a>>
         let tree = is_set(run, "tree");
         let trace = is_set(run, "trace");
         let explain = is_set(run, "explain");
+        let calls = is_set(run, "calls");
         let flags = RunFlags {
             tree,
             trace,
             explain,
+            calls,
         };
         return Some(Task::Run(file, flags));
     }

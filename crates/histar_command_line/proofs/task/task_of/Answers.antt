@@ -17,6 +17,7 @@ returns-in-Some c =
         c.is_set-tree.ensures ∙ ap is_given (first_value-rows found (codes "tree")),
         c.is_set-trace.ensures ∙ ap is_given (first_value-rows found (codes "trace")),
         c.is_set-explain.ensures ∙ ap is_given (first_value-rows found (codes "explain")),
+        c.is_set-calls.ensures ∙ ap is_given (first_value-rows found (codes "calls")),
       ),
     )
 

@@ -1,0 +1,7 @@
+//! The output of a run with each reply behind its call.
+#![tactic(auto)]
+
+mod session;
+mod transcript;
+
+pub use session::transcribe;

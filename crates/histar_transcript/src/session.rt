@@ -1,0 +1,86 @@
+//! A run that is printed with its calls, from bytes to bytes.
+ghost use Rattle.std.specs.Prelude.{◌≡◌, false, result_map, IfErr, IfSome};
+ghost use Rattle.histar_devices.specs.Device.{CountsFailure};
+ghost use Rattle.histar_script.specs.Runs.{LeavesSink, RunsInput, is_read_failed, is_write_failed};
+ghost use Rattle.histar_transcript.specs.Session.{GivesOutput, WritesTranscript};
+
+use crate::transcript::transcript_of;
+use histar_devices::{Sink, Source, read_input, write_bytes};
+use histar_run_explain::explain_script;
+use histar_script::Fault;
+use histar_shell::{Counted, Options, run};
+use std::alloc::Global;
+
+/// Reads a script, runs it as `run` does, or with explanations, and writes what that would write, with the text of
+/// its call before each reply.
+///
+/// All is written once the script has run. It doesn't flush the sink.
+pub fn transcribe<R: Source, W: Sink>(
+    alloc: Global,
+    reader: &mut R,
+    writer: &mut W,
+    options: Options,
+    explain: bool,
+) -> Result<(), Fault>
+    // After a bad script, one that is too long and a failed read the sink is as it was.
+    ensures nothing { IfErr result (LeavesSink writer.old writer.new) }
+
+    // A device has failed exactly where its fault is the answer.
+    ensures reads { CountsFailure (R.failures reader.old) (R.failures reader.new) (is_read_failed result) }
+    ensures writes { CountsFailure (W.failures writer.old) (W.failures writer.new) (is_write_failed result) }
+
+    // Whatever the source gives, bytes of it were taken, to its end but never more than 1,048,577, and run: the fault of the script
+    // that they are is answered, or the output of its run is written, with each reply behind its call.
+    ensures runs { RunsInput (WritesTranscript options explain) (R.left reader.old) (R.left reader.new)
+        (W.written writer.old) (W.written writer.new) result }
+
+    // So where the input is known, the script of the whole input was run.
+    ensures known { IfSome (R.left reader.old) (λ input. WritesTranscript options explain input
+        (W.written writer.old) (W.written writer.new) result) }
+{
+    let input = read_input(alloc, reader)?;
+    transcribe_text(alloc, input.as_slice(), writer, options, explain)
+}
+
+/// Runs the script that a text is, and writes the transcript of its output.
+fn transcribe_text<W: Sink>(
+    alloc: Global,
+    text: &[u8],
+    writer: &mut W,
+    options: Options,
+    explain: bool,
+) -> Result<(), Fault>
+    ensures nothing { IfErr result (LeavesSink writer.old writer.new) }
+    ensures reads { is_read_failed result ≡ false }
+    ensures writes { CountsFailure (W.failures writer.old) (W.failures writer.new) (is_write_failed result) }
+    ensures runs { WritesTranscript options explain text.now (W.written writer.old) (W.written writer.new) result }
+{
+    let output = output_of(alloc, text, options, explain)?;
+    let transcript = transcript_of(alloc, text, output.as_slice())?;
+    write_bytes(writer, transcript.as_slice())?;
+    Ok(())
+}
+
+/// Returns the output of a run of the script that a text is.
+fn output_of(
+    alloc: Global,
+    text: &[u8],
+    options: Options,
+    explain: bool,
+) -> Result<Vec<u8>, Fault>
+    ensures { GivesOutput options explain text.now (result_map (λ output. output.items) result) }
+{
+    let mut reader = Counted::new(text);
+    let mut writer = Counted::new(Vec::new(alloc));
+    let done = if explain {
+        explain_script(alloc, &mut reader, &mut writer, options)
+    } else {
+        run(alloc, &mut reader, &mut writer, options).map(|_trace| ())
+    };
+    match done {
+        Ok(()) => Ok(writer.into_inner()),
+        // The output is kept in memory, so a write fails only where that runs out.
+        Err(Fault::WriteFailed) => Err(Fault::OutOfMemory),
+        Err(fault) => Err(fault),
+    }
+}
