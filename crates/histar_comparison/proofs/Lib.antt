@@ -1,3 +1,5 @@
 pub mod Kept
 pub mod Observed
 pub mod Verdicts
+pub mod Explanations
+pub mod KeptJobs

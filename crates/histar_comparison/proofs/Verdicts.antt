@@ -43,7 +43,7 @@ other : (b : Bool) (x y : Verdict) → b ≡ false → cond b x y ≡ y
 other b x y e = ap (λ (t : Bool). cond t x y) e
 
 -- what was answered well is what was meant
-ok_inner : {A : Type 0} {x y : A} → ◌≡◌ {A = Result A Fault} (Ok x) (Ok y) → x ≡ y
+pub ok_inner : {A : Type 0} {x y : A} → ◌≡◌ {A = Result A Fault} (Ok x) (Ok y) → x ≡ y
 ok_inner {A} {x} e = ap (λ (r : Result A Fault). elim r [ Ok z ↦ z | Err f ↦ x ]) e
 
 -- a text is one script
@@ -62,7 +62,7 @@ module _ (job : ProcName) where
   directory r (a ∷ answers) = directory (with_reply job r a) answers
 
   -- the replies to outsiders were kept
-  kept : (r : RepliesModel) (answers : List Answered) → (with_replies job r answers).shown ≡ r.shown ++ map shown (outsiders job answers)
+  pub kept : (r : RepliesModel) (answers : List Answered) → (with_replies job r answers).shown ≡ r.shown ++ map shown (outsiders job answers)
   kept r [] = sym (append-nil r.shown)
   kept r (a ∷ answers) = kept (with_reply job r a) answers ∙ by (is_outsider job a.call.process)
     where

@@ -14,7 +14,7 @@ use Rattle.histar_script.specs.declared.fault.Fault.{Fault}
 use Rattle.histar_script.specs.Outcome.{Gives}
 use Rattle.histar_script.specs.Script.{Reading}
 use Rattle.histar_script.specs.Reading.{script_of}
-use Rattle.histar_shell.specs.Machine.{MachineModel}
+use Rattle.histar_shell.specs.Machine.{MachineModel, AnswersLine}
 use Rattle.histar_shell.specs.AnsweredCalls.{AnswersInTurn}
 use Rattle.histar_shell.specs.Answers.{calls_of}
 use Rattle.histar_comparison.specs.declared.jobs.JobVerdict.{JobVerdict}
@@ -51,6 +51,12 @@ verdicts_of (Err fault) = Err fault
 abbrev pub GivesVerdicts : Result (Vec JobVerdict) Fault → Result (List JobVerdict) Fault → Type 0
 GivesVerdicts (Ok verdicts) found = Gives (Ok verdicts.items) found
 GivesVerdicts (Err fault) found = Gives {A = List JobVerdict} (Err fault) found
+
+-- the machine answered this call line, and the job that it started, if it did, was kept
+pub record KeepsJob (before after : MachineModel) (old new : List ProcName) (call : CallLine) : Type 0 where
+  pub reply : Reply
+  pub answered : AnswersLine before after call.line call.process call.call (Ok reply)
+  pub kept : new ≡ old ++ jobs_started (record { call = call; reply = reply } ∷ [])
 
 -- the machine answered these call lines, one after another, and the jobs that they started were kept
 pub record KeepsJobs (before after : MachineModel) (old new : List ProcName) (calls : List CallLine) : Type 0 where

@@ -1,6 +1,6 @@
 //! The jobs that a script starts, each compared.
-ghost use Rattle.std.specs.Prelude.{◌≡◌, [], ◌∷◌, map, IfOk, IsErrOf, IsTrue, Ok, OnOk};
-ghost use Rattle.histar_comparison.specs.Jobs.{GivesVerdicts, KeepsJobs, is_wrap, job_started, job_text, job_verdict, jobs_started, verdicts_of};
+ghost use Rattle.std.specs.Prelude.{◌≡◌, map, IfOk, IsErrOf, IsTrue, Ok, OnOk};
+ghost use Rattle.histar_comparison.specs.Jobs.{GivesVerdicts, KeepsJob, KeepsJobs, is_wrap, job_started, job_text, job_verdict, jobs_started, verdicts_of};
 ghost use Rattle.histar_comparison.specs.Observation.{CanRun};
 ghost use Rattle.histar_flat.specs.Meaning.{meaning};
 ghost use Rattle.histar_script.specs.Lines.{is_too_long as too_long};
@@ -84,7 +84,7 @@ fn make_call<S: LabelStore + Drop>(
     call: CallLine,
     jobs: &mut Vec<ProcName>,
 ) -> Result<(), AllocError>
-    ensures { OnOk result (KeepsJobs machine.old machine.new jobs.old.items jobs.new.items (call ∷ [])) }
+    ensures { OnOk result (KeepsJob machine.old machine.new jobs.old.items jobs.new.items call) }
 {
     let CallLine {
         line,
@@ -124,7 +124,7 @@ fn compare_each(alloc: Global, text: &[u8], jobs: &[ProcName]) -> Result<Vec<Job
         → GivesVerdicts result (Ok (map (job_verdict script) jobs.now)) }
 {
     let mut verdicts = Vec::with_capacity(alloc, jobs.len())?;
-    for job in jobs {
+    'jobs: for job in jobs {
         let found = explain_comparison(alloc, text, job)?;
         verdicts.push(JobVerdict { job: *job, found })?;
     }
