@@ -7,7 +7,7 @@ use Rattle.histar_flat.specs.Meaning.{Answered, meaning, without}
 use Rattle.histar_script.specs.declared.fault.Fault.{Fault}
 use Rattle.histar_script.specs.declared.fault.Fault.TheVariants.{BadScript, TooLong, OutOfMemory, ReadFailed, WriteFailed}
 use Rattle.histar_script.specs.Outcome.{Gives}
-use Rattle.histar_script.specs.Script.{Reading, without_job}
+use Rattle.histar_script.specs.Script.{Reading}
 use Rattle.histar_script.specs.Reading.{script_of}
 use Rattle.histar_isolation.specs.declared.verdict.Verdict.{Verdict}
 use Rattle.histar_isolation.specs.declared.verdict.Verdict.TheVariants.{Same, NoJob, Line, Tree}
@@ -17,7 +17,7 @@ use Rattle.histar_comparison.specs.declared.explained.Explained.{Explained}
 use Rattle.histar_comparison.specs.Observation.{observation}
 use Rattle.histar_comparison.specs.Replies.{no_replies}
 use Rattle.histar_comparison.specs.Compared.{comparison, verdict_of}
-use Rattle.histar_comparison.specs.Explained.{explained, explanation, explanation_of, kept_on, printed_of, reply_on, seen_of}
+use Rattle.histar_comparison.specs.Explained.{explanation, explanation_of, kept_on, printed_of, reply_on, seen_of}
 use Rattle.histar_comparison.proofs.Verdicts.{kept, ok_inner}
 
 -- a fault that is no answer of this kind is none of that kind

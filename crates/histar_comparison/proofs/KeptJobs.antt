@@ -5,6 +5,12 @@ use Rattle.histar_flat.specs.Words.{ProcName}
 use Rattle.histar_flat.specs.Meaning.{Answered}
 use Rattle.histar_shell.specs.Machine.{MachineModel}
 use Rattle.histar_shell.proofs.AnswerLemmas.{calls_more, in_turn_more}
+use Rattle.histar_shell.proofs.CallRows.{lines_are_rows}
+use Rattle.histar_shell.proofs.SessionMeanings.{all_replies}
+use Rattle.histar_shell.specs.Machine.{IsStart}
+use Rattle.histar_script.specs.Script.{Reading}
+use Rattle.histar_flat.specs.Meaning.{meaning}
+use Rattle.histar_comparison.specs.Observation.{CanRun}
 use Rattle.histar_comparison.specs.Jobs.{KeepsJob, KeepsJobs, is_wrap, job_started, jobs_started}
 
 -- the job of one answer, where there is one
@@ -45,3 +51,10 @@ keeps_job first mid last old now new calls call so_far one =
           ∙ append_assoc old (jobs_started so_far.answers) (jobs_started (next ∷ []))
           ∙ sym (ap (λ (l : List ProcName). old ++ l) (jobs_more so_far.answers next));
     }
+
+-- the jobs that are kept of a whole script are those that its meaning starts
+pub jobs_are : (script : Reading) → CanRun script → (start end : MachineModel) → IsStart script.session start → (old new : List ProcName)
+    → KeepsJobs start end old new script.calls → old ≡ [] → new ≡ jobs_started (meaning script.session script.calls)
+jobs_are script can start end starts old new kept none =
+    kept.kept ∙ ap (λ (l : List ProcName). l ++ jobs_started kept.answers) none
+    ∙ ap jobs_started (all_replies lines_are_rows script can.declared can.calls start starts end kept.answers kept.each kept.in_turn)

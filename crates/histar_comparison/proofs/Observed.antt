@@ -1,25 +1,21 @@
 -- What a run shows is what its script means.
-use Rattle.std.proofs.Common.{◌≡◌, ℕ, Bool, true, List, [], ◌∷◌, ◌++◌, map, Option, None, refl, sym, ap, ◌∙◌, subst}
-use Rattle.std.specs.List.{AllByRecursion}
-use Rattle.histar_flat.specs.declared.calls.CallLine.{CallLine}
+use Rattle.std.proofs.Common.{◌≡◌, List, [], ◌∷◌, map, refl, sym, ap, ◌∙◌}
 use Rattle.histar_flat.specs.Words.{Path, ProcName}
-use Rattle.histar_flat.specs.Sessions.{Session}
-use Rattle.histar_flat.specs.FlatState.{Flat, Node}
-use Rattle.histar_flat.specs.Meaning.{Answered, boot, flat_end, meaning}
+use Rattle.histar_flat.specs.FlatState.{Node}
+use Rattle.histar_flat.specs.Meaning.{meaning}
 use Rattle.histar_script.specs.Script.{Reading}
 use Rattle.histar_syscall.specs.KernelModel.{state}
-use Rattle.histar_tree.specs.declared.tree.TreeNode.{TreeNode}
-use Rattle.histar_tree.specs.TreeLines.{TreeLine, flat_line, flat_lines, line_at, lines_at}
+use Rattle.histar_tree.specs.TreeLines.{flat_line, line_at}
 use Rattle.histar_isolation.specs.Comparison.{node_text}
 use Rattle.histar_isolation.specs.Trees.{PathText, tree_lines}
 use Rattle.histar_shell.specs.Machine.{MachineModel, IsStart}
 use Rattle.histar_shell.specs.Ending.{HasTree}
 use Rattle.histar_shell.specs.Meaning.{Shows, last_state}
-use Rattle.histar_shell.proofs.CallRows.{LinesAreRows, lines_are_rows}
+use Rattle.histar_shell.proofs.CallRows.{lines_are_rows}
 use Rattle.histar_shell.proofs.SessionMeanings.{all_replies, shows_end}
 use Rattle.histar_shell.proofs.ShownTrees.{shown_tree, same_lines}
 use Rattle.histar_comparison.specs.Replies.{RepliesModel, no_replies, with_replies}
-use Rattle.histar_comparison.specs.Observation.{CanRun, KeepsReplies, ObservationModel, observation, line_text, ShowsTree}
+use Rattle.histar_comparison.specs.Observation.{CanRun, KeepsReplies, line_text, ShowsTree}
 
 -- each line of two
 map_twice : {A B C : Type 0} (f : B → C) (g : A → B) (xs : List A) → map (λ x. f (g x)) xs ≡ map f (map g xs)

@@ -2,7 +2,7 @@
 use Rattle.std.specs.Prelude.{ℕ, Bool, true, false, List, [], ◌∷◌, ◌++◌, codes, Result, Ok, Err, ◌==◌, if◌then◌else◌}
 use Rattle.histar_flat.specs.declared.calls.CallLine.{CallLine}
 use Rattle.histar_flat.specs.Words.{Path, ProcName}
-use Rattle.histar_flat.specs.PathOrder.{same}
+use Rattle.histar_flat.specs.PathOrder.{same_path}
 use Rattle.histar_flat.specs.Sessions.{Session}
 use Rattle.histar_flat.specs.Texts.{reply_text}
 use Rattle.histar_flat.specs.Meaning.{Answered, boot, flat_end, meaning, without}
@@ -26,7 +26,7 @@ reply_on n (a ∷ answers) = if a.call.line == n then reply_text a.reply else re
 -- what is printed of a path, among the lines of a tree; nothing where the path is not there
 abbrev pub line_at_path : Path → List PathText → List ℕ
 line_at_path q [] = []
-line_at_path q (line ∷ lines) = if same line.0 q then line.1 else line_at_path q lines
+line_at_path q (line ∷ lines) = if same_path line.0 q then line.1 else line_at_path q lines
 
 -- what a run of these calls prints of what a verdict names: an outsider's reply, or a line of the tree at the end
 abbrev pub printed_of : ProcName → Session → List CallLine → Verdict → List ℕ
@@ -76,7 +76,11 @@ sides_text NoJob with_job without_job = []
 sides_text (Line n) with_job without_job = codes ": " ++ side_text with_job ++ codes " | " ++ side_text without_job
 sides_text (Tree q) with_job without_job = codes ": " ++ side_text with_job ++ codes " | " ++ side_text without_job
 
--- the line of a verdict: alone, or with both sides where the runs differ
+-- what is printed behind a verdict: both sides of a difference, if that is asked for
+abbrev pub asked_sides : Bool → Explained → List ℕ
+asked_sides true e = sides_text e.verdict e.with_job e.without_job
+asked_sides false e = []
+
+-- the line of a verdict
 abbrev pub found_text : Bool → Explained → List ℕ
-found_text true e = verdict_text e.verdict ++ sides_text e.verdict e.with_job e.without_job ++ codes "\n"
-found_text false e = verdict_text e.verdict ++ codes "\n"
+found_text why e = verdict_text e.verdict ++ asked_sides why e ++ codes "\n"

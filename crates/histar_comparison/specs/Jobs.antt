@@ -13,7 +13,6 @@ use Rattle.histar_flat.specs.Texts.{process_text}
 use Rattle.histar_script.specs.declared.fault.Fault.{Fault}
 use Rattle.histar_script.specs.Outcome.{Gives}
 use Rattle.histar_script.specs.Script.{Reading}
-use Rattle.histar_script.specs.Reading.{script_of}
 use Rattle.histar_shell.specs.Machine.{MachineModel, AnswersLine}
 use Rattle.histar_shell.specs.AnsweredCalls.{AnswersInTurn}
 use Rattle.histar_shell.specs.Answers.{calls_of}

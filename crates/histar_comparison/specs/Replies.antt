@@ -1,6 +1,5 @@
 -- What is kept of the replies to a script while it runs.
-use Rattle.std.specs.Prelude.{ℕ, Bool, true, false, ◌||◌, List, [], ◌∷◌, ◌++◌, Option, None, Some, option_map, if◌then◌else◌}
-use Rattle.histar_flat.specs.declared.calls.CallLine.{CallLine}
+use Rattle.std.specs.Prelude.{ℕ, Bool, false, ◌||◌, List, [], ◌∷◌, ◌++◌, Option, None, Some, option_map, if◌then◌else◌}
 use Rattle.histar_flat.specs.declared.calls.UnixCall.{UnixCall}
 use Rattle.histar_flat.specs.declared.calls.UnixCall.TheVariants.{Unlink, Rmdir, Rmtree, Rename, Wrap}
 use Rattle.histar_flat.specs.declared.replies.Reply.{Reply}

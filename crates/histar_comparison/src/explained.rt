@@ -1,6 +1,6 @@
 //! A verdict, with what each of two runs prints where they differ.
 ghost use Rattle.std.specs.Prelude.{◌≡◌, ◌++◌, codes, IfOk, IsErrOf, IsTrue, OnOk};
-ghost use Rattle.histar_comparison.specs.Explained.{explanation, found_text, kept_on, line_at_path, seen_of, side_text, sides_text};
+ghost use Rattle.histar_comparison.specs.Explained.{asked_sides, explanation, found_text, kept_on, line_at_path, seen_of, side_text};
 ghost use Rattle.histar_script.specs.Lines.{is_too_long as too_long};
 ghost use Rattle.histar_script.specs.Outcome.{Gives};
 
@@ -54,33 +54,33 @@ fn printed(alloc: Global, seen: &Observation, verdict: &Verdict) -> Result<Bytes
 {
     match verdict {
         Verdict::Same | Verdict::NoJob => Ok(Bytes::new(alloc)),
-        Verdict::Line(line) => reply_on(alloc, seen.replies.shown(), *line),
-        Verdict::Tree(path) => line_at(alloc, seen.tree.as_slice(), path),
+        Verdict::Line(line) => Bytes::copy_of(alloc, reply_on(seen.replies.shown(), *line)),
+        Verdict::Tree(path) => Bytes::copy_of(alloc, line_at(seen.tree.as_slice(), path)),
     }
 }
 
 /// Returns the text of the reply to a line, or nothing where there is none.
-fn reply_on(alloc: Global, replies: &[ShownReply], line: u32) -> Result<Bytes, AllocError>
-    ensures { IfOk result (λ text. text ≡ kept_on line replies.now) }
+fn reply_on(replies: &[ShownReply], line: u32) -> &[u8]
+    ensures { result.now ≡ kept_on line replies.now }
 {
     for reply in replies {
         if reply.line == line {
-            return reply.text.copy(alloc);
+            return reply.text.as_slice();
         }
     }
-    Ok(Bytes::new(alloc))
+    &[]
 }
 
 /// Returns what is printed of a path, or nothing where it is not in the tree.
-fn line_at(alloc: Global, tree: &[(Path, Bytes)], path: &Path) -> Result<Bytes, AllocError>
-    ensures { IfOk result (λ text. text ≡ line_at_path path.now tree.now) }
+fn line_at<'a>(tree: &'a [(Path, Bytes)], path: &Path) -> &'a [u8]
+    ensures { result.now ≡ line_at_path path.now tree.now }
 {
     for line in tree {
         if line.0 == *path {
-            return line.1.copy(alloc);
+            return line.1.as_slice();
         }
     }
-    Ok(Bytes::new(alloc))
+    &[]
 }
 
 impl Explained {
@@ -90,22 +90,31 @@ impl Explained {
         ensures { IfOk result (λ line. line.items ≡ found_text why self.now) }
     {
         let mut line = format!(in alloc; "{}", self.verdict)?.into_bytes();
-        if why && matches!(self.verdict, Verdict::Line(_) | Verdict::Tree(_)) {
-            push_sides(
-                &mut line,
-                self.with_job.as_slice(),
-                self.without_job.as_slice(),
-            )?;
-        }
+        self.push_sides(&mut line, why)?;
         line.extend_from_slice(b"\n")?;
         Ok(line)
+    }
+
+    /// Adds what each run prints where they differ, if that is asked for.
+    fn push_sides(&self, line: &mut Vec<u8>, why: bool) -> Result<(), AllocError>
+        ensures { OnOk result (line.new.items ≡ line.old.items ++ asked_sides why self.now) }
+    {
+        if !why {
+            return Ok(());
+        }
+        match self.verdict {
+            Verdict::Same | Verdict::NoJob => Ok(()),
+            Verdict::Line(_) | Verdict::Tree(_) => {
+                push_both(line, self.with_job.as_slice(), self.without_job.as_slice())
+            }
+        }
     }
 }
 
 /// Adds both sides of a difference to a line.
-fn push_sides(line: &mut Vec<u8>, with_job: &[u8], without_job: &[u8]) -> Result<(), AllocError>
-    ensures { OnOk result (line.new.items ≡ line.old.items ++ codes ": "
-        ++ side_text with_job.now ++ codes " | " ++ side_text without_job.now) }
+fn push_both(line: &mut Vec<u8>, with_job: &[u8], without_job: &[u8]) -> Result<(), AllocError>
+    ensures { OnOk result (line.new.items ≡ line.old.items
+        ++ (codes ": " ++ side_text with_job.now ++ codes " | " ++ side_text without_job.now)) }
 {
     line.extend_from_slice(b": ")?;
     line.extend_from_slice(side(with_job))?;
