@@ -1,5 +1,6 @@
 -- A run that is printed with its calls, from bytes to bytes.
 use Rattle.std.specs.Prelude.{◌≡◌, ℕ, ◌⊎◌, Bool, true, false, List, [], Option, Some, Result, Ok, Err}
+use Rattle.std.specs.Global.{Vec}
 use Rattle.std.specs.Io.KnownBytes.{Appends, Keeps}
 use Rattle.histar_devices.specs.Writing.{AppendsFront}
 use Rattle.histar_script.specs.declared.fault.Fault.{Fault}
@@ -31,7 +32,7 @@ WritesTranscript options explain text old new (Err TooLong) = (script_of text �
 WritesTranscript options explain text old new (Err ReadFailed) = Keeps old new
 
 -- the output of a run of a text is answered, or the fault of the script, or that memory ran out
-abbrev pub GivesOutput : Options → Bool → List ℕ → Result (List ℕ) Fault → Type 0
-GivesOutput options explain text (Ok output) = IsOutput options explain text output
+abbrev pub GivesOutput : Options → Bool → List ℕ → Result (Vec ℕ) Fault → Type 0
+GivesOutput options explain text (Ok output) = IsOutput options explain text output.items
 GivesOutput options explain text (Err OutOfMemory) = Unit {0}
 GivesOutput options explain text (Err fault) = script_of text ≡ Err fault

@@ -1,5 +1,5 @@
 //! A run that is printed with its calls, from bytes to bytes.
-ghost use Rattle.std.specs.Prelude.{◌≡◌, false, result_map, IfErr, IfSome};
+ghost use Rattle.std.specs.Prelude.{◌≡◌, false, IfErr, IfSome};
 ghost use Rattle.histar_devices.specs.Device.{CountsFailure};
 ghost use Rattle.histar_script.specs.Runs.{LeavesSink, RunsInput, is_read_failed, is_write_failed};
 ghost use Rattle.histar_transcript.specs.Session.{GivesOutput, WritesTranscript};
@@ -68,7 +68,7 @@ fn output_of(
     options: Options,
     explain: bool,
 ) -> Result<Vec<u8>, Fault>
-    ensures { GivesOutput options explain text.now (result_map (λ output. output.items) result) }
+    ensures { GivesOutput options explain text.now result }
 {
     let mut reader = Counted::new(text);
     let mut writer = Counted::new(Vec::new(alloc));

@@ -1,5 +1,5 @@
 //! The lines of an output, each reply behind its call.
-ghost use Rattle.std.specs.Prelude.{◌≡◌, ◌++◌, ℕ, [], codes, map, IfOk, OnOk, slice_index_or};
+ghost use Rattle.std.specs.Prelude.{◌≡◌, ◌++◌, ◌-◌, ℕ, [], codes, decimal, map, IfOk, OnOk, slice_index_or, unwrap_or};
 ghost use Rattle.std.specs.Option.{option_copied};
 ghost use Rattle.histar_script.specs.Lines.{lines_of};
 ghost use Rattle.histar_transcript.specs.Transcript.{reply_number, transcript_of, with_call};
@@ -23,7 +23,7 @@ pub(crate) fn transcript_of(
     let lines = lines_in(alloc, script)?;
     let mut text = Vec::new(alloc);
     let mut rest = output;
-    while !rest.is_empty() {
+    'lines: while !rest.is_empty() {
         let (line, after) = split_line(rest);
         push_with_call(&mut text, lines.as_slice(), line)?;
         text.push(b'\n')?;
@@ -38,7 +38,7 @@ fn lines_in<'a>(alloc: Global, text: &'a [u8]) -> Result<Vec<&'a [u8]>, AllocErr
 {
     let mut lines = Vec::new(alloc);
     let mut rest = text;
-    while !rest.is_empty() {
+    'lines: while !rest.is_empty() {
         let (line, after) = split_line(rest);
         lines.push(line)?;
         rest = after;
@@ -55,11 +55,34 @@ fn push_with_call(text: &mut Vec<u8>, lines: &[&[u8]], line: &[u8]) -> Result<()
     let Some(number) = read_number(word, MOST_SCRIPT_LINES) else {
         return text.extend_from_slice(line);
     };
+    push_reply(text, number, call_on(lines, number), or_nothing(reply))
+}
+
+/// Adds the number of a line, its call and the reply.
+fn push_reply(
+    text: &mut Vec<u8>,
+    number: u64,
+    call: &[u8],
+    reply: &[u8],
+) -> Result<(), AllocError>
+    ensures { OnOk result (text.new.items ≡ text.old.items
+        ++ (decimal number ++ codes "  " ++ call.now ++ codes "  " ++ reply.now)) }
+{
     text.extend_from_slice(Buffer::new().format(number).as_bytes())?;
     text.extend_from_slice(b"  ")?;
-    text.extend_from_slice(call_on(lines, number))?;
+    text.extend_from_slice(call)?;
     text.extend_from_slice(b"  ")?;
-    text.extend_from_slice(reply.unwrap_or(b""))
+    text.extend_from_slice(reply)
+}
+
+/// Returns what is behind a word, or nothing where nothing is.
+fn or_nothing(rest: Option<&[u8]>) -> &[u8]
+    ensures { result.now ≡ unwrap_or (option_copied rest.entry) [] }
+{
+    match rest {
+        Some(rest) => rest,
+        None => &[],
+    }
 }
 
 /// Returns the line of this number, or nothing where there is none.
