@@ -1,0 +1,10 @@
+mod Rules
+mod Sayings
+mod Parts
+mod NumbersKept
+mod LabelsKept
+mod ValuesKept
+mod CallsKept
+mod BrokenRules
+mod FirstBadLine
+mod KnownInputs
