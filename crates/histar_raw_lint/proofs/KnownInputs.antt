@@ -1,8 +1,7 @@
 -- What is said of the bytes that were taken is said of a known input.
-use Rattle.std.proofs.Common.{◌≡◌, ℕ, ◌+◌, Bool, true, false, cond, List, [], ◌∷◌, length, Option, Some, None, Result, Ok, Err, refl, sym, ap, ◌∙◌, ◌⊎◌, inl, inr}
+use Rattle.std.proofs.Common.{◌≡◌, ℕ, ◌+◌, Bool, true, false, cond, eqb, List, [], ◌∷◌, length, Option, Some, None, Result, Ok, Err, refl, sym, ◌∙◌, ◌⊎◌, inl, inr}
 use Rattle.std.specs.Prelude.{IfSome}
 use Rattle.std.specs.Io.KnownBytes.{Keeps}
-use Rattle.histar_flat.proofs.Options.{either_chosen}
 use Rattle.histar_script.specs.declared.fault.Fault.{Fault}
 use Rattle.histar_script.specs.declared.fault.Fault.TheVariants.{BadScript, TooLong, OutOfMemory, ReadFailed, WriteFailed}
 use Rattle.histar_script.specs.Lines.{is_too_long, lines_of}
@@ -12,21 +11,21 @@ use Rattle.histar_script.specs.Runs.{RunsInput}
 use Rattle.histar_script.proofs.FirstBad.{failed}
 use Rattle.histar_script.proofs.Inputs.{AreLong, input_known}
 use Rattle.histar_script.proofs.ScriptsBack.{after}
-use Rattle.histar_raw_lint.specs.Session.{LintsRaw, Writes}
+use Rattle.histar_raw_lint.specs.Session.{LintsRaw}
 
 -- no line is too long for a script
 lines_not_long : (s : Reading) (n : ℕ) (lines : List (List ℕ)) → with_lines s n lines ≡ Err TooLong → ⊥
 unfolding with_lines
-lines_not_long s n [] e = by (length s.session.users == 0) e
+lines_not_long s n [] e = by (eqb (length s.session.users) 0) e
   where
     by : (none : Bool) → cond none (failed (n + 1)) (Ok s) ≡ Err TooLong → ⊥
     by true e = let same : BadScript (n + 1) ≡ TooLong = cc in absurd cc
     by false e = absurd cc
-lines_not_long s n (line ∷ lines) e = by (with_line s (n + 1) line) e
+lines_not_long s n (line ∷ lines) e = by (with_line s (n + 1) line) (λ t. lines_not_long t (n + 1) lines) e
   where
-    by : (o : Option Reading) → after (n + 1) (λ t. with_lines t (n + 1) lines) o ≡ Err TooLong → ⊥
-    by None e = let same : BadScript (n + 1) ≡ TooLong = cc in absurd cc
-    by (Some t) e = lines_not_long t (n + 1) lines e
+    by : (o : Option Reading) → ((t : Reading) → with_lines t (n + 1) lines ≡ Err TooLong → ⊥) → after (n + 1) (λ t. with_lines t (n + 1) lines) o ≡ Err TooLong → ⊥
+    by None go_on e = let same : BadScript (n + 1) ≡ TooLong = cc in absurd cc
+    by (Some t) go_on e = go_on t e
 
 -- a text that is too long for a script is so for a raw session
 long_is : (text : List ℕ) → script_of text ≡ Err TooLong → is_too_long text ≡ true

@@ -1,5 +1,6 @@
 mod Rules
 mod Sayings
+mod Steps
 mod Parts
 mod NumbersKept
 mod LabelsKept

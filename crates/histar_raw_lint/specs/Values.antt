@@ -15,7 +15,7 @@ is_digit b = nat_le 48 b && nat_le b 57
 
 -- digits, and at least one
 abbrev pub are_digits : List ℕ → Bool
-are_digits word = nat_lt 0 (length word) && list_all is_digit word
+are_digits word = not (length word == 0) && list_all is_digit word
 
 -- a zero stands before other digits
 abbrev pub has_zero : List ℕ → Bool
@@ -102,12 +102,16 @@ before_last (text ∷ more ∷ texts) = text ∷ before_last (more ∷ texts)
 abbrev pub lacks_default : List ℕ → Bool
 lacks_default text = length text == 0 || not (is_none (behind_colon text))
 
+-- The rules for the default of a label and for its exceptions.
+abbrev pub list_rules : List ℕ → List (List ℕ) → List Rule
+list_rules default exceptions =
+    (lacks_default default, codes "a label is levels by category and a default at last, as in {4:3,1}")
+    ∷ (not (is_level default), level_sentence)
+    ∷ exceptions_rules default 0 exceptions
+
 -- The rules for the parts of a label, of which the last is the default.
 abbrev pub part_rules : List (List ℕ) → List Rule
-part_rules parts =
-    (lacks_default (last_of parts), codes "a label is levels by category and a default at last, as in {4:3,1}")
-    ∷ (not (is_level (last_of parts)), level_sentence)
-    ∷ exceptions_rules (last_of parts) 0 (before_last parts)
+part_rules parts = list_rules (last_of parts) (before_last parts)
 
 -- a text stands in braces
 abbrev pub is_braced : List ℕ → Bool

@@ -4,7 +4,7 @@ ghost use Rattle.std.specs.List.{slice_split};
 ghost use Rattle.std.specs.Option.{option_copied};
 ghost use Rattle.histar_lint.specs.Lines.{first_sentence};
 ghost use Rattle.histar_raw_lint.specs.Values.{category_of_part, category_rules, exception_rules, exceptions_rules, in_braces, is_braced};
-ghost use Rattle.histar_raw_lint.specs.Values.{is_late, is_level, label_rules, lacks_default, part_rules};
+ghost use Rattle.histar_raw_lint.specs.Values.{is_late, is_level, label_rules, lacks_default, list_rules, part_rules};
 
 use crate::line_rules::{begins_with, ends_with};
 use crate::numbers::{number_in, number_sentence};
@@ -114,13 +114,15 @@ fn lacks_default(text: &[u8]) -> bool
     text.is_empty() || split_at_first(text, b':').1.is_some()
 }
 
-/// Returns the sentence of the first rule for the parts of a label that what stands in its braces breaks.
-fn part_sentence(alloc: Global, text: &[u8]) -> Result<Option<Vec<u8>>, AllocError>
+/// Returns the sentence of the first rule for the default of a label and for its exceptions that they break.
+fn list_sentence(
+    alloc: Global,
+    default: &[u8],
+    exceptions: &[&[u8]],
+) -> Result<Option<Vec<u8>>, AllocError>
     ensures { IfOk result (λ said. option_map (λ text. text.items) said
-        ≡ first_sentence (part_rules (slice_split (λ b. b == 44) text.now))) }
+        ≡ first_sentence (list_rules default.now (map (λ part. part.now) exceptions.now))) }
 {
-    let mut parts = split_at_commas(alloc, text)?;
-    let default = parts.pop().unwrap_or(&[]);
     if lacks_default(default) {
         return said(
             alloc,
@@ -130,7 +132,17 @@ fn part_sentence(alloc: Global, text: &[u8]) -> Result<Option<Vec<u8>>, AllocErr
     if !is_level(default) {
         return said(alloc, LEVEL);
     }
-    exceptions_sentence(alloc, default, parts.as_slice())
+    exceptions_sentence(alloc, default, exceptions)
+}
+
+/// Returns the sentence of the first rule for the parts of a label that what stands in its braces breaks.
+fn part_sentence(alloc: Global, text: &[u8]) -> Result<Option<Vec<u8>>, AllocError>
+    ensures { IfOk result (λ said. option_map (λ text. text.items) said
+        ≡ first_sentence (part_rules (slice_split (λ b. b == 44) text.now))) }
+{
+    let mut parts = split_at_commas(alloc, text)?;
+    let default = parts.pop().unwrap_or(&[]);
+    list_sentence(alloc, default, parts.as_slice())
 }
 
 /// Returns what stands in the braces of a text, if it has them.

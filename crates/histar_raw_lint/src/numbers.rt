@@ -1,5 +1,6 @@
 //! The rules for numbers.
 ghost use Rattle.std.specs.Prelude.{◌≡◌, ◌++◌, IfOk, codes, decimal, is_none, not, nat_le, option_map};
+ghost use Rattle.std.specs.List.{list_all};
 ghost use Rattle.histar_flat.specs.Words.{number_of};
 ghost use Rattle.histar_lint.specs.Lines.{first_sentence};
 ghost use Rattle.histar_rawtext.specs.Reading.{number_in};
@@ -17,11 +18,18 @@ pub(crate) fn is_digit(byte: u8) -> bool
     matches!(byte, b'0'..=b'9')
 }
 
+/// Checks whether all bytes are decimal digits.
+fn has_digits_alone(word: &[u8]) -> bool
+    ensures { result ≡ list_all is_digit word.now }
+{
+    word.iter().all(|b| is_digit(*b))
+}
+
 /// Checks whether a word is digits, and at least one.
 pub(crate) fn are_digits(word: &[u8]) -> bool
     ensures { result ≡ are_digits word.now }
 {
-    !word.is_empty() && word.iter().all(|b| is_digit(*b))
+    !word.is_empty() && has_digits_alone(word)
 }
 
 /// Checks whether a zero stands before other digits.

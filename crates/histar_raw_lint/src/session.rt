@@ -87,7 +87,7 @@ fn bad_line(text: &[u8], bad: u32) -> &[u8]
 {
     let mut rest = text;
     let mut left = bad;
-    'before: while left > 1 {
+    'ahead: while left > 1 {
         rest = split_line(rest).1;
         left -= 1;
     }

@@ -1,5 +1,6 @@
 //! The rules for bytes, for what a gate gives, and for a value of any kind.
-ghost use Rattle.std.specs.Prelude.{◌≡◌, IfOk, drop, option_map};
+ghost use Rattle.std.specs.Prelude.{◌≡◌, ◌%◌, ◌==◌, IfOk, drop, length, option_map};
+ghost use Rattle.std.specs.List.{list_all};
 ghost use Rattle.histar_lint.specs.Lines.{first_sentence};
 ghost use Rattle.histar_raw_lint.specs.Rules.{value_rules};
 ghost use Rattle.histar_raw_lint.specs.Values.{bytes_rules, entry_rules, is_hex_digit};
@@ -32,6 +33,20 @@ fn behind_first(text: &[u8]) -> &[u8]
     }
 }
 
+/// Checks whether all bytes are hexadecimal digits.
+fn are_hex_digits(digits: &[u8]) -> bool
+    ensures { result ≡ list_all is_hex_digit digits.now }
+{
+    digits.iter().all(|b| is_hex_digit(*b))
+}
+
+/// Checks whether the number of digits is odd.
+fn is_odd(digits: &[u8]) -> bool
+    ensures { result ≡ (length digits.now % 2 == 1) }
+{
+    digits.len() % 2 == 1
+}
+
 /// Returns the sentence of the first rule for bytes that a word breaks.
 fn bytes_sentence(alloc: Global, word: &[u8]) -> Result<Option<Vec<u8>>, AllocError>
     ensures { IfOk result (λ said. option_map (λ text. text.items) said ≡ first_sentence (bytes_rules word.now)) }
@@ -40,10 +55,10 @@ fn bytes_sentence(alloc: Global, word: &[u8]) -> Result<Option<Vec<u8>>, AllocEr
     if !begins_with(word, b'x') {
         return said(alloc, "bytes are x and two digits for each, as in x0aff");
     }
-    if !digits.iter().all(|b| is_hex_digit(*b)) {
+    if !are_hex_digits(digits) {
         return said(alloc, "a digit of a byte is 0 to 9 or a to f");
     }
-    if digits.len() % 2 == 1 {
+    if is_odd(digits) {
         return said(alloc, "the last byte has one digit, and a byte has two");
     }
     Ok(None)
