@@ -63,9 +63,12 @@ says_call line kept =
     let same : rest_of line ≡ rest.0 = ap (λ (o : Option (List ℕ)). unwrap_or o []) rest.1 in
     let words : line ≡ word_of line ++ 32 ∷ rest.0 = by_first_word line ∙ ap (λ (o : Option (List ℕ)). word_of line ++ tail_of o) rest.1 in
     let parts : line ≡ decimal thread.0 ++ 32 ∷ call_text call.0 = words ∙ (λ i. thread.1 i ++ 32 ∷ (sym same ∙ call.1) i) in
-    let most = thread.2 in
-    (plain_by_rules line one.0, thread.0, call.0,
-    (append_assoc (decimal thread.0) (codes " ") (call_text call.0) ∙ sym parts, omega (arith, most), call.2))
+    let most = thread.2 in (
+      plain_by_rules line one.0,
+      thread.0,
+      call.0,
+      (append_assoc (decimal thread.0) (codes " ") (call_text call.0) ∙ sym parts, omega (arith, most), call.2),
+    )
 
 pub each_bad_raw_line_breaks_one : EachBadRawLineBreaksOne
 each_bad_raw_line_breaks_one line bad = by (sentence line) refl

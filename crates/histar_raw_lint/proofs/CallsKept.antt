@@ -109,69 +109,84 @@ set_clearance tail s = (calls.SetClearance s.value.0, named (codes "set_clearanc
 make_segment : MakesCall (codes "make_segment") (Container ∷ Label ∷ Bytes ∷ [])
 make_segment tail s =
     let t = s.next in
-    let u = t.next in
-    (calls.MakeSegment s.value.0 t.value.0 u.value.0, named (codes "make_segment") (three (number_word s.value.0) (label_word t.value.0) (bytes_word u.value.0) (step s.parts s.value.1 (step t.parts t.value.1 (last u.parts u.value.1 u.next)))),
-    (small s.value.0 s.value.2, t.value.2, u.value.2))
+    let u = t.next in (
+      calls.MakeSegment s.value.0 t.value.0 u.value.0,
+      named (codes "make_segment") (three (number_word s.value.0) (label_word t.value.0) (bytes_word u.value.0) (step s.parts s.value.1 (step t.parts t.value.1 (last u.parts u.value.1 u.next)))),
+      (small s.value.0 s.value.2, t.value.2, u.value.2),
+    )
 
 make_container : MakesCall (codes "make_container") (Container ∷ Label ∷ [])
 make_container tail s =
-    let t = s.next in
-    (calls.MakeContainer s.value.0 t.value.0, named (codes "make_container") (step s.parts s.value.1 (last t.parts t.value.1 t.next)),
-    (small s.value.0 s.value.2, t.value.2))
+    let t = s.next in (
+      calls.MakeContainer s.value.0 t.value.0,
+      named (codes "make_container") (step s.parts s.value.1 (last t.parts t.value.1 t.next)),
+      (small s.value.0 s.value.2, t.value.2),
+    )
 
 make_thread : MakesCall (codes "make_thread") (Container ∷ Label ∷ Clearance ∷ [])
 make_thread tail s =
     let t = s.next in
-    let u = t.next in
-    (calls.MakeThread s.value.0 t.value.0 u.value.0, named (codes "make_thread") (three (number_word s.value.0) (label_word t.value.0) (label_word u.value.0) (step s.parts s.value.1 (step t.parts t.value.1 (last u.parts u.value.1 u.next)))),
-    (small s.value.0 s.value.2, t.value.2, u.value.2))
+    let u = t.next in (
+      calls.MakeThread s.value.0 t.value.0 u.value.0,
+      named (codes "make_thread") (three (number_word s.value.0) (label_word t.value.0) (label_word u.value.0) (step s.parts s.value.1 (step t.parts t.value.1 (last u.parts u.value.1 u.next)))),
+      (small s.value.0 s.value.2, t.value.2, u.value.2),
+    )
 
 make_gate : MakesCall (codes "make_gate") (Container ∷ Label ∷ Clearance ∷ Entry ∷ [])
 make_gate tail s =
     let t = s.next in
     let u = t.next in
-    let v = u.next in
-    (calls.MakeGate s.value.0 t.value.0 u.value.0 v.value.0,
-    named (codes "make_gate") (four (number_word s.value.0) (label_word t.value.0) (label_word u.value.0) (entry_word v.value.0) (step s.parts s.value.1 (step t.parts t.value.1 (step u.parts u.value.1 (last v.parts v.value.1 v.next))))),
-    (small s.value.0 s.value.2, t.value.2, u.value.2, v.value.2))
+    let v = u.next in (
+      calls.MakeGate s.value.0 t.value.0 u.value.0 v.value.0,
+      named (codes "make_gate") (four (number_word s.value.0) (label_word t.value.0) (label_word u.value.0) (entry_word v.value.0) (step s.parts s.value.1 (step t.parts t.value.1 (step u.parts u.value.1 (last v.parts v.value.1 v.next))))),
+      (small s.value.0 s.value.2, t.value.2, u.value.2, v.value.2),
+    )
 
 enter : MakesCall (codes "enter") (Container ∷ Gate ∷ Label ∷ Clearance ∷ Verify ∷ [])
 enter tail s =
     let t = s.next in
     let u = t.next in
     let v = u.next in
-    let w = v.next in
-    (calls.Enter s.value.0 t.value.0 u.value.0 v.value.0 w.value.0,
-    named (codes "enter") (five (number_word s.value.0) (number_word t.value.0) (label_word u.value.0) (label_word v.value.0) (label_word w.value.0) (step s.parts s.value.1 (step t.parts t.value.1 (step u.parts u.value.1 (step v.parts v.value.1 (last w.parts w.value.1 w.next)))))),
-    (small s.value.0 s.value.2, small t.value.0 t.value.2, u.value.2, v.value.2, w.value.2))
+    let w = v.next in (
+      calls.Enter s.value.0 t.value.0 u.value.0 v.value.0 w.value.0,
+      named (codes "enter") (five (number_word s.value.0) (number_word t.value.0) (label_word u.value.0) (label_word v.value.0) (label_word w.value.0) (step s.parts s.value.1 (step t.parts t.value.1 (step u.parts u.value.1 (step v.parts v.value.1 (last w.parts w.value.1 w.next)))))),
+      (small s.value.0 s.value.2, small t.value.0 t.value.2, u.value.2, v.value.2, w.value.2),
+    )
 
 read : MakesCall (codes "read") (Container ∷ Segment ∷ [])
 read tail s =
-    let t = s.next in
-    (calls.Read s.value.0 t.value.0, named (codes "read") (step s.parts s.value.1 (last t.parts t.value.1 t.next)),
-    (small s.value.0 s.value.2, small t.value.0 t.value.2))
+    let t = s.next in (
+      calls.Read s.value.0 t.value.0,
+      named (codes "read") (step s.parts s.value.1 (last t.parts t.value.1 t.next)),
+      (small s.value.0 s.value.2, small t.value.0 t.value.2),
+    )
 
 write : MakesCall (codes "write") (Container ∷ Segment ∷ Keep ∷ Bytes ∷ [])
 write tail s =
     let t = s.next in
     let u = t.next in
     let v = u.next in
-    let kept = u.value.2 in
-    (calls.Write s.value.0 t.value.0 u.value.0 v.value.0,
-    named (codes "write") (four (number_word s.value.0) (number_word t.value.0) (number_word u.value.0) (bytes_word v.value.0) (step s.parts s.value.1 (step t.parts t.value.1 (step u.parts u.value.1 (last v.parts v.value.1 v.next))))),
-    (small s.value.0 s.value.2, small t.value.0 t.value.2, omega (arith, kept), v.value.2))
+    let kept = u.value.2 in (
+      calls.Write s.value.0 t.value.0 u.value.0 v.value.0,
+      named (codes "write") (four (number_word s.value.0) (number_word t.value.0) (number_word u.value.0) (bytes_word v.value.0) (step s.parts s.value.1 (step t.parts t.value.1 (step u.parts u.value.1 (last v.parts v.value.1 v.next))))),
+      (small s.value.0 s.value.2, small t.value.0 t.value.2, omega (arith, kept), v.value.2),
+    )
 
 unlink : MakesCall (codes "unlink") (Container ∷ Object ∷ [])
 unlink tail s =
-    let t = s.next in
-    (calls.Unlink s.value.0 t.value.0, named (codes "unlink") (step s.parts s.value.1 (last t.parts t.value.1 t.next)),
-    (small s.value.0 s.value.2, small t.value.0 t.value.2))
+    let t = s.next in (
+      calls.Unlink s.value.0 t.value.0,
+      named (codes "unlink") (step s.parts s.value.1 (last t.parts t.value.1 t.next)),
+      (small s.value.0 s.value.2, small t.value.0 t.value.2),
+    )
 
 label_of : MakesCall (codes "label") (Container ∷ Object ∷ [])
 label_of tail s =
-    let t = s.next in
-    (calls.LabelOf s.value.0 t.value.0, named (codes "label") (step s.parts s.value.1 (last t.parts t.value.1 t.next)),
-    (small s.value.0 s.value.2, small t.value.0 t.value.2))
+    let t = s.next in (
+      calls.LabelOf s.value.0 t.value.0,
+      named (codes "label") (step s.parts s.value.1 (last t.parts t.value.1 t.next)),
+      (small s.value.0 s.value.2, small t.value.0 t.value.2),
+    )
 
 -- the kinds of a name are those of the call that it names, or of one behind
 chosen : (name other : List ℕ) (own kinds : List Kind) {rest : Option (List Kind)} → MakesCall other own → (rest ≡ Some kinds → MakesCall name kinds)

@@ -102,10 +102,11 @@ exception_by_rules d default text before own kept =
     let same : text_behind text ≡ behind.0 = ap (λ (o : Option (List ℕ)). unwrap_or o []) behind.1 in
     let level = level_of_text (text_behind text) (not_so (is_level (text_behind text)) second.0) in
     let category = category_by_rules before (before_colon text) third.1 in
-    let parts : text ≡ before_colon text ++ 58 ∷ behind.0 = split_back 58 text behind.0 behind.1 in
-    ((category.0, level.0),
-    parts ∙ ap (λ (t : List ℕ). before_colon text ++ 58 ∷ t) (sym same ∙ sym level.1) ∙ ap (λ (t : List ℕ). t ++ 58 ∷ level_text level.0) category.1,
-    record { number = category.2; above = category.3; differs = differ_by level.0 d (text_behind text) default level.1 own third.0 })
+    let parts : text ≡ before_colon text ++ 58 ∷ behind.0 = split_back 58 text behind.0 behind.1 in (
+      (category.0, level.0),
+      parts ∙ ap (λ (t : List ℕ). before_colon text ++ 58 ∷ t) (sym same ∙ sym level.1) ∙ ap (λ (t : List ℕ). t ++ 58 ∷ level_text level.0) category.1,
+      record { number = category.2; above = category.3; differs = differ_by level.0 d (text_behind text) default level.1 own third.0 },
+    )
 
 category_is : (e : ℕ × Level) (text : List ℕ) → text ≡ part e → IsNumber e.0 → category_of_part text ≡ e.0
 category_is e text is small =
@@ -210,10 +211,11 @@ label_of_parts parts some kept =
     let label = label_of_next default.0 exceptions.0 exceptions.2 in
     let both : parts ≡ map part exceptions.0 ++ last_of parts ∷ [] = parts_back parts some ∙ ap (λ (front : List (List ℕ)). front ++ last_of parts ∷ []) exceptions.1 in
     let listed = label.1.exceptions in
-    let own : level_text (default_of label.0) ≡ last_of parts = ap level_text label.1.default ∙ default.1 in
-    (label.0,
-    ap (join_with_byte 44) both ∙ joined_back exceptions.0 (last_of parts) ∙ (λ i. flat_map exception_text (sym listed i) ++ sym own i),
-    label.1.readable)
+    let own : level_text (default_of label.0) ≡ last_of parts = ap level_text label.1.default ∙ default.1 in (
+      label.0,
+      ap (join_with_byte 44) both ∙ joined_back exceptions.0 (last_of parts) ∙ (λ i. flat_map exception_text (sym listed i) ++ sym own i),
+      label.1.readable,
+    )
 
 -- a word that keeps the rules for labels
 pub label_by_rules : (word : List ℕ) → AreKept (label_rules word) → (L : Levels) × (word ≡ label_text L) × IsReadableLabel L

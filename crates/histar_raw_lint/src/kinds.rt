@@ -101,11 +101,7 @@ fn push_kinds(said: &mut Vec<u8>, kinds: &[Kind]) -> Result<(), AllocError>
 }
 
 /// Says how the call of a name is written.
-pub(crate) fn usage_text(
-    alloc: Global,
-    name: &[u8],
-    kinds: &[Kind],
-) -> Result<Vec<u8>, AllocError>
+pub(crate) fn usage_text(alloc: Global, name: &[u8], kinds: &[Kind]) -> Result<Vec<u8>, AllocError>
     ensures { IfOk result (λ said. said.items ≡ usage_text name.now kinds.now) }
 {
     let mut said = Vec::from_slice(alloc, b"the call is `THREAD ".as_slice())?;

@@ -33,11 +33,7 @@ fn is_late(before: u64, word: &[u8]) -> bool
 }
 
 /// Returns the sentence of the first rule for a category behind another one that a word breaks.
-fn category_sentence(
-    alloc: Global,
-    before: u64,
-    word: &[u8],
-) -> Result<Option<Vec<u8>>, AllocError>
+fn category_sentence(alloc: Global, before: u64, word: &[u8]) -> Result<Option<Vec<u8>>, AllocError>
     ensures { IfOk result (λ said. option_map (λ text. text.items) said
         ≡ first_sentence (category_rules before word.now)) }
 {
@@ -62,7 +58,10 @@ fn exception_sentence(
 {
     let (category, level) = split_at_first(part, b':');
     let Some(level) = level else {
-        return said(alloc, "a category has its level behind a colon, as in {4:3,1}");
+        return said(
+            alloc,
+            "a category has its level behind a colon, as in {4:3,1}",
+        );
     };
     if !is_level(level) {
         return said(alloc, LEVEL);

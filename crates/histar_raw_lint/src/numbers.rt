@@ -67,11 +67,7 @@ fn is_beyond(word: &[u8], most: u64) -> bool
 }
 
 /// Says which number is the greatest.
-fn greatest_sentence(
-    alloc: Global,
-    noun: &str,
-    most: u64,
-) -> Result<Vec<u8>, AllocError>
+fn greatest_sentence(alloc: Global, noun: &str, most: u64) -> Result<Vec<u8>, AllocError>
     ensures { IfOk result (λ said. said.items ≡ noun.now ++ codes " is at most " ++ decimal most) }
 {
     let mut text = Vec::from_slice(alloc, noun.as_bytes())?;
