@@ -40,25 +40,33 @@ not_so false e = absurd cc
 
 -- ---- levels
 
-level_by : (b : ℕ) (star none one two three : Bool) → eqb b 42 ≡ star → eqb b 48 ≡ none → eqb b 49 ≡ one → eqb b 50 ≡ two → eqb b 51 ≡ three
-    → (eqb b 42 || (leb 48 b && leb b 51)) ≡ true → (l : Level) × (level_text l ≡ b ∷ [])
-level_by b true none one two three e0 e1 e2 e3 e4 h = let same : 42 ≡ b = grind (arith, nat_tests) in (Star, ap (λ (c : ℕ). c ∷ []) same)
-level_by b false true one two three e0 e1 e2 e3 e4 h = let same : 48 ≡ b = grind (arith, nat_tests) in (L0, ap (λ (c : ℕ). c ∷ []) same)
-level_by b false false true two three e0 e1 e2 e3 e4 h = let same : 49 ≡ b = grind (arith, nat_tests) in (L1, ap (λ (c : ℕ). c ∷ []) same)
-level_by b false false false true three e0 e1 e2 e3 e4 h = let same : 50 ≡ b = grind (arith, nat_tests) in (L2, ap (λ (c : ℕ). c ∷ []) same)
-level_by b false false false false true e0 e1 e2 e3 e4 h = let same : 51 ≡ b = grind (arith, nat_tests) in (L3, ap (λ (c : ℕ). c ∷ []) same)
-level_by b false false false false false e0 e1 e2 e3 e4 h = absurd (grind (arith, nat_tests))
+-- a byte is the text of a level
+abbrev IsLevelByte : ℕ → Type 0
+IsLevelByte b = (l : Level) × (level_text l ≡ b ∷ [])
+
+-- it is the text of this level, or of another one
+this_level : (b n : ℕ) (l : Level) → level_text l ≡ n ∷ [] → (eqb b n ≡ false → IsLevelByte b) → IsLevelByte b
+this_level b n l is other = by (eqb b n) refl
+  where
+    by : (same : Bool) → eqb b n ≡ same → IsLevelByte b
+    by true e = let same : n ≡ b = grind (arith, nat_tests) in (l, is ∙ ap (λ (c : ℕ). c ∷ []) same)
+    by false e = other e
+
+level_of_byte : (b : ℕ) → (eqb b 42 || (leb 48 b && leb b 51)) ≡ true → IsLevelByte b
+level_of_byte b h =
+    this_level b 42 Star refl (λ e0. this_level b 48 L0 refl (λ e1. this_level b 49 L1 refl (λ e2. this_level b 50 L2 refl (λ e3.
+    this_level b 51 L3 refl (λ e4. absurd (grind (arith, nat_tests, h, e0, e1, e2, e3, e4)))))))
 
 -- a text that is a level is that of one
 level_of_text : (text : List ℕ) → is_level text ≡ true → (l : Level) × (level_text l ≡ text)
 level_of_text [] e = absurd cc
-level_of_text (b ∷ []) e = level_by b (eqb b 42) (eqb b 48) (eqb b 49) (eqb b 50) (eqb b 51) refl refl refl refl refl e
+level_of_text (b ∷ []) e = level_of_byte b e
 level_of_text (b ∷ c ∷ text) e = absurd cc
 
 -- ---- the categories and their levels
 
 -- the text of an exception, without its comma
-abbrev part : ℕ × Level → List ℕ
+abbrev pub part : ℕ × Level → List ℕ
 part e = decimal e.0 ++ 58 ∷ level_text e.1
 
 -- an exception that may stand behind this category, in a label with this default
@@ -68,7 +76,7 @@ pub record IsNext (default : Level) (before : ℕ) (e : ℕ × Level) : Type 0 w
   pub differs : e.1 ≢ default
 
 -- exceptions that may stand behind this category
-abbrev AreNext : Level → ℕ → Exceptions → Type 0
+abbrev pub AreNext : Level → ℕ → Exceptions → Type 0
 AreNext default before [] = ⊤
 AreNext default before (e ∷ es) = IsNext default before e × AreNext default e.0 es
 
@@ -108,7 +116,8 @@ exception_by_rules d default text before own kept =
       record { number = category.2; above = category.3; differs = differ_by level.0 d (text_behind text) default level.1 own third.0 },
     )
 
-category_is : (e : ℕ × Level) (text : List ℕ) → text ≡ part e → IsNumber e.0 → category_of_part text ≡ e.0
+-- the category of the text of an exception
+pub category_is : (e : ℕ × Level) (text : List ℕ) → text ≡ part e → IsNumber e.0 → category_of_part text ≡ e.0
 category_is e text is small =
     let split : before_colon text ≡ decimal e.0 =
     ap before_colon is ∙ ap (λ (p : List ℕ × Option (List ℕ)). p.0) (split_before 58 (decimal e.0) (level_text e.1) (lacks-decimal 58 e.0 colon_is_no_digit small)) in

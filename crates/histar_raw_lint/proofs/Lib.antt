@@ -7,5 +7,8 @@ mod LabelsKept
 mod ValuesKept
 mod CallsKept
 mod BrokenRules
+mod ValuesRight
+mod CallsRight
+mod LinesRight
 mod FirstBadLine
 mod KnownInputs

@@ -1,5 +1,5 @@
 -- Lists of rules: which of them is broken first.
-use Rattle.std.proofs.Common.{◌≡◌, Bool, true, false, cond, List, [], ◌∷◌, ◌++◌, Option, Some, None, refl, ℕ}
+use Rattle.std.proofs.Common.{◌≡◌, Bool, true, false, cond, List, [], ◌∷◌, ◌++◌, Option, Some, None, refl, ap, ◌∙◌, ℕ}
 use Rattle.histar_lint.specs.Lines.{Rule, first_sentence}
 
 -- where nothing is said, no rule is broken
@@ -40,3 +40,11 @@ pub said_behind : (rules others : List Rule) → AreKept rules → first_sentenc
 said_behind [] others e = refl
 said_behind (rule ∷ rules) others e =
     behind_by rule.0 rule.1 (first_sentence rules) (first_sentence (rules ++ others)) (first_sentence others) e (said_behind rules others)
+
+-- a rule whose test fails is kept, before others that are
+pub keep : (test : Bool) (said : List ℕ) (rest : Option (List ℕ)) → test ≡ false → rest ≡ None → cond test (Some said) rest ≡ None
+keep test said rest kept others = ap (λ b. cond b (Some said) rest) kept ∙ others
+
+-- rules are kept, before others that are
+pub keep_both : (rules others : List Rule) → AreKept rules → AreKept others → AreKept (rules ++ others)
+keep_both rules others kept more = said_behind rules others kept ∙ more

@@ -107,12 +107,12 @@ module _ {V : Type 0} {i : ℕ} {o : Option V} (items : V → List ℕ) (default
       (exceptions_rules default (category_of_part (get_or parts i d).now) (map (λ p. p.now) (drop (i + 1) parts))) o said none
 
 -- the texts before the last one, and the last one
-front_is : (texts : List (List ℕ)) (text : List ℕ) → before_last (texts ++ text ∷ []) ≡ texts
+pub front_is : (texts : List (List ℕ)) (text : List ℕ) → before_last (texts ++ text ∷ []) ≡ texts
 front_is [] text = refl
 front_is (t ∷ []) text = refl
 front_is (t ∷ u ∷ texts) text = ap (λ l. t ∷ l) (front_is (u ∷ texts) text)
 
-last_is : (texts : List (List ℕ)) (text : List ℕ) → last_of (texts ++ text ∷ []) ≡ text
+pub last_is : (texts : List (List ℕ)) (text : List ℕ) → last_of (texts ++ text ∷ []) ≡ text
 last_is [] text = refl
 last_is (t ∷ []) text = refl
 last_is (t ∷ u ∷ texts) text = last_is (u ∷ texts) text
