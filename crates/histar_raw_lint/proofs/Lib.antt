@@ -1,0 +1,14 @@
+mod Rules
+mod Sayings
+mod Steps
+mod Parts
+mod NumbersKept
+mod LabelsKept
+mod ValuesKept
+mod CallsKept
+mod BrokenRules
+mod ValuesRight
+mod CallsRight
+mod LinesRight
+mod FirstBadLine
+mod KnownInputs

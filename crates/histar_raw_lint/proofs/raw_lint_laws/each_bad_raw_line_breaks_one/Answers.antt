@@ -1,0 +1,5 @@
+use Rattle.histar_raw_lint.proofs.BrokenRules.{each_bad_raw_line_breaks_one}
+use Rattle.histar_raw_lint.proofs.raw_lint_laws.each_bad_raw_line_breaks_one.Goals as goal
+
+pub returns : goal.returns
+returns c = each_bad_raw_line_breaks_one

@@ -1,0 +1,5 @@
+use Rattle.histar_raw_lint.proofs.LinesRight.{no_right_raw_line_breaks_one}
+use Rattle.histar_raw_lint.proofs.raw_lint_laws.no_right_raw_line_breaks_one.Goals as goal
+
+pub returns : goal.returns
+returns c = no_right_raw_line_breaks_one

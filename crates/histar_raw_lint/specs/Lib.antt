@@ -1,0 +1,4 @@
+pub mod Values
+pub mod Rules
+pub mod Laws
+pub mod Session
