@@ -10,6 +10,7 @@ use Rattle.histar_script.specs.declared.fault.Fault.TheVariants.{BadScript, TooL
 use Rattle.histar_script.specs.declared.items.Item.{Item}
 use Rattle.histar_script.specs.declared.items.Item.TheVariants as items
 use Rattle.histar_script.specs.Lines.{lines_of}
+use Rattle.histar_script.specs.Script.{Reading}
 use Rattle.histar_script.specs.Reading.{item_of, script_of}
 use Rattle.histar_test.specs.declared.steps.Step.{Step}
 use Rattle.histar_test.specs.declared.steps.Step.TheVariants.{Makes, Expects}
@@ -31,32 +32,51 @@ abbrev pub steps_before : List Step → Result (List Step) ℕ → Result (List 
 steps_before front (Ok steps) = Ok (front ++ steps)
 steps_before front (Err n) = Err n
 
+-- the step is a call
+abbrev pub is_call : Step → Bool
+is_call (Makes call said) = true
+is_call (Expects text) = false
+
+-- the step that a call is, on a line with this text
+abbrev pub call_step : List ℕ → Option CallLine → Option Step
+call_step line (Some call) = Some (Makes call line)
+call_step line None = None
+
+-- the step of a line that expects this, or else makes this call
+abbrev pub step_by : List ℕ → Option (List ℕ) → Option CallLine → Option Step
+step_by line (Some text) call = Some (Expects text)
+step_by line None call = call_step line call
+
+-- the step that line n is, if it is one: what it expects, or else the call that it says
+abbrev pub step_of : ℕ → List ℕ → Option Step
+step_of n line = step_by line (expectation_of line) (call_in n (item_of line))
+
+-- The step of line n, if it is one, and then those behind it, by whether a call is open there: it is after a call. An expectation has to
+-- have an open call before it.
+abbrev pub steps_by : ℕ → Bool → Option Step → (Bool → Result (List Step) ℕ) → Result (List Step) ℕ
+steps_by n is_open None later = later is_open
+steps_by n is_open (Some step) later = if is_call step || is_open then steps_before (step ∷ []) (later (is_call step)) else Err n
+
 -- The steps of lines, of which the first is line n, or the number of the first line whose expectation has no call. A call is open
 -- until an expectation follows it, and each expectation follows an open call.
 unfoldable pub steps_from : ℕ → Bool → List (List ℕ) → Result (List Step) ℕ
 steps_from n is_open [] = Ok []
-steps_from n is_open (line ∷ lines) = elim (expectation_of line) [
-  | Some text ↦ if is_open then steps_before (Expects text ∷ []) (steps_from (n + 1) false lines) else Err n
-  | None ↦ elim (call_in n (item_of line)) [
-    | Some call ↦ steps_before (Makes call line ∷ []) (steps_from (n + 1) true lines)
-    | None ↦ steps_from (n + 1) is_open lines
-  ]
-]
+steps_from n is_open (line ∷ lines) = steps_by n is_open (step_of n line) (λ opened. steps_from (n + 1) opened lines)
 
 -- a session, and the steps of its script
 pub record Test : Type 0 where
   pub session : Session
   pub steps : List Step
 
+-- a script with its steps, where neither has a fault; that of the script comes first
+abbrev pub test_by : Result Reading Fault → Result (List Step) ℕ → Result Test Fault
+test_by (Err fault) read = Err fault
+test_by (Ok script) (Ok steps) = Ok (record { session = script.session; steps = steps })
+test_by (Ok script) (Err line) = Err (BadScript line)
+
 -- the test that a text is: a script, whose fault comes first, in which each expectation has its call
 abbrev pub test_of : List ℕ → Result Test Fault
-test_of text = elim (script_of text) [
-  | Err fault ↦ Err fault
-  | Ok script ↦ elim (steps_from 1 false (lines_of text)) [
-    | Ok steps ↦ Ok (record { session = script.session; steps = steps })
-    | Err line ↦ Err (BadScript line)
-  ]
-]
+test_of text = test_by (script_of text) (steps_from 1 false (lines_of text))
 
 -- the call of a step
 abbrev pub call_of_step : Step → Option CallLine
@@ -69,23 +89,9 @@ calls_in steps = filter_map call_of_step steps
 
 -- ---- the parts
 
--- the step is a call
-abbrev pub is_call : Step → Bool
-is_call (Makes call said) = true
-is_call (Expects text) = false
-
 -- how many expectations there are among steps
 abbrev pub expectation_count : List Step → ℕ
 expectation_count steps = count_by (λ step. not (is_call step)) steps
-
--- the step that a call is, on a line with this text
-abbrev pub call_step : List ℕ → Option CallLine → Option Step
-call_step line (Some call) = Some (Makes call line)
-call_step line None = None
-
--- the step that line n is, if it is one
-abbrev pub step_of : ℕ → List ℕ → Option Step
-step_of n line = elim (expectation_of line) [ Some text ↦ Some (Expects text) | None ↦ call_step line (call_in n (item_of line)) ]
 
 -- the steps of lines were read, or memory ran out
 abbrev pub GivesSteps : Result (Vec Step) Fault → Result (List Step) ℕ → Type 0

@@ -99,7 +99,13 @@ fn count_checks(tests: &[NamedTest]) -> Option<usize>
 fn count_expectations(steps: &[Step]) -> usize
     ensures { result ≡ expectation_count steps.now }
 {
-    steps.iter().filter(|step| !step.is_call()).count()
+    let mut count = 0;
+    'steps: for step in steps {
+        if !step.is_call() {
+            count += 1;
+        }
+    }
+    count
 }
 
 /// Returns the line that says how many checks there are.

@@ -1,10 +1,10 @@
 //! Reading the steps of a script that says what it expects.
-ghost use Rattle.std.specs.Prelude.{◌≡◌, ◌≤◌, IfOk, length};
+ghost use Rattle.std.specs.Prelude.{◌≡◌, ◌≤◌, IfOk, Some, false, length};
 ghost use Rattle.std.specs.Option.{option_copied};
 ghost use Rattle.histar_script.specs.Lines.{lines_of, most_script_bytes};
 ghost use Rattle.histar_script.specs.Outcome.{Gives};
 ghost use Rattle.histar_script.specs.Script.{IsDeclared};
-ghost use Rattle.histar_test.specs.Steps.{GivesSteps, TakesLine, expectation_of, is_call, step_of};
+ghost use Rattle.histar_test.specs.Steps.{GivesSteps, TakesLine, call_in, expectation_of, is_call, step_of};
 ghost use Rattle.histar_test.specs.Steps.{steps_from, test_of};
 
 use histar_base::Bytes;
@@ -124,16 +124,28 @@ fn read_step(alloc: Global, number: u32, line: &[u8]) -> Result<Option<Step>, Al
         let text = Bytes::copy_of(alloc, text)?;
         return Ok(Some(Step::Expects(text)));
     }
-    let Some(Item::Call(process, call)) = read_item(alloc, line)? else {
+    let Some(item) = read_item(alloc, line)? else {
+        return Ok(None);
+    };
+    let Some(call) = call_in(number, item) else {
         return Ok(None);
     };
     let said = Bytes::copy_of(alloc, line)?;
-    let call = CallLine {
-        line: number,
-        process,
-        call,
-    };
     Ok(Some(Step::Makes(call, said)))
+}
+
+/// Returns the call that an item is, on line `number`.
+fn call_in(number: u32, item: Item) -> Option<CallLine>
+    ensures { result ≡ call_in number (Some item) }
+{
+    match item {
+        Item::Call(process, call) => Some(CallLine {
+            line: number,
+            process,
+            call,
+        }),
+        Item::Comment | Item::User(_) | Item::Group(_) => None,
+    }
 }
 
 /// Returns what a line expects of the call before it, if it does.
