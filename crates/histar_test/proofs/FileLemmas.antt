@@ -193,6 +193,43 @@ begun_run {tests = tests} {tally = tally} {a = a} {b = b} all later test c parts
       ∙ ap (λ (n : ℕ). files_text 1 front ++ files_text n (file ∷ rest)) k in
     subst (AppendsFront a c) (sym text) (front_after a b c (files_text 1 front) own more run.written begun)
 
+-- ---- the whole report
+
+-- the line that says how many checks there are
+pub planned : (tests slice : List NamedTest) (total : ℕ) → AreTests tests → slice ≡ tests → total ≡ expectations_in slice
+    → plan_text total ≡ plan_text (check_count (map checked_of tests))
+planned tests slice total are same is = ap plan_text (is ∙ ap expectations_in same ∙ counted are.0 tests are.1)
+
+-- a beginning of the first text is one of both
+pub front_first : (a b : Option (List ℕ)) (first second : List ℕ) → AppendsFront a b first → AppendsFront a b (first ++ second)
+front_first a b first second begun = (
+  begun.0 ++ second,
+  record {
+    front = begun.1.front;
+    parts = ap (λ (t : List ℕ). t ++ second) begun.1.parts ∙ append_assoc begun.1.front begun.0 second;
+    appended = begun.1.appended;
+  },
+)
+
+-- the first text was written, and then the second
+pub both_written : {a b : Option (List ℕ)} → (c : Option (List ℕ)) (result : Result Bool Fault) (first second : List ℕ) → Appends a b first
+    → OnOk result (Appends b c second) → OnOk result (Appends a c (first ++ second))
+both_written {a = a} {b = b} c (Ok met) first second one two = Appends-trans a b c first second one two
+both_written c (Err f) first second one two = tt
+
+-- or a beginning of the second
+pub both_begun : {a b : Option (List ℕ)} → (c : Option (List ℕ)) (result : Result Bool Fault) (first second : List ℕ) → Appends a b first
+    → OnErr result (AppendsFront b c second) → OnErr result (AppendsFront a c (first ++ second))
+both_begun c (Ok met) first second one two = tt
+both_begun {a = a} {b = b} c (Err f) first second one two = (
+  two.0,
+  record {
+    front = first ++ two.1.front;
+    parts = ap (λ (t : List ℕ). first ++ t) two.1.parts ∙ sym (append_assoc first two.1.front two.0);
+    appended = Appends-trans a b c first two.1.front one two.1.appended;
+  },
+)
+
 -- ---- what is answered
 
 -- What the tests were reported to be: their text was written, or a beginning of it, and the answer is whether each is met.

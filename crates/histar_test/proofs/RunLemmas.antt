@@ -11,6 +11,7 @@ use Rattle.histar_flat.specs.declared.calls.CallLine.{CallLine}
 use Rattle.histar_flat.specs.declared.calls.UnixCall.{UnixCall}
 use Rattle.histar_flat.specs.declared.replies.Reply.{Reply}
 use Rattle.histar_flat.specs.FlatState.{Flat}
+use Rattle.histar_flat.specs.Meaning.{boot}
 use Rattle.histar_flat.specs.Sessions.{Session}
 use Rattle.histar_flat.specs.Texts.{reply_text}
 use Rattle.histar_flat.specs.Words.{ProcName}
@@ -23,8 +24,8 @@ use Rattle.histar_test.specs.declared.running.Run.{Run}
 use Rattle.histar_test.specs.declared.running.Tally.{Tally}
 use Rattle.histar_test.specs.declared.steps.Step.{Step}
 use Rattle.histar_test.specs.declared.steps.Step.TheVariants.{Makes, Expects}
-use Rattle.histar_test.specs.Checks.{checks_from, checks_text, made_of}
-use Rattle.histar_test.specs.Running.{BeginsSteps, IsMade, MakesCall, TakesStep, TakesSteps, check_at, flat_at, last_at, tally_with}
+use Rattle.histar_test.specs.Checks.{check_text, checks_from, checks_text, made_of}
+use Rattle.histar_test.specs.Running.{BeginsSteps, IsMade, MakesCall, Starts, TakesStep, TakesSteps, check_at, flat_at, last_at, tally_with}
 use Rattle.histar_test.proofs.CheckLemmas.{check_first, checks_text-append, tally_more, tally_none}
 
 -- a machine that answered a call made it
@@ -55,6 +56,14 @@ text_taken old new wanted same none tally = record {
   is_taken = λ session f shows. record { shows = subst (λ (m : MachineModel). Shows session m f) (sym same) shows; last = none };
   tally = tally;
 }
+
+-- the lines of the check of an expectation
+pub check_lines : (file : List ℕ) (k number : ℕ) (last : Option Made) (made : Made) (wanted : List ℕ) → last ≡ Some made → number ≡ k
+    → check_text file number (record { made = made; wanted = wanted }) ≡ checks_text file k (check_at last (Expects wanted))
+check_lines file k number last made wanted is same =
+    let check : Check = record { made = made; wanted = wanted } in
+    ap (λ (n : ℕ). check_text file n check) same ∙ sym (append-nil (check_text file k check))
+    ∙ ap (λ (l : Option Made). checks_text file k (check_at l (Expects wanted))) (sym is)
 
 -- ---- steps one after another
 
@@ -157,6 +166,28 @@ at_end {file = file} {start = start} {steps = steps} {a = a} {b = b} come sessio
       written = subst (λ (cs : List Check). Appends a b (checks_text file (start.tally.count + 1) cs)) (sym all) at.written;
       tally = at.tally ∙ ap (tally_with start.tally) (sym all);
     }
+
+-- ---- a whole test
+
+-- the steps of a test were taken from its start
+pub test_taken : {session : Session} {tally : Tally} {start now : Run} {a b : Option (List ℕ)} → (file : List ℕ) (steps : List Step)
+    → Starts session tally start → TakesSteps file start now steps a b
+    → Appends a b (checks_text file (tally.count + 1) (checks_from session (boot session) None steps))
+    × (now.tally ≡ tally_with tally (checks_from session (boot session) None steps))
+test_taken {session = session} {now = now} {a = a} {b = b} file steps starts takes =
+    let taken = takes session (boot session) starts.shows in
+    let Taken : Option Made × Tally → Type 0 = λ at.
+      Appends a b (checks_text file (at.1.count + 1) (checks_from session (boot session) at.0 steps))
+      × (now.tally ≡ tally_with at.1 (checks_from session (boot session) at.0 steps)) in
+    subst Taken (λ i. (starts.last i, starts.tally i)) (taken.written, taken.tally)
+
+-- or some of them
+pub test_begun : {session : Session} {tally : Tally} {start : Run} {a b : Option (List ℕ)} → (file : List ℕ) (steps : List Step)
+    → Starts session tally start → BeginsSteps file start steps a b
+    → AppendsFront a b (checks_text file (tally.count + 1) (checks_from session (boot session) None steps))
+test_begun {session = session} {a = a} {b = b} file steps starts begins =
+    subst (λ (at : Option Made × Tally). AppendsFront a b (checks_text file (at.1.count + 1) (checks_from session (boot session) at.0 steps)))
+    (λ i. (starts.last i, starts.tally i)) (begins session (boot session) starts.shows)
 
 -- a list is what comes before a place, what stands there, and what comes after it
 pub parts_at : {X : Type 0} → (all front : List X) (x : X) → front ≡ take (length front) all

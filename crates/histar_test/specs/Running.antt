@@ -7,6 +7,8 @@ use Rattle.histar_flat.specs.declared.calls.CallLine.{CallLine}
 use Rattle.histar_flat.specs.Sessions.{Session}
 use Rattle.histar_flat.specs.FlatState.{Flat}
 use Rattle.histar_flat.specs.FlatCalls.{flat_after}
+use Rattle.histar_script.specs.declared.fault.Fault.{Fault}
+use Rattle.histar_script.specs.declared.fault.Fault.TheVariants.{OutOfMemory}
 use Rattle.histar_shell.specs.Machine.{MachineModel}
 use Rattle.histar_shell.specs.Meaning.{Shows, ShowsStart}
 use Rattle.histar_test.specs.declared.checks.Check.{Check}
@@ -37,11 +39,15 @@ check_at last (Makes c said) = []
 check_at None (Expects text) = []
 check_at (Some made) (Expects text) = record { made = made; wanted = text } ∷ []
 
+-- memory ran out
+abbrev pub IsMemory : Fault → Type 0
+IsMemory fault = fault ≡ OutOfMemory
+
 -- a run begins: the machine lays out the flat start of this session, no call is open, and the checks of earlier files are counted
-pub record Starts (session : Session) (tally : Tally) (run : Run) : Type 0 where
+pub record Starts (session : Session) (before : Tally) (run : Run) : Type 0 where
   pub shows : ShowsStart session run.machine
   pub last : run.last ≡ None
-  pub tally : run.tally ≡ tally
+  pub tally : run.tally ≡ before
 
 -- a call was made: the machine lays out the flat state after it, and the reply is the one that the flat state says
 pub record IsMade (session : Session) (f : Flat) (new : MachineModel) (call : CallLine) (said : List ℕ) (made : Made) : Type 0 where

@@ -6,7 +6,7 @@ ghost use Rattle.histar_devices.specs.Writing.{AppendsFront};
 ghost use Rattle.histar_script.specs.Runs.{IsOutputFault, is_write_failed};
 ghost use Rattle.histar_script.specs.Script.{IsDeclared};
 ghost use Rattle.histar_test.specs.Checks.{check_text, checks_text};
-ghost use Rattle.histar_test.specs.Running.{BeginsSteps, MakesCall, Starts, TakesStep, TakesSteps, check_at};
+ghost use Rattle.histar_test.specs.Running.{BeginsSteps, IsMemory, MakesCall, Starts, TakesStep, TakesSteps, check_at};
 
 use crate::checks::{Check, Made, check_text};
 use crate::steps::Step;
@@ -42,7 +42,7 @@ impl Run {
     pub(crate) fn start(alloc: Global, session: Session, tally: Tally) -> Result<Run, Fault>
         requires { IsDeclared session }
         ensures ok { IfOk result (Starts session tally) }
-        ensures faults { IfErr result IsOutputFault }
+        ensures faults { IfErr result IsMemory }
     {
         let store = InternStore::new(alloc, REMEMBERED_ANSWERS)?;
         let Ok(machine) = Machine::boot(alloc, store, session) else {
@@ -58,7 +58,7 @@ impl Run {
     /// Has the machine do a call, which is then the last one.
     fn make_call(&mut self, alloc: Global, call: CallLine, said: Bytes) -> Result<(), Fault>
         ensures ok { OnOk result (TakesStep self.old self.new (Step.Makes call said)) }
-        ensures faults { IfErr result IsOutputFault }
+        ensures faults { IfErr result IsMemory }
     {
         let made = make_call(alloc, &mut self.machine, call, said)?;
         self.last = Some(made);
@@ -148,7 +148,7 @@ fn make_call(
     said: Bytes,
 ) -> Result<Made, Fault>
     ensures ok { IfOk result (MakesCall machine.old machine.new call said) }
-    ensures faults { IfErr result IsOutputFault }
+    ensures faults { IfErr result IsMemory }
 {
     let CallLine {
         line: number,
