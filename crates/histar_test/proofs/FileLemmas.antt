@@ -212,16 +212,16 @@ front_first a b first second begun = (
 )
 
 -- the first text was written, and then the second
-pub both_written : {a b : Option (List ℕ)} → (c : Option (List ℕ)) (result : Result Bool Fault) (first second : List ℕ) → Appends a b first
+pub both_written : (a b c : Option (List ℕ)) (result : Result Bool Fault) (first second : List ℕ) → Appends a b first
     → OnOk result (Appends b c second) → OnOk result (Appends a c (first ++ second))
-both_written {a = a} {b = b} c (Ok met) first second one two = Appends-trans a b c first second one two
-both_written c (Err f) first second one two = tt
+both_written a b c (Ok met) first second one two = Appends-trans a b c first second one two
+both_written a b c (Err f) first second one two = tt
 
 -- or a beginning of the second
-pub both_begun : {a b : Option (List ℕ)} → (c : Option (List ℕ)) (result : Result Bool Fault) (first second : List ℕ) → Appends a b first
+pub both_begun : (a b c : Option (List ℕ)) (result : Result Bool Fault) (first second : List ℕ) → Appends a b first
     → OnErr result (AppendsFront b c second) → OnErr result (AppendsFront a c (first ++ second))
-both_begun c (Ok met) first second one two = tt
-both_begun {a = a} {b = b} c (Err f) first second one two = (
+both_begun a b c (Ok met) first second one two = tt
+both_begun a b c (Err f) first second one two = (
   two.0,
   record {
     front = first ++ two.1.front;

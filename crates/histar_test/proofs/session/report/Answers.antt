@@ -28,7 +28,7 @@ pub returns-clause-ok : goal.returns-clause-ok
 returns-clause-ok g c =
     let plan = c.as_slice-2.ensures.value ∙ c.in_ok-plan.ensures
     ∙ planned c.args.tests.items _ c.in-Some.total c.requires c.as_slice.ensures.value c.in-Some.ensures in
-    both_written _ c.test_files.result _ (files_text 1 (map checked_of c.args.tests.items))
+    both_written _ _ _ c.test_files.result _ (files_text 1 (map checked_of c.args.tests.items))
     (subst (Appends (g.W.Sink.written c.args.writer.now) (g.W.Sink.written c.write_bytes.new.writer)) plan c.in_ok-write_bytes.ensures.ok)
     c.test_files.ensures.ok
 
@@ -36,6 +36,6 @@ pub returns-clause-err : goal.returns-clause-err
 returns-clause-err g c =
     let plan = c.as_slice-2.ensures.value ∙ c.in_ok-plan.ensures
     ∙ planned c.args.tests.items _ c.in-Some.total c.requires c.as_slice.ensures.value c.in-Some.ensures in
-    both_begun _ c.test_files.result _ (files_text 1 (map checked_of c.args.tests.items))
+    both_begun _ _ _ c.test_files.result _ (files_text 1 (map checked_of c.args.tests.items))
     (subst (Appends (g.W.Sink.written c.args.writer.now) (g.W.Sink.written c.write_bytes.new.writer)) plan c.in_ok-write_bytes.ensures.ok)
     c.test_files.ensures.err

@@ -1,8 +1,8 @@
-use Rattle.std.proofs.Common.{◌≡◌, List, sym, subst, ◌∙◌, refl, rules}
+use Rattle.std.proofs.Common.{◌≡◌, List, None, sym, subst, ◌∙◌, refl, rules}
 use Rattle.std.proofs.lemmas.List.{map-id}
 use Rattle.std.proofs.lemmas.Result.{err_from_is_err_and}
 use Rattle.std.proofs.lemmas.Iterator.Adapters.{YieldsList-from_vec}
-use Rattle.std.proofs.lemmas.Iterator.Consumers.{YieldsList-so_far, YieldsList-turn}
+use Rattle.std.proofs.lemmas.Iterator.Consumers.{YieldsList-end, YieldsList-so_far, YieldsList-turn}
 use Rattle.histar_test.specs.declared.steps.Step.{Step}
 use Rattle.histar_test.specs.Running.{TakesSteps}
 use Rattle.histar_test.proofs.RunLemmas.{at_end, at_front, at_more, at_start, parts_at}
@@ -31,6 +31,11 @@ returns-in_err-take_step-clause-err g c =
 
 pub returns-clause-ok : goal.returns-clause-ok
 returns-clause-ok g c =
-    let all : c.steps.yielded ≡ c.args.steps.items = search rules in
+    let steps = c.args.steps.items in
+    let gives = c.into_iter-step-iterator.ensures.into_iter_gives in
+    let yields = YieldsList-from_vec steps gives.0 (search rules) in
+    let none : c.next.result ≡ None = search rules in
+    let end = YieldsList-end yields c.steps.yielded c.steps.step-iterator c.steps.yielded_by c.next.result c.next.new.self none c.next.ensures.steps in
+    let all = sym (map-id c.steps.yielded) ∙ end.0 in
     subst (λ (steps : List Step). TakesSteps c.args.file.now c.args.self.now c.steps.self steps (g.W.Sink.written c.args.writer.now)
     (g.W.Sink.written c.steps.writer)) all (at_end c.steps.invariant.come)
