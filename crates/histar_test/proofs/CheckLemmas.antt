@@ -1,5 +1,5 @@
 -- Checks one after another: their texts, how they are counted, and the replies in them.
-use Rattle.std.proofs.Common.{◌≡◌, ℕ, ◌+◌, ◌<◌, zero, suc, Bool, true, false, List, [], ◌∷◌, ◌++◌, length, get_or, Option, Some, None, Ok, ◌&&◌, ◌⊎◌}
+use Rattle.std.proofs.Common.{◌≡◌, ℕ, ◌+◌, ◌<◌, zero, suc, Bool, true, false, List, [], ◌∷◌, ◌++◌, length, get_or, Option, Some, None, ◌&&◌, ◌⊎◌}
 use Rattle.std.proofs.Common.{refl, sym, ap, ◌∙◌, subst, append_assoc, arith, inl, inr, add-zero, length-append}
 use Rattle.std.specs.Prelude.{Any}
 use Rattle.std.specs.List.{list_all}
@@ -7,7 +7,7 @@ use Rattle.std.proofs.lemmas.List.Folds.{list_all-append}
 use Rattle.histar_flat.specs.declared.calls.CallLine.{CallLine}
 use Rattle.histar_flat.specs.FlatCalls.{flat_after}
 use Rattle.histar_flat.specs.FlatState.{Flat}
-use Rattle.histar_flat.specs.Meaning.{Answered, answered_from, boot}
+use Rattle.histar_flat.specs.Meaning.{answered_from, boot}
 use Rattle.histar_flat.specs.Sessions.{Session}
 use Rattle.histar_script.proofs.FormsBack.{any_first, any_other}
 use Rattle.histar_test.specs.declared.checks.Check.{Check}
@@ -15,7 +15,7 @@ use Rattle.histar_test.specs.declared.checks.Made.{Made}
 use Rattle.histar_test.specs.declared.running.Tally.{Tally}
 use Rattle.histar_test.specs.declared.steps.Step.{Step}
 use Rattle.histar_test.specs.declared.steps.Step.TheVariants.{Makes, Expects}
-use Rattle.histar_test.specs.Checks.{check_text, checks_from, checks_of, checks_text, is_met, made_of}
+use Rattle.histar_test.specs.Checks.{check_text, checks_from, checks_text, is_met, made_of}
 use Rattle.histar_test.specs.Laws.{ChecksAreOfTheMeaning, IsAnswer}
 use Rattle.histar_test.specs.Running.{check_at, flat_at, last_at, tally_with}
 use Rattle.histar_test.specs.Steps.{calls_in}
@@ -49,8 +49,8 @@ pub tally_more : (t : Tally) (front more : List Check) → tally_with (tally_wit
 tally_more t front more =
     let counted : (t.count + length front) + length more ≡ t.count + length (front ++ more) = omega (arith, length-append front more) in
     let met : ((t.are_met && list_all is_met front) && list_all is_met more) ≡ (t.are_met && list_all is_met (front ++ more)) =
-      and_assoc t.are_met (list_all is_met front) (list_all is_met more)
-      ∙ ap (λ (b : Bool). t.are_met && b) (sym (list_all-append is_met front more)) in
+    and_assoc t.are_met (list_all is_met front) (list_all is_met more)
+    ∙ ap (λ (b : Bool). t.are_met && b) (sym (list_all-append is_met front more)) in
     λ i. record { count = counted i; are_met = met i }
 
 module _ (session : Session) where
@@ -100,5 +100,6 @@ checks_are_of_the_meaning text script test is reads check any =
     let same = tests_make_the_calls text script test is reads in
     elim (answered_by test.session (boot test.session) None test.steps check any) [
       | inl never ↦ absurd cc
-      | inr one ↦ subst (λ (s : Session × List CallLine). Any (IsAnswer check.made) (answered_from s.0 (boot s.0) s.1)) (λ i. (same.0 i, same.1 i)) one
+      | inr one ↦
+          subst (λ (s : Session × List CallLine). Any (IsAnswer check.made) (answered_from s.0 (boot s.0) s.1)) (λ i. (same.0 i, same.1 i)) one
     ]

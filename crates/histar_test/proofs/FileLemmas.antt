@@ -1,9 +1,9 @@
 -- Files one after another: which tests they are, and what is written of them.
-use Rattle.std.proofs.Common.{◌≡◌, ℕ, ◌+◌, ◌<◌, Bool, true, false, List, [], ◌∷◌, ◌++◌, length, take, drop, get_or, Option, Some, None, Result, Ok, Err, ◌&&◌}
+use Rattle.std.proofs.Common.{◌≡◌, ℕ, ◌+◌, ◌<◌, Bool, true, false, List, [], ◌∷◌, ◌++◌, length, take, drop, get_or, Option, Result, Ok, Err, ◌&&◌}
 use Rattle.std.proofs.Common.{refl, sym, ap, ◌∙◌, subst, append-nil, append_assoc, arith, inl, inr, add-zero, length-append, take-append-drop}
 use Rattle.std.specs.Prelude.{IfErr, IfOk, OnErr, OnOk, map}
 use Rattle.std.specs.List.{AllZip, flat_map, list_all}
-use Rattle.std.specs.Io.KnownBytes.{Appends, Keeps}
+use Rattle.std.specs.Io.KnownBytes.{Appends}
 use Rattle.std.proofs.KnownBytes.{Appends-nil, Appends-trans, Keeps-refl}
 use Rattle.std.proofs.lemmas.List.{drop_more, map-append, take_more}
 use Rattle.std.proofs.lemmas.Slice.Zip.{all_zipped_more}
@@ -14,16 +14,14 @@ use Rattle.histar_script.specs.declared.fault.Fault.{Fault}
 use Rattle.histar_script.specs.declared.fault.Fault.TheVariants.{BadScript, TooLong, OutOfMemory, ReadFailed, WriteFailed}
 use Rattle.histar_script.specs.Outcome.{Gives}
 use Rattle.histar_script.specs.Runs.{IsOutputFault, LeavesSink, is_write_failed}
-use Rattle.histar_script.proofs.Sinks.{sink_left}
 use Rattle.histar_shell.proofs.AnswerLemmas.{front_after}
 use Rattle.histar_shell.proofs.RunLemmas.{sink_called}
-use Rattle.histar_test.specs.declared.checks.Check.{Check}
 use Rattle.histar_test.specs.declared.running.Tally.{Tally}
 use Rattle.histar_test.specs.declared.session.NamedTest.{NamedTest}
 use Rattle.histar_test.specs.declared.session.TestFile.{TestFile}
 use Rattle.histar_test.specs.Checks.{checks_of, checks_text, is_met}
 use Rattle.histar_test.specs.Running.{tally_with}
-use Rattle.histar_test.specs.Session.{AreTests, Checked, IsChecked, IsFirstFault, IsTestOf, ReadsFiles, Reports, TestsFiles, are_met, check_count}
+use Rattle.histar_test.specs.Session.{AreTests, Checked, IsChecked, IsTestOf, ReadsFiles, TestsFiles, are_met, check_count}
 use Rattle.histar_test.specs.Session.{checked_of, expectations_in, files_text, plan_text, report_text}
 use Rattle.histar_test.specs.Steps.{Test, expectation_count, test_of}
 use Rattle.histar_test.proofs.StepLaws.{test_checked}
@@ -45,7 +43,8 @@ each_checked (file ∷ files) (test ∷ tests) each = (
 )
 
 -- the checks of some tests are as many as their expectations
-pub counted : (files : List TestFile) (tests : List NamedTest) → AllZip IsTestOf files tests → expectations_in tests ≡ check_count (map checked_of tests)
+pub counted : (files : List TestFile) (tests : List NamedTest) → AllZip IsTestOf files tests
+    → expectations_in tests ≡ check_count (map checked_of tests)
 counted [] [] each = refl
 counted [] (test ∷ tests) each = absurd each
 counted (file ∷ files) [] each = absurd each
@@ -53,9 +52,9 @@ counted (file ∷ files) (test ∷ tests) each =
     let own : length (checks_of test.test) ≡ expectation_count test.test.steps = (test_checked file.text.items test.test each.0.test).count in
     let later : expectations_in tests ≡ check_count (map checked_of tests) = counted files tests each.1 in
     let one : expectations_in (test ∷ tests) ≡ expectation_count test.test.steps + expectations_in tests =
-      sum_by-cons (λ (named : NamedTest). expectation_count named.test.steps) test tests in
+    sum_by-cons (λ (named : NamedTest). expectation_count named.test.steps) test tests in
     let two : check_count (map checked_of (test ∷ tests)) ≡ length (checks_of test.test) + check_count (map checked_of tests) =
-      length-append (checks_of test.test) (flat_map (λ (c : Checked). c.checks) (map checked_of tests)) in
+    length-append (checks_of test.test) (flat_map (λ (c : Checked). c.checks) (map checked_of tests)) in
     omega (arith, own, later, one, two)
 
 -- one more file was read
@@ -64,7 +63,7 @@ pub more_files : (files : List TestFile) (i : ℕ) (file : TestFile) (tests : Li
     → AllZip IsTestOf (take (i + 1) files) (tests ++ named ∷ [])
 more_files files i file tests named here each is =
     let front : take (i + 1) files ≡ take i files ++ file ∷ [] =
-      take_more files i file here.0 ∙ ap (λ (x : TestFile). take i files ++ x ∷ []) (sym here.1) in
+    take_more files i file here.0 ∙ ap (λ (x : TestFile). take i files ++ x ∷ []) (sym here.1) in
     subst (λ (l : List TestFile). AllZip IsTestOf l (tests ++ named ∷ [])) (sym front)
     (all_zipped_more IsTestOf (take i files) tests file named each is)
 
@@ -165,8 +164,8 @@ more_run {tests = tests} {tally = tally} {a = a} {b = b} test after c run more i
     let all : map checked_of (tests ++ test ∷ []) ≡ front ++ file ∷ [] = map-append checked_of tests (test ∷ []) in
     let k : 1 + check_count front ≡ tally.count + 1 = omega (arith, run.count) in
     let text : files_text 1 (map checked_of (tests ++ test ∷ [])) ≡ files_text 1 front ++ checks_text file.name (tally.count + 1) file.checks =
-      ap (files_text 1) all ∙ files_text-push 1 front file
-      ∙ ap (λ (n : ℕ). files_text 1 front ++ checks_text file.name n file.checks) k in
+    ap (files_text 1) all ∙ files_text-push 1 front file
+    ∙ ap (λ (n : ℕ). files_text 1 front ++ checks_text file.name n file.checks) k in
     record {
       written = subst (Appends a c) (sym text)
           (Appends-trans a b c (files_text 1 front) (checks_text file.name (tally.count + 1) file.checks) run.written more);
@@ -188,9 +187,9 @@ begun_run {tests = tests} {tally = tally} {a = a} {b = b} all later test c parts
     let k : 1 + check_count front ≡ tally.count + 1 = omega (arith, run.count) in
     let more = files_text ((tally.count + 1) + length file.checks) rest in
     let text : files_text 1 (map checked_of all) ≡ files_text 1 front ++ (own ++ more) =
-      ap (λ (l : List NamedTest). files_text 1 (map checked_of l)) parts
-      ∙ ap (files_text 1) (map-append checked_of tests (test ∷ later)) ∙ files_text-append 1 front (file ∷ rest)
-      ∙ ap (λ (n : ℕ). files_text 1 front ++ files_text n (file ∷ rest)) k in
+    ap (λ (l : List NamedTest). files_text 1 (map checked_of l)) parts
+    ∙ ap (files_text 1) (map-append checked_of tests (test ∷ later)) ∙ files_text-append 1 front (file ∷ rest)
+    ∙ ap (λ (n : ℕ). files_text 1 front ++ files_text n (file ∷ rest)) k in
     subst (AppendsFront a c) (sym text) (front_after a b c (files_text 1 front) own more run.written begun)
 
 -- ---- the whole report

@@ -1,20 +1,16 @@
 -- Steps are taken one after another, and their checks are written.
-use Rattle.std.proofs.Common.{◌≡◌, ℕ, ◌+◌, ◌<◌, List, [], ◌∷◌, ◌++◌, length, take, drop, get_or, Option, Some, None, Result, Ok, Err}
+use Rattle.std.proofs.Common.{◌≡◌, ℕ, ◌+◌, ◌<◌, List, [], ◌∷◌, ◌++◌, length, take, drop, get_or, Option, Some, None, Ok}
 use Rattle.std.proofs.Common.{refl, sym, ap, ap₂, ◌∙◌, subst, append-nil, append_assoc, arith, take-append-drop}
 use Rattle.std.proofs.KnownBytes.{Appends-nil, Appends-trans}
 use Rattle.std.proofs.lemmas.List.{drop_more}
 use Rattle.std.specs.Io.KnownBytes.{Appends}
-use Rattle.histar_calls.specs.declared.ending.Stopped.{Stopped}
 use Rattle.histar_devices.specs.Writing.{AppendsFront}
-use Rattle.histar_devices.proofs.WritingLemmas.{whole_front}
 use Rattle.histar_flat.specs.declared.calls.CallLine.{CallLine}
-use Rattle.histar_flat.specs.declared.calls.UnixCall.{UnixCall}
 use Rattle.histar_flat.specs.declared.replies.Reply.{Reply}
 use Rattle.histar_flat.specs.FlatState.{Flat}
 use Rattle.histar_flat.specs.Meaning.{boot}
 use Rattle.histar_flat.specs.Sessions.{Session}
 use Rattle.histar_flat.specs.Texts.{reply_text}
-use Rattle.histar_flat.specs.Words.{ProcName}
 use Rattle.histar_shell.specs.Machine.{MachineModel}
 use Rattle.histar_shell.specs.Meaning.{FollowsMeaning, Shows}
 use Rattle.histar_shell.proofs.AnswerLemmas.{front_after}
@@ -24,8 +20,8 @@ use Rattle.histar_test.specs.declared.running.Run.{Run}
 use Rattle.histar_test.specs.declared.running.Tally.{Tally}
 use Rattle.histar_test.specs.declared.steps.Step.{Step}
 use Rattle.histar_test.specs.declared.steps.Step.TheVariants.{Makes, Expects}
-use Rattle.histar_test.specs.Checks.{check_text, checks_from, checks_text, made_of}
-use Rattle.histar_test.specs.Running.{BeginsSteps, IsMade, MakesCall, Starts, TakesStep, TakesSteps, check_at, flat_at, last_at, tally_with}
+use Rattle.histar_test.specs.Checks.{check_text, checks_from, checks_text}
+use Rattle.histar_test.specs.Running.{BeginsSteps, MakesCall, Starts, TakesStep, TakesSteps, check_at, flat_at, last_at, tally_with, step_text}
 use Rattle.histar_test.proofs.CheckLemmas.{check_first, checks_text-append, tally_more, tally_none}
 
 -- a machine that answered a call made it
@@ -102,10 +98,6 @@ text_on file start now done more is =
     let on : (start.count + 1) + length done ≡ now.count + 1 = omega arith in
     checks_text-append file (start.count + 1) done more ∙ ap (λ (n : ℕ). checks_text file (start.count + 1) done ++ checks_text file n more) on
 
--- the lines of the check of a step
-abbrev pub step_text : List ℕ → Run → Step → List ℕ
-step_text file run step = checks_text file (run.tally.count + 1) (check_at run.last step)
-
 -- the checks of some steps, of one more and of those behind it
 goes_further : {session : Session} {f : Flat} {file : List ℕ} {start now : Run} {steps : List Step} {before after : Option (List ℕ)} → (step : Step)
     (later : List Step) (at : IsAt session f file start now steps before after)
@@ -149,10 +141,10 @@ at_front {file = file} {start = start} {now = now} {a = a} {b = b} step all late
     let k = start.tally.count + 1 in
     let more = checks_text file ((now.tally.count + 1) + length check) rest in
     let text : checks_text file k (checks_from session f start.last all) ≡ checks_text file k at.done ++ (step_text file now step ++ more) =
-      ap (λ (s : List Step). checks_text file k (checks_from session f start.last s)) parts
-      ∙ ap (checks_text file k) (goes_further step later at)
-      ∙ text_on file start.tally now.tally at.done (check ++ rest) at.tally
-      ∙ ap (λ (t : List ℕ). checks_text file k at.done ++ t) (checks_text-append file (now.tally.count + 1) check rest) in
+    ap (λ (s : List Step). checks_text file k (checks_from session f start.last s)) parts
+    ∙ ap (checks_text file k) (goes_further step later at)
+    ∙ text_on file start.tally now.tally at.done (check ++ rest) at.tally
+    ∙ ap (λ (t : List ℕ). checks_text file k at.done ++ t) (checks_text-append file (now.tally.count + 1) check rest) in
     subst (AppendsFront a c) (sym text) (front_after a b c (checks_text file k at.done) (step_text file now step) more at.written begun)
 
 -- after the last step
@@ -161,7 +153,7 @@ pub at_end : {file : List ℕ} {start now : Run} {steps : List Step} {a b : Opti
 at_end {file = file} {start = start} {steps = steps} {a = a} {b = b} come session f shows =
     let at = come.from session f shows in
     let all : checks_from session f start.last steps ≡ at.done =
-      ap (checks_from session f start.last) (sym (append-nil steps)) ∙ at.goes_on [] ∙ append-nil at.done in
+    ap (checks_from session f start.last) (sym (append-nil steps)) ∙ at.goes_on [] ∙ append-nil at.done in
     record {
       written = subst (λ (cs : List Check). Appends a b (checks_text file (start.tally.count + 1) cs)) (sym all) at.written;
       tally = at.tally ∙ ap (tally_with start.tally) (sym all);
@@ -177,8 +169,8 @@ pub test_taken : {session : Session} {tally : Tally} {start now : Run} {a b : Op
 test_taken {session = session} {now = now} {a = a} {b = b} file steps starts takes =
     let taken = takes session (boot session) starts.shows in
     let Taken : Option Made × Tally → Type 0 = λ at.
-      Appends a b (checks_text file (at.1.count + 1) (checks_from session (boot session) at.0 steps))
-      × (now.tally ≡ tally_with at.1 (checks_from session (boot session) at.0 steps)) in
+    Appends a b (checks_text file (at.1.count + 1) (checks_from session (boot session) at.0 steps))
+    × (now.tally ≡ tally_with at.1 (checks_from session (boot session) at.0 steps)) in
     subst Taken (λ i. (starts.last i, starts.tally i)) (taken.written, taken.tally)
 
 -- or some of them

@@ -1,6 +1,6 @@
 -- The calls and the expectations of a test are those of its lines.
-use Rattle.std.proofs.Common.{◌≡◌, ℕ, ◌+◌, Bool, true, false, List, [], ◌∷◌, ◌++◌, take, drop, length, Option, Some, None, Result, Ok, Err, ◌||◌, ◌&&◌, eqb}
-use Rattle.std.proofs.Common.{refl, sym, ap, ◌∙◌, subst, append-nil, append_assoc, arith}
+use Rattle.std.proofs.Common.{◌≡◌, ℕ, ◌+◌, Bool, true, false, List, [], ◌∷◌, ◌++◌, take, drop, length, Option, Some, None, Result, Ok, Err, ◌&&◌}
+use Rattle.std.proofs.Common.{refl, sym, ap, ◌∙◌, append-nil, append_assoc, arith}
 use Rattle.std.specs.Prelude.{codes, is_some, map, if◌then◌else◌, ◌==◌}
 use Rattle.std.specs.List.{cons_option, filter_map}
 use Rattle.std.specs.Option.{option_and_then}
@@ -18,15 +18,16 @@ use Rattle.histar_script.specs.declared.fault.Fault.TheVariants.{BadScript, TooL
 use Rattle.histar_script.specs.declared.items.Item.{Item}
 use Rattle.histar_script.specs.declared.items.Item.TheVariants as items
 use Rattle.histar_script.specs.Lines.{is_plain, is_too_long, lines_of}
-use Rattle.histar_script.specs.Reading.{is_empty, item_of, reading, script_of, takes_call, takes_group, takes_user, with_item, with_line, with_lines, words_item}
+use Rattle.histar_script.specs.Reading.{is_empty, item_of, reading, script_of, takes_call, takes_group, takes_user}
+use Rattle.histar_script.specs.Reading.{with_item, with_line, with_lines, words_item}
 use Rattle.histar_script.specs.Script.{Reading, nothing_read}
 use Rattle.histar_test.specs.declared.checks.Check.{Check}
 use Rattle.histar_test.specs.declared.checks.Made.{Made}
 use Rattle.histar_test.specs.declared.steps.Step.{Step}
 use Rattle.histar_test.specs.declared.steps.Step.TheVariants.{Makes, Expects}
-use Rattle.histar_test.specs.Checks.{checks_from, checks_of, made_of}
+use Rattle.histar_test.specs.Checks.{checks_from, made_of}
 use Rattle.histar_test.specs.Laws.{ExpectationsAreChecked, TestsMakeTheCalls}
-use Rattle.histar_test.specs.Steps.{Test, call_in, call_of_step, call_step, calls_in, expectation_count, expectation_of, is_call, step_by, step_of, steps_before}
+use Rattle.histar_test.specs.Steps.{Test, call_in, calls_in, expectation_count, expectation_of, step_by, step_of, steps_before}
 use Rattle.histar_test.specs.Steps.{steps_from, test_by, test_of}
 use Rattle.histar_test.proofs.StepLemmas.{Read, by_step}
 
@@ -38,8 +39,8 @@ none_expects line (Some text) call e = absurd cc
 none_expects line None call e = refl
 
 -- nor where it makes a call
-call_expects : (line : List ℕ) (text : Option (List ℕ)) (call : Option CallLine) (c : CallLine) (said : List ℕ) → step_by line text call ≡ Some (Makes c said)
-    → text ≡ None
+call_expects : (line : List ℕ) (text : Option (List ℕ)) (call : Option CallLine) (c : CallLine) (said : List ℕ)
+    → step_by line text call ≡ Some (Makes c said) → text ≡ None
 call_expects line (Some text) call c said e = absurd cc
 call_expects line None call c said e = refl
 
@@ -115,7 +116,7 @@ on_line n is_open line lines steps None is read = record {
 }
 on_line n is_open line lines steps (Some (Makes c said)) is read =
     let on = read_on n true (Makes c said) (steps_from (n + 1) true lines) steps
-        (sym (by_step n is_open line lines (Some (Makes c said)) is) ∙ read) in
+    (sym (by_step n is_open line lines (Some (Makes c said)) is) ∙ read) in
     record {
       opened = true;
       rest = on.rest;
@@ -126,7 +127,7 @@ on_line n is_open line lines steps (Some (Makes c said)) is read =
     }
 on_line n is_open line lines steps (Some (Expects text)) is read =
     let on = read_on n is_open (Expects text) (steps_from (n + 1) false lines) steps
-        (sym (by_step n is_open line lines (Some (Expects text)) is) ∙ read) in
+    (sym (by_step n is_open line lines (Some (Expects text)) is) ∙ read) in
     record {
       opened = false;
       rest = on.rest;
@@ -214,19 +215,22 @@ is_read : (b : Bool) (t u : Reading) → read_if b t ≡ Some u → u ≡ t
 is_read true t u e = cc
 is_read false t u e = absurd cc
 
+-- a line that makes no call leaves the calls as they were
+same_left : (s t : Reading) (line : List ℕ) → t.calls ≡ s.calls → t.calls ≡ s.calls ++ calls_by (step_by line (expectation_of line) None)
+same_left s t line same =
+    same ∙ sym (append-nil s.calls) ∙ ap (λ (cs : List CallLine). s.calls ++ cs) (sym (no_call line (expectation_of line)))
+
 -- the calls after a line that says an item
 calls_at_item : (s t : Reading) (n : ℕ) (line : List ℕ) (item : Item) → item_of line ≡ Some item → with_item s n item ≡ Some t
     → t.calls ≡ s.calls ++ calls_by (step_by line (expectation_of line) (call_in n (Some item)))
 unfolding with_item
 calls_at_item s t n line items.Comment says reads =
     let same : t ≡ s = cc in
-    ap (λ (r : Reading). r.calls) same ∙ sym (append-nil s.calls) ∙ ap (λ (cs : List CallLine). s.calls ++ cs) (sym (no_call line (expectation_of line)))
+    same_left s t line (ap (λ (r : Reading). r.calls) same)
 calls_at_item s t n line (items.User u) says reads =
-    let same = is_read (takes_user s u) _ t reads in
-    ap (λ (r : Reading). r.calls) same ∙ sym (append-nil s.calls) ∙ ap (λ (cs : List CallLine). s.calls ++ cs) (sym (no_call line (expectation_of line)))
+    same_left s t line (ap (λ (r : Reading). r.calls) (is_read (takes_user s u) _ t reads))
 calls_at_item s t n line (items.Group g) says reads =
-    let same = is_read (takes_group s g) _ t reads in
-    ap (λ (r : Reading). r.calls) same ∙ sym (append-nil s.calls) ∙ ap (λ (cs : List CallLine). s.calls ++ cs) (sym (no_call line (expectation_of line)))
+    same_left s t line (ap (λ (r : Reading). r.calls) (is_read (takes_group s g) _ t reads))
 calls_at_item s t n line (items.Call p c) says reads =
     let same = is_read (takes_call s c) _ t reads in
     ap (λ (r : Reading). r.calls) same
@@ -277,7 +281,8 @@ pub record IsReadAs (text : List ℕ) (test : Test) : Type 0 where
   pub session : test.session ≡ script.session
 
 -- a test is read from both
-read_by : (text : List ℕ) (test : Test) (script : Result Reading Fault) (steps : Read) → script_of text ≡ script → steps_from 1 false (lines_of text) ≡ steps
+read_by : (text : List ℕ) (test : Test) (script : Result Reading Fault) (steps : Read) → script_of text ≡ script
+    → steps_from 1 false (lines_of text) ≡ steps
     → test_by script steps ≡ Ok test → IsReadAs text test
 read_by text test (Err fault) steps is are e = absurd cc
 read_by text test (Ok script) (Err line) is are e = absurd cc
@@ -312,9 +317,10 @@ same_script a b e = cc
 pub tests_make_the_calls : TestsMakeTheCalls
 tests_make_the_calls text script test is reads =
     let as_read = read_as text test reads in
-    let same = same_script as_read.script script (sym as_read.is_script ∙ is) in
-    (as_read.session ∙ ap (λ (r : Reading). r.session) same,
-    sym (same_calls nothing_read script 0 false (lines_of text) test.steps (by_lines text script is) as_read.are_steps))
+    let same = same_script as_read.script script (sym as_read.is_script ∙ is) in (
+      as_read.session ∙ ap (λ (r : Reading). r.session) same,
+      sym (same_calls nothing_read script 0 false (lines_of text) test.steps (by_lines text script is) as_read.are_steps),
+    )
 
 -- the checks of a test
 pub test_checked : (text : List ℕ) (test : Test) → test_of text ≡ Ok test → AreChecked test.session (boot test.session) None test.steps

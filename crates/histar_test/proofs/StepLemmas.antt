@@ -1,9 +1,8 @@
 -- The steps of lines, one line after another.
 use Rattle.std.proofs.Common.{◌≡◌, ℕ, ◌+◌, ◌<◌, ◌≤◌, Bool, true, false, ltb, List, [], ◌∷◌, ◌++◌, length, Option, Some, None, Result, Ok, Err, ◌||◌}
-use Rattle.std.proofs.Common.{refl, sym, ap, ◌∙◌, append-nil, append_assoc, arith, inl, inr, rules, tests}
+use Rattle.std.proofs.Common.{refl, sym, ap, ◌∙◌, append-nil, append_assoc, inl, inr, rules, tests}
 use Rattle.std.proofs.lemmas.Bool.{cases_lt}
 use Rattle.std.specs.Prelude.{if◌then◌else◌}
-use Rattle.std.specs.Global.{Vec}
 use Rattle.histar_script.specs.declared.fault.Fault.{Fault}
 use Rattle.histar_script.specs.declared.fault.Fault.TheVariants.{BadScript, TooLong, OutOfMemory, ReadFailed, WriteFailed}
 use Rattle.histar_script.specs.Lines.{is_too_long, lines_of, most_script_bytes}
@@ -12,7 +11,7 @@ use Rattle.histar_script.specs.Reading.{script_of}
 use Rattle.histar_script.specs.Script.{Reading}
 use Rattle.histar_script.proofs.LineLemmas.{no_lines}
 use Rattle.histar_test.specs.declared.steps.Step.{Step}
-use Rattle.histar_test.specs.Steps.{AddsLine, GivesSteps, TakesLine, Test, is_call, step_of, steps_before, steps_by, steps_from, test_by, test_of}
+use Rattle.histar_test.specs.Steps.{AddsLine, GivesSteps, TakesLine, Test, is_call, step_of, steps_before, steps_by, steps_from, test_by}
 
 -- what reading steps gives
 abbrev pub Read : Type 0

@@ -25,7 +25,8 @@ made_of session f c said = record { line = c.line; said = said; reply = reply_te
 -- the checks of steps from a flat state on, where this is the call before them, if there is one
 abbrev pub checks_from : Session → Flat → Option Made → List Step → List Check
 checks_from session f last [] = []
-checks_from session f last (Makes c said ∷ steps) = checks_from session (flat_after session f c.process c.call) (Some (made_of session f c said)) steps
+checks_from session f last (Makes c said ∷ steps) =
+    checks_from session (flat_after session f c.process c.call) (Some (made_of session f c said)) steps
 checks_from session f None (Expects text ∷ steps) = checks_from session f None steps
 checks_from session f (Some made) (Expects text ∷ steps) = record { made = made; wanted = text } ∷ checks_from session f None steps
 

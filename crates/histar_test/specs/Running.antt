@@ -1,5 +1,5 @@
 -- A machine takes the steps of a script, and the checks are written.
-use Rattle.std.specs.Prelude.{◌≡◌, ℕ, ◌+◌, ◌&&◌, Bool, List, [], ◌∷◌, length, Option, None, Some}
+use Rattle.std.specs.Prelude.{◌≡◌, ℕ, ◌+◌, ◌&&◌, List, [], ◌∷◌, length, Option, None, Some}
 use Rattle.std.specs.List.{list_all}
 use Rattle.std.specs.Io.KnownBytes.{Appends}
 use Rattle.histar_devices.specs.Writing.{AppendsFront}
@@ -39,6 +39,10 @@ check_at last (Makes c said) = []
 check_at None (Expects text) = []
 check_at (Some made) (Expects text) = record { made = made; wanted = text } ∷ []
 
+-- the lines of the check of a step, if it is one
+abbrev pub step_text : List ℕ → Run → Step → List ℕ
+step_text file run step = checks_text file (run.tally.count + 1) (check_at run.last step)
+
 -- memory ran out
 abbrev pub IsMemory : Fault → Type 0
 IsMemory fault = fault ≡ OutOfMemory
@@ -75,9 +79,11 @@ pub record AreTaken (session : Session) (f : Flat) (file : List ℕ) (old new : 
 
 -- whatever flat state the machine laid out, the steps were taken from it
 abbrev pub TakesSteps : List ℕ → Run → Run → List Step → Option (List ℕ) → Option (List ℕ) → Type 0
-TakesSteps file old new steps before after = (session : Session) (f : Flat) → Shows session old.machine f → AreTaken session f file old new steps before after
+TakesSteps file old new steps before after =
+    (session : Session) (f : Flat) → Shows session old.machine f → AreTaken session f file old new steps before after
 
 -- or a beginning of their checks was written
 abbrev pub BeginsSteps : List ℕ → Run → List Step → Option (List ℕ) → Option (List ℕ) → Type 0
 BeginsSteps file old steps before after =
-    (session : Session) (f : Flat) → Shows session old.machine f → AppendsFront before after (checks_text file (old.tally.count + 1) (checks_from session f old.last steps))
+    (session : Session) (f : Flat) → Shows session old.machine f
+    → AppendsFront before after (checks_text file (old.tally.count + 1) (checks_from session f old.last steps))

@@ -1,7 +1,8 @@
 //! A check: an expectation beside the reply to its call, and the text of that.
 ghost use Rattle.std.specs.Prelude.{◌≡◌, ◌++◌, IfOk, OnOk, decimal};
 ghost use Rattle.std.specs.List.{flat_map};
-ghost use Rattle.histar_test.specs.Checks.{check_text, difference_text, escaped_byte, is_met, place_text, result_line};
+ghost use Rattle.histar_test.specs.Checks.{check_text, difference_text, escaped_byte};
+ghost use Rattle.histar_test.specs.Checks.{is_met, place_text, result_line};
 
 use histar_base::Bytes;
 use itoa::Buffer;

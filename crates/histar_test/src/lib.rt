@@ -1,7 +1,8 @@
-//! Scripts that say what they expect: the line `#= TEXT` behind a call says which reply that call is to have.
+//! Scripts that say what they expect: the line `#= TEXT` behind a call says which reply that call is to
+//! have.
 //!
-//! `specs/Steps.antt` says which steps a text is, and `specs/Checks.antt` what is written of each expectation, in the
-//! form of the Test Anything Protocol. [`test_laws`] says what a test comes to.
+//! `specs/Steps.antt` says which steps a text is, and `specs/Checks.antt` what is written of each
+//! expectation, in the form of the Test Anything Protocol. [`test_laws`] says what a test comes to.
 #![tactic(auto)]
 
 mod checks;

@@ -6,7 +6,8 @@ ghost use Rattle.histar_devices.specs.Writing.{AppendsFront};
 ghost use Rattle.histar_script.specs.Runs.{IsOutputFault, is_write_failed};
 ghost use Rattle.histar_script.specs.Script.{IsDeclared};
 ghost use Rattle.histar_test.specs.Checks.{check_text, checks_text};
-ghost use Rattle.histar_test.specs.Running.{BeginsSteps, IsMemory, MakesCall, Starts, TakesStep, TakesSteps, check_at};
+ghost use Rattle.histar_test.specs.Running.{BeginsSteps, IsMemory, MakesCall, Starts};
+ghost use Rattle.histar_test.specs.Running.{TakesStep, TakesSteps, step_text};
 
 use crate::checks::{Check, Made, check_text};
 use crate::steps::Step;
@@ -65,7 +66,8 @@ impl Run {
         Ok(())
     }
 
-    /// Writes whether the reply to the last call has this text, unless no call is left that it could be of.
+    /// Writes whether the reply to the last call has this text, unless something was expected of that
+    /// already.
     fn check_reply<W: Sink>(
         &mut self,
         alloc: Global,
@@ -75,11 +77,12 @@ impl Run {
     ) -> Result<(), Fault>
         ensures ok { OnOk result (TakesStep self.old self.new (Step.Expects wanted)) }
         ensures written { OnOk result (Appends (W.written writer.old) (W.written writer.new)
-            (checks_text file.now (self.old.tally.count + 1) (check_at self.old.last (Step.Expects wanted)))) }
+            (step_text file.now self.old (Step.Expects wanted))) }
         ensures err { OnErr result (AppendsFront (W.written writer.old) (W.written writer.new)
-            (checks_text file.now (self.old.tally.count + 1) (check_at self.old.last (Step.Expects wanted)))) }
+            (step_text file.now self.old (Step.Expects wanted))) }
         ensures faults { IfErr result IsOutputFault }
-        ensures count { CountsFailure (W.failures writer.old) (W.failures writer.new) (is_write_failed result) }
+        ensures count { CountsFailure (W.failures writer.old) (W.failures writer.new)
+            (is_write_failed result) }
     {
         let Some(made) = self.last.take() else {
             return Ok(());
@@ -106,11 +109,12 @@ impl Run {
     ) -> Result<(), Fault>
         ensures ok { OnOk result (TakesStep self.old self.new step) }
         ensures written { OnOk result (Appends (W.written writer.old) (W.written writer.new)
-            (checks_text file.now (self.old.tally.count + 1) (check_at self.old.last step))) }
+            (step_text file.now self.old step)) }
         ensures err { OnErr result (AppendsFront (W.written writer.old) (W.written writer.new)
-            (checks_text file.now (self.old.tally.count + 1) (check_at self.old.last step))) }
+            (step_text file.now self.old step)) }
         ensures faults { IfErr result IsOutputFault }
-        ensures count { CountsFailure (W.failures writer.old) (W.failures writer.new) (is_write_failed result) }
+        ensures count { CountsFailure (W.failures writer.old) (W.failures writer.new)
+            (is_write_failed result) }
     {
         match step {
             Step::Makes(call, said) => self.make_call(alloc, call, said),
@@ -118,7 +122,8 @@ impl Run {
         }
     }
 
-    /// Takes steps in their order, and writes of each expectation whether it is met, as soon as that is known.
+    /// Takes steps in their order, and writes of each expectation whether it is met, as soon as that is
+    /// known.
     pub(crate) fn take_steps<W: Sink>(
         &mut self,
         alloc: Global,
@@ -131,7 +136,8 @@ impl Run {
         ensures err { OnErr result (BeginsSteps file.now self.old steps.items
             (W.written writer.old) (W.written writer.new)) }
         ensures faults { IfErr result IsOutputFault }
-        ensures count { CountsFailure (W.failures writer.old) (W.failures writer.new) (is_write_failed result) }
+        ensures count { CountsFailure (W.failures writer.old) (W.failures writer.new)
+            (is_write_failed result) }
     {
         'steps: for step in steps {
             self.take_step(alloc, file, step, writer)?;
@@ -179,7 +185,8 @@ fn write_check<W: Sink>(
     ensures err { OnErr result (AppendsFront (W.written writer.old) (W.written writer.new)
         (check_text file.now number check.now)) }
     ensures faults { IfErr result IsOutputFault }
-    ensures count { CountsFailure (W.failures writer.old) (W.failures writer.new) (is_write_failed result) }
+    ensures count { CountsFailure (W.failures writer.old) (W.failures writer.new)
+        (is_write_failed result) }
 {
     let text = check_text(alloc, file, number, check)?;
     write_bytes(writer, text.as_slice())?;

@@ -32,20 +32,22 @@ struct NamedTest {
     test: TestScript,
 }
 
-/// Checks what files expect of the replies to their calls, and writes each expectation in the form of the Test
-/// Anything Protocol, numbered on through all files. It answers whether each is met.
+/// Checks what files expect of the replies to their calls, and writes of each expectation whether it
+/// is met, in the form of the Test Anything Protocol, numbered on through all files. It answers whether
+/// each is met.
 ///
-/// All files are read before the first call of any is made, and the line of each check is written as soon as the
-/// reply is there. Each file is run on a machine of its own. It doesn't flush the sink.
+/// All files are read before the first call of any is made. The lines of a check are written as soon as
+/// the call is done. Each file is run on a machine of its own. It doesn't flush the sink.
 pub fn test<W: Sink>(alloc: Global, files: &[TestFile], writer: &mut W) -> Result<bool, Fault>
     // After a file that is no test the sink is as it was.
     ensures nothing { IfErr result (LeavesSink writer.old writer.new) }
 
     // A write has failed exactly where that is the answer.
-    ensures writes { CountsFailure (W.failures writer.old) (W.failures writer.new) (is_write_failed result) }
+    ensures writes { CountsFailure (W.failures writer.old) (W.failures writer.new)
+        (is_write_failed result) }
 
-    // The fault of the first file that is no test is answered, or exactly the checks of all files are written, and
-    // the answer is whether each is met.
+    // The fault of the first file that is no test is answered, or exactly the checks of all files are
+    // written, and the answer is whether each is met.
     ensures tests { TestsFiles files.now (W.written writer.old) (W.written writer.new) result }
 {
     let tests = read_tests(alloc, files)?;
@@ -74,7 +76,8 @@ fn report<W: Sink>(alloc: Global, tests: Vec<NamedTest>, writer: &mut W) -> Resu
     ensures err { OnErr result (AppendsFront (W.written writer.old) (W.written writer.new)
         (report_text (map checked_of tests.items))) }
     ensures faults { IfErr result IsOutputFault }
-    ensures count { CountsFailure (W.failures writer.old) (W.failures writer.new) (is_write_failed result) }
+    ensures count { CountsFailure (W.failures writer.old) (W.failures writer.new)
+        (is_write_failed result) }
 {
     let Some(total) = count_checks(tests.as_slice()) else {
         return Err(Fault::OutOfMemory);
@@ -126,7 +129,8 @@ fn test_files<W: Sink>(alloc: Global, tests: Vec<NamedTest>, writer: &mut W) -> 
     ensures err { OnErr result (AppendsFront (W.written writer.old) (W.written writer.new)
         (files_text 1 (map checked_of tests.items))) }
     ensures faults { IfErr result IsOutputFault }
-    ensures count { CountsFailure (W.failures writer.old) (W.failures writer.new) (is_write_failed result) }
+    ensures count { CountsFailure (W.failures writer.old) (W.failures writer.new)
+        (is_write_failed result) }
 {
     let mut tally = Tally {
         count: 0,
@@ -151,7 +155,8 @@ fn test_file<W: Sink>(
     ensures err { OnErr result (AppendsFront (W.written writer.old) (W.written writer.new)
         (checks_text named.name (tally.count + 1) (checks_of named.test))) }
     ensures faults { IfErr result IsOutputFault }
-    ensures count { CountsFailure (W.failures writer.old) (W.failures writer.new) (is_write_failed result) }
+    ensures count { CountsFailure (W.failures writer.old) (W.failures writer.new)
+        (is_write_failed result) }
 {
     let NamedTest { name, test } = named;
     let (session, steps) = test.into_parts();

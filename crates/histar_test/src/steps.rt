@@ -4,8 +4,8 @@ ghost use Rattle.std.specs.Option.{option_copied};
 ghost use Rattle.histar_script.specs.Lines.{lines_of, most_script_bytes};
 ghost use Rattle.histar_script.specs.Outcome.{Gives};
 ghost use Rattle.histar_script.specs.Script.{IsDeclared};
-ghost use Rattle.histar_test.specs.Steps.{GivesSteps, TakesLine, call_in, expectation_of, is_call, step_of};
-ghost use Rattle.histar_test.specs.Steps.{steps_from, test_of};
+ghost use Rattle.histar_test.specs.Steps.{GivesSteps, TakesLine, call_in, expectation_of, is_call};
+ghost use Rattle.histar_test.specs.Steps.{step_of, steps_from, test_of};
 
 use histar_base::Bytes;
 use histar_flat::{CallLine, Session};
@@ -67,7 +67,8 @@ impl TestScript {
     }
 }
 
-/// Reads the test that a text is: a script, whose fault comes first, in which each expectation has its call.
+/// Reads the test that a text is: a script, whose fault comes first, in which each expectation has its
+/// call.
 pub fn read_test(alloc: Global, text: &[u8]) -> Result<TestScript, Fault>
     ensures { Gives result (test_of text.now) }
 {

@@ -1,5 +1,6 @@
 //! What a test comes to. Each law is the contract of a function that does nothing.
-ghost use Rattle.histar_test.specs.Laws.{ChecksAreOfTheMeaning, ExpectationsAreChecked, TestsMakeTheCalls};
+ghost use Rattle.histar_test.specs.Laws.{ChecksAreOfTheMeaning, ExpectationsAreChecked};
+ghost use Rattle.histar_test.specs.Laws.{TestsMakeTheCalls};
 
 /// The calls of a test are those of its script, in their order.
 pub fn tests_make_the_calls()

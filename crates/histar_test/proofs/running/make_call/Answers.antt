@@ -9,5 +9,5 @@ pub returns-clause-ok : goal.returns-clause-ok
 returns-clause-ok c =
     let call = c.args.call in
     let means = subst (λ (r : Result Reply Stopped). FollowsMeaning c.args.machine.now c.step.new.self call.line call.process call.call r) c.in-Ok.is
-        c.step.ensures.means in
+    c.step.ensures.means in
     call_made _ _ call c.args.said _ c.in-Ok.reply means (c.from_vec.ensures ∙ c.in_ok-text.ensures)

@@ -1,11 +1,10 @@
-use Rattle.std.proofs.Common.{◌≡◌, ℕ, Ok, Err, List, subst, sym, ap, rules, ◌∙◌, ◌<◌, length}
+use Rattle.std.proofs.Common.{ℕ, Err, List, subst, sym, ap, rules, ◌∙◌, ◌<◌, length}
 use Rattle.std.specs.List.{AllZip}
 use Rattle.std.specs.Prelude.{take, ◌+◌}
 use Rattle.std.proofs.lemmas.Result.{err_from_is_err_and}
-use Rattle.histar_script.specs.declared.fault.Fault.{Fault}
 use Rattle.histar_script.specs.Outcome.{Gives}
 use Rattle.histar_test.specs.declared.session.NamedTest.{NamedTest}
-use Rattle.histar_test.specs.Session.{IsTestOf, ReadsFiles}
+use Rattle.histar_test.specs.Session.{IsTestOf}
 use Rattle.histar_test.specs.Steps.{Test, test_of}
 use Rattle.histar_test.proofs.FileLemmas.{file_at, first_fault, more_files}
 use Rattle.histar_test.proofs.session.read_tests.Goals as goal
@@ -17,7 +16,8 @@ returns-in_err-test c =
     let i = c.files.file-index in
     let file = c.file-item.result in
     let lt : i < length files = search rules in
-    let bad = subst (λ (text : List ℕ). Gives {A = Test} (Err c.in_err-test.field-0.0) (test_of text)) c.as_slice.ensures.value c.in_err-test.ensures in
+    let bad = subst (λ (text : List ℕ). Gives {A = Test} (Err c.in_err-test.field-0.0) (test_of text)) c.as_slice.ensures.value
+    c.in_err-test.ensures in
     rw (p.1, p.2)
     (first_fault c.in_err-test.field-0.0 files i file c.files.tests.items (file_at files i file lt c.file-item.is) c.files.invariant bad)
 

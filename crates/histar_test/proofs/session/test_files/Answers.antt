@@ -24,6 +24,6 @@ returns-in_err-tally-clause-err g c =
     let all = YieldsList-from_vec tests gives.0 (search rules) in
     let so_far = YieldsList-so_far all c.tests.yielded c.tests.test-iterator c.tests.yielded_by in
     let turn = YieldsList-turn all c.tests.yielded c.tests.test-iterator c.tests.yielded_by c.next.result c.next.new.self c.in-Some.test c.in-Some.is
-        c.next.ensures.steps in
+    c.next.ensures.steps in
     let parts = parts_at tests c.tests.yielded c.in-Some.test (sym (map-id c.tests.yielded) ∙ so_far) turn in
     rw p.1 (begun_run tests _ c.in-Some.test _ parts c.tests.invariant.run c.in_err-tally.ensures.err)

@@ -1,4 +1,4 @@
-use Rattle.std.proofs.Common.{◌≡◌, ◌||◌, true, false, Some, None, ap, subst, sym, refl, rules, ◌∙◌, Bool, List}
+use Rattle.std.proofs.Common.{◌≡◌, ◌||◌, true, false, Some, None, subst, sym, refl, rules, ◌∙◌, Bool, List}
 use Rattle.histar_test.specs.declared.steps.Step.{Step}
 use Rattle.histar_test.specs.Steps.{AddsLine, is_call, step_of}
 use Rattle.histar_test.proofs.StepLemmas.{nothing_added, step_added, step_bad}
