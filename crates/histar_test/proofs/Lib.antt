@@ -1,0 +1,5 @@
+pub mod StepLemmas
+pub mod StepLaws
+pub mod CheckLemmas
+pub mod RunLemmas
+pub mod FileLemmas

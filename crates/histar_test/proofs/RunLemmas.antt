@@ -1,0 +1,190 @@
+-- Steps are taken one after another, and their checks are written.
+use Rattle.std.proofs.Common.{◌≡◌, ℕ, ◌+◌, ◌<◌, List, [], ◌∷◌, ◌++◌, length, take, drop, get_or, Option, Some, None, Ok}
+use Rattle.std.proofs.Common.{refl, sym, ap, ap₂, ◌∙◌, subst, append-nil, append_assoc, arith, take-append-drop}
+use Rattle.std.proofs.KnownBytes.{Appends-nil, Appends-trans}
+use Rattle.std.proofs.lemmas.List.{drop_more}
+use Rattle.std.specs.Io.KnownBytes.{Appends}
+use Rattle.histar_devices.specs.Writing.{AppendsFront}
+use Rattle.histar_flat.specs.declared.calls.CallLine.{CallLine}
+use Rattle.histar_flat.specs.declared.replies.Reply.{Reply}
+use Rattle.histar_flat.specs.FlatState.{Flat}
+use Rattle.histar_flat.specs.Meaning.{boot}
+use Rattle.histar_flat.specs.Sessions.{Session}
+use Rattle.histar_flat.specs.Texts.{reply_text}
+use Rattle.histar_shell.specs.Machine.{MachineModel}
+use Rattle.histar_shell.specs.Meaning.{FollowsMeaning, Shows}
+use Rattle.histar_shell.proofs.AnswerLemmas.{front_after}
+use Rattle.histar_test.specs.declared.checks.Check.{Check}
+use Rattle.histar_test.specs.declared.checks.Made.{Made}
+use Rattle.histar_test.specs.declared.running.Run.{Run}
+use Rattle.histar_test.specs.declared.running.Tally.{Tally}
+use Rattle.histar_test.specs.declared.steps.Step.{Step}
+use Rattle.histar_test.specs.declared.steps.Step.TheVariants.{Makes, Expects}
+use Rattle.histar_test.specs.Checks.{check_text, checks_from, checks_text}
+use Rattle.histar_test.specs.Running.{BeginsSteps, MakesCall, Starts, TakesStep, TakesSteps, check_at, flat_at, last_at, tally_with, step_text}
+use Rattle.histar_test.proofs.CheckLemmas.{check_first, checks_text-append, tally_more, tally_none}
+
+-- a machine that answered a call made it
+pub call_made : (old new : MachineModel) (call : CallLine) (said text : List ℕ) (reply : Reply)
+    → FollowsMeaning old new call.line call.process call.call (Ok reply) → text ≡ reply_text reply
+    → MakesCall old new call said (record { line = call.line; said = said; reply = text })
+call_made old new call said text reply means is session f shows =
+    let as_meant = means session f shows in
+    record {
+      shows = as_meant.shows;
+      is = ap (λ (t : List ℕ). let made : Made = record { line = call.line; said = said; reply = t } in made) (is ∙ ap reply_text as_meant.is_reply);
+    }
+
+-- a call that was made is a step that was taken
+pub call_taken : (old new : Run) (call : CallLine) (said : List ℕ) (made : Made) → MakesCall old.machine new.machine call said made
+    → new.last ≡ Some made → new.tally ≡ old.tally → TakesStep old new (Makes call said)
+call_taken old new call said made makes last tally = record {
+  is_taken = λ session f shows.
+      let is = makes session f shows in
+      record { shows = is.shows; last = last ∙ ap (λ (m : Made). Some m) is.is };
+  tally = tally ∙ tally_none old.tally;
+}
+
+-- an expectation is a step that was taken
+pub text_taken : (old new : Run) (wanted : List ℕ) → new.machine ≡ old.machine → new.last ≡ None
+    → new.tally ≡ tally_with old.tally (check_at old.last (Expects wanted)) → TakesStep old new (Expects wanted)
+text_taken old new wanted same none tally = record {
+  is_taken = λ session f shows. record { shows = subst (λ (m : MachineModel). Shows session m f) (sym same) shows; last = none };
+  tally = tally;
+}
+
+-- the lines of the check of an expectation
+pub check_lines : (file : List ℕ) (k number : ℕ) (last : Option Made) (made : Made) (wanted : List ℕ) → last ≡ Some made → number ≡ k
+    → check_text file number (record { made = made; wanted = wanted }) ≡ checks_text file k (check_at last (Expects wanted))
+check_lines file k number last made wanted is same =
+    let check : Check = record { made = made; wanted = wanted } in
+    ap (λ (n : ℕ). check_text file n check) same ∙ sym (append-nil (check_text file k check))
+    ∙ ap (λ (l : Option Made). checks_text file k (check_at l (Expects wanted))) (sym is)
+
+-- ---- steps one after another
+
+-- Where a run has come from a flat state: the machine lays out one, and whatever steps come next, their checks stand behind those that were
+-- written and counted.
+pub record IsAt (session : Session) (f : Flat) (file : List ℕ) (start now : Run) (steps : List Step) (before after : Option (List ℕ)) : Type 0 where
+  pub flat : Flat
+  pub shows : Shows session now.machine flat
+  pub done : List Check
+  pub goes_on : (later : List Step) → checks_from session f start.last (steps ++ later) ≡ done ++ checks_from session flat now.last later
+  pub written : Appends before after (checks_text file (start.tally.count + 1) done)
+  pub tally : now.tally ≡ tally_with start.tally done
+
+-- So it has from whatever flat state the machine laid out.
+pub record HasCome (file : List ℕ) (start now : Run) (steps : List Step) (before after : Option (List ℕ)) : Type 0 where
+  pub from : (session : Session) (f : Flat) → Shows session start.machine f → IsAt session f file start now steps before after
+
+-- before the first step
+pub at_start : (file : List ℕ) (run : Run) (w : Option (List ℕ)) → HasCome file run run [] w w
+at_start file run w = record {
+  from = λ session f shows. record {
+    flat = f;
+    shows = shows;
+    done = [];
+    goes_on = λ later. refl;
+    written = Appends-nil w;
+    tally = tally_none run.tally;
+  };
+}
+
+-- the lines of some checks, and then of those that are counted on behind them
+text_on : (file : List ℕ) (start now : Tally) (done more : List Check) → now ≡ tally_with start done
+    → checks_text file (start.count + 1) (done ++ more) ≡ checks_text file (start.count + 1) done ++ checks_text file (now.count + 1) more
+text_on file start now done more is =
+    let counted : now.count ≡ start.count + length done = ap (λ (t : Tally). t.count) is in
+    let on : (start.count + 1) + length done ≡ now.count + 1 = omega arith in
+    checks_text-append file (start.count + 1) done more ∙ ap (λ (n : ℕ). checks_text file (start.count + 1) done ++ checks_text file n more) on
+
+-- the checks of some steps, of one more and of those behind it
+goes_further : {session : Session} {f : Flat} {file : List ℕ} {start now : Run} {steps : List Step} {before after : Option (List ℕ)} → (step : Step)
+    (later : List Step) (at : IsAt session f file start now steps before after)
+    → checks_from session f start.last (steps ++ step ∷ later)
+    ≡ at.done ++ (check_at now.last step ++ checks_from session (flat_at session at.flat step) (last_at session at.flat step) later)
+goes_further {session = session} {now = now} step later at =
+    at.goes_on (step ∷ later) ∙ ap (λ (cs : List Check). at.done ++ cs) (check_first session at.flat now.last step later)
+
+-- one more step was taken
+pub at_more : {file : List ℕ} {start now new : Run} {steps : List Step} {step : Step} {a b : Option (List ℕ)} → (c : Option (List ℕ))
+    → HasCome file start now steps a b → TakesStep now new step → Appends b c (step_text file now step)
+    → HasCome file start new (steps ++ step ∷ []) a c
+at_more {file = file} {start = start} {now = now} {new = new} {steps = steps} {step = step} {a = a} {b = b} c come takes more = record {
+  from = λ session f shows.
+      let at = come.from session f shows in
+      let taken = takes.is_taken session at.flat at.shows in
+      let check = check_at now.last step in
+      let flat = flat_at session at.flat step in
+      record {
+        flat = flat;
+        shows = taken.shows;
+        done = at.done ++ check;
+        goes_on = λ later.
+            ap (checks_from session f start.last) (append_assoc steps (step ∷ []) later) ∙ goes_further step later at
+            ∙ ap (λ (last : Option Made). at.done ++ (check ++ checks_from session flat last later)) (sym taken.last)
+            ∙ sym (append_assoc at.done check (checks_from session flat new.last later));
+        written = subst (Appends a c) (sym (text_on file start.tally now.tally at.done check at.tally))
+            (Appends-trans a b c (checks_text file (start.tally.count + 1) at.done) (step_text file now step) at.written more);
+        tally = takes.tally ∙ ap (λ (t : Tally). tally_with t check) at.tally ∙ tally_more start.tally at.done check;
+      };
+}
+
+-- one more was begun
+pub at_front : {file : List ℕ} {start now : Run} {steps : List Step} {a b : Option (List ℕ)} → (step : Step) (all later : List Step)
+    (c : Option (List ℕ)) → all ≡ steps ++ step ∷ later → HasCome file start now steps a b → AppendsFront b c (step_text file now step)
+    → BeginsSteps file start all a c
+at_front {file = file} {start = start} {now = now} {a = a} {b = b} step all later c parts come begun session f shows =
+    let at = come.from session f shows in
+    let check = check_at now.last step in
+    let rest = checks_from session (flat_at session at.flat step) (last_at session at.flat step) later in
+    let k = start.tally.count + 1 in
+    let more = checks_text file ((now.tally.count + 1) + length check) rest in
+    let text : checks_text file k (checks_from session f start.last all) ≡ checks_text file k at.done ++ (step_text file now step ++ more) =
+    ap (λ (s : List Step). checks_text file k (checks_from session f start.last s)) parts
+    ∙ ap (checks_text file k) (goes_further step later at)
+    ∙ text_on file start.tally now.tally at.done (check ++ rest) at.tally
+    ∙ ap (λ (t : List ℕ). checks_text file k at.done ++ t) (checks_text-append file (now.tally.count + 1) check rest) in
+    subst (AppendsFront a c) (sym text) (front_after a b c (checks_text file k at.done) (step_text file now step) more at.written begun)
+
+-- after the last step
+pub at_end : {file : List ℕ} {start now : Run} {steps : List Step} {a b : Option (List ℕ)} → HasCome file start now steps a b
+    → TakesSteps file start now steps a b
+at_end {file = file} {start = start} {steps = steps} {a = a} {b = b} come session f shows =
+    let at = come.from session f shows in
+    let all : checks_from session f start.last steps ≡ at.done =
+    ap (checks_from session f start.last) (sym (append-nil steps)) ∙ at.goes_on [] ∙ append-nil at.done in
+    record {
+      written = subst (λ (cs : List Check). Appends a b (checks_text file (start.tally.count + 1) cs)) (sym all) at.written;
+      tally = at.tally ∙ ap (tally_with start.tally) (sym all);
+    }
+
+-- ---- a whole test
+
+-- the steps of a test were taken from its start
+pub test_taken : {session : Session} {tally : Tally} {start now : Run} {a b : Option (List ℕ)} → (file : List ℕ) (steps : List Step)
+    → Starts session tally start → TakesSteps file start now steps a b
+    → Appends a b (checks_text file (tally.count + 1) (checks_from session (boot session) None steps))
+    × (now.tally ≡ tally_with tally (checks_from session (boot session) None steps))
+test_taken {session = session} {now = now} {a = a} {b = b} file steps starts takes =
+    let taken = takes session (boot session) starts.shows in
+    let Taken : Option Made × Tally → Type 0 = λ at.
+    Appends a b (checks_text file (at.1.count + 1) (checks_from session (boot session) at.0 steps))
+    × (now.tally ≡ tally_with at.1 (checks_from session (boot session) at.0 steps)) in
+    subst Taken (λ i. (starts.last i, starts.tally i)) (taken.written, taken.tally)
+
+-- or some of them
+pub test_begun : {session : Session} {tally : Tally} {start : Run} {a b : Option (List ℕ)} → (file : List ℕ) (steps : List Step)
+    → Starts session tally start → BeginsSteps file start steps a b
+    → AppendsFront a b (checks_text file (tally.count + 1) (checks_from session (boot session) None steps))
+test_begun {session = session} {a = a} {b = b} file steps starts begins =
+    subst (λ (at : Option Made × Tally). AppendsFront a b (checks_text file (at.1.count + 1) (checks_from session (boot session) at.0 steps)))
+    (λ i. (starts.last i, starts.tally i)) (begins session (boot session) starts.shows)
+
+-- a list is what comes before a place, what stands there, and what comes after it
+pub parts_at : {X : Type 0} → (all front : List X) (x : X) → front ≡ take (length front) all
+    → (length front < length all) × (x ≡ get_or all (length front) x) → all ≡ front ++ x ∷ drop (length front + 1) all
+parts_at {X} all front x begins here =
+    let lt : length front < length all = here.0 in
+    sym (take-append-drop (length front) all)
+    ∙ ap₂ (λ (l m : List X). l ++ m) (sym begins) (drop_more all (length front) x lt ∙ ap (λ (y : X). y ∷ drop (length front + 1) all) (sym here.1))

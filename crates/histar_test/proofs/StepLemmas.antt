@@ -1,0 +1,141 @@
+-- The steps of lines, one line after another.
+use Rattle.std.proofs.Common.{◌≡◌, ℕ, ◌+◌, ◌<◌, ◌≤◌, Bool, true, false, ltb, List, [], ◌∷◌, ◌++◌, length, Option, Some, None, Result, Ok, Err, ◌||◌}
+use Rattle.std.proofs.Common.{refl, sym, ap, ◌∙◌, append-nil, append_assoc, inl, inr, rules, tests}
+use Rattle.std.proofs.lemmas.Bool.{cases_lt}
+use Rattle.std.specs.Prelude.{if◌then◌else◌}
+use Rattle.histar_script.specs.declared.fault.Fault.{Fault}
+use Rattle.histar_script.specs.declared.fault.Fault.TheVariants.{BadScript, TooLong, OutOfMemory, ReadFailed, WriteFailed}
+use Rattle.histar_script.specs.Lines.{is_too_long, lines_of, most_script_bytes}
+use Rattle.histar_script.specs.Outcome.{Gives}
+use Rattle.histar_script.specs.Reading.{script_of}
+use Rattle.histar_script.specs.Script.{Reading}
+use Rattle.histar_script.proofs.LineLemmas.{no_lines}
+use Rattle.histar_test.specs.declared.steps.Step.{Step}
+use Rattle.histar_test.specs.Steps.{AddsLine, GivesSteps, TakesLine, Test, is_call, step_of, steps_before, steps_by, steps_from, test_by}
+
+-- what reading steps gives
+abbrev pub Read : Type 0
+Read = Result (List Step) ℕ
+
+-- no steps before others
+pub none_before : (read : Read) → steps_before [] read ≡ read
+none_before (Ok steps) = refl
+none_before (Err n) = refl
+
+-- steps before steps that are before others
+pub before_before : (front more : List Step) (read : Read) → steps_before front (steps_before more read) ≡ steps_before (front ++ more) read
+before_before front more (Ok steps) = ap (λ (all : List Step). let read : Read = Ok all in read) (sym (append_assoc front more steps))
+before_before front more (Err n) = refl
+
+module _ (n : ℕ) (is_open : Bool) (line : List ℕ) (lines : List (List ℕ)) where
+  -- the steps of the line and of those behind it, by its own
+  pub by_step : (step : Option Step) → step_of n line ≡ step
+      → steps_from n is_open (line ∷ lines) ≡ steps_by n is_open step (λ opened. steps_from (n + 1) opened lines)
+  unfolding steps_from
+  by_step step is = ap (λ (s : Option Step). steps_by n is_open s (λ opened. steps_from (n + 1) opened lines)) is
+
+  -- a step that may stand there
+  pub step_more : (step : Step) → step_of n line ≡ Some step → (is_call step || is_open) ≡ true
+      → steps_from n is_open (line ∷ lines) ≡ steps_before (step ∷ []) (steps_from (n + 1) (is_call step) lines)
+  step_more step is may =
+      by_step (Some step) is
+      ∙ ap (λ (b : Bool). if b then steps_before (step ∷ []) (steps_from (n + 1) (is_call step) lines) else Err n) may
+
+  -- a step that may not
+  pub step_bad : (step : Step) → step_of n line ≡ Some step → (is_call step || is_open) ≡ false → steps_from n is_open (line ∷ lines) ≡ Err n
+  step_bad step is may =
+      by_step (Some step) is
+      ∙ ap (λ (b : Bool). if b then steps_before (step ∷ []) (steps_from (n + 1) (is_call step) lines) else Err n) may
+
+module _ (n : ℕ) (is_open : Bool) (line : List ℕ) where
+  -- a line that is no step was taken
+  pub nothing_added : (old : List Step) → step_of n line ≡ None → AddsLine n is_open line old old is_open
+  nothing_added old none = record {
+    added = [];
+    steps = sym (append-nil old);
+    goes_on = λ lines. by_step n is_open line lines None none ∙ sym (none_before (steps_from (n + 1) is_open lines));
+  }
+
+  -- a step was
+  pub step_added : (old : List Step) (step : Step) → step_of n line ≡ Some step → (is_call step || is_open) ≡ true
+      → AddsLine n is_open line old (old ++ step ∷ []) (is_call step)
+  step_added old step is may = record {
+    added = step ∷ [];
+    steps = refl;
+    goes_on = λ lines. step_more n is_open line lines step is may;
+  }
+
+-- The steps so far, before those of the lines that are left, are all.
+pub record IsSoFar (all : Read) (n : ℕ) (is_open : Bool) (lines : List (List ℕ)) (steps : List Step) : Type 0 where
+  pub so_far : all ≡ steps_before steps (steps_from n is_open lines)
+
+-- before the first line
+pub none_so_far : (lines : List (List ℕ)) → IsSoFar (steps_from 1 false lines) 1 false lines []
+none_so_far lines = record { so_far = sym (none_before (steps_from 1 false lines)) }
+
+-- a line was taken
+pub went_on : {all : Read} {n : ℕ} {is_open is_open_after : Bool} {line : List ℕ} {lines : List (List ℕ)} {old new : List Step}
+    → (rest : List (List ℕ)) → lines ≡ line ∷ rest → IsSoFar all n is_open lines old → AddsLine n is_open line old new is_open_after
+    → IsSoFar all (n + 1) is_open_after rest new
+went_on {all = all} {n = n} {is_open = is_open} {is_open_after = is_open_after} {old = old} rest parts is adds =
+    let later = steps_from (n + 1) is_open_after rest in
+    record {
+      so_far =
+          is.so_far ∙ ap (λ (l : List (List ℕ)). steps_before old (steps_from n is_open l)) parts ∙ ap (steps_before old) (adds.goes_on rest)
+          ∙ before_before old adds.added later ∙ ap (λ (steps : List Step). steps_before steps later) (sym adds.steps);
+    }
+
+-- a line was not taken
+pub not_taken : {all : Read} {n : ℕ} {is_open : Bool} {lines : List (List ℕ)} {old : List Step} → (fault : Fault) (line : List ℕ)
+    (rest : List (List ℕ)) (new : List Step) → lines ≡ line ∷ rest → IsSoFar all n is_open lines old
+    → TakesLine n is_open line old new (Err fault) → GivesSteps (Err fault) all
+not_taken {n = n} {is_open = is_open} {old = old} (BadScript k) line rest new parts is bad =
+    is.so_far ∙ ap (λ (l : List (List ℕ)). steps_before old (steps_from n is_open l)) parts ∙ ap (steps_before old) (bad.1 rest)
+    ∙ ap (λ (m : ℕ). let read : Read = Err m in read) (sym bad.0)
+not_taken TooLong line rest new parts is bad = absurd bad
+not_taken OutOfMemory line rest new parts is bad = tt
+not_taken ReadFailed line rest new parts is bad = absurd bad
+not_taken WriteFailed line rest new parts is bad = absurd bad
+
+-- at the end all steps were read
+pub all_read : {all : Read} {n : ℕ} {is_open : Bool} {steps : List Step} → (rest : List ℕ) → length rest ≡ 0
+    → IsSoFar all n is_open (lines_of rest) steps → all ≡ Ok steps
+unfolding steps_from
+all_read {n = n} {is_open = is_open} {steps = steps} rest none is =
+    is.so_far ∙ ap (λ (lines : List (List ℕ)). steps_before steps (steps_from n is_open lines)) (no_lines rest none)
+    ∙ ap (λ (all : List Step). let read : Read = Ok all in read) (append-nil steps)
+
+-- ---- a whole text
+
+-- a text of more bytes than a script may have is none
+too_long : (text : List ℕ) → most_script_bytes < length text → is_too_long text ≡ true
+too_long text lt = let e : ltb most_script_bytes (length text) ≡ true = search (rules, tests) in rw e refl
+
+-- a script has no more bytes than a script may have
+pub is_short : (text : List ℕ) (script : Reading) → script_of text ≡ Ok script → length text ≤ most_script_bytes
+is_short text script is =
+    elim (cases_lt most_script_bytes (length text)) [
+      | inl lt ↦
+          let long : script_of text ≡ Err TooLong = rw (too_long text lt) refl in
+          let no : ⊥ = cc in
+          absurd no
+      | inr le ↦ le
+    ]
+
+-- the fault of a script
+pub script_fault : (f : Fault) (script : Result Reading Fault) (steps : Read) → Gives {A = Reading} (Err f) script
+    → Gives {A = Test} (Err f) (test_by script steps)
+script_fault (BadScript n) script steps given = ap (λ (s : Result Reading Fault). test_by s steps) given
+script_fault TooLong script steps given = ap (λ (s : Result Reading Fault). test_by s steps) given
+script_fault OutOfMemory script steps given = tt
+script_fault ReadFailed script steps given = absurd given
+script_fault WriteFailed script steps given = absurd given
+
+-- an expectation that has no call
+pub steps_fault : (f : Fault) (script : Reading) (read : Result Reading Fault) (steps : Read) → read ≡ Ok script → GivesSteps (Err f) steps
+    → Gives {A = Test} (Err f) (test_by read steps)
+steps_fault (BadScript n) script read steps is bad = λ i. test_by (is i) (bad i)
+steps_fault TooLong script read steps is bad = absurd bad
+steps_fault OutOfMemory script read steps is bad = tt
+steps_fault ReadFailed script read steps is bad = absurd bad
+steps_fault WriteFailed script read steps is bad = absurd bad

@@ -1,0 +1,42 @@
+use Rattle.std.proofs.Common.{◌≡◌, List, None, sym, subst, ◌∙◌, refl, rules}
+use Rattle.std.proofs.lemmas.List.{map-id}
+use Rattle.std.proofs.lemmas.Result.{err_from_is_err_and}
+use Rattle.std.proofs.lemmas.Iterator.Adapters.{YieldsList-from_vec}
+use Rattle.std.proofs.lemmas.Iterator.Consumers.{YieldsList-end, YieldsList-so_far, YieldsList-turn}
+use Rattle.histar_test.specs.declared.steps.Step.{Step}
+use Rattle.histar_test.specs.Running.{TakesSteps}
+use Rattle.histar_test.proofs.RunLemmas.{at_end, at_front, at_more, at_start, parts_at}
+use Rattle.histar_test.proofs.running.Run.take_steps.Goals as goal
+
+pub steps-init : goal.steps-init
+steps-init g c = record { come = at_start c.args.file.now c.args.self.now (g.W.Sink.written c.args.writer.now); count = refl }
+
+pub steps-preserved : goal.steps-preserved
+steps-preserved g c = record {
+  come = at_more _ c.steps.invariant.come c.in_ok-take_step.ensures.ok c.in_ok-take_step.ensures.written;
+  count = search rules;
+}
+
+pub returns-in_err-take_step-clause-err : goal.returns-in_err-take_step-clause-err
+returns-in_err-take_step-clause-err g c =
+    let p = err_from_is_err_and c.from_residual.result c.from_residual.ensures.1 in
+    let steps = c.args.steps.items in
+    let gives = c.into_iter-step-iterator.ensures.into_iter_gives in
+    let all = YieldsList-from_vec steps gives.0 (search rules) in
+    let so_far = YieldsList-so_far all c.steps.yielded c.steps.step-iterator c.steps.yielded_by in
+    let turn = YieldsList-turn all c.steps.yielded c.steps.step-iterator c.steps.yielded_by c.next.result c.next.new.self c.in-Some.step c.in-Some.is
+    c.next.ensures.steps in
+    let parts = parts_at steps c.steps.yielded c.in-Some.step (sym (map-id c.steps.yielded) ∙ so_far) turn in
+    rw p.1 (at_front c.in-Some.step steps _ _ parts c.steps.invariant.come c.in_err-take_step.ensures.err)
+
+pub returns-clause-ok : goal.returns-clause-ok
+returns-clause-ok g c =
+    let none : c.next.result ≡ None = search rules in
+    let steps = c.args.steps.items in
+    let gives = c.into_iter-step-iterator.ensures.into_iter_gives in
+    let yields = YieldsList-from_vec steps gives.0 (search rules) in
+    let end = YieldsList-end yields c.steps.yielded c.steps.step-iterator c.steps.yielded_by c.next.result c.next.new.self none
+    c.next.ensures.steps in
+    let all = sym (map-id c.steps.yielded) ∙ end.0 in
+    subst (λ (steps : List Step). TakesSteps c.args.file.now c.args.self.now c.steps.self steps (g.W.Sink.written c.args.writer.now)
+    (g.W.Sink.written c.steps.writer)) all (at_end c.steps.invariant.come)

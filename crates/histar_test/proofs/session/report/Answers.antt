@@ -1,0 +1,41 @@
+use Rattle.std.proofs.Common.{◌∙◌, subst}
+use Rattle.std.specs.Prelude.{map}
+use Rattle.std.specs.Io.KnownBytes.{Appends}
+use Rattle.std.proofs.lemmas.Result.{err_from_is_err_and}
+use Rattle.histar_devices.specs.Writing.{AppendsFront}
+use Rattle.histar_devices.proofs.WritingLemmas.{sent_none}
+use Rattle.histar_test.specs.Session.{checked_of, files_text}
+use Rattle.histar_test.proofs.FileLemmas.{both_begun, both_written, front_first, planned}
+use Rattle.histar_test.proofs.session.report.Goals as goal
+
+pub returns-in_default-clause-err : goal.returns-in_default-clause-err
+returns-in_default-clause-err g c = (_, sent_none (g.W.Sink.written c.args.writer.now) _)
+
+pub returns-in_err-plan-clause-err : goal.returns-in_err-plan-clause-err
+returns-in_err-plan-clause-err g c =
+    let p = err_from_is_err_and c.from_residual.result c.from_residual.ensures.1 in
+    rw p.1 (_, sent_none (g.W.Sink.written c.args.writer.now) _)
+
+pub returns-in_err-write_bytes-clause-err : goal.returns-in_err-write_bytes-clause-err
+returns-in_err-write_bytes-clause-err g c =
+    let p = err_from_is_err_and c.from_residual-in_err-write_bytes.result c.from_residual-in_err-write_bytes.ensures.1 in
+    let plan = c.as_slice-2.ensures.value ∙ c.in_ok-plan.ensures
+    ∙ planned c.args.tests.items _ c.in-Some.total c.requires c.as_slice.ensures.value c.in-Some.ensures in
+    rw p.1 (front_first _ _ _ (files_text 1 (map checked_of c.args.tests.items))
+    (subst (AppendsFront (g.W.Sink.written c.args.writer.now) (g.W.Sink.written c.write_bytes.new.writer)) plan c.in_err-write_bytes.ensures.err))
+
+pub returns-clause-ok : goal.returns-clause-ok
+returns-clause-ok g c =
+    let plan = c.as_slice-2.ensures.value ∙ c.in_ok-plan.ensures
+    ∙ planned c.args.tests.items _ c.in-Some.total c.requires c.as_slice.ensures.value c.in-Some.ensures in
+    both_written _ _ _ c.test_files.result _ (files_text 1 (map checked_of c.args.tests.items))
+    (subst (Appends (g.W.Sink.written c.args.writer.now) (g.W.Sink.written c.write_bytes.new.writer)) plan c.in_ok-write_bytes.ensures.ok)
+    c.test_files.ensures.ok
+
+pub returns-clause-err : goal.returns-clause-err
+returns-clause-err g c =
+    let plan = c.as_slice-2.ensures.value ∙ c.in_ok-plan.ensures
+    ∙ planned c.args.tests.items _ c.in-Some.total c.requires c.as_slice.ensures.value c.in-Some.ensures in
+    both_begun _ _ _ c.test_files.result _ (files_text 1 (map checked_of c.args.tests.items))
+    (subst (Appends (g.W.Sink.written c.args.writer.now) (g.W.Sink.written c.write_bytes.new.writer)) plan c.in_ok-write_bytes.ensures.ok)
+    c.test_files.ensures.err

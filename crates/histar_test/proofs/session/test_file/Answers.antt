@@ -1,0 +1,30 @@
+use Rattle.std.proofs.Common.{ℕ, ◌+◌, List, None, subst}
+use Rattle.std.proofs.lemmas.Result.{err_from_is_err_and}
+use Rattle.histar_devices.specs.Writing.{AppendsFront}
+use Rattle.histar_devices.proofs.WritingLemmas.{sent_none}
+use Rattle.histar_flat.specs.Meaning.{boot}
+use Rattle.histar_flat.specs.Sessions.{Session}
+use Rattle.histar_test.specs.declared.steps.Step.{Step}
+use Rattle.histar_test.specs.Checks.{checks_from, checks_text}
+use Rattle.histar_test.proofs.RunLemmas.{test_begun}
+use Rattle.histar_test.proofs.session.test_file.Goals as goal
+
+pub returns-in_err-run-clause-err : goal.returns-in_err-run-clause-err
+returns-in_err-run-clause-err g c =
+    let p = err_from_is_err_and c.from_residual.result c.from_residual.ensures.1 in
+    rw p.1 (_, sent_none (g.W.Sink.written c.args.writer.now) _)
+
+pub returns-in_err-take_steps-clause-err : goal.returns-in_err-take_steps-clause-err
+returns-in_err-take_steps-clause-err g c =
+    let p = err_from_is_err_and c.from_residual-in_err-take_steps.result c.from_residual-in_err-take_steps.ensures.1 in
+    let parts = c.into_parts-session.ensures in
+    let begun = test_begun c.as_slice.result.now c.into_parts-session.result.1.items c.in_ok-run.ensures.ok c.in_err-take_steps.ensures.err in
+    rw p.1
+    (subst (λ (t : List ℕ × (Session × List Step)). AppendsFront (g.W.Sink.written c.args.writer.now) (g.W.Sink.written c.take_steps.new.writer)
+    (checks_text t.0 (c.args.tally.count + 1) (checks_from t.1.0 (boot t.1.0) None t.1.1)))
+    (λ i. (c.as_slice.ensures i, (parts.session i, parts.steps i))) begun)
+
+pub returns-in_err-take_steps-clause-count : goal.returns-in_err-take_steps-clause-count
+returns-in_err-take_steps-clause-count g c =
+    let p = err_from_is_err_and c.from_residual-in_err-take_steps.result c.from_residual-in_err-take_steps.ensures.1 in
+    rw (p.1, p.2) c.in_err-take_steps.ensures.count

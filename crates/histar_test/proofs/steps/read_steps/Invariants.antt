@@ -1,0 +1,14 @@
+use Rattle.std.proofs.Common.{◌+◌, ◌≤◌, false, length}
+use Rattle.histar_script.specs.Lines.{lines_of}
+use Rattle.histar_test.specs.Steps.{steps_from}
+use Rattle.histar_test.proofs.StepLemmas.{IsSoFar}
+use Rattle.histar_test.proofs.steps.read_steps.Given as goal
+
+abbrev pub invariant-lines : goal.invariant-lines
+invariant-lines l = record {
+  so_far : IsSoFar (steps_from 1 false (lines_of l.text)) (l.count + 1) l.is_open (lines_of l.rest) l.steps.items;
+  counted : l.count + length l.rest ≤ length l.text;
+}
+
+abbrev pub decreases-lines : goal.decreases-lines
+decreases-lines l = length l.rest

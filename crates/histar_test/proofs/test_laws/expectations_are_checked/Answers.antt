@@ -1,0 +1,5 @@
+use Rattle.histar_test.proofs.StepLaws.{expectations_are_checked}
+use Rattle.histar_test.proofs.test_laws.expectations_are_checked.Goals as goal
+
+pub returns : goal.returns
+returns c = expectations_are_checked

@@ -1,0 +1,5 @@
+use Rattle.histar_test.proofs.StepLaws.{tests_make_the_calls}
+use Rattle.histar_test.proofs.test_laws.tests_make_the_calls.Goals as goal
+
+pub returns : goal.returns
+returns c = tests_make_the_calls

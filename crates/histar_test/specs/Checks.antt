@@ -1,0 +1,64 @@
+-- What a test finds: each expectation beside the reply to its call, and the text of that in the form of the Test Anything Protocol.
+use Rattle.std.specs.Prelude.{ℕ, ◌+◌, Bool, List, [], ◌∷◌, ◌++◌, codes, decimal, Option, None, Some, ◌==◌, ◌||◌, if◌then◌else◌}
+use Rattle.std.specs.List.{flat_map}
+use Rattle.std.specs.Str.{bytes_eq}
+use Rattle.histar_flat.specs.declared.calls.CallLine.{CallLine}
+use Rattle.histar_flat.specs.Sessions.{Session}
+use Rattle.histar_flat.specs.FlatState.{Flat}
+use Rattle.histar_flat.specs.FlatCalls.{reply_to, flat_after}
+use Rattle.histar_flat.specs.Meaning.{boot}
+use Rattle.histar_flat.specs.Texts.{reply_text}
+use Rattle.histar_test.specs.declared.checks.Check.{Check}
+use Rattle.histar_test.specs.declared.checks.Made.{Made}
+use Rattle.histar_test.specs.declared.steps.Step.{Step}
+use Rattle.histar_test.specs.declared.steps.Step.TheVariants.{Makes, Expects}
+use Rattle.histar_test.specs.Steps.{Test}
+
+-- the expectation is met: the reply has the text that is wanted
+abbrev pub is_met : Check → Bool
+is_met c = bytes_eq c.made.reply c.wanted
+
+-- a call that is made in a flat state, on a line with this text
+abbrev pub made_of : Session → Flat → CallLine → List ℕ → Made
+made_of session f c said = record { line = c.line; said = said; reply = reply_text (reply_to session f c.process c.call) }
+
+-- the checks of steps from a flat state on, where this is the call before them, if there is one
+abbrev pub checks_from : Session → Flat → Option Made → List Step → List Check
+checks_from session f last [] = []
+checks_from session f last (Makes c said ∷ steps) =
+    checks_from session (flat_after session f c.process c.call) (Some (made_of session f c said)) steps
+checks_from session f None (Expects text ∷ steps) = checks_from session f None steps
+checks_from session f (Some made) (Expects text ∷ steps) = record { made = made; wanted = text } ∷ checks_from session f None steps
+
+-- the checks of a test: the replies are those of the meaning of its calls
+abbrev pub checks_of : Test → List Check
+checks_of test = checks_from test.session (boot test.session) None test.steps
+
+-- a byte of a description: a backslash stands before `#`, which would begin a directive, and before a backslash
+abbrev pub escaped_byte : ℕ → List ℕ
+escaped_byte b = if (b == 35) || (b == 92) then 92 ∷ b ∷ [] else b ∷ []
+
+-- the place of a call: the file, the line of the call, and the text of that line
+abbrev pub place_text : List ℕ → Made → List ℕ
+place_text file made = file ++ codes ":" ++ decimal made.line ++ codes ": " ++ made.said
+
+-- a description: the place of the call
+abbrev pub description : List ℕ → Made → List ℕ
+description file made = flat_map escaped_byte (place_text file made)
+
+-- a line that begins with this word: the number of a check, and the description
+abbrev pub result_line : List ℕ → List ℕ → ℕ → Made → List ℕ
+result_line word file k made = word ++ decimal k ++ codes " - " ++ description file made ++ codes "\n"
+
+-- what was expected, and what the reply was
+abbrev pub difference_text : Check → List ℕ
+difference_text c = codes "# expected " ++ c.wanted ++ codes ", was " ++ c.made.reply ++ codes "\n"
+
+-- the lines of check k of a file
+abbrev pub check_text : List ℕ → ℕ → Check → List ℕ
+check_text file k c = if is_met c then result_line (codes "ok ") file k c.made else result_line (codes "not ok ") file k c.made ++ difference_text c
+
+-- the lines of checks of a file, of which the first has the number k
+abbrev pub checks_text : List ℕ → ℕ → List Check → List ℕ
+checks_text file k [] = []
+checks_text file k (c ∷ checks) = check_text file k c ++ checks_text file (k + 1) checks

@@ -1,0 +1,5 @@
+pub mod Steps
+pub mod Checks
+pub mod Running
+pub mod Session
+pub mod Laws

@@ -1,0 +1,89 @@
+-- A machine takes the steps of a script, and the checks are written.
+use Rattle.std.specs.Prelude.{◌≡◌, ℕ, ◌+◌, ◌&&◌, List, [], ◌∷◌, length, Option, None, Some}
+use Rattle.std.specs.List.{list_all}
+use Rattle.std.specs.Io.KnownBytes.{Appends}
+use Rattle.histar_devices.specs.Writing.{AppendsFront}
+use Rattle.histar_flat.specs.declared.calls.CallLine.{CallLine}
+use Rattle.histar_flat.specs.Sessions.{Session}
+use Rattle.histar_flat.specs.FlatState.{Flat}
+use Rattle.histar_flat.specs.FlatCalls.{flat_after}
+use Rattle.histar_script.specs.declared.fault.Fault.{Fault}
+use Rattle.histar_script.specs.declared.fault.Fault.TheVariants.{OutOfMemory}
+use Rattle.histar_shell.specs.Machine.{MachineModel}
+use Rattle.histar_shell.specs.Meaning.{Shows, ShowsStart}
+use Rattle.histar_test.specs.declared.checks.Check.{Check}
+use Rattle.histar_test.specs.declared.checks.Made.{Made}
+use Rattle.histar_test.specs.declared.running.Run.{Run}
+use Rattle.histar_test.specs.declared.running.Tally.{Tally}
+use Rattle.histar_test.specs.declared.steps.Step.{Step}
+use Rattle.histar_test.specs.declared.steps.Step.TheVariants.{Makes, Expects}
+use Rattle.histar_test.specs.Checks.{is_met, made_of, checks_from, checks_text}
+
+-- so many checks more, and whether they are met too
+abbrev pub tally_with : Tally → List Check → Tally
+tally_with tally checks = record { count = tally.count + length checks; are_met = tally.are_met && list_all is_met checks }
+
+-- the flat state after a step
+abbrev pub flat_at : Session → Flat → Step → Flat
+flat_at session f (Makes c said) = flat_after session f c.process c.call
+flat_at session f (Expects text) = f
+
+-- the call that is open after a step, if one is
+abbrev pub last_at : Session → Flat → Step → Option Made
+last_at session f (Makes c said) = Some (made_of session f c said)
+last_at session f (Expects text) = None
+
+-- the check of a step, if it is one, where this is the call before it, if there is one
+abbrev pub check_at : Option Made → Step → List Check
+check_at last (Makes c said) = []
+check_at None (Expects text) = []
+check_at (Some made) (Expects text) = record { made = made; wanted = text } ∷ []
+
+-- the lines of the check of a step, if it is one
+abbrev pub step_text : List ℕ → Run → Step → List ℕ
+step_text file run step = checks_text file (run.tally.count + 1) (check_at run.last step)
+
+-- memory ran out
+abbrev pub IsMemory : Fault → Type 0
+IsMemory fault = fault ≡ OutOfMemory
+
+-- a run begins: the machine lays out the flat start of this session, no call is open, and the checks of earlier files are counted
+pub record Starts (session : Session) (before : Tally) (run : Run) : Type 0 where
+  pub shows : ShowsStart session run.machine
+  pub last : run.last ≡ None
+  pub tally : run.tally ≡ before
+
+-- a call was made: the machine lays out the flat state after it, and the reply is the one that the flat state says
+pub record IsMade (session : Session) (f : Flat) (new : MachineModel) (call : CallLine) (said : List ℕ) (made : Made) : Type 0 where
+  pub shows : Shows session new (flat_after session f call.process call.call)
+  pub is : made ≡ made_of session f call said
+
+-- whatever flat state the machine laid out, the call was made in it
+abbrev pub MakesCall : MachineModel → MachineModel → CallLine → List ℕ → Made → Type 0
+MakesCall old new call said made = (session : Session) (f : Flat) → Shows session old f → IsMade session f new call said made
+
+-- a step was taken from a flat state
+pub record IsTaken (session : Session) (f : Flat) (old new : Run) (step : Step) : Type 0 where
+  pub shows : Shows session new.machine (flat_at session f step)
+  pub last : new.last ≡ last_at session f step
+
+-- Whatever flat state the machine laid out, the step was taken from it, and its check was counted.
+pub record TakesStep (old new : Run) (step : Step) : Type 0 where
+  pub is_taken : (session : Session) (f : Flat) → Shows session old.machine f → IsTaken session f old new step
+  pub tally : new.tally ≡ tally_with old.tally (check_at old.last step)
+
+-- steps were taken from a flat state: their checks were written, and counted
+pub record AreTaken (session : Session) (f : Flat) (file : List ℕ) (old new : Run) (steps : List Step) (before after : Option (List ℕ)) : Type 0 where
+  pub written : Appends before after (checks_text file (old.tally.count + 1) (checks_from session f old.last steps))
+  pub tally : new.tally ≡ tally_with old.tally (checks_from session f old.last steps)
+
+-- whatever flat state the machine laid out, the steps were taken from it
+abbrev pub TakesSteps : List ℕ → Run → Run → List Step → Option (List ℕ) → Option (List ℕ) → Type 0
+TakesSteps file old new steps before after =
+    (session : Session) (f : Flat) → Shows session old.machine f → AreTaken session f file old new steps before after
+
+-- or a beginning of their checks was written
+abbrev pub BeginsSteps : List ℕ → Run → List Step → Option (List ℕ) → Option (List ℕ) → Type 0
+BeginsSteps file old steps before after =
+    (session : Session) (f : Flat) → Shows session old.machine f
+    → AppendsFront before after (checks_text file (old.tally.count + 1) (checks_from session f old.last steps))

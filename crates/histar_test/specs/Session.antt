@@ -1,0 +1,98 @@
+-- The test of files: their checks, numbered on through all of them.
+use Rattle.std.specs.Prelude.{◌≡◌, ℕ, ◌+◌, ◌⊎◌, Bool, List, [], ◌∷◌, ◌++◌, length, codes, decimal, Option, Result, Ok, Err}
+use Rattle.std.specs.List.{AllZip, flat_map, list_all, sum_by}
+use Rattle.std.specs.Global.{Vec}
+use Rattle.std.specs.Io.KnownBytes.{Appends, Keeps}
+use Rattle.histar_devices.specs.Writing.{AppendsFront}
+use Rattle.histar_script.specs.declared.fault.Fault.{Fault}
+use Rattle.histar_script.specs.declared.fault.Fault.TheVariants.{BadScript, TooLong, OutOfMemory, ReadFailed, WriteFailed}
+use Rattle.histar_test.specs.declared.checks.Check.{Check}
+use Rattle.histar_test.specs.declared.session.NamedTest.{NamedTest}
+use Rattle.histar_test.specs.declared.session.TestFile.{TestFile}
+use Rattle.histar_test.specs.Steps.{Test, expectation_count, test_of}
+use Rattle.histar_test.specs.Checks.{is_met, checks_of, checks_text}
+
+-- a file by its name, with the checks of its test
+pub record Checked : Type 0 where
+  pub name : List ℕ
+  pub checks : List Check
+
+-- the lines of files, of which the first check has the number k
+abbrev pub files_text : ℕ → List Checked → List ℕ
+files_text k [] = []
+files_text k (file ∷ files) = checks_text file.name k file.checks ++ files_text (k + length file.checks) files
+
+-- how many checks files have
+abbrev pub check_count : List Checked → ℕ
+check_count files = length (flat_map (λ file. file.checks) files)
+
+-- the line that says how many checks there are
+abbrev pub plan_text : ℕ → List ℕ
+plan_text count = codes "1.." ++ decimal count ++ codes "\n"
+
+-- what is written of files: how many checks they have, and a line or two for each
+abbrev pub report_text : List Checked → List ℕ
+report_text files = plan_text (check_count files) ++ files_text 1 files
+
+-- each expectation is met
+abbrev pub are_met : List Checked → Bool
+are_met files = list_all (λ file. list_all is_met file.checks) files
+
+-- the file is a script that is a test, with these checks
+abbrev pub IsChecked : TestFile → Checked → Type 0
+IsChecked file checked = (test : Test) × (test_of file.text.items ≡ Ok test) × (checked ≡ record { name = file.name.items; checks = checks_of test })
+
+-- Each file is a test, and what is written of them all was written as far as this says.
+pub record Reports (written : List ℕ → Type 0) (files : List TestFile) (is : List Checked → Type 0) : Type 0 where
+  pub checked : List Checked
+  pub each : AllZip IsChecked files checked
+  pub appended : written (report_text checked)
+  pub holds : is checked
+
+-- the first file that is no test has this fault
+pub record IsFirstFault (files : List TestFile) (fault : Fault) : Type 0 where
+  pub before : List TestFile
+  pub file : TestFile
+  pub after : List TestFile
+  pub parts : files ≡ before ++ file ∷ after
+  pub right : List Checked
+  pub each : AllZip IsChecked before right
+  pub bad : test_of file.text.items ≡ Err fault
+
+-- The checks of all files were written, and the answer is whether each is met; or the fault of the first bad file is answered, and
+-- nothing was written. At a failed write a beginning was written, and where memory runs out that or nothing.
+abbrev pub TestsFiles : List TestFile → Option (List ℕ) → Option (List ℕ) → Result Bool Fault → Type 0
+TestsFiles files old new (Ok met) = Reports (Appends old new) files (λ checked. met ≡ are_met checked)
+TestsFiles files old new (Err (BadScript n)) = IsFirstFault files (BadScript n) × Keeps old new
+TestsFiles files old new (Err TooLong) = IsFirstFault files TooLong × Keeps old new
+TestsFiles files old new (Err OutOfMemory) = Keeps old new ⊎ Reports (AppendsFront old new) files (λ checked. Unit {0})
+TestsFiles files old new (Err WriteFailed) = Reports (AppendsFront old new) files (λ checked. Unit {0})
+TestsFiles files old new (Err ReadFailed) = ⊥
+
+-- ---- the parts
+
+-- a test by the name of its file, with its checks
+abbrev pub checked_of : NamedTest → Checked
+checked_of named = record { name = named.name; checks = checks_of named.test }
+
+-- the file is this test
+pub record IsTestOf (file : TestFile) (named : NamedTest) : Type 0 where
+  pub name : named.name ≡ file.name.items
+  pub test : test_of file.text.items ≡ Ok named.test
+
+-- these are the tests of some files
+abbrev pub AreTests : List NamedTest → Type 0
+AreTests tests = (files : List TestFile) × AllZip IsTestOf files tests
+
+-- the files were read as tests, or the first that is none has this fault, unless memory ran out
+abbrev pub ReadsFiles : List TestFile → Result (Vec NamedTest) Fault → Type 0
+ReadsFiles files (Ok tests) = AllZip IsTestOf files tests.items
+ReadsFiles files (Err (BadScript n)) = IsFirstFault files (BadScript n)
+ReadsFiles files (Err TooLong) = IsFirstFault files TooLong
+ReadsFiles files (Err OutOfMemory) = Unit {0}
+ReadsFiles files (Err ReadFailed) = ⊥
+ReadsFiles files (Err WriteFailed) = ⊥
+
+-- how many expectations tests have
+abbrev pub expectations_in : List NamedTest → ℕ
+expectations_in tests = sum_by (λ named. expectation_count named.test.steps) tests

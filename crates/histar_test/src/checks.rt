@@ -1,0 +1,125 @@
+//! A check: an expectation beside the reply to its call, and the text of that.
+ghost use Rattle.std.specs.Prelude.{◌≡◌, ◌++◌, IfOk, OnOk, decimal};
+ghost use Rattle.std.specs.List.{flat_map};
+ghost use Rattle.histar_test.specs.Checks.{check_text, difference_text, escaped_byte};
+ghost use Rattle.histar_test.specs.Checks.{is_met, place_text, result_line};
+
+use histar_base::Bytes;
+use itoa::Buffer;
+use std::alloc::{AllocError, Global};
+
+/// A call that was made.
+#[derive(Drop)]
+pub struct Made {
+    /// The number of its line.
+    pub line: u32,
+    /// The text of that line.
+    pub said: Bytes,
+    /// The text of the reply.
+    pub reply: Bytes,
+}
+
+/// What a call was to be answered, and what it was.
+#[derive(Drop)]
+pub struct Check {
+    pub made: Made,
+    pub wanted: Bytes,
+}
+
+impl Check {
+    /// Checks whether the reply has the text that is wanted.
+    pub fn is_met(&self) -> bool
+        ensures { result ≡ is_met self.now }
+    {
+        self.made.reply.as_slice() == self.wanted.as_slice()
+    }
+}
+
+/// Adds a number, in decimal digits.
+pub(crate) fn push_number(text: &mut Vec<u8>, number: usize) -> Result<(), AllocError>
+    ensures { OnOk result (text.new.items ≡ text.old.items ++ decimal number) }
+{
+    let mut digits = Buffer::new();
+    text.extend_from_slice(digits.format(number).as_bytes())
+}
+
+/// Adds a byte of a description.
+fn push_escaped_byte(text: &mut Vec<u8>, byte: u8) -> Result<(), AllocError>
+    ensures { OnOk result (text.new.items ≡ text.old.items ++ escaped_byte byte) }
+{
+    if byte == b'#' || byte == b'\\' {
+        text.push(b'\\')?;
+    }
+    text.push(byte)?;
+    Ok(())
+}
+
+/// Adds the bytes of a description.
+fn push_escaped(text: &mut Vec<u8>, bytes: &[u8]) -> Result<(), AllocError>
+    ensures { OnOk result (text.new.items ≡ text.old.items ++ flat_map escaped_byte bytes.now) }
+{
+    for byte in bytes {
+        push_escaped_byte(text, *byte)?;
+    }
+    Ok(())
+}
+
+/// Returns the place of a call: the file, the line of the call, and the text of that line.
+fn place_text(alloc: Global, file: &[u8], made: &Made) -> Result<Vec<u8>, AllocError>
+    ensures { IfOk result (λ text. text.items ≡ place_text file.now made.now) }
+{
+    let mut text = Vec::from_slice(alloc, file)?;
+    text.extend_from_slice(b":")?;
+    push_number(&mut text, made.line as usize)?;
+    text.extend_from_slice(b": ")?;
+    text.extend_from_slice(made.said.as_slice())?;
+    Ok(text)
+}
+
+/// Returns the line of check `number`, which begins with this word.
+fn result_line(
+    alloc: Global,
+    word: &[u8],
+    file: &[u8],
+    number: usize,
+    made: &Made,
+) -> Result<Vec<u8>, AllocError>
+    ensures { IfOk result (λ text. text.items ≡ result_line word.now file.now number made.now) }
+{
+    let place = place_text(alloc, file, made)?;
+    let mut text = Vec::from_slice(alloc, word)?;
+    push_number(&mut text, number)?;
+    text.extend_from_slice(b" - ")?;
+    push_escaped(&mut text, place.as_slice())?;
+    text.extend_from_slice(b"\n")?;
+    Ok(text)
+}
+
+/// Adds a line with what a call was to be answered, and what it was.
+fn push_difference(text: &mut Vec<u8>, check: &Check) -> Result<(), AllocError>
+    ensures { OnOk result (text.new.items ≡ text.old.items ++ difference_text check.now) }
+{
+    text.extend_from_slice(b"# expected ")?;
+    text.extend_from_slice(check.wanted.as_slice())?;
+    text.extend_from_slice(b", was ")?;
+    text.extend_from_slice(check.made.reply.as_slice())?;
+    text.extend_from_slice(b"\n")?;
+    Ok(())
+}
+
+/// Returns the lines of check `number`, of a file.
+pub(crate) fn check_text(
+    alloc: Global,
+    file: &[u8],
+    number: usize,
+    check: &Check,
+) -> Result<Vec<u8>, AllocError>
+    ensures { IfOk result (λ text. text.items ≡ check_text file.now number check.now) }
+{
+    if check.is_met() {
+        return result_line(alloc, b"ok ".as_slice(), file, number, &check.made);
+    }
+    let mut text = result_line(alloc, b"not ok ".as_slice(), file, number, &check.made)?;
+    push_difference(&mut text, check)?;
+    Ok(text)
+}

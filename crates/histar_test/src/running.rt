@@ -1,0 +1,194 @@
+//! Running the steps of a script.
+ghost use Rattle.std.specs.Prelude.{◌≡◌, ◌+◌, IfErr, IfOk, OnErr, OnOk};
+ghost use Rattle.std.specs.Io.KnownBytes.{Appends};
+ghost use Rattle.histar_devices.specs.Device.{CountsFailure};
+ghost use Rattle.histar_devices.specs.Writing.{AppendsFront};
+ghost use Rattle.histar_script.specs.Runs.{IsOutputFault, is_write_failed};
+ghost use Rattle.histar_script.specs.Script.{IsDeclared};
+ghost use Rattle.histar_test.specs.Checks.{check_text, checks_text};
+ghost use Rattle.histar_test.specs.Running.{BeginsSteps, IsMemory, MakesCall, Starts};
+ghost use Rattle.histar_test.specs.Running.{TakesStep, TakesSteps, step_text};
+
+use crate::checks::{Check, Made, check_text};
+use crate::steps::Step;
+use histar_base::Bytes;
+use histar_devices::{Sink, write_bytes};
+use histar_flat::{CallLine, Session};
+use histar_label::InternStore;
+use histar_script::Fault;
+use histar_shell::{Machine, reply_text};
+use std::alloc::Global;
+
+/// How many answers of label comparisons are remembered.
+const REMEMBERED_ANSWERS: usize = 256;
+
+/// How many checks there were, and whether each was met.
+#[derive(Clone, Copy)]
+pub(crate) struct Tally {
+    pub count: usize,
+    pub are_met: bool,
+}
+
+/// How far the run of a script has come.
+#[derive(Drop)]
+pub(crate) struct Run {
+    pub machine: Machine<InternStore>,
+    /// The call that was made last, unless something was expected of it.
+    pub last: Option<Made>,
+    pub tally: Tally,
+}
+
+impl Run {
+    /// Boots a machine for a script.
+    pub(crate) fn start(alloc: Global, session: Session, tally: Tally) -> Result<Run, Fault>
+        requires { IsDeclared session }
+        ensures ok { IfOk result (Starts session tally) }
+        ensures faults { IfErr result IsMemory }
+    {
+        let store = InternStore::new(alloc, REMEMBERED_ANSWERS)?;
+        let Ok(machine) = Machine::boot(alloc, store, session) else {
+            return Err(Fault::OutOfMemory);
+        };
+        Ok(Run {
+            machine,
+            last: None,
+            tally,
+        })
+    }
+
+    /// Has the machine do a call, which is then the last one.
+    fn make_call(&mut self, alloc: Global, call: CallLine, said: Bytes) -> Result<(), Fault>
+        ensures ok { OnOk result (TakesStep self.old self.new (Step.Makes call said)) }
+        ensures faults { IfErr result IsMemory }
+    {
+        let made = make_call(alloc, &mut self.machine, call, said)?;
+        self.last = Some(made);
+        Ok(())
+    }
+
+    /// Writes whether the reply to the last call has this text, unless something was expected of that
+    /// already.
+    fn check_reply<W: Sink>(
+        &mut self,
+        alloc: Global,
+        file: &[u8],
+        wanted: Bytes,
+        writer: &mut W,
+    ) -> Result<(), Fault>
+        ensures ok { OnOk result (TakesStep self.old self.new (Step.Expects wanted)) }
+        ensures written { OnOk result (Appends (W.written writer.old) (W.written writer.new)
+            (step_text file.now self.old (Step.Expects wanted))) }
+        ensures err { OnErr result (AppendsFront (W.written writer.old) (W.written writer.new)
+            (step_text file.now self.old (Step.Expects wanted))) }
+        ensures faults { IfErr result IsOutputFault }
+        ensures count { CountsFailure (W.failures writer.old) (W.failures writer.new)
+            (is_write_failed result) }
+    {
+        let Some(made) = self.last.take() else {
+            return Ok(());
+        };
+        let check = Check { made, wanted };
+        let Some(number) = self.tally.count.checked_add(1) else {
+            return Err(Fault::OutOfMemory);
+        };
+        write_check(alloc, file, number, &check, writer)?;
+        self.tally = Tally {
+            count: number,
+            are_met: self.tally.are_met && check.is_met(),
+        };
+        Ok(())
+    }
+
+    /// Takes a step.
+    fn take_step<W: Sink>(
+        &mut self,
+        alloc: Global,
+        file: &[u8],
+        step: Step,
+        writer: &mut W,
+    ) -> Result<(), Fault>
+        ensures ok { OnOk result (TakesStep self.old self.new step) }
+        ensures written { OnOk result (Appends (W.written writer.old) (W.written writer.new)
+            (step_text file.now self.old step)) }
+        ensures err { OnErr result (AppendsFront (W.written writer.old) (W.written writer.new)
+            (step_text file.now self.old step)) }
+        ensures faults { IfErr result IsOutputFault }
+        ensures count { CountsFailure (W.failures writer.old) (W.failures writer.new)
+            (is_write_failed result) }
+    {
+        match step {
+            Step::Makes(call, said) => self.make_call(alloc, call, said),
+            Step::Expects(wanted) => self.check_reply(alloc, file, wanted, writer),
+        }
+    }
+
+    /// Takes steps in their order, and writes of each expectation whether it is met, as soon as that is
+    /// known.
+    pub(crate) fn take_steps<W: Sink>(
+        &mut self,
+        alloc: Global,
+        file: &[u8],
+        steps: Vec<Step>,
+        writer: &mut W,
+    ) -> Result<(), Fault>
+        ensures ok { OnOk result (TakesSteps file.now self.old self.new steps.items
+            (W.written writer.old) (W.written writer.new)) }
+        ensures err { OnErr result (BeginsSteps file.now self.old steps.items
+            (W.written writer.old) (W.written writer.new)) }
+        ensures faults { IfErr result IsOutputFault }
+        ensures count { CountsFailure (W.failures writer.old) (W.failures writer.new)
+            (is_write_failed result) }
+    {
+        'steps: for step in steps {
+            self.take_step(alloc, file, step, writer)?;
+        }
+        Ok(())
+    }
+}
+
+/// Has a machine do a call, and returns it with the reply.
+fn make_call(
+    alloc: Global,
+    machine: &mut Machine<InternStore>,
+    call: CallLine,
+    said: Bytes,
+) -> Result<Made, Fault>
+    ensures ok { IfOk result (MakesCall machine.old machine.new call said) }
+    ensures faults { IfErr result IsMemory }
+{
+    let CallLine {
+        line: number,
+        process,
+        call,
+    } = call;
+    let Ok(reply) = machine.step(alloc, number, &process, call) else {
+        return Err(Fault::OutOfMemory);
+    };
+    let text = reply_text(alloc, &reply)?;
+    Ok(Made {
+        line: number,
+        said,
+        reply: Bytes::from_vec(text),
+    })
+}
+
+/// Writes the lines of check `number`, of a file.
+fn write_check<W: Sink>(
+    alloc: Global,
+    file: &[u8],
+    number: usize,
+    check: &Check,
+    writer: &mut W,
+) -> Result<(), Fault>
+    ensures ok { OnOk result (Appends (W.written writer.old) (W.written writer.new)
+        (check_text file.now number check.now)) }
+    ensures err { OnErr result (AppendsFront (W.written writer.old) (W.written writer.new)
+        (check_text file.now number check.now)) }
+    ensures faults { IfErr result IsOutputFault }
+    ensures count { CountsFailure (W.failures writer.old) (W.failures writer.new)
+        (is_write_failed result) }
+{
+    let text = check_text(alloc, file, number, check)?;
+    write_bytes(writer, text.as_slice())?;
+    Ok(())
+}

@@ -1,0 +1,166 @@
+//! Testing files, from bytes to bytes.
+ghost use Rattle.std.specs.Prelude.{◌≡◌, ◌+◌, IfErr, IfOk, IfSome, OnErr, OnOk, map};
+ghost use Rattle.std.specs.Io.KnownBytes.{Appends};
+ghost use Rattle.histar_devices.specs.Device.{CountsFailure};
+ghost use Rattle.histar_devices.specs.Writing.{AppendsFront};
+ghost use Rattle.histar_script.specs.Runs.{IsOutputFault, LeavesSink, is_write_failed};
+ghost use Rattle.histar_test.specs.Checks.{checks_of, checks_text};
+ghost use Rattle.histar_test.specs.Running.{tally_with};
+ghost use Rattle.histar_test.specs.Session.{AreTests, ReadsFiles, TestsFiles, are_met, checked_of};
+ghost use Rattle.histar_test.specs.Session.{expectations_in, files_text, plan_text, report_text};
+ghost use Rattle.histar_test.specs.Steps.{expectation_count};
+
+use crate::checks::push_number;
+use crate::running::{Run, Tally};
+use crate::steps::{Step, TestScript, read_test};
+use histar_base::Bytes;
+use histar_devices::{Sink, write_bytes};
+use histar_script::Fault;
+use std::alloc::{AllocError, Global};
+
+/// A file by its name, and its text.
+#[derive(Drop)]
+pub struct TestFile {
+    pub name: Vec<u8>,
+    pub text: Vec<u8>,
+}
+
+/// A file that is a test, by its name.
+#[derive(Drop)]
+struct NamedTest {
+    name: Bytes,
+    test: TestScript,
+}
+
+/// Checks what files expect of the replies to their calls, and writes of each expectation whether it
+/// is met, in the form of the Test Anything Protocol, numbered on through all files. It answers whether
+/// each is met.
+///
+/// All files are read before the first call of any is made. The lines of a check are written as soon as
+/// the call is done. Each file is run on a machine of its own. It doesn't flush the sink.
+pub fn test<W: Sink>(alloc: Global, files: &[TestFile], writer: &mut W) -> Result<bool, Fault>
+    // After a file that is no test the sink is as it was.
+    ensures nothing { IfErr result (LeavesSink writer.old writer.new) }
+
+    // A write has failed exactly where that is the answer.
+    ensures writes { CountsFailure (W.failures writer.old) (W.failures writer.new)
+        (is_write_failed result) }
+
+    // The fault of the first file that is no test is answered, or exactly the checks of all files are
+    // written, and the answer is whether each is met.
+    ensures tests { TestsFiles files.now (W.written writer.old) (W.written writer.new) result }
+{
+    let tests = read_tests(alloc, files)?;
+    report(alloc, tests, writer)
+}
+
+/// Reads files that are tests, in their order.
+fn read_tests(alloc: Global, files: &[TestFile]) -> Result<Vec<NamedTest>, Fault>
+    ensures { ReadsFiles files.now result }
+{
+    let mut tests = Vec::new(alloc);
+    'files: for file in files {
+        let test = read_test(alloc, file.text.as_slice())?;
+        let name = Bytes::copy_of(alloc, file.name.as_slice())?;
+        tests.push(NamedTest { name, test })?;
+    }
+    Ok(tests)
+}
+
+/// Writes how many checks tests have, and the lines of each, and answers whether each is met.
+fn report<W: Sink>(alloc: Global, tests: Vec<NamedTest>, writer: &mut W) -> Result<bool, Fault>
+    requires { AreTests tests.items }
+    ensures ok { OnOk result (Appends (W.written writer.old) (W.written writer.new)
+        (report_text (map checked_of tests.items))) }
+    ensures met { IfOk result (λ met. met ≡ are_met (map checked_of tests.items)) }
+    ensures err { OnErr result (AppendsFront (W.written writer.old) (W.written writer.new)
+        (report_text (map checked_of tests.items))) }
+    ensures faults { IfErr result IsOutputFault }
+    ensures count { CountsFailure (W.failures writer.old) (W.failures writer.new)
+        (is_write_failed result) }
+{
+    let Some(total) = count_checks(tests.as_slice()) else {
+        return Err(Fault::OutOfMemory);
+    };
+    let plan = plan_text(alloc, total)?;
+    write_bytes(writer, plan.as_slice())?;
+    test_files(alloc, tests, writer)
+}
+
+/// Counts the expectations of tests, where there are not too many to be counted.
+fn count_checks(tests: &[NamedTest]) -> Option<usize>
+    ensures { IfSome result (λ total. total ≡ expectations_in tests.now) }
+{
+    let mut total = 0usize;
+    'tests: for named in tests {
+        total = total.checked_add(count_expectations(named.test.steps()))?;
+    }
+    Some(total)
+}
+
+/// Counts the expectations among steps.
+fn count_expectations(steps: &[Step]) -> usize
+    ensures { result ≡ expectation_count steps.now }
+{
+    let mut count = 0;
+    'steps: for step in steps {
+        if !step.is_call() {
+            count += 1;
+        }
+    }
+    count
+}
+
+/// Returns the line that says how many checks there are.
+fn plan_text(alloc: Global, total: usize) -> Result<Vec<u8>, AllocError>
+    ensures { IfOk result (λ text. text.items ≡ plan_text total) }
+{
+    let mut text = Vec::from_slice(alloc, b"1..".as_slice())?;
+    push_number(&mut text, total)?;
+    text.extend_from_slice(b"\n")?;
+    Ok(text)
+}
+
+/// Writes the lines of the checks of tests, and answers whether each is met.
+fn test_files<W: Sink>(alloc: Global, tests: Vec<NamedTest>, writer: &mut W) -> Result<bool, Fault>
+    ensures ok { OnOk result (Appends (W.written writer.old) (W.written writer.new)
+        (files_text 1 (map checked_of tests.items))) }
+    ensures met { IfOk result (λ met. met ≡ are_met (map checked_of tests.items)) }
+    ensures err { OnErr result (AppendsFront (W.written writer.old) (W.written writer.new)
+        (files_text 1 (map checked_of tests.items))) }
+    ensures faults { IfErr result IsOutputFault }
+    ensures count { CountsFailure (W.failures writer.old) (W.failures writer.new)
+        (is_write_failed result) }
+{
+    let mut tally = Tally {
+        count: 0,
+        are_met: true,
+    };
+    'tests: for test in tests {
+        tally = test_file(alloc, test, tally, writer)?;
+    }
+    Ok(tally.are_met)
+}
+
+/// Writes the lines of the checks of a test, behind so many others, on a machine of its own.
+fn test_file<W: Sink>(
+    alloc: Global,
+    named: NamedTest,
+    tally: Tally,
+    writer: &mut W,
+) -> Result<Tally, Fault>
+    ensures ok { OnOk result (Appends (W.written writer.old) (W.written writer.new)
+        (checks_text named.name (tally.count + 1) (checks_of named.test))) }
+    ensures tally { IfOk result (λ after. after ≡ tally_with tally (checks_of named.test)) }
+    ensures err { OnErr result (AppendsFront (W.written writer.old) (W.written writer.new)
+        (checks_text named.name (tally.count + 1) (checks_of named.test))) }
+    ensures faults { IfErr result IsOutputFault }
+    ensures count { CountsFailure (W.failures writer.old) (W.failures writer.new)
+        (is_write_failed result) }
+{
+    let NamedTest { name, test } = named;
+    let (session, steps) = test.into_parts();
+    let mut run = Run::start(alloc, session, tally)?;
+    run.take_steps(alloc, name.as_slice(), steps, writer)?;
+    Ok(run.tally)
+}

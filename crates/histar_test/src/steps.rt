@@ -1,0 +1,157 @@
+//! Reading the steps of a script that says what it expects.
+ghost use Rattle.std.specs.Prelude.{◌≡◌, ◌≤◌, IfOk, Some, false, length};
+ghost use Rattle.std.specs.Option.{option_copied};
+ghost use Rattle.histar_script.specs.Lines.{lines_of, most_script_bytes};
+ghost use Rattle.histar_script.specs.Outcome.{Gives};
+ghost use Rattle.histar_script.specs.Script.{IsDeclared};
+ghost use Rattle.histar_test.specs.Steps.{GivesSteps, TakesLine, call_in, expectation_of, is_call};
+ghost use Rattle.histar_test.specs.Steps.{step_of, steps_from, test_of};
+
+use histar_base::Bytes;
+use histar_flat::{CallLine, Session};
+use histar_script::{Fault, Item, read_item, read_script, split_line};
+use std::alloc::{AllocError, Global};
+use std::marker::Model;
+
+/// One step of a script that says what it expects.
+#[derive(Drop)]
+pub enum Step {
+    /// Makes this call, which a line with this text says.
+    Makes(CallLine, Bytes),
+    /// Expects that the call before it was answered so.
+    Expects(Bytes),
+}
+
+/// The session of a script, and its steps.
+#[derive(Drop)]
+pub struct TestScript {
+    session: Session,
+    steps: Vec<Step>,
+}
+
+impl Model for TestScript {
+    ghost use Rattle.histar_script.specs.Script.{IsDeclared};
+    ghost use Rattle.histar_test.specs.Steps.{Test};
+
+    ghost Value = { Test };
+
+    ghost view = { λ t. record { session = t.session; steps = t.steps.items } };
+
+    ghost invariant = { λ t. IsDeclared t.session };
+}
+
+impl Step {
+    /// Checks whether this is a call.
+    pub fn is_call(&self) -> bool
+        ensures { result ≡ is_call self.now }
+    {
+        matches!(self, Step::Makes(_, _))
+    }
+}
+
+impl TestScript {
+    /// Returns the steps, in the order of their lines.
+    pub fn steps(&self) -> &[Step]
+        ensures { result.now ≡ self.now.steps }
+    {
+        self.steps.as_slice()
+    }
+
+    /// Returns the session, and the steps to be taken one by one.
+    pub fn into_parts(self) -> (Session, Vec<Step>)
+        ensures session { result.0 ≡ self.session }
+        ensures steps { result.1.items ≡ self.steps }
+        ensures declared { IsDeclared result.0 }
+    {
+        (self.session, self.steps)
+    }
+}
+
+/// Reads the test that a text is: a script, whose fault comes first, in which each expectation has its
+/// call.
+pub fn read_test(alloc: Global, text: &[u8]) -> Result<TestScript, Fault>
+    ensures { Gives result (test_of text.now) }
+{
+    let script = read_script(alloc, text)?;
+    let (session, _calls) = script.into_parts();
+    let steps = read_steps(alloc, text)?;
+    Ok(TestScript { session, steps })
+}
+
+/// Reads the steps that the lines of a text are.
+fn read_steps(alloc: Global, text: &[u8]) -> Result<Vec<Step>, Fault>
+    requires { length text.now ≤ most_script_bytes }
+    ensures { GivesSteps result (steps_from 1 false (lines_of text.now)) }
+{
+    let mut steps = Vec::new(alloc);
+    let mut rest = text;
+    let mut count = 0u32;
+    let mut is_open = false;
+    'lines: while !rest.is_empty() {
+        let (line, after) = split_line(rest);
+        count += 1;
+        is_open = take_line(alloc, &mut steps, is_open, count, line)?;
+        rest = after;
+    }
+    Ok(steps)
+}
+
+/// Adds the step that a line is, if it is one, and returns whether a call is open behind it.
+fn take_line(
+    alloc: Global,
+    steps: &mut Vec<Step>,
+    is_open: bool,
+    number: u32,
+    line: &[u8],
+) -> Result<bool, Fault>
+    ensures { TakesLine number is_open line.now steps.old.items steps.new.items result }
+{
+    let Some(step) = read_step(alloc, number, line)? else {
+        return Ok(is_open);
+    };
+    let is_call = step.is_call();
+    if !is_call && !is_open {
+        return Err(Fault::BadScript(number));
+    }
+    steps.push(step)?;
+    Ok(is_call)
+}
+
+/// Reads the step that a line is, if it is one.
+fn read_step(alloc: Global, number: u32, line: &[u8]) -> Result<Option<Step>, AllocError>
+    ensures { IfOk result (λ step. step ≡ step_of number line.now) }
+{
+    if let Some(text) = expectation_of(line) {
+        let text = Bytes::copy_of(alloc, text)?;
+        return Ok(Some(Step::Expects(text)));
+    }
+    let Some(item) = read_item(alloc, line)? else {
+        return Ok(None);
+    };
+    let Some(call) = call_in(number, item) else {
+        return Ok(None);
+    };
+    let said = Bytes::copy_of(alloc, line)?;
+    Ok(Some(Step::Makes(call, said)))
+}
+
+/// Returns the call that an item is, on line `number`.
+fn call_in(number: u32, item: Item) -> Option<CallLine>
+    ensures { result ≡ call_in number (Some item) }
+{
+    match item {
+        Item::Call(process, call) => Some(CallLine {
+            line: number,
+            process,
+            call,
+        }),
+        Item::Comment | Item::User(_) | Item::Group(_) => None,
+    }
+}
+
+/// Returns what a line expects of the call before it, if it does.
+fn expectation_of(line: &[u8]) -> Option<&[u8]>
+    ensures { option_copied result ≡ expectation_of line.now }
+{
+    line.strip_prefix(b"#= ".as_slice())
+}
