@@ -25,16 +25,16 @@ use Rattle.histar_refinement.specs.Categories.{CategoryName, boot_category, boot
 use Rattle.histar_refinement.specs.Categories.CategoryName.{OfBoot, ReadsUser, WritesUser, ReadsGroup, WritesGroup}
 use Rattle.histar_refinement.specs.Guards.{guard_label, rights_label, rights_clearance}
 use Rattle.histar_refinement.specs.Labels.{boot_guard, private_guard, gate_rights, reading, writing}
+use Rattle.histar_refinement.specs.LeftByBoot.{left_for_user, left_by_boot}
 use Rattle.histar_refinement.specs.Addresses.{same_step, first_left, table_number}
 use Rattle.histar_refinement.specs.Addresses.Step.{Left}
 use Rattle.histar_refinement.specs.Stands.{bare}
-use Rattle.histar_refinement.specs.Expected.{left_by_boot, expected}
+use Rattle.histar_refinement.specs.Expected.{expected}
 use Rattle.histar_refinement.specs.LaysOut.{Laid}
 use Rattle.histar_refinement.proofs.AmongNames.{each_head, each_append}
 use Rattle.histar_layout.proofs.Members.{mapped_from}
 use Rattle.histar_layout.proofs.Declared.{user_range, placed, equal_names}
 use Rattle.histar_refinement.proofs.Growing.{GuardHas, RightsHave, KeepsNumber, same_guard_label, same_rights_label, same_rights_clearance}
-use Rattle.histar_refinement.proofs.LeftListed.{left_for_user, left_listed, left_is_listed}
 use Rattle.histar_refinement.proofs.Uses.{group_among, groups_within}
 use Rattle.histar_refinement.proofs.Steps.{step_tests_equality}
 use Rattle.histar_refinement.proofs.Moving.{bare_is, at_number}
@@ -116,13 +116,13 @@ module _ (session : Session) where
   left_password k u e =
       let place : password_of (k + 1) ≡ suc (suc (suc (2 * k))) = omega arith in
       let number : 1 + k ≡ k + 1 = omega arith in
-      left_is_listed session (password_of (k + 1)) ∙ ap (left_listed session) place ∙ password_among session.users 1 k u _ e ∙ ap (λ (i : ℕ). Some (password_left i u)) number
+      ap (left_by_boot session) place ∙ password_among session.users 1 k u _ e ∙ ap (λ (i : ℕ). Some (password_left i u)) number
 
   left_gate : (k : ℕ) (u : User) → slice_get session.users k ≡ Some u → left_by_boot session (gate_of (k + 1)) ≡ Some (gate_left (k + 1) u)
   left_gate k u e =
       let place : gate_of (k + 1) ≡ suc (suc (suc (suc (2 * k)))) = omega arith in
       let number : 1 + k ≡ k + 1 = omega arith in
-      left_is_listed session (gate_of (k + 1)) ∙ ap (left_listed session) place ∙ gate_among session.users 1 k u _ e ∙ ap (λ (i : ℕ). Some (gate_left i u)) number
+      ap (left_by_boot session) place ∙ gate_among session.users 1 k u _ e ∙ ap (λ (i : ℕ). Some (gate_left i u)) number
 
 -- ---- in a state that is laid out
 

@@ -17,7 +17,6 @@ pub mod StartTable
 pub mod StartTree
 pub mod StartCategories
 pub mod GateLabels
-pub mod LeftListed
 pub mod Start
 pub mod Beside
 pub mod Becoming

@@ -20,9 +20,10 @@ use Rattle.histar_flat.specs.FlatState.{Node, Flat, is_dir, is_dir_at, is_some_a
 use Rattle.histar_flat.specs.PathOrder.{under_path}
 use Rattle.histar_refinement.specs.Addresses.{Step, same_step, same_address, address_of, path_at, process_at, inside_at, boot_number}
 use Rattle.histar_refinement.specs.Addresses.Step.{Left, Slash, Listing, Named, Home, Status, Inside, Runner, Child}
+use Rattle.histar_refinement.specs.LeftByBoot.{left_by_boot}
 use Rattle.histar_refinement.specs.Directories.{directory_of}
 use Rattle.histar_refinement.specs.Stands.{Stands}
-use Rattle.histar_refinement.specs.Expected.{left_by_boot, node_object, listing_object, expected_node, listing_at, expected_home, expected_status, container_inside, thread_at, expected}
+use Rattle.histar_refinement.specs.Expected.{node_object, listing_object, expected_node, listing_at, expected_home, expected_status, container_inside, thread_at, expected}
 use Rattle.histar_refinement.specs.LaysOut.{AreJobsGiven, Laid, LaysOut}
 use Rattle.histar_refinement.proofs.Places.{address_path, asked_listing}
 use Rattle.histar_refinement.proofs.Steps.{step_tests_equality}

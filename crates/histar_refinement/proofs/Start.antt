@@ -36,15 +36,16 @@ use Rattle.histar_refinement.specs.Categories.{CategoryName, IsMade, boot_catego
 use Rattle.histar_refinement.specs.Categories.CategoryName.{OfBoot, ReadsUser, WritesUser, ReadsGroup, WritesGroup, ReadsProcess, WritesProcess, OfJob}
 use Rattle.histar_refinement.specs.Guards.{Rights, guard_label, rights_label, rights_clearance}
 use Rattle.histar_refinement.specs.Labels.{class_guard, readable_guard, owned_as}
-use Rattle.histar_refinement.specs.Addresses.{Step, AddressNumbers, same_step, same_address, if_at, path_at, process_at, inside_at, boot_number, is_left}
+use Rattle.histar_refinement.specs.LeftByBoot.{left_by_boot, left_for_user}
+use Rattle.histar_refinement.specs.Addresses.{Step, AddressNumbers, same_step, same_address, if_at, path_at, process_at, inside_at, boot_number}
 use Rattle.histar_refinement.specs.Addresses.Step.{Left, Slash, Listing, Named, Home, Status, Inside, Runner, Child}
 use Rattle.histar_refinement.specs.Directories.{directory_of}
 use Rattle.histar_refinement.specs.Stands.{bare, Stands}
-use Rattle.histar_refinement.specs.Expected.{bare_container, node_object, listing_object, guarded_object, expected_node, listing_at, expected_home, expected_status, container_inside, thread_at, left_by_boot, expected}
+use Rattle.histar_refinement.specs.Expected.{bare_container, node_object, listing_object, guarded_object, expected_node, listing_at, expected_home, expected_status, container_inside, thread_at, expected}
 use Rattle.histar_refinement.specs.LaysOut.{IsInOrder, IsProcess, Laid, LaysOut}
 use Rattle.histar_refinement.proofs.Steps.{step_tests_equality}
 use Rattle.histar_refinement.proofs.Places.{address_process, address_inside}
-use Rattle.histar_refinement.proofs.StartNumbers.{process_address, inside_address, start_number}
+use Rattle.histar_refinement.proofs.StartNumbers.{is_left, process_address, inside_address, start_number}
 use Rattle.histar_refinement.proofs.StartNames.{place_of_number}
 use Rattle.histar_refinement.proofs.StartTable.{left_plain, slash_stands, listing_stands, home_stands, inside_stands, runner_stands, status_stands}
 use Rattle.histar_refinement.proofs.GateLabels.{user_reads, user_writes, group_test, gate_label_is, gate_clearance_is}
@@ -153,9 +154,45 @@ module _ (session : Session) (some_user : 0 < length session.users) where
   bare_there (Some o) = refl
 
   -- what boot left
+  same_user : (i : ℕ) (u : User) → i ≤ n → of_user session i u ≡ left_for_user session i u
+  same_user i u h =
+      let reads = user_reads session (booted session) booted_as_made i h in
+      let writes = user_writes session (booted session) booted_as_made i h in
+      λ k. Some (record { label = guarded_by (sym reads k ∷ []) (sym writes k ∷ []); kind = Segment u.password })
+      ∷ Some (record { label = gate_label_is session (booted session) booted_as_made u.name i h k; kind = Gate (gate_clearance_is session (booted session) booted_as_made u.name i h k) (Login i) }) ∷ []
+
+  same_left : (i : ℕ) (some : List User) → i + length some ≤ n + 1 → (table : Found) (back : List Found) (k : ℕ) → k ≤ 2 * length some
+      → get_or (numbered (of_user session) i some ++ table ∷ back) k None ≡ get_or (numbered (left_for_user session) i some ++ table ∷ []) k None
+  same_left i [] h table back zero le = refl
+  same_left i [] h table back (suc k) le = absurd (omega (arith, le))
+  same_left i (u ∷ some) h table back zero le = ap (λ (l : List Found). get_or (l ++ table ∷ []) 0 None) (same_user i u (omega (arith, h)))
+  same_left i (u ∷ some) h table back (suc zero) le = ap (λ (l : List Found). get_or (l ++ table ∷ []) 1 None) (same_user i u (omega (arith, h)))
+  same_left i (u ∷ some) h table back (suc (suc k)) le = same_left (i + 1) some (omega (arith, h)) table back k (omega (arith, le))
+
+  beyond_left : (i : ℕ) (some : List User) (table : Found) (k : ℕ) → 2 * length some < k → get_or (numbered (left_for_user session) i some ++ table ∷ []) k None ≡ None
+  beyond_left i [] table zero h = absurd (omega (arith, h))
+  beyond_left i [] table (suc k) h = refl
+  beyond_left i (u ∷ some) table zero h = absurd (omega (arith, h))
+  beyond_left i (u ∷ some) table (suc zero) h = absurd (omega (arith, h))
+  beyond_left i (u ∷ some) table (suc (suc k)) h = beyond_left (i + 1) some table k (omega (arith, h))
+
+  left_same : (q : ℕ) → is_left n q ≡ true → objects q ≡ left_by_boot session q
+  left_same zero e = absurd (grind (arith, nat_tests, e))
+  left_same (suc zero) e = absurd (grind (arith, nat_tests, e))
+  left_same (suc (suc zero)) e = absurd (grind (arith, nat_tests, e))
+  left_same (suc (suc (suc k))) e =
+      ap (λ (l : List Found). get_or l k None) (append_assoc (of_users session session.users) (of_directory n session) (of_process n owners))
+      ∙ same_left 1 session.users (omega arith) (segment (written_by 1) (user_table session)) (drop 1 (of_directory n session) ++ of_process n owners) k (grind (arith, nat_tests, e))
+
+  nothing_left : (q : ℕ) → is_left n q ≡ false → None ≡ left_by_boot session q
+  nothing_left zero e = refl
+  nothing_left (suc zero) e = refl
+  nothing_left (suc (suc zero)) e = refl
+  nothing_left (suc (suc (suc k))) e = sym (beyond_left 1 session.users _ k (grind (arith, nat_tests, e)))
+
   left_stands : (q : ℕ) (b : Bool) → is_left n q ≡ b → bare (option_and_then objects (cond b (Some q) None)) ≡ left_by_boot session q
-  left_stands q true e = (left_plain session q e).bared ∙ sym (ap (λ b. cond b (objects q) None) e)
-  left_stands q false e = sym (ap (λ b. cond b (objects q) None) e)
+  left_stands q true e = (left_plain session q e).bared ∙ left_same q e
+  left_stands q false e = nothing_left q e
 
   -- what the flat state has at `/`
   slash_guarded : (kind : Kind Levels) → guarded_object session (start_category session) kind (class_guard session (Readable (first_user session.users))) ≡ Some (record { label = written_by (write_category 1); kind = kind })

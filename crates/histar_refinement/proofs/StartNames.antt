@@ -5,8 +5,8 @@ use Rattle.std.proofs.lemmas.Bool.Decides.{leb_tells, nat_tests}
 use Rattle.std.proofs.lemmas.Option.{same_Some}
 use Rattle.histar_container.specs.Tree.{Address}
 use Rattle.histar_container.proofs.Addresses.{same_tests_equality}
-use Rattle.histar_refinement.specs.Addresses.{Step, same_step, if_at, is_left}
-use Rattle.histar_refinement.proofs.StartNumbers.{process_address, inside_address, start_number}
+use Rattle.histar_refinement.specs.Addresses.{Step, same_step, if_at}
+use Rattle.histar_refinement.proofs.StartNumbers.{is_left, process_address, inside_address, start_number}
 use Rattle.histar_refinement.specs.Addresses.Step.{Left, Slash, Listing, Named, Home, Status, Inside, Runner, Child}
 use Rattle.histar_refinement.proofs.Steps.{step_tests_equality}
 

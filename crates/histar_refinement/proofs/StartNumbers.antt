@@ -1,8 +1,12 @@
 -- The numbers that boot gave to addresses, where there are n users.
-use Rattle.std.specs.Prelude.{ℕ, ◌+◌, ◌*◌, cond, [], ◌∷◌, Option, None, Some}
+use Rattle.std.specs.Prelude.{ℕ, ◌+◌, ◌*◌, Bool, ◌&&◌, nat_le, cond, [], ◌∷◌, Option, None, Some}
 use Rattle.histar_container.specs.Tree.{Address}
-use Rattle.histar_refinement.specs.Addresses.{Step, if_at, is_left}
+use Rattle.histar_refinement.specs.Addresses.{Step, if_at}
 use Rattle.histar_refinement.specs.Addresses.Step.{Left, Slash, Listing, Named, Home, Status, Inside, Runner, Child}
+
+-- boot left the user table and each user's password and gate under the numbers 3 to 3 + 2n
+abbrev pub is_left : ℕ → ℕ → Bool
+is_left n q = nat_le 3 q && nat_le q (3 + 2 * n)
 
 -- the address of process 0's container, and of its internal container
 abbrev pub process_address : Address Step

@@ -1,5 +1,5 @@
 -- What a flat state asks for at each address: the object that stands there, but for its links.
-use Rattle.std.specs.Prelude.{ℕ, List, [], ◌∷◌, length, Option, None, Some, cond, option_and_then, option_map}
+use Rattle.std.specs.Prelude.{ℕ, List, [], ◌∷◌, Option, None, Some, option_and_then, option_map}
 use Rattle.std.specs.FinSet as set
 use Rattle.histar_flat.specs.Words.{Path, ProcName}
 use Rattle.histar_flat.specs.Sessions.{Session}
@@ -14,11 +14,12 @@ use Rattle.histar_object.specs.Objects.{thread_of}
 use Rattle.histar_object.specs.State.{Found}
 use Rattle.histar_container.specs.Tree.{Address}
 use Rattle.histar_layout.specs.Directory.{spelling}
-use Rattle.histar_login.specs.Start.{segment, start_objects, object_at}
+use Rattle.histar_login.specs.Start.{segment}
 use Rattle.histar_refinement.specs.Categories.{Categories, booted}
 use Rattle.histar_refinement.specs.Guards.{Guard, guard_label, rights_label, rights_clearance}
 use Rattle.histar_refinement.specs.Labels.{boot_guard, class_guard, process_guard, inside_guard, thread_rights}
-use Rattle.histar_refinement.specs.Addresses.{Step, AddressNumbers, if_at, path_at, process_at, inside_at, is_left}
+use Rattle.histar_refinement.specs.LeftByBoot.{left_by_boot}
+use Rattle.histar_refinement.specs.Addresses.{Step, AddressNumbers, if_at, path_at, process_at, inside_at}
 use Rattle.histar_refinement.specs.Addresses.Step.{Left, Slash, Listing, Named, Home, Status, Inside, Runner, Child}
 use Rattle.histar_refinement.specs.Processes.{process_bytes}
 use Rattle.histar_refinement.specs.Directories.{directory_of}
@@ -26,10 +27,6 @@ use Rattle.histar_refinement.specs.Directories.{directory_of}
 -- a container with this label, which links nothing
 abbrev pub bare_container : Levels → Found
 bare_container label = Some (record { label = label; kind = Container set.empty })
-
--- what boot left under a number beside `/` and process 0: the object that the machine started with
-abbrev pub left_by_boot : Session → ℕ → Found
-left_by_boot session q = cond (is_left (length session.users) q) (object_at (start_objects session) q) None
 
 -- a directory is a container, and a file a segment with its bytes
 abbrev pub content_kind : Content → Kind Levels

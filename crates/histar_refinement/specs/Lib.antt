@@ -3,6 +3,7 @@ pub mod Categories
 pub mod Guards
 pub mod Labels
 pub mod NumberedClasses
+pub mod LeftByBoot
 pub mod Addresses
 pub mod Processes
 pub mod Directories
