@@ -31,8 +31,17 @@ WritesTranscript options explain text old new (Err (BadScript n)) = (script_of t
 WritesTranscript options explain text old new (Err TooLong) = (script_of text ≡ Err TooLong) × Keeps old new
 WritesTranscript options explain text old new (Err ReadFailed) = Keeps old new
 
+-- the fault of a run whose devices are memory: a device fails only where memory runs out
+abbrev pub in_memory : Fault → Fault
+in_memory ReadFailed = OutOfMemory
+in_memory WriteFailed = OutOfMemory
+in_memory fault = fault
+
 -- the output of a run of a text is answered, or the fault of the script, or that memory ran out
 abbrev pub GivesOutput : Options → Bool → List ℕ → Result (Vec ℕ) Fault → Type 0
 GivesOutput options explain text (Ok output) = IsOutput options explain text output.items
+GivesOutput options explain text (Err (BadScript n)) = script_of text ≡ Err (BadScript n)
+GivesOutput options explain text (Err TooLong) = script_of text ≡ Err TooLong
 GivesOutput options explain text (Err OutOfMemory) = Unit {0}
-GivesOutput options explain text (Err fault) = script_of text ≡ Err fault
+GivesOutput options explain text (Err ReadFailed) = ⊥
+GivesOutput options explain text (Err WriteFailed) = ⊥

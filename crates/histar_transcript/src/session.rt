@@ -1,8 +1,8 @@
 //! A run that is printed with its calls, from bytes to bytes.
-ghost use Rattle.std.specs.Prelude.{◌≡◌, false, IfErr, IfSome};
+ghost use Rattle.std.specs.Prelude.{◌≡◌, false, true, IfErr, IfSome};
 ghost use Rattle.histar_devices.specs.Device.{CountsFailure};
 ghost use Rattle.histar_script.specs.Runs.{LeavesSink, RunsInput, is_read_failed, is_write_failed};
-ghost use Rattle.histar_transcript.specs.Session.{GivesOutput, WritesTranscript};
+ghost use Rattle.histar_transcript.specs.Session.{GivesOutput, WritesTranscript, in_memory};
 
 use crate::transcript::transcript_of;
 use histar_devices::{Sink, Source, read_input, write_bytes};
@@ -61,26 +61,47 @@ fn transcribe_text<W: Sink>(
     Ok(())
 }
 
-/// Returns the output of a run of the script that a text is.
-fn output_of(
-    alloc: Global,
-    text: &[u8],
-    options: Options,
-    explain: bool,
-) -> Result<Vec<u8>, Fault>
+/// Returns the output of a run of the script that a text is, with explanations if they are asked for.
+fn output_of(alloc: Global, text: &[u8], options: Options, explain: bool) -> Result<Vec<u8>, Fault>
     ensures { GivesOutput options explain text.now result }
+{
+    if explain {
+        explained_output(alloc, text, options)
+    } else {
+        plain_output(alloc, text, options)
+    }
+}
+
+/// Returns the output of a run of the script that a text is.
+fn plain_output(alloc: Global, text: &[u8], options: Options) -> Result<Vec<u8>, Fault>
+    ensures { GivesOutput options false text.now result }
 {
     let mut reader = Counted::new(text);
     let mut writer = Counted::new(Vec::new(alloc));
-    let done = if explain {
-        explain_script(alloc, &mut reader, &mut writer, options)
-    } else {
-        run(alloc, &mut reader, &mut writer, options).map(|_trace| ())
-    };
-    match done {
+    match run(alloc, &mut reader, &mut writer, options) {
+        Ok(_trace) => Ok(writer.into_inner()),
+        Err(fault) => Err(in_memory(fault)),
+    }
+}
+
+/// Returns the output of a run of the script that a text is, with the explanations of its denials.
+fn explained_output(alloc: Global, text: &[u8], options: Options) -> Result<Vec<u8>, Fault>
+    ensures { GivesOutput options true text.now result }
+{
+    let mut reader = Counted::new(text);
+    let mut writer = Counted::new(Vec::new(alloc));
+    match explain_script(alloc, &mut reader, &mut writer, options) {
         Ok(()) => Ok(writer.into_inner()),
-        // The output is kept in memory, so a write fails only where that runs out.
-        Err(Fault::WriteFailed) => Err(Fault::OutOfMemory),
-        Err(fault) => Err(fault),
+        Err(fault) => Err(in_memory(fault)),
+    }
+}
+
+/// Returns the fault of a run whose devices are memory, which fail only where that runs out.
+fn in_memory(fault: Fault) -> Fault
+    ensures { result ≡ in_memory fault }
+{
+    match fault {
+        Fault::ReadFailed | Fault::WriteFailed => Fault::OutOfMemory,
+        _ => fault,
     }
 }

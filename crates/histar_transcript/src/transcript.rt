@@ -59,12 +59,7 @@ fn push_with_call(text: &mut Vec<u8>, lines: &[&[u8]], line: &[u8]) -> Result<()
 }
 
 /// Adds the number of a line, its call and the reply.
-fn push_reply(
-    text: &mut Vec<u8>,
-    number: u64,
-    call: &[u8],
-    reply: &[u8],
-) -> Result<(), AllocError>
+fn push_reply(text: &mut Vec<u8>, number: u64, call: &[u8], reply: &[u8]) -> Result<(), AllocError>
     ensures { OnOk result (text.new.items ≡ text.old.items
         ++ (decimal number ++ codes "  " ++ call.now ++ codes "  " ++ reply.now)) }
 {

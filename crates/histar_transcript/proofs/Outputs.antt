@@ -1,0 +1,78 @@
+-- The outputs of runs, and what is written of them.
+use Rattle.std.proofs.Common.{◌≡◌, ℕ, List, Option, None, Some, Result, Ok, Err, refl, true, false, subst, ◌⊎◌, inl, inr}
+use Rattle.std.specs.Prelude.{Bool, IfSome, IsOk}
+use Rattle.std.specs.Io.KnownBytes.{Keeps}
+use Rattle.histar_script.specs.declared.fault.Fault.{Fault}
+use Rattle.histar_script.specs.declared.fault.Fault.TheVariants.{BadScript, TooLong, OutOfMemory, ReadFailed, WriteFailed}
+use Rattle.histar_script.specs.Script.{Reading}
+use Rattle.histar_script.specs.Reading.{script_of}
+use Rattle.histar_script.specs.Runs.{RunsInput, is_read_failed, is_write_failed}
+use Rattle.histar_script.proofs.Inputs.{AreLong, input_known}
+use Rattle.histar_shell.specs.declared.session.Options.{Options}
+use Rattle.histar_shell.specs.Outcome.{IsFaultAt}
+use Rattle.histar_transcript.specs.Session.{GivesOutput, IsOutput, WritesTranscript, in_memory}
+
+-- a fault of the run is the script's, or memory ran out
+pub fault_given : (options : Options) (explain : Bool) (text : List ℕ) (fault : Fault) → IsFaultAt (script_of text) fault
+    → GivesOutput options explain text (Err (in_memory fault))
+fault_given options explain text (BadScript n) h = h
+fault_given options explain text TooLong h = h
+fault_given options explain text OutOfMemory h = tt
+fault_given options explain text ReadFailed h = tt
+fault_given options explain text WriteFailed h = tt
+
+-- no device fails where memory is written
+pub no_device_failed : (options : Options) (explain : Bool) (text : List ℕ) (fault : Fault) → GivesOutput options explain text (Err fault)
+    → (is_read_failed {A = Unit {0}} (Err fault) ≡ false) × (is_write_failed {A = Unit {0}} (Err fault) ≡ false)
+no_device_failed options explain text (BadScript n) h = (refl, refl)
+no_device_failed options explain text TooLong h = (refl, refl)
+no_device_failed options explain text OutOfMemory h = (refl, refl)
+no_device_failed options explain text ReadFailed h = absurd h
+no_device_failed options explain text WriteFailed h = absurd h
+
+-- what is known stays
+kept : (known : Option (List ℕ)) → Keeps known known
+kept None = tt
+kept (Some bytes) = refl
+
+-- where there is no output nothing is written
+pub nothing_written : (options : Options) (explain : Bool) (text : List ℕ) (written : Option (List ℕ)) (fault : Fault)
+    → GivesOutput options explain text (Err fault) → WritesTranscript options explain text written written (Err fault)
+nothing_written options explain text written (BadScript n) h = (h, kept written)
+nothing_written options explain text written TooLong h = (h, kept written)
+nothing_written options explain text written OutOfMemory h = kept written
+nothing_written options explain text written ReadFailed h = absurd h
+nothing_written options explain text written WriteFailed h = absurd h
+
+-- a text that has an output is a script
+is_script : (options : Options) (explain : Bool) (text output : List ℕ) → IsOutput options explain text output → IsOk (script_of text)
+is_script options true text output h = h.faults
+is_script options false text output h = h.1.faults
+
+-- a text that is too long is none
+not_long : (text : List ℕ) → script_of text ≡ Err TooLong → IsOk (script_of text) → ⊥
+not_long text long is = let no : false ≡ true = subst (λ (read : Result Reading Fault). IsOk read) long is in absurd cc
+
+-- what is said of a text that is too long is said of another one
+long_transcript : (options : Options) (explain : Bool) (old new : Option (List ℕ)) (result : Result (Unit {0}) Fault) (taken input : List ℕ)
+    → AreLong taken input → WritesTranscript options explain taken old new result → WritesTranscript options explain input old new result
+long_transcript options explain old new (Ok u) taken input long h = absurd (not_long taken long.one (is_script options explain taken h.0 h.1))
+long_transcript options explain old new (Err WriteFailed) taken input long h = absurd (not_long taken long.one (is_script options explain taken h.0 h.1))
+long_transcript options explain old new (Err OutOfMemory) taken input long h = h
+long_transcript options explain old new (Err (BadScript n)) taken input long h = let same : TooLong ≡ BadScript n = cc in absurd cc
+long_transcript options explain old new (Err TooLong) taken input long h = (long.two, h.1)
+long_transcript options explain old new (Err ReadFailed) taken input long h = h
+
+-- where reading stopped nothing is said
+stopped : (options : Options) (explain : Bool) (old new : Option (List ℕ)) (fault : Fault) (input : List ℕ) → Keeps old new
+    → (fault ≡ OutOfMemory) ⊎ (fault ≡ ReadFailed) → WritesTranscript options explain input old new (Err fault)
+stopped options explain old new fault input keeps (inl is) = rw is keeps
+stopped options explain old new fault input keeps (inr is) = rw is keeps
+
+-- what is said of the bytes that were taken is said of a known input
+pub transcript_known : (options : Options) (explain : Bool) (left rest old new : Option (List ℕ)) (result : Result (Unit {0}) Fault)
+    → RunsInput (WritesTranscript options explain) left rest old new result
+    → IfSome left (λ input. WritesTranscript options explain input old new result)
+transcript_known options explain left rest old new result runs =
+    input_known (WritesTranscript options explain) old new left rest result
+    (λ fault input is keeps which. stopped options explain old new fault input keeps which) (long_transcript options explain old new result) runs
