@@ -1,5 +1,6 @@
 -- Words that keep the rules for a call are the text of one.
-use Rattle.std.proofs.Common.{◌≡◌, ℕ, ◌≤◌, Bool, true, false, cond, not, List, [], ◌∷◌, ◌++◌, codes, Option, Some, None, refl, sym, ap, subst, ◌∙◌, arith}
+use Rattle.std.proofs.Common.{◌≡◌, ℕ, ◌≤◌, Bool, true, false, cond, not, List, [], ◌∷◌, ◌++◌, codes, Option, Some, None, refl, sym, ap}
+use Rattle.std.proofs.Common.{subst, ◌∙◌, arith}
 use Rattle.std.specs.Str.{bytes_eq}
 use Rattle.std.proofs.lemmas.List.{append_assoc, append-nil}
 use Rattle.std.proofs.lemmas.Slice.Eq.{bytes_eq-Decides}
@@ -45,7 +46,8 @@ by_first_word text = by (after_word text) refl
     by (Some rest) is = split_back 32 text rest is
 
 -- words that fit the kinds and keep their rules are values of them
-spelled : (kinds : List Kind) (words : Option (List ℕ)) → fits kinds words ≡ true → AreKept (argument_rules kinds words) → Spells kinds (tail_of words)
+spelled : (kinds : List Kind) (words : Option (List ℕ)) → fits kinds words ≡ true → AreKept (argument_rules kinds words)
+    → Spells kinds (tail_of words)
 unfolding fits
 spelled [] None fit kept = refl
 spelled [] (Some words) fit kept = absurd cc
@@ -111,7 +113,8 @@ make_segment tail s =
     let t = s.next in
     let u = t.next in (
       calls.MakeSegment s.value.0 t.value.0 u.value.0,
-      named (codes "make_segment") (three (number_word s.value.0) (label_word t.value.0) (bytes_word u.value.0) (step s.parts s.value.1 (step t.parts t.value.1 (last u.parts u.value.1 u.next)))),
+      named (codes "make_segment") (three (number_word s.value.0) (label_word t.value.0) (bytes_word u.value.0)
+          (step s.parts s.value.1 (step t.parts t.value.1 (last u.parts u.value.1 u.next)))),
       (small s.value.0 s.value.2, t.value.2, u.value.2),
     )
 
@@ -128,7 +131,8 @@ make_thread tail s =
     let t = s.next in
     let u = t.next in (
       calls.MakeThread s.value.0 t.value.0 u.value.0,
-      named (codes "make_thread") (three (number_word s.value.0) (label_word t.value.0) (label_word u.value.0) (step s.parts s.value.1 (step t.parts t.value.1 (last u.parts u.value.1 u.next)))),
+      named (codes "make_thread") (three (number_word s.value.0) (label_word t.value.0) (label_word u.value.0)
+          (step s.parts s.value.1 (step t.parts t.value.1 (last u.parts u.value.1 u.next)))),
       (small s.value.0 s.value.2, t.value.2, u.value.2),
     )
 
@@ -138,7 +142,8 @@ make_gate tail s =
     let u = t.next in
     let v = u.next in (
       calls.MakeGate s.value.0 t.value.0 u.value.0 v.value.0,
-      named (codes "make_gate") (four (number_word s.value.0) (label_word t.value.0) (label_word u.value.0) (entry_word v.value.0) (step s.parts s.value.1 (step t.parts t.value.1 (step u.parts u.value.1 (last v.parts v.value.1 v.next))))),
+      named (codes "make_gate") (four (number_word s.value.0) (label_word t.value.0) (label_word u.value.0) (entry_word v.value.0)
+          (step s.parts s.value.1 (step t.parts t.value.1 (step u.parts u.value.1 (last v.parts v.value.1 v.next))))),
       (small s.value.0 s.value.2, t.value.2, u.value.2, v.value.2),
     )
 
@@ -149,7 +154,9 @@ enter tail s =
     let v = u.next in
     let w = v.next in (
       calls.Enter s.value.0 t.value.0 u.value.0 v.value.0 w.value.0,
-      named (codes "enter") (five (number_word s.value.0) (number_word t.value.0) (label_word u.value.0) (label_word v.value.0) (label_word w.value.0) (step s.parts s.value.1 (step t.parts t.value.1 (step u.parts u.value.1 (step v.parts v.value.1 (last w.parts w.value.1 w.next)))))),
+      named (codes "enter") (five (number_word s.value.0) (number_word t.value.0) (label_word u.value.0) (label_word v.value.0)
+          (label_word w.value.0) (step s.parts s.value.1
+          (step t.parts t.value.1 (step u.parts u.value.1 (step v.parts v.value.1 (last w.parts w.value.1 w.next)))))),
       (small s.value.0 s.value.2, small t.value.0 t.value.2, u.value.2, v.value.2, w.value.2),
     )
 
@@ -168,7 +175,8 @@ write tail s =
     let v = u.next in
     let kept = u.value.2 in (
       calls.Write s.value.0 t.value.0 u.value.0 v.value.0,
-      named (codes "write") (four (number_word s.value.0) (number_word t.value.0) (number_word u.value.0) (bytes_word v.value.0) (step s.parts s.value.1 (step t.parts t.value.1 (step u.parts u.value.1 (last v.parts v.value.1 v.next))))),
+      named (codes "write") (four (number_word s.value.0) (number_word t.value.0) (number_word u.value.0) (bytes_word v.value.0)
+          (step s.parts s.value.1 (step t.parts t.value.1 (step u.parts u.value.1 (last v.parts v.value.1 v.next))))),
       (small s.value.0 s.value.2, small t.value.0 t.value.2, omega (arith, kept), v.value.2),
     )
 
@@ -221,7 +229,8 @@ makes_call name kinds e =
 pub call_by_rules : (text : List ℕ) → AreKept (call_rules text) → (call : RawCall) × (text ≡ call_text call) × IsReadable call
 call_by_rules text kept = by (kinds_among raw_calls (word_of text)) refl kept
   where
-    by : (o : Option (List Kind)) → kinds_among raw_calls (word_of text) ≡ o → AreKept (kinds_rules text o) → (call : RawCall) × (text ≡ call_text call) × IsReadable call
+    by : (o : Option (List Kind)) → kinds_among raw_calls (word_of text) ≡ o → AreKept (kinds_rules text o)
+        → (call : RawCall) × (text ≡ call_text call) × IsReadable call
     by None is kept = absurd cc
     by (Some kinds) is kept =
         let first = first_kept (not (fits kinds (after_word text))) _ _ kept in

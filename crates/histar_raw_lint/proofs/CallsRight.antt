@@ -27,7 +27,8 @@ use Rattle.histar_rawtext.proofs.WordTexts.{lacks-bytes, lacks-decimal, lacks-en
 use Rattle.histar_rawtext.proofs.WordsRead.{writable_entry, writable_label}
 use Rattle.histar_lint.specs.Lines.{Rule}
 use Rattle.histar_raw_lint.specs.declared.kinds.Kind.{Kind}
-use Rattle.histar_raw_lint.specs.declared.kinds.Kind.TheVariants.{Container, Object, Segment, Gate, Keep, Label, Clearance, Verify, Bytes, Entry as AnEntry}
+use Rattle.histar_raw_lint.specs.declared.kinds.Kind.TheVariants.{Container, Object, Segment, Gate, Keep, Label, Clearance, Verify, Bytes}
+use Rattle.histar_raw_lint.specs.declared.kinds.Kind.TheVariants.{Entry as AnEntry}
 use Rattle.histar_raw_lint.specs.Rules.{argument_rules, call_rules, fits, kinds_among, raw_calls, unknown_text, usage_text, value_rules}
 use Rattle.histar_raw_lint.proofs.Rules.{AreKept, keep, keep_both}
 use Rattle.histar_raw_lint.proofs.ValuesRight.{bytes_kept, entry_kept, label_kept, number_kept}
@@ -66,9 +67,23 @@ bytes_are_word bs = record { first = 120; rest = drop 1 (bytes_text bs); parts =
 
 entry_is_word : (e : Entry) → IsReadableEntry e → IsWord (gate_entry_text e)
 entry_is_word (Login n) p =
-    record { first = 108; rest = drop 1 (gate_entry_text (Login n)); parts = refl; plain = lacks-entry (Login n) (writable_entry (Login n) p); no_sign = refl }
+    record {
+      first = 108;
+      rest = drop 1 (gate_entry_text (Login n));
+      parts = refl;
+      plain =
+          lacks-entry (Login n) (writable_entry (Login n) p);
+      no_sign = refl;
+    }
 entry_is_word (Mark n) p =
-    record { first = 109; rest = drop 1 (gate_entry_text (Mark n)); parts = refl; plain = lacks-entry (Mark n) (writable_entry (Mark n) p); no_sign = refl }
+    record {
+      first = 109;
+      rest = drop 1 (gate_entry_text (Mark n));
+      parts = refl;
+      plain =
+          lacks-entry (Mark n) (writable_entry (Mark n) p);
+      no_sign = refl;
+    }
 
 name_begins : (c : RawCall) → (b : ℕ) × (rest : List ℕ) × (call_name c ≡ b ∷ rest) × (eqb b 35 ≡ false)
 name_begins calls.MakeCategory = (109, drop 1 (codes "make_category"), refl, refl)
@@ -162,7 +177,11 @@ gate : (n : ℕ) → IsNumber n → IsRight Gate (decimal n)
 gate n p = record { is_word = number_is_word n p; kept = number_kept (codes "a gate") greatest n p (omega (arith, p)) }
 
 keep_word : (n : ℕ) → n < 2 ^ 32 → IsRight Keep (decimal n)
-keep_word n p = record { is_word = number_is_word n (omega (arith, p)); kept = number_kept (codes "KEEP") 4294967295 n (omega (arith, p)) (omega (arith, p)) }
+keep_word n p = record {
+  is_word = number_is_word n (omega (arith, p));
+  kept =
+      number_kept (codes "KEEP") 4294967295 n (omega (arith, p)) (omega (arith, p));
+}
 
 label : (L : Levels) → IsReadableLabel L → IsRight Label (label_text L)
 label L p = record { is_word = label_is_word L p; kept = label_kept L p }
@@ -237,5 +256,7 @@ call_kept c p =
     let right = words_right c p in
     let parts : List ℕ × Option (List ℕ) = (call_name c, joined (words_of c)) in
     let known = subst (λ (o : Option (List Kind)). AreKept (call_at parts o)) (sym (is_named c))
-    (keep (not (fits (kinds_of c) (joined (words_of c)))) _ _ (ap not (fits_right (kinds_of c) (words_of c) right)) (arguments_right (kinds_of c) (words_of c) right)) in
-    subst (λ (q : List ℕ × Option (List ℕ)). AreKept (call_at q (kinds_among raw_calls q.0))) (sym (split_spaced (call_name c) (words_of c) (name_is_word c))) known
+    (keep (not (fits (kinds_of c) (joined (words_of c)))) _ _ (ap not (fits_right (kinds_of c) (words_of c) right))
+    (arguments_right (kinds_of c) (words_of c) right)) in
+    subst (λ (q : List ℕ × Option (List ℕ)). AreKept (call_at q (kinds_among raw_calls q.0)))
+    (sym (split_spaced (call_name c) (words_of c) (name_is_word c))) known

@@ -40,7 +40,8 @@ one_less {text} {rest} {after} {line} {left} {now} {bad} at is more step = by at
         record { first = at.first; front = front; parts = cc; place = omega (arith, place, step) }
 
 -- the bad line
-pub bad_is : {text rest line : List ℕ} {left bad : ℕ} (after : List ℕ) → IsAt text rest left bad → lines_of rest ≡ line ∷ lines_of after → left ≤ 1 → IsFirstBad text bad line
+pub bad_is : {text rest line : List ℕ} {left bad : ℕ} (after : List ℕ) → IsAt text rest left bad → lines_of rest ≡ line ∷ lines_of after
+    → left ≤ 1 → IsFirstBad text bad line
 bad_is {text} {rest} {line} {left} {bad} after at is last = by at.front at.parts at.place
   where
     by : (front : List (List ℕ)) → lines_of rest ≡ front ++ at.first.line ∷ at.first.after → left ≡ length front + 1 → IsFirstBad text bad line

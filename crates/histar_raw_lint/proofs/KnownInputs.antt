@@ -1,5 +1,6 @@
 -- What is said of the bytes that were taken is said of a known input.
-use Rattle.std.proofs.Common.{◌≡◌, ℕ, ◌+◌, Bool, true, false, cond, eqb, List, [], ◌∷◌, length, Option, Some, None, Result, Ok, Err, refl, sym, ◌∙◌, ◌⊎◌, inl, inr}
+use Rattle.std.proofs.Common.{◌≡◌, ℕ, ◌+◌, Bool, true, false, cond, eqb, List, [], ◌∷◌, length, Option, Some, None, Result, Ok, Err, refl}
+use Rattle.std.proofs.Common.{sym, ◌∙◌, ◌⊎◌, inl, inr}
 use Rattle.std.specs.Prelude.{IfSome}
 use Rattle.std.specs.Io.KnownBytes.{Keeps}
 use Rattle.histar_script.specs.declared.fault.Fault.{Fault}
@@ -23,7 +24,8 @@ lines_not_long s n [] e = by (eqb (length s.session.users) 0) e
     by false e = absurd cc
 lines_not_long s n (line ∷ lines) e = by (with_line s (n + 1) line) (λ t. lines_not_long t (n + 1) lines) e
   where
-    by : (o : Option Reading) → ((t : Reading) → with_lines t (n + 1) lines ≡ Err TooLong → ⊥) → after (n + 1) (λ t. with_lines t (n + 1) lines) o ≡ Err TooLong → ⊥
+    by : (o : Option Reading) → ((t : Reading) → with_lines t (n + 1) lines ≡ Err TooLong → ⊥)
+        → after (n + 1) (λ t. with_lines t (n + 1) lines) o ≡ Err TooLong → ⊥
     by None go_on e = let same : BadScript (n + 1) ≡ TooLong = cc in absurd cc
     by (Some t) go_on e = go_on t e
 
@@ -53,7 +55,8 @@ stopped : (file : List ℕ) (old new : Option (List ℕ)) (fault : Fault) (input
 stopped file old new fault input keeps (inl is) = rw is keeps
 stopped file old new fault input keeps (inr is) = rw is keeps
 
-pub lints_known : (file : List ℕ) (left rest old new : Option (List ℕ)) (result : Result Bool Fault) → RunsInput (LintsRaw file) left rest old new result
+pub lints_known : (file : List ℕ) (left rest old new : Option (List ℕ)) (result : Result Bool Fault)
+    → RunsInput (LintsRaw file) left rest old new result
     → IfSome left (λ input. LintsRaw file input old new result)
 lints_known file left rest old new result runs =
     input_known (LintsRaw file) old new left rest result (λ fault input is keeps which. stopped file old new fault input keeps which)

@@ -27,7 +27,8 @@ use Rattle.histar_flat.proofs.SplitLemmas.{split_before}
 use Rattle.histar_rawtext.proofs.Numbers.{number_again}
 use Rattle.histar_rawtext.proofs.WordTexts.{colon_is_no_digit, lacks-decimal}
 use Rattle.histar_lint.specs.Lines.{ends_with}
-use Rattle.histar_raw_lint.specs.Values.{before_colon, before_last, behind_colon, category_of_part, category_rules, exception_rules, exceptions_rules, in_braces}
+use Rattle.histar_raw_lint.specs.Values.{before_colon, before_last, behind_colon, category_of_part, category_rules, exception_rules}
+use Rattle.histar_raw_lint.specs.Values.{exceptions_rules, in_braces}
 use Rattle.histar_raw_lint.specs.Values.{is_braced, is_late, is_level, label_rules, lacks_default, last_of, part_rules, text_behind}
 use Rattle.histar_raw_lint.proofs.Rules.{AreKept, both_kept, first_kept}
 use Rattle.histar_raw_lint.proofs.NumbersKept.{is_there, number_by_rules}
@@ -100,7 +101,8 @@ differ_by l d text default is own other same =
     absurd cc
 
 -- a part of a label that keeps its rules
-exception_by_rules : (d : Level) (default part_text : List ℕ) (before : ℕ) → level_text d ≡ default → AreKept (exception_rules default before part_text)
+exception_by_rules : (d : Level) (default part_text : List ℕ) (before : ℕ) → level_text d ≡ default
+    → AreKept (exception_rules default before part_text)
     → (e : ℕ × Level) × (part_text ≡ part e) × IsNext d before e
 exception_by_rules d default text before own kept =
     let first = first_kept (is_none (behind_colon text)) _ _ kept in
@@ -112,7 +114,8 @@ exception_by_rules d default text before own kept =
     let category = category_by_rules before (before_colon text) third.1 in
     let parts : text ≡ before_colon text ++ 58 ∷ behind.0 = split_back 58 text behind.0 behind.1 in (
       (category.0, level.0),
-      parts ∙ ap (λ (t : List ℕ). before_colon text ++ 58 ∷ t) (sym same ∙ sym level.1) ∙ ap (λ (t : List ℕ). t ++ 58 ∷ level_text level.0) category.1,
+      parts ∙ ap (λ (t : List ℕ). before_colon text ++ 58 ∷ t) (sym same ∙ sym level.1)
+          ∙ ap (λ (t : List ℕ). t ++ 58 ∷ level_text level.0) category.1,
       record { number = category.2; above = category.3; differs = differ_by level.0 d (text_behind text) default level.1 own third.0 },
     )
 
@@ -120,11 +123,13 @@ exception_by_rules d default text before own kept =
 pub category_is : (e : ℕ × Level) (text : List ℕ) → text ≡ part e → IsNumber e.0 → category_of_part text ≡ e.0
 category_is e text is small =
     let split : before_colon text ≡ decimal e.0 =
-    ap before_colon is ∙ ap (λ (p : List ℕ × Option (List ℕ)). p.0) (split_before 58 (decimal e.0) (level_text e.1) (lacks-decimal 58 e.0 colon_is_no_digit small)) in
+    ap before_colon is ∙ ap (λ (p : List ℕ × Option (List ℕ)). p.0)
+    (split_before 58 (decimal e.0) (level_text e.1) (lacks-decimal 58 e.0 colon_is_no_digit small)) in
     ap (λ (o : Option ℕ). unwrap_or o 0) (ap number_in split ∙ number_again e.0 small)
 
 -- parts that keep their rules are the texts of exceptions
-exceptions_by_rules : (d : Level) (default : List ℕ) (before : ℕ) (parts : List (List ℕ)) → level_text d ≡ default → AreKept (exceptions_rules default before parts)
+exceptions_by_rules : (d : Level) (default : List ℕ) (before : ℕ) (parts : List (List ℕ)) → level_text d ≡ default
+    → AreKept (exceptions_rules default before parts)
     → (es : Exceptions) × (parts ≡ map part es) × AreNext d before es
 exceptions_by_rules d default before [] own kept = ([], refl, tt)
 exceptions_by_rules d default before (text ∷ parts) own kept =
@@ -139,7 +144,8 @@ exceptions_by_rules d default before (text ∷ parts) own kept =
 next_above : (d : Level) (before : ℕ) (es : Exceptions) → AreNext d before es → (j : ℕ) → j < length es → before < category_at es j
 next_above d before [] next j lt = absurd (omega arith)
 next_above d before (e ∷ es) next zero lt = next.0.above
-next_above d before (e ∷ es) next (suc j) lt = let first = next.0.above in let rest = next_above d e.0 es next.1 j (omega arith) in omega (arith, first, rest)
+next_above d before (e ∷ es) next (suc j) lt = let first = next.0.above in let rest =
+    next_above d e.0 es next.1 j (omega arith) in omega (arith, first, rest)
 
 next_rise : (d : Level) (before : ℕ) (es : Exceptions) → AreNext d before es → IsRising es
 next_rise d before [] next i j lt in_range = absurd (omega arith)
@@ -151,7 +157,8 @@ next_differ : (d : Level) (before : ℕ) (es : Exceptions) → AreNext d before 
 next_differ d before [] next = All-nil (λ (e : ℕ × Level). e.1 ≢ d)
 next_differ d before (e ∷ es) next = All-cons (λ (f : ℕ × Level). f.1 ≢ d) e es next.0.differs (next_differ d e.0 es next.1)
 
-next_made : (d : Level) (before : ℕ) (es : Exceptions) → AreNext d before es → list_all (λ (e : ℕ × Level). nat_lt 0 e.0 && nat_lt e.0 (2 ^ 64)) es ≡ true
+next_made : (d : Level) (before : ℕ) (es : Exceptions) → AreNext d before es
+    → list_all (λ (e : ℕ × Level). nat_lt 0 e.0 && nat_lt e.0 (2 ^ 64)) es ≡ true
 next_made d before [] next = refl
 next_made d before (e ∷ es) next =
     let above = next.0.above in
@@ -170,8 +177,10 @@ label_of_next : (d : Level) (es : Exceptions) → AreNext d 0 es → (L : Levels
 unfolding is_made
 label_of_next d es next =
     let L : Levels = from_exceptions d es in
-    let listed : exceptions_of L ≡ es = exceptions_of-from_exceptions d es (record { rising = next_rise d 0 es next; differ = next_differ d 0 es next }) in
-    let made : is_made (2 ^ 64) L ≡ true = ap (λ (fs : Exceptions). list_all (λ (e : ℕ × Level). nat_lt 0 e.0 && nat_lt e.0 (2 ^ 64)) fs) listed ∙ next_made d 0 es next in
+    let listed : exceptions_of L ≡ es = exceptions_of-from_exceptions d es
+    (record { rising = next_rise d 0 es next; differ = next_differ d 0 es next }) in
+    let made : is_made (2 ^ 64) L ≡ true = ap (λ (fs : Exceptions). list_all
+    (λ (e : ℕ × Level). nat_lt 0 e.0 && nat_lt e.0 (2 ^ 64)) fs) listed ∙ next_made d 0 es next in
     (L, record { default = default_of-from_exceptions d es; exceptions = listed; readable = (is_made-law (2 ^ 64) L).0 made })
 
 -- parts with commas between them
@@ -191,7 +200,8 @@ parts_back [] some = absurd (omega arith)
 parts_back (text ∷ texts) some = last_back text texts
 
 -- a text whose last byte is this one
-ended_at : (b c : ℕ) (text : List ℕ) → option_map_or (λ d. d == b) (slice_get (c ∷ text) (length text)) false ≡ true → c ∷ text ≡ take (length text) (c ∷ text) ++ b ∷ []
+ended_at : (b c : ℕ) (text : List ℕ) → option_map_or (λ d. d == b) (slice_get (c ∷ text) (length text)) false ≡ true
+    → c ∷ text ≡ take (length text) (c ∷ text) ++ b ∷ []
 ended_at b c [] e = let same : c ≡ b = grind (arith, nat_tests) in ap (λ (d : ℕ). d ∷ []) same
 ended_at b c (d ∷ text) e = ap (λ (rest : List ℕ). c ∷ rest) (ended_at b d text e)
 
@@ -218,13 +228,16 @@ label_of_parts parts some kept =
     let default = level_of_text (last_of parts) (not_so (is_level (last_of parts)) second.0) in
     let exceptions = exceptions_by_rules default.0 (last_of parts) 0 (before_last parts) default.1 second.1 in
     let label = label_of_next default.0 exceptions.0 exceptions.2 in
-    let both : parts ≡ map part exceptions.0 ++ last_of parts ∷ [] = parts_back parts some ∙ ap (λ (front : List (List ℕ)). front ++ last_of parts ∷ []) exceptions.1 in
+    let both : parts ≡ map part exceptions.0 ++ last_of parts ∷ [] = parts_back parts some
+    ∙ ap (λ (front : List (List ℕ)). front ++ last_of parts ∷ []) exceptions.1 in
     let listed = label.1.exceptions in
-    let own : level_text (default_of label.0) ≡ last_of parts = ap level_text label.1.default ∙ default.1 in (
-      label.0,
-      ap (join_with_byte 44) both ∙ joined_back exceptions.0 (last_of parts) ∙ (λ i. flat_map exception_text (sym listed i) ++ sym own i),
-      label.1.readable,
-    )
+    let own : level_text (default_of label.0) ≡ last_of parts = ap level_text label.1.default ∙ default.1 in
+    let joined : join_with_byte 44 parts ≡ flat_map exception_text exceptions.0 ++ last_of parts =
+    ap (join_with_byte 44) both ∙ joined_back exceptions.0 (last_of parts) in
+    let text : flat_map exception_text exceptions.0 ++ last_of parts
+    ≡ flat_map exception_text (exceptions_of label.0) ++ level_text (default_of label.0) =
+    λ i. flat_map exception_text (sym listed i) ++ sym own i in
+    (label.0, joined ∙ text, label.1.readable)
 
 -- a word that keeps the rules for labels
 pub label_by_rules : (word : List ℕ) → AreKept (label_rules word) → (L : Levels) × (word ≡ label_text L) × IsReadableLabel L
@@ -233,5 +246,6 @@ label_by_rules word kept =
     let inside = in_braces word in
     let parts = slice_split (λ b. b == 44) inside in
     let label = label_of_parts parts (let many = length-slice_split (λ b. b == 44) inside in omega (arith, many)) first.1 in
-    let joined : inside ≡ flat_map exception_text (exceptions_of label.0) ++ level_text (default_of label.0) = sym (join_with_byte-slice_split 44 inside) ∙ label.1 in
+    let joined : inside ≡ flat_map exception_text (exceptions_of label.0) ++ level_text (default_of label.0) =
+    sym (join_with_byte-slice_split 44 inside) ∙ label.1 in
     (label.0, braced_back word (not_so (is_braced word) first.0) ∙ ap (λ (text : List ℕ). 123 ∷ (text ++ 125 ∷ [])) joined, label.2)

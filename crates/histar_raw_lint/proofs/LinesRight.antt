@@ -88,7 +88,8 @@ pair_behind c (b ∷ word) rest all =
     ap (λ s. (s && begins_with c (word ++ rest)) || has_pair c (word ++ rest)) (not-true (eqb b 32) parts.0) ∙ pair_behind c word rest parts.1
 
 -- nor behind words, where none begins with this byte
-pair_spaced : (c : ℕ) (words : List (List ℕ)) → AreWords words → ((word : List ℕ) (w : IsWord word) → eqb w.first c ≡ false) → has_pair c (spaced words) ≡ false
+pair_spaced : (c : ℕ) (words : List (List ℕ)) → AreWords words → ((word : List ℕ) (w : IsWord word) → eqb w.first c ≡ false)
+    → has_pair c (spaced words) ≡ false
 pair_spaced c [] ws other = refl
 pair_spaced c (word ∷ words) ws other =
     ap (λ s. s || has_pair c (word ++ spaced words)) (begins_word c word (spaced words) ws.0 ∙ other word ws.0)
@@ -103,7 +104,8 @@ gap_is_pair [] = refl
 gap_is_pair (b ∷ text) = ap (λ s. (b == 32 && begins_with 32 text) || s) (gap_is_pair text)
 
 -- words with a space between two, of which there are two, keep the rules for words
-words_kept : (word next : List ℕ) (words : List (List ℕ)) → IsWord word → IsWord next → AreWords words → AreKept (word_rules (word ++ spaced (next ∷ words)))
+words_kept : (word next : List ℕ) (words : List (List ℕ)) → IsWord word → IsWord next → AreWords words
+    → AreKept (word_rules (word ++ spaced (next ∷ words)))
 words_kept word next words w v ws =
     let text : List ℕ = word ++ spaced (next ∷ words) in
     let pair : (c : ℕ) → ((u : List ℕ) (is : IsWord u) → eqb is.first c ≡ false) → has_pair c text ≡ false = λ c other.
@@ -150,10 +152,12 @@ thread_call_kept : (thread : ℕ) (call : RawCall) → IsNumber thread → IsRea
     → AreKept (thread_call_at (decimal thread, Some (call_name call ++ spaced (words_of call))))
 thread_call_kept thread call small p =
     keep_both (thread_rules (decimal thread)) (call_rules (call_name call ++ spaced (words_of call)))
-    (keep (not (are_digits (decimal thread))) _ _ (ap not (are_digits_right thread small)) (digits_kept (codes "a thread") greatest thread small (omega (arith, small))))
+    (keep (not (are_digits (decimal thread))) _ _ (ap not (are_digits_right thread small))
+    (digits_kept (codes "a thread") greatest thread small (omega (arith, small))))
     (call_kept call p)
 
-line_kept : (thread : ℕ) (call : RawCall) → IsNumber thread → IsReadable call → is_plain (decimal thread ++ spaced (call_name call ∷ words_of call)) ≡ true
+line_kept : (thread : ℕ) (call : RawCall) → IsNumber thread → IsReadable call
+    → is_plain (decimal thread ++ spaced (call_name call ∷ words_of call)) ≡ true
     → sentence (decimal thread ++ spaced (call_name call ∷ words_of call)) ≡ None
 line_kept thread call small p plain =
     let rest : List ℕ = call_name call ++ spaced (words_of call) in

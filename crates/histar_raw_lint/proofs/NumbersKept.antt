@@ -34,11 +34,13 @@ number_by_rules noun word most kept = number_by_digits noun word most (first_kep
 
 -- a number that is not 0
 not_zero : (n : ℕ) (word : List ℕ) → word ≡ decimal n → bytes_eq word (codes "0") ≡ false → 1 ≤ n
-not_zero zero word is other = let wrong : bytes_eq word (codes "0") ≡ true = ap (λ w. bytes_eq w (codes "0")) (is ∙ decimal_digit 0 (omega arith)) in absurd cc
+not_zero zero word is other = let wrong : bytes_eq word (codes "0") ≡ true =
+    ap (λ w. bytes_eq w (codes "0")) (is ∙ decimal_digit 0 (omega arith)) in absurd cc
 not_zero (suc n) word is other = omega arith
 
 -- a number from 1 on, up to a greatest one
-pub positive_by_rules : (noun word : List ℕ) (most : ℕ) → AreKept (positive_rules noun most word) → (n : ℕ) × (word ≡ decimal n) × (1 ≤ n) × (n ≤ most)
+pub positive_by_rules : (noun word : List ℕ) (most : ℕ) → AreKept (positive_rules noun most word)
+    → (n : ℕ) × (word ≡ decimal n) × (1 ≤ n) × (n ≤ most)
 positive_by_rules noun word most kept =
     let first = first_kept (bytes_eq word (codes "0")) _ _ kept in
     let number = number_by_rules noun word most first.1 in
@@ -59,4 +61,5 @@ pub beyond_is : (most : ℕ) (word : List ℕ) → most ≤ greatest
 unfolding number_of
 beyond_is most word small =
     let n : ℕ = digits_value 10 word in
-    beyond_by n (leb n most) (leb n greatest) (bytes_eq word (decimal n)) (λ e. le-leb n greatest (let le = leb-true n most e in omega arith)) (λ m. leb m most) refl
+    beyond_by n (leb n most) (leb n greatest) (bytes_eq word (decimal n))
+    (λ e. le-leb n greatest (let le = leb-true n most e in omega arith)) (λ m. leb m most) refl

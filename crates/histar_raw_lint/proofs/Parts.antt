@@ -3,8 +3,10 @@ use Rattle.std.proofs.Common.{◌≡◌, ℕ, Bool, true, false, cond, eqb, List
 use Rattle.std.proofs.lemmas.Bool.Decides.{nat_tests}
 use Rattle.histar_flat.specs.Words.{split_at_first}
 
-split_by : (s b : ℕ) (rest bs : List ℕ) (same : Bool) (later : List ℕ × Option (List ℕ)) → eqb b s ≡ same → (later.1 ≡ Some rest → bs ≡ later.0 ++ s ∷ rest)
-    → (cond {A = List ℕ × Option (List ℕ)} same ([], Some bs) (b ∷ later.0, later.1)).1 ≡ Some rest → b ∷ bs ≡ (cond {A = List ℕ × Option (List ℕ)} same ([], Some bs) (b ∷ later.0, later.1)).0 ++ s ∷ rest
+split_by : (s b : ℕ) (rest bs : List ℕ) (same : Bool) (later : List ℕ × Option (List ℕ)) → eqb b s ≡ same
+    → (later.1 ≡ Some rest → bs ≡ later.0 ++ s ∷ rest)
+    → (cond {A = List ℕ × Option (List ℕ)} same ([], Some bs) (b ∷ later.0, later.1)).1 ≡ Some rest
+    → b ∷ bs ≡ (cond {A = List ℕ × Option (List ℕ)} same ([], Some bs) (b ∷ later.0, later.1)).0 ++ s ∷ rest
 split_by s b rest bs true later is go_on e =
     let head : b ≡ s = grind (arith, nat_tests) in
     let tail : bs ≡ rest = cc in
@@ -18,7 +20,8 @@ split_back s [] rest e = absurd cc
 split_back s (b ∷ bs) rest e = split_by s b rest bs (eqb b s) (split_at_first s bs) refl (split_back s bs rest) e
 
 whole_by : (s b : ℕ) (bs : List ℕ) (same : Bool) (later : List ℕ × Option (List ℕ)) → (later.1 ≡ None → bs ≡ later.0)
-    → (cond {A = List ℕ × Option (List ℕ)} same ([], Some bs) (b ∷ later.0, later.1)).1 ≡ None → b ∷ bs ≡ (cond {A = List ℕ × Option (List ℕ)} same ([], Some bs) (b ∷ later.0, later.1)).0
+    → (cond {A = List ℕ × Option (List ℕ)} same ([], Some bs) (b ∷ later.0, later.1)).1 ≡ None
+    → b ∷ bs ≡ (cond {A = List ℕ × Option (List ℕ)} same ([], Some bs) (b ∷ later.0, later.1)).0
 whole_by s b bs true later go_on e = absurd cc
 whole_by s b bs false later go_on e = ap (λ (text : List ℕ). b ∷ text) (go_on e)
 

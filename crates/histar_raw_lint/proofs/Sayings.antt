@@ -20,7 +20,8 @@ module _ {V : Type 0} (items : V → List ℕ) (rules others : List Rule) (o : O
   behind_says r none more = IfOk-weaker r _ _ (λ given is. is ∙ sym (behind_is none)) more
 
 -- a sentence that is there
-pub unpacked : {V : Type 0} (items : V → List ℕ) (o : Option V) (v : V) (x : Option (List ℕ)) → x ≡ option_map items o → o ≡ Some v → x ≡ Some (items v)
+pub unpacked : {V : Type 0} (items : V → List ℕ) (o : Option V) (v : V) (x : Option (List ℕ)) → x ≡ option_map items o → o ≡ Some v
+    → x ≡ Some (items v)
 unpacked items o v x same is = same ∙ ap (option_map items) is
 
 -- a sentence that isn't

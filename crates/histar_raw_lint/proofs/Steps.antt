@@ -1,5 +1,6 @@
 -- Going over lists one by one.
-use Rattle.std.proofs.Common.{◌≡◌, ℕ, suc, ◌+◌, ◌<◌, ◌≤◌, Bool, true, false, cond, List, [], ◌∷◌, ◌++◌, length, map, drop, get_or, Bor, Option, Some, None, refl, sym, ap, ◌∙◌, arith}
+use Rattle.std.proofs.Common.{◌≡◌, ℕ, suc, ◌+◌, ◌<◌, ◌≤◌, Bool, true, false, cond, List, [], ◌∷◌, ◌++◌, length, map, drop, get_or, Bor}
+use Rattle.std.proofs.Common.{Option, Some, None, refl, sym, ap, ◌∙◌, arith}
 use Rattle.std.specs.Prelude.{option_map}
 use Rattle.std.specs.Option.{option_map_or, option_to_list}
 use Rattle.std.proofs.lemmas.List.{drop_all}
@@ -47,7 +48,8 @@ unfolding first_near
 near_end word calls i le = ap (λ (l : List (Bor (List ℕ))). first_near word (map (λ c. c.now) l)) (drop_all i calls le)
 
 -- words fit the next kind and the later ones
-pub fits_step : (kinds : List Kind) (i : ℕ) (d : Kind) (text : List ℕ) → i < length kinds → fits (drop i kinds) (Some text) ≡ fits (drop (i + 1) kinds) (after_word text)
+pub fits_step : (kinds : List Kind) (i : ℕ) (d : Kind) (text : List ℕ) → i < length kinds
+    → fits (drop i kinds) (Some text) ≡ fits (drop (i + 1) kinds) (after_word text)
 unfolding fits
 fits_step kinds i d text lt = ap (λ (l : List Kind). fits l (Some text)) (cut kinds i d lt)
 
@@ -58,14 +60,16 @@ fits_none kinds i d lt = ap (λ (l : List Kind). fits l None) (cut kinds i d lt)
 
 -- the rules for the next argument and for the later ones
 rules_step : (kinds : List Kind) (i : ℕ) (d : Kind) (text : List ℕ) → i < length kinds
-    → argument_rules (drop i kinds) (Some text) ≡ value_rules (get_or kinds i d) (word_of text) ++ argument_rules (drop (i + 1) kinds) (after_word text)
+    → argument_rules (drop i kinds) (Some text) ≡ value_rules (get_or kinds i d) (word_of text) ++ argument_rules (drop (i + 1) kinds)
+    (after_word text)
 rules_step kinds i d text lt = ap (λ (l : List Kind). argument_rules l (Some text)) (cut kinds i d lt)
 
 -- where no words are left, there is no rule
 pub rules_none : (kinds : List Kind) (i : ℕ) (d : Kind) → i < length kinds → argument_rules (drop i kinds) None ≡ []
 rules_none kinds i d lt = ap (λ (l : List Kind). argument_rules l None) (cut kinds i d lt)
 
-module _ {V : Type 0} {i : ℕ} {word : List ℕ} {o : Option V} (items : V → List ℕ) (kinds : List Kind) (d : Kind) (text : List ℕ) (lt : i < length kinds) where
+module _ {V : Type 0} {i : ℕ} {word : List ℕ} {o : Option V} (items : V → List ℕ) (kinds : List Kind) (d : Kind) (text : List ℕ)
+    (lt : i < length kinds) where
   -- what is said of the next argument
   pub argument_front : {v : V} → word ≡ word_of text → option_map items o ≡ first_sentence (value_rules (get_or kinds i d) word) → o ≡ Some v
       → first_sentence (argument_rules (drop i kinds) (Some text)) ≡ Some (items v)
@@ -85,10 +89,12 @@ module _ {V : Type 0} {i : ℕ} {word : List ℕ} {o : Option V} (items : V → 
 -- the rules for the next part of a label and for the later ones
 parts_step : (default : List ℕ) (before : ℕ) (parts : List (Bor (List ℕ))) (i : ℕ) (d : Bor (List ℕ)) → i < length parts
     → exceptions_rules default before (map (λ p. p.now) (drop i parts))
-    ≡ exception_rules default before (get_or parts i d).now ++ exceptions_rules default (category_of_part (get_or parts i d).now) (map (λ p. p.now) (drop (i + 1) parts))
+    ≡ exception_rules default before (get_or parts i d).now ++ exceptions_rules default (category_of_part (get_or parts i d).now)
+    (map (λ p. p.now) (drop (i + 1) parts))
 parts_step default before parts i d lt = ap (λ (l : List (Bor (List ℕ))). exceptions_rules default before (map (λ p. p.now) l)) (cut parts i d lt)
 
-module _ {V : Type 0} {i : ℕ} {o : Option V} (items : V → List ℕ) (default : List ℕ) (before : ℕ) (parts : List (Bor (List ℕ))) (d : Bor (List ℕ)) (lt : i < length parts) where
+module _ {V : Type 0} {i : ℕ} {o : Option V} (items : V → List ℕ) (default : List ℕ) (before : ℕ) (parts : List (Bor (List ℕ)))
+    (d : Bor (List ℕ)) (lt : i < length parts) where
   -- what is said of the next part
   pub part_front : {v : V} → option_map items o ≡ first_sentence (exception_rules default before (get_or parts i d).now) → o ≡ Some v
       → first_sentence (exceptions_rules default before (map (λ p. p.now) (drop i parts))) ≡ Some (items v)
@@ -118,7 +124,8 @@ last_is (t ∷ []) text = refl
 last_is (t ∷ u ∷ texts) text = last_is (u ∷ texts) text
 
 -- the last part of a label was taken away
-pub popped : (parts rest : List (Bor (List ℕ))) (o : Option (Bor (List ℕ))) (last : Bor (List ℕ)) → parts ≡ rest ++ option_to_list o → (o ≡ None → length parts ≡ 0)
+pub popped : (parts rest : List (Bor (List ℕ))) (o : Option (Bor (List ℕ))) (last : Bor (List ℕ)) → parts ≡ rest ++ option_to_list o
+    → (o ≡ None → length parts ≡ 0)
     → last.now ≡ option_map_or (λ (p : Bor (List ℕ)). p.now) o [] → part_rules (map (λ p. p.now) parts) ≡ list_rules last.now (map (λ p. p.now) rest)
 popped parts rest None last is none same = by parts rest is (none refl)
   where

@@ -53,7 +53,8 @@ byte_back a b ha hb =
     (c, (λ i. (ap hex_digit top ∙ high.0) i ∷ (ap hex_digit end ∙ low.0) i ∷ []), omega (arith, small, little))
 
 -- an even number of digits are those of bytes
-digits_back : (digits : List ℕ) → list_all is_hex_digit digits ≡ true → length digits % 2 == 1 ≡ false → (bs : List ℕ) × (flat_map byte_text bs ≡ digits) × AreBytes bs
+digits_back : (digits : List ℕ) → list_all is_hex_digit digits ≡ true → length digits % 2 == 1 ≡ false
+    → (bs : List ℕ) × (flat_map byte_text bs ≡ digits) × AreBytes bs
 digits_back [] all even = ([], refl, tt)
 digits_back (a ∷ []) all even = absurd cc
 digits_back (a ∷ b ∷ digits) all even =
@@ -77,7 +78,8 @@ bytes_by_rules (b ∷ digits) kept =
 
 -- ---- what a gate gives
 
-named_entry : (word name number : List ℕ) → word ≡ name ++ 58 ∷ number → AreKept (cond (bytes_eq name (codes "login")) (positive_rules (codes "a user") 255 number)
+named_entry : (word name number : List ℕ) → word ≡ name ++ 58 ∷ number
+    → AreKept (cond (bytes_eq name (codes "login")) (positive_rules (codes "a user") 255 number)
     (cond (bytes_eq name (codes "mark")) (number_rules (codes "a mark") 4294967295 number) entry_form))
     → (e : Entry) × (word ≡ gate_entry_text e) × IsReadableEntry e
 named_entry word name number parts kept = by (bytes_eq name (codes "login")) (bytes_eq name (codes "mark")) refl refl kept
@@ -98,7 +100,9 @@ named_entry word name number parts kept = by (bytes_eq name (codes "login")) (by
 entry_by_rules : (word : List ℕ) → AreKept (entry_rules word) → (e : Entry) × (word ≡ gate_entry_text e) × IsReadableEntry e
 entry_by_rules word kept = by (behind_colon word) refl kept
   where
-    by : (o : Option (List ℕ)) → behind_colon word ≡ o → AreKept (cond (is_none o) entry_form (cond (bytes_eq (before_colon word) (codes "login")) (positive_rules (codes "a user") 255 (unwrap_or o []))
+    by : (o : Option (List ℕ)) → behind_colon word ≡ o
+        → AreKept (cond (is_none o) entry_form (cond (bytes_eq (before_colon word) (codes "login"))
+        (positive_rules (codes "a user") 255 (unwrap_or o []))
         (cond (bytes_eq (before_colon word) (codes "mark")) (number_rules (codes "a mark") 4294967295 (unwrap_or o [])) entry_form)))
         → (e : Entry) × (word ≡ gate_entry_text e) × IsReadableEntry e
     by None is kept = absurd cc

@@ -1,5 +1,6 @@
 -- The texts of values that can be read keep their rules.
-use Rattle.std.proofs.Common.{◌≡◌, ◌≢◌, ℕ, zero, suc, ◌+◌, ◌-◌, ◌*◌, ◌/◌, ◌%◌, ◌<◌, ◌≤◌, Bool, true, false, cond, eqb, ltb, ◌&&◌, not, List, [], ◌∷◌, ◌++◌}
+use Rattle.std.proofs.Common.{◌≡◌, ◌≢◌, ℕ, zero, suc, ◌+◌, ◌-◌, ◌*◌, ◌/◌, ◌%◌, ◌<◌, ◌≤◌, Bool, true, false, cond, eqb, ltb, ◌&&◌, not, List}
+use Rattle.std.proofs.Common.{[], ◌∷◌, ◌++◌}
 use Rattle.std.proofs.Common.{codes, length, map, take, get_or, Contains, Option, Some, refl, sym, ap, subst, ◌∙◌, arith}
 use Rattle.std.specs.Prelude.{is_none, nat_le, slice_get, unwrap_or, ◌==◌}
 use Rattle.std.specs.Fmt.{decimal}
@@ -33,8 +34,10 @@ use Rattle.histar_rawtext.proofs.Splits.{part_alone, part_before}
 use Rattle.histar_rawtext.proofs.WordTexts.{IsNoDigit, colon_is_no_digit, lacks-append, lacks-decimal}
 use Rattle.histar_rawtext.proofs.WordsRead.{right_label}
 use Rattle.histar_lint.specs.Lines.{Rule, begins_with, ends_with, first_sentence}
-use Rattle.histar_raw_lint.specs.Values.{are_digits, bytes_rules, category_of_part, category_rules, digit_rules, entry_form, entry_rules, exception_rules}
-use Rattle.histar_raw_lint.specs.Values.{exceptions_rules, has_zero, in_braces, is_braced, is_hex_digit, is_late, is_level, label_rules, lacks_default, level_sentence}
+use Rattle.histar_raw_lint.specs.Values.{are_digits, bytes_rules, category_of_part, category_rules, digit_rules, entry_form, entry_rules}
+use Rattle.histar_raw_lint.specs.Values.{exception_rules}
+use Rattle.histar_raw_lint.specs.Values.{exceptions_rules, has_zero, in_braces, is_braced, is_hex_digit, is_late, is_level, label_rules}
+use Rattle.histar_raw_lint.specs.Values.{lacks_default, level_sentence}
 use Rattle.histar_raw_lint.specs.Values.{list_rules, number_rules, part_rules, positive_rules}
 use Rattle.histar_raw_lint.proofs.LabelsKept.{AreNext, IsNext, category_is, part}
 use Rattle.histar_raw_lint.proofs.Rules.{AreKept, keep, keep_both}
@@ -112,9 +115,11 @@ entry_at parts =
 pub entry_kept : (e : Entry) → IsReadableEntry e → AreKept (entry_rules (gate_entry_text e))
 entry_kept (Login n) p =
     let small = p.1 in
-    subst (λ parts. AreKept (entry_at parts)) (sym (split_before 58 (codes "login") (decimal n) refl)) (positive_kept (codes "a user") 255 n (omega (arith, small)) p.0 (omega (arith, small)))
+    subst (λ parts. AreKept (entry_at parts)) (sym (split_before 58 (codes "login") (decimal n) refl))
+    (positive_kept (codes "a user") 255 n (omega (arith, small)) p.0 (omega (arith, small)))
 entry_kept (Mark n) p =
-    subst (λ parts. AreKept (entry_at parts)) (sym (split_before 58 (codes "mark") (decimal n) refl)) (number_kept (codes "a mark") 4294967295 n (omega (arith, p)) (omega (arith, p)))
+    subst (λ parts. AreKept (entry_at parts)) (sym (split_before 58 (codes "mark") (decimal n) refl))
+    (number_kept (codes "a mark") 4294967295 n (omega (arith, p)) (omega (arith, p)))
 
 -- ---- the categories of labels
 
@@ -166,16 +171,18 @@ exceptions_kept : (d : Level) (before : ℕ) (es : Exceptions) → AreNext d bef
 exceptions_kept d before [] next = refl
 exceptions_kept d before (e ∷ es) next =
     let category = category_is e (part e) refl next.0.number in
-    keep_both (exception_rules (level_text d) before (part e)) (exceptions_rules (level_text d) (category_of_part (part e)) (map part es)) (exception_kept d before e next.0)
+    keep_both (exception_rules (level_text d) before (part e)) (exceptions_rules (level_text d) (category_of_part (part e)) (map part es))
+    (exception_kept d before e next.0)
     (subst (λ c. AreKept (exceptions_rules (level_text d) c (map part es))) (sym category) (exceptions_kept d e.0 es next.1))
 
 next_by : (d : Level) (before : ℕ) (es : Exceptions) → AllByRecursion (λ (e : ℕ × Level). (1 ≤ e.0) × IsNumber e.0) es → IsRising es
     → (0 < length es → before < category_at es 0) → ((e : ℕ × Level) → Contains es e → e.1 ≢ d) → AreNext d before es
 next_by d before [] numbers rising above differ = tt
-next_by d before (e ∷ es) numbers rising above differ =
-    (record { number = numbers.0.1; above = above (omega arith); differs = differ e (zero, omega arith, refl) },
-    next_by d e.0 es numbers.1 (rising_tail e es rising) (λ some. rising 0 1 (omega arith) (omega (arith, some)))
-    (λ f there. let lt = there.1 in differ f (suc there.0, omega (arith, lt), there.2)))
+next_by d before (e ∷ es) numbers rising above differ = (
+  record { number = numbers.0.1; above = above (omega arith); differs = differ e (zero, omega arith, refl) },
+  next_by d e.0 es numbers.1 (rising_tail e es rising) (λ some. rising 0 1 (omega arith) (omega (arith, some)))
+      (λ f there. let lt = there.1 in differ f (suc there.0, omega (arith, lt), there.2)),
+)
 
 next_of_label : (L : Levels) → IsReadableLabel L → AreNext (default_of L) 0 (exceptions_of L)
 next_of_label L p =
@@ -210,7 +217,8 @@ ends_right b text =
     let long = length-append text (b ∷ []) in
     let less : length (text ++ b ∷ []) - 1 ≡ length text = omega (arith, long) in
     let same : eqb b b ≡ true = grind (arith, nat_tests) in
-    ap (λ n. option_map_or (λ c. c == b) (slice_get (text ++ b ∷ []) n) false) less ∙ ap (λ (o : Option ℕ). option_map_or (λ c. c == b) o false) (last_byte b text) ∙ same
+    ap (λ n. option_map_or (λ c. c == b) (slice_get (text ++ b ∷ []) n) false) less
+    ∙ ap (λ (o : Option ℕ). option_map_or (λ c. c == b) o false) (last_byte b text) ∙ same
 
 front_of : (text rest : List ℕ) → take (length text) (text ++ rest) ≡ text
 front_of [] rest = refl
@@ -237,7 +245,8 @@ label_kept L p =
     let next = next_of_label L p in
     let inside : List ℕ = flat_map exception_text es ++ level_text d in
     let texts = map part es in
-    let list = keep (lacks_default (level_text d)) _ _ (has_default d) (keep (not (is_level (level_text d))) _ _ (ap not (is_level_right d)) (exceptions_kept d 0 es next)) in
+    let list = keep (lacks_default (level_text d)) _ _ (has_default d)
+    (keep (not (is_level (level_text d))) _ _ (ap not (is_level_right d)) (exceptions_kept d 0 es next)) in
     let rules_are : part_rules (slice_split (λ b. b == 44) (in_braces (label_text L))) ≡ list_rules (level_text d) texts =
     ap (λ (text : List ℕ). part_rules (slice_split (λ b. b == 44) text)) (in_braces_is inside) ∙ ap part_rules (parts_again d 0 es d next)
     ∙ (λ i. list_rules (last_is texts (level_text d) i) (front_is texts (level_text d) i)) in

@@ -10,4 +10,5 @@ EachBadRawLineBreaksOne = (line : List ℕ) → IsBadLine line → is_some (sent
 
 -- no line that says a call breaks a rule
 abbrev pub NoRightRawLineBreaksOne : Type 0
-NoRightRawLineBreaksOne = (n : ℕ) (line : List ℕ) (asked : RawLine) → SaysCall n line asked → sentence line ≡ None
+NoRightRawLineBreaksOne =
+    (n : ℕ) (line : List ℕ) (asked : RawLine) → SaysCall n line asked → sentence line ≡ None

@@ -39,7 +39,8 @@ raw_calls = making_calls ++ object_calls
 -- the kinds of the arguments of the first of these calls that has this name
 abbrev pub kinds_among : List (List ℕ × List Kind) → List ℕ → Option (List Kind)
 kinds_among [] name = None
-kinds_among (call ∷ calls) name = if bytes_eq name call.0 then Some call.1 else kinds_among calls name
+kinds_among (call ∷ calls) name =
+    if bytes_eq name call.0 then Some call.1 else kinds_among calls name
 
 -- how an argument is named where the form of a call is shown
 abbrev pub kind_name : Kind → List ℕ
@@ -56,7 +57,9 @@ kind_name Entry = codes "ENTRY"
 
 -- how a call is written
 abbrev pub usage_text : List ℕ → List Kind → List ℕ
-usage_text name kinds = codes "the call is `THREAD " ++ name ++ flat_map (λ k. codes " " ++ kind_name k) kinds ++ codes "`"
+usage_text name kinds =
+    codes "the call is `THREAD " ++ name
+    ++ flat_map (λ k. codes " " ++ kind_name k) kinds ++ codes "`"
 
 -- the first raw call whose name is near
 abbrev pub nearest : List ℕ → Option (List ℕ)
@@ -64,7 +67,8 @@ nearest name = first_near name (map (λ (call : List ℕ × List Kind). call.0) 
 
 -- there is no such call, and which one may be meant
 abbrev pub unknown_text : List ℕ → List ℕ
-unknown_text name = codes "there is no raw call " ++ name ++ option_map_or suggestion (nearest name) []
+unknown_text name =
+    codes "there is no raw call " ++ name ++ option_map_or suggestion (nearest name) []
 
 -- as many words follow as there are arguments
 unfoldable pub fits : List Kind → Option (List ℕ) → Bool
@@ -90,13 +94,15 @@ value_rules Entry word = entry_rules word
 abbrev pub argument_rules : List Kind → Option (List ℕ) → List Rule
 argument_rules [] words = []
 argument_rules (kind ∷ kinds) None = []
-argument_rules (kind ∷ kinds) (Some words) = value_rules kind (word_of words) ++ argument_rules kinds (after_word words)
+argument_rules (kind ∷ kinds) (Some words) =
+    value_rules kind (word_of words) ++ argument_rules kinds (after_word words)
 
 -- The rules for a call whose name has arguments of these kinds, or names none.
 abbrev pub kinds_rules : List ℕ → Option (List Kind) → List Rule
 kinds_rules text None = (true, unknown_text (word_of text)) ∷ []
 kinds_rules text (Some kinds) =
-    (not (fits kinds (after_word text)), usage_text (word_of text) kinds) ∷ argument_rules kinds (after_word text)
+    (not (fits kinds (after_word text)), usage_text (word_of text) kinds)
+    ∷ argument_rules kinds (after_word text)
 
 -- The rules for a call: its name, and its arguments.
 abbrev pub call_rules : List ℕ → List Rule
@@ -104,7 +110,9 @@ call_rules text = kinds_rules text (kinds_among raw_calls (word_of text))
 
 -- The rules for the number of a thread.
 abbrev pub thread_rules : List ℕ → List Rule
-thread_rules word = (not (are_digits word), codes "a thread is a number, as in `2 make_category`") ∷ digit_rules (codes "a thread") greatest word
+thread_rules word =
+    (not (are_digits word), codes "a thread is a number, as in `2 make_category`")
+    ∷ digit_rules (codes "a thread") greatest word
 
 -- two spaces stand one behind the other
 abbrev pub has_gap : List ℕ → Bool
@@ -122,7 +130,9 @@ word_rules line =
 
 -- The rules for a line of a raw session, in their order.
 abbrev pub rules_for : List ℕ → List Rule
-rules_for line = byte_rules line ++ (word_rules line ++ (thread_rules (word_of line) ++ call_rules (rest_of line)))
+rules_for line =
+    byte_rules line
+    ++ (word_rules line ++ (thread_rules (word_of line) ++ call_rules (rest_of line)))
 
 -- the sentence of the first rule that the line breaks
 abbrev pub sentence : List ℕ → Option (List ℕ)

@@ -33,7 +33,8 @@ pub record Writes (written : List ℕ → Type 0) (file text : List ℕ) : Type 
   pub appended : written (finding_text file line said)
 
 -- A right session is answered true, with nothing written; a bad one false, with its finding; and one that is too long has that fault.
-abbrev pub LintsRaw : List ℕ → List ℕ → Option (List ℕ) → Option (List ℕ) → Result Bool Fault → Type 0
+abbrev pub LintsRaw :
+    List ℕ → List ℕ → Option (List ℕ) → Option (List ℕ) → Result Bool Fault → Type 0
 LintsRaw file text old new (Ok true) = IsRightSession text × Keeps old new
 LintsRaw file text old new (Ok false) = Writes (Appends old new) file text
 LintsRaw file text old new (Err TooLong) = IsTrue (is_too_long text) × Keeps old new

@@ -25,15 +25,18 @@ has_zero word = begins_with 48 word && nat_lt 1 (length word)
 abbrev pub digit_rules : List ℕ → ℕ → List ℕ → List Rule
 digit_rules noun most word =
     (has_zero word, noun ++ codes " has no zero before its digits")
-    ∷ (is_none (number_of (λ n. nat_le n most) word), noun ++ codes " is at most " ++ decimal most) ∷ []
+    ∷ (is_none (number_of (λ n. nat_le n most) word), noun ++ codes " is at most " ++ decimal most)
+    ∷ []
 
 -- The rules for a number of a kind, the greatest of which is `most`.
 abbrev pub number_rules : List ℕ → ℕ → List ℕ → List Rule
-number_rules noun most word = (not (are_digits word), noun ++ codes " is a number") ∷ digit_rules noun most word
+number_rules noun most word =
+    (not (are_digits word), noun ++ codes " is a number") ∷ digit_rules noun most word
 
 -- The rules for a number of a kind that begins with 1.
 abbrev pub positive_rules : List ℕ → ℕ → List ℕ → List Rule
-positive_rules noun most word = (bytes_eq word (codes "0"), noun ++ codes " is 1 or more") ∷ number_rules noun most word
+positive_rules noun most word =
+    (bytes_eq word (codes "0"), noun ++ codes " is 1 or more") ∷ number_rules noun most word
 
 -- a level
 abbrev pub is_level : List ℕ → Bool
@@ -102,10 +105,14 @@ before_last (text ∷ more ∷ texts) = text ∷ before_last (more ∷ texts)
 abbrev pub lacks_default : List ℕ → Bool
 lacks_default text = length text == 0 || not (is_none (behind_colon text))
 
+-- what a label is made of
+abbrev pub list_sentence : List ℕ
+list_sentence = codes "a label is levels by category and a default at last, as in {4:3,1}"
+
 -- The rules for the default of a label and for its exceptions.
 abbrev pub list_rules : List ℕ → List (List ℕ) → List Rule
 list_rules default exceptions =
-    (lacks_default default, codes "a label is levels by category and a default at last, as in {4:3,1}")
+    (lacks_default default, list_sentence)
     ∷ (not (is_level default), level_sentence)
     ∷ exceptions_rules default 0 exceptions
 
@@ -146,6 +153,8 @@ entry_form = (true, codes "an entry is login:USER or mark:NUMBER") ∷ []
 abbrev pub entry_rules : List ℕ → List Rule
 entry_rules word =
     if is_none (behind_colon word) then entry_form
-    else (if bytes_eq (before_colon word) (codes "login") then positive_rules (codes "a user") 255 (text_behind word)
-    else (if bytes_eq (before_colon word) (codes "mark") then number_rules (codes "a mark") 4294967295 (text_behind word)
+    else (if bytes_eq (before_colon word) (codes "login")
+    then positive_rules (codes "a user") 255 (text_behind word)
+    else (if bytes_eq (before_colon word) (codes "mark")
+    then number_rules (codes "a mark") 4294967295 (text_behind word)
     else entry_form))

@@ -27,7 +27,8 @@ fn first_near<'a>(
     word: &[u8],
     calls: &[&'a str],
 ) -> Result<Option<&'a str>, AllocError>
-    ensures { IfOk result (λ call. option_copied call ≡ first_near word.now (map (λ call. call.now) calls.now)) }
+    ensures { IfOk result (λ call. option_copied call
+        ≡ first_near word.now (map (λ call. call.now) calls.now)) }
 {
     'calls: for call in calls {
         if is_near(alloc, word, call.as_bytes())? {
@@ -71,7 +72,8 @@ fn push_call(said: &mut Vec<u8>, call: &str) -> Result<(), AllocError>
 
 /// Adds which call may be meant, if one is near.
 fn push_suggestion(said: &mut Vec<u8>, near: Option<&str>) -> Result<(), AllocError>
-    ensures { OnOk result (said.new.items ≡ said.old.items ++ option_map_or suggestion (option_copied near.entry) []) }
+    ensures { OnOk result (said.new.items
+        ≡ said.old.items ++ option_map_or suggestion (option_copied near.entry) []) }
 {
     match near {
         None => Ok(()),
@@ -137,7 +139,8 @@ fn argument_sentence(
 
 /// Returns the sentence of the first rule that a call breaks: its name, or its arguments.
 pub(crate) fn call_sentence(alloc: Global, text: &[u8]) -> Result<Option<Vec<u8>>, AllocError>
-    ensures { IfOk result (λ said. option_map (λ text. text.items) said ≡ first_sentence (call_rules text.now)) }
+    ensures { IfOk result (λ said. option_map (λ text. text.items) said
+        ≡ first_sentence (call_rules text.now)) }
 {
     let (name, words) = split_word(text);
     let Some(kinds) = kinds_named(name) else {
@@ -151,7 +154,8 @@ pub(crate) fn call_sentence(alloc: Global, text: &[u8]) -> Result<Option<Vec<u8>
 
 /// Returns the sentence of the first rule for the number of a thread that a word breaks.
 pub(crate) fn thread_sentence(alloc: Global, word: &[u8]) -> Result<Option<Vec<u8>>, AllocError>
-    ensures { IfOk result (λ said. option_map (λ text. text.items) said ≡ first_sentence (thread_rules word.now)) }
+    ensures { IfOk result (λ said. option_map (λ text. text.items) said
+        ≡ first_sentence (thread_rules word.now)) }
 {
     if !are_digits(word) {
         return said(alloc, "a thread is a number, as in `2 make_category`");

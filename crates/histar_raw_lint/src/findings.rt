@@ -11,7 +11,8 @@ use std::alloc::{AllocError, Global};
 
 /// Copies a sentence, where there is one.
 fn copied(alloc: Global, said: Option<&str>) -> Result<Option<Vec<u8>>, AllocError>
-    ensures { IfOk result (λ copy. option_map (λ text. text.items) copy ≡ option_copied said.entry) }
+    ensures { IfOk result (λ copy.
+        option_map (λ text. text.items) copy ≡ option_copied said.entry) }
 {
     match said {
         None => Ok(None),
@@ -33,7 +34,8 @@ fn thread_call_sentence(alloc: Global, line: &[u8]) -> Result<Option<Vec<u8>>, A
 /// Returns the sentence of the first rule that a line breaks whose bytes are right.
 fn printable_sentence(alloc: Global, line: &[u8]) -> Result<Option<Vec<u8>>, AllocError>
     ensures { IfOk result (λ said. option_map (λ text. text.items) said
-        ≡ first_sentence (word_rules line.now ++ (thread_rules (word_of line.now) ++ call_rules (rest_of line.now)))) }
+        ≡ first_sentence (word_rules line.now
+        ++ (thread_rules (word_of line.now) ++ call_rules (rest_of line.now)))) }
 {
     match copied(alloc, word_sentence(line))? {
         Some(said) => Ok(Some(said)),

@@ -91,7 +91,8 @@ fn kind_name(kind: Kind) -> &'static str
 
 /// Adds the names of arguments, with a space before each.
 fn push_kinds(said: &mut Vec<u8>, kinds: &[Kind]) -> Result<(), AllocError>
-    ensures { OnOk result (said.new.items ≡ said.old.items ++ flat_map (λ k. codes " " ++ kind_name k) kinds.now) }
+    ensures { OnOk result (said.new.items
+        ≡ said.old.items ++ flat_map (λ k. codes " " ++ kind_name k) kinds.now) }
 {
     'kinds: for kind in kinds {
         said.extend_from_slice(b" ")?;

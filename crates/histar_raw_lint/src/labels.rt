@@ -146,7 +146,8 @@ fn part_sentence(alloc: Global, text: &[u8]) -> Result<Option<Vec<u8>>, AllocErr
 
 /// Returns what stands in the braces of a text, if it has them.
 fn in_braces(word: &[u8]) -> Option<&[u8]>
-    ensures { option_copied result ≡ (if is_braced word.now then Some (in_braces word.now) else None) }
+    ensures { option_copied result
+        ≡ (if is_braced word.now then Some (in_braces word.now) else None) }
 {
     if !begins_with(word, b'{') || !ends_with(word, b'}') {
         return None;
@@ -159,7 +160,8 @@ fn in_braces(word: &[u8]) -> Option<&[u8]>
 
 /// Returns the sentence of the first rule for a label that a word breaks.
 pub(crate) fn label_sentence(alloc: Global, word: &[u8]) -> Result<Option<Vec<u8>>, AllocError>
-    ensures { IfOk result (λ said. option_map (λ text. text.items) said ≡ first_sentence (label_rules word.now)) }
+    ensures { IfOk result (λ said. option_map (λ text. text.items) said
+        ≡ first_sentence (label_rules word.now)) }
 {
     match in_braces(word) {
         Some(inside) => part_sentence(alloc, inside),

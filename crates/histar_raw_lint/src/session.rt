@@ -27,8 +27,10 @@ pub fn lint_raw<R: Source, W: Sink>(
     ensures nothing { IfErr result (LeavesSink writer.old writer.new) }
 
     // A device has failed exactly where its fault is the answer.
-    ensures reads { CountsFailure (R.failures reader.old) (R.failures reader.new) (is_read_failed result) }
-    ensures writes { CountsFailure (W.failures writer.old) (W.failures writer.new) (is_write_failed result) }
+    ensures reads { CountsFailure (R.failures reader.old) (R.failures reader.new)
+        (is_read_failed result) }
+    ensures writes { CountsFailure (W.failures writer.old) (W.failures writer.new)
+        (is_write_failed result) }
 
     // Whatever the source gives, bytes of it were taken, to its end but never more than 1,048,577, and linted.
     ensures runs { RunsInput (LintsRaw file.now) (R.left reader.old) (R.left reader.new)
@@ -51,7 +53,8 @@ fn lint_text<W: Sink>(
 ) -> Result<bool, Fault>
     ensures nothing { IfErr result (LeavesSink writer.old writer.new) }
     ensures reads { is_read_failed result ≡ false }
-    ensures writes { CountsFailure (W.failures writer.old) (W.failures writer.new) (is_write_failed result) }
+    ensures writes { CountsFailure (W.failures writer.old) (W.failures writer.new)
+        (is_write_failed result) }
     ensures runs { LintsRaw file.now text.now (W.written writer.old) (W.written writer.new) result }
 {
     match read_session(alloc, text) {

@@ -49,7 +49,8 @@ fn is_odd(digits: &[u8]) -> bool
 
 /// Returns the sentence of the first rule for bytes that a word breaks.
 fn bytes_sentence(alloc: Global, word: &[u8]) -> Result<Option<Vec<u8>>, AllocError>
-    ensures { IfOk result (λ said. option_map (λ text. text.items) said ≡ first_sentence (bytes_rules word.now)) }
+    ensures { IfOk result (λ said. option_map (λ text. text.items) said
+        ≡ first_sentence (bytes_rules word.now)) }
 {
     let digits = behind_first(word);
     if !begins_with(word, b'x') {
@@ -66,7 +67,8 @@ fn bytes_sentence(alloc: Global, word: &[u8]) -> Result<Option<Vec<u8>>, AllocEr
 
 /// Returns the sentence of the first rule for what a gate gives that a word breaks.
 fn entry_sentence(alloc: Global, word: &[u8]) -> Result<Option<Vec<u8>>, AllocError>
-    ensures { IfOk result (λ said. option_map (λ text. text.items) said ≡ first_sentence (entry_rules word.now)) }
+    ensures { IfOk result (λ said. option_map (λ text. text.items) said
+        ≡ first_sentence (entry_rules word.now)) }
 {
     let (name, number) = split_at_first(word, b':');
     let Some(number) = number else {
@@ -87,7 +89,8 @@ pub(crate) fn value_sentence(
     kind: Kind,
     word: &[u8],
 ) -> Result<Option<Vec<u8>>, AllocError>
-    ensures { IfOk result (λ said. option_map (λ text. text.items) said ≡ first_sentence (value_rules kind word.now)) }
+    ensures { IfOk result (λ said. option_map (λ text. text.items) said
+        ≡ first_sentence (value_rules kind word.now)) }
 {
     match kind {
         Kind::Container => number_sentence(alloc, "a container", u64::MAX, word),

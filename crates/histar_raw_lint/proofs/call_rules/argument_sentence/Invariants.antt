@@ -6,4 +6,5 @@ use Rattle.histar_raw_lint.proofs.call_rules.argument_sentence.Given as goal
 
 abbrev pub invariant-kinds : goal.invariant-kinds
 invariant-kinds l =
-    first_sentence (argument_rules l.kinds (option_copied l.words)) ≡ first_sentence (argument_rules (drop l.kind-index l.kinds) (option_copied l.rest))
+    first_sentence (argument_rules l.kinds (option_copied l.words)) ≡ first_sentence
+    (argument_rules (drop l.kind-index l.kinds) (option_copied l.rest))

@@ -4,4 +4,5 @@ use Rattle.histar_raw_lint.specs.Rules.{kind_name}
 use Rattle.histar_raw_lint.proofs.kinds.push_kinds.Given as goal
 
 abbrev pub invariant-kinds : goal.invariant-kinds
-invariant-kinds l = l.said.items ++ flat_map (λ k. codes " " ++ kind_name k) (drop l.kind-index l.kinds) ≡ l.fn.said.items ++ flat_map (λ k. codes " " ++ kind_name k) l.kinds
+invariant-kinds l = l.said.items ++ flat_map (λ k. codes " " ++ kind_name k) (drop l.kind-index l.kinds) ≡ l.fn.said.items ++ flat_map
+    (λ k. codes " " ++ kind_name k) l.kinds

@@ -6,10 +6,12 @@ use Rattle.histar_raw_lint.proofs.labels.exceptions_sentence.Goals as goal
 
 pub returns-in-Some : goal.returns-in-Some
 returns-in-Some c =
-    sym (c.parts.invariant ∙ part_front (λ v. v.items) c.args.default.now c.parts.before c.args.parts.now _ c.parts-test.true c.in_ok-said.ensures c.in-Some.is)
+    sym (c.parts.invariant ∙ part_front (λ v. v.items) c.args.default.now c.parts.before c.args.parts.now
+    _ c.parts-test.true c.in_ok-said.ensures c.in-Some.is)
 
 pub parts-preserved : goal.parts-preserved
 parts-preserved c =
-    c.parts.invariant ∙ part_behind (λ v. v.items) c.args.default.now c.parts.before c.args.parts.now _ c.parts-test.true c.in_ok-said.ensures c.in_default.is
+    c.parts.invariant ∙ part_behind (λ v. v.items) c.args.default.now c.parts.before c.args.parts.now
+    _ c.parts-test.true c.in_ok-said.ensures c.in_default.is
     ∙ ap (λ (n : ℕ). first_sentence (exceptions_rules c.args.default.now n (map (λ part. part.now) (drop (c.parts.part-index + 1) c.args.parts.now))))
     (sym c.category_of-before.ensures)

@@ -9,10 +9,12 @@ returns-in-Some c =
     let most = c.args.most in
     let small = c.ranges.most.fits in
     let tested : ltb most c.in-Some.number ≡ not (leb c.in-Some.number most) = grind (arith, nat_tests) in
-    tested ∙ ap (λ (o : Option ℕ). not (option_map_or (λ n. leb n most) o false)) c.in-Some.ensures ∙ sym (beyond_is most c.args.word.now (omega (arith, small)))
+    tested ∙ ap (λ (o : Option ℕ). not (option_map_or (λ n. leb n most) o false)) c.in-Some.ensures
+    ∙ sym (beyond_is most c.args.word.now (omega (arith, small)))
 
 pub returns-in-None : goal.returns-in-None
 returns-in-None c =
     let most = c.args.most in
     let small = c.ranges.most.fits in
-    ap (λ (o : Option ℕ). not (option_map_or (λ n. leb n most) o false)) c.in-None.ensures ∙ sym (beyond_is most c.args.word.now (omega (arith, small)))
+    ap (λ (o : Option ℕ). not (option_map_or (λ n. leb n most) o false)) c.in-None.ensures
+    ∙ sym (beyond_is most c.args.word.now (omega (arith, small)))
