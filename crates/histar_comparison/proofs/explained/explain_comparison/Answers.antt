@@ -19,13 +19,13 @@ returns-then-not-is_started-clause-exact c =
     let seen = ap (λ (o : ObservationModel). o.replies.is_started) (sym c.first.view_is) ∙ none in
     let found = compared_none job c.args.text.now script c.in_ok-script.ensures.exact c.in_ok-first.first c.in_ok-first.ensures seen in
     explained_as job c.args.text.now script c.in_ok-script.ensures.exact NoJob _ _
-      (verdict_is job c.args.text.now script c.in_ok-script.ensures.exact NoJob found) (search rules) (search rules)
+    (verdict_is job c.args.text.now script c.in_ok-script.ensures.exact NoJob found) (search rules) (search rules)
 
 pub observe-requires-2 : goal.observe-requires-2
 observe-requires-2 c =
     let script = c.in_ok-read_script.field-0 in
     subst CanRun (sym c.without-rest.ensures)
-      (rest_runs c.args.job.now script (can_run c.args.job.now c.args.text.now script c.in_ok-read_script.ensures.exact))
+    (rest_runs c.args.job.now script (can_run c.args.job.now c.args.text.now script c.in_ok-read_script.ensures.exact))
 
 pub returns-clause-exact : goal.returns-clause-exact
 returns-clause-exact c =
@@ -39,7 +39,7 @@ returns-clause-exact c =
     let again = read_again text script c.in_ok-read_script.field-0 read c.in_ok-read_script.ensures.exact in
     let second = c.in_ok-second.ensures ∙ ap (observation job) (c.without-rest.ensures ∙ ap (without_job job) again) in
     let found = compared_found job text script read finds_first_path c.in_ok-first.first c.in_ok-second.second c.in_ok-first.ensures second seen v
-      c.find_difference-verdict.ensures in
+    c.find_difference-verdict.ensures in
     let with_job = c.in_ok-printed.ensures ∙ ap (λ (o : ObservationModel). seen_of o v) c.in_ok-first.ensures ∙ seen_printed job script v in
     let without = c.in_ok-printed-2.ensures ∙ ap (λ (o : ObservationModel). seen_of o v) second ∙ seen_printed job (without_job job script) v in
     explained_as job text script read v _ _ (verdict_is job text script read v found) with_job without

@@ -12,5 +12,5 @@ returns c =
     let end = c.make_calls.new.machine in
     let starts = subst (λ (declared : Session). IsStart declared machine) c.into_parts-session.ensures.session c.in-Ok.ensures.starts in
     let kept = subst (λ (calls : List CallLine). KeepsJobs machine end c.new-jobs.result.items c.make_calls.new.jobs.items calls)
-      c.into_parts-session.ensures.calls c.in_ok-make_calls.ensures in
+    c.into_parts-session.ensures.calls c.in_ok-make_calls.ensures in
     jobs_are c.args.script c.requires machine end starts _ _ kept c.new-jobs.ensures.items
