@@ -150,7 +150,7 @@ pub fn diff_files<R: Files + Input + Print>(
     let mut new_reader = open(rt, new)?;
     let mut writer = output(rt, alloc)?;
     let done = diff(alloc, &mut old_reader, &mut new_reader, &mut writer, at);
-    finish(done.map(is_so), writer)
+    finish(done.map(|holds| is_so(holds)), writer)
 }
 
 /// Prints on whom it depends what is at a path after the calls of the script in a file, or before a line.
@@ -181,14 +181,16 @@ pub fn lint_file<R: Files + Input + Print>(
     } else {
         lint(alloc, path.as_bytes(), &mut reader, &mut writer)
     };
-    let right = |is_right| {
-        if is_right {
-            Outcome::Done
-        } else {
-            Outcome::BadScript
-        }
-    };
-    finish(done.map(right), writer)
+    finish(
+        done.map(|is_right| {
+            if is_right {
+                Outcome::Done
+            } else {
+                Outcome::BadScript
+            }
+        }),
+        writer,
+    )
 }
 
 /// Compares the replies to the scripts in files with those that they expect, and prints what is found.
@@ -200,7 +202,7 @@ pub fn test_files<R: Files + Input + Print>(
     let files = read_files(rt, alloc, paths)?;
     let mut writer = output(rt, alloc)?;
     let done = test(alloc, files.as_slice(), &mut writer);
-    finish(done.map(is_so), writer)
+    finish(done.map(|holds| is_so(holds)), writer)
 }
 
 /// Reads scripts, each with the name of its file.
