@@ -33,7 +33,7 @@ abbrev pub number_rules : List ℕ → ℕ → List ℕ → List Rule
 number_rules noun most word =
     (not (are_digits word), noun ++ codes " is a number") ∷ digit_rules noun most word
 
--- The rules for a number of a kind that begins with 1.
+-- The rules for a number of a kind, which is 1 to `most`.
 abbrev pub positive_rules : List ℕ → ℕ → List ℕ → List Rule
 positive_rules noun most word =
     (bytes_eq word (codes "0"), noun ++ codes " is 1 or more") ∷ number_rules noun most word
