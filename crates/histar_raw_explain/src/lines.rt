@@ -12,6 +12,9 @@ use histar_object::ObjId;
 use histar_rawtext::push_number;
 use std::alloc::{AllocError, Global};
 
+/// For how many bytes the beginning of a line has room at first.
+const OPENING_LEN: usize = 128;
+
 /// Returns what each line of an explanation begins with: a question mark and the number of the call's
 /// line, the thread, and what it may not do.
 fn opening<V: Wording>(
@@ -23,7 +26,8 @@ fn opening<V: Wording>(
 ) -> Result<Vec<u8>, AllocError>
     ensures { IfOk result (λ text. text.items ≡ opening_text (V.words words.now) line thread act) }
 {
-    let mut text = Vec::from_slice(alloc, b"?".as_slice())?;
+    let mut text = Vec::with_capacity(alloc, OPENING_LEN)?;
+    text.extend_from_slice(b"?")?;
     push_number(&mut text, u64::from(line))?;
     text.extend_from_slice(b" ")?;
     words.push_thread(&mut text, thread)?;
@@ -249,7 +253,7 @@ pub fn write_explanation<V: Wording>(
     ensures { IfOk result (λ text. text.items ≡ explanation_text (V.words words.now) line thread explanation.now) }
 {
     let opening = opening(alloc, words, line, thread, explanation.act)?;
-    let mut text = Vec::new(alloc);
+    let mut text = Vec::with_capacity(alloc, 2 * OPENING_LEN)?;
     push_all_unmade(
         &mut text,
         words,

@@ -1,7 +1,9 @@
 -- The entries of a line are explained, one after another.
-use Rattle.std.specs.Prelude.{◌≡◌, ℕ, List, [], ◌∷◌, ◌++◌, Option, Some, None}
+use Rattle.std.specs.Prelude.{◌≡◌, ℕ, Bool, true, false, List, [], ◌∷◌, ◌++◌, Option, Some, None}
 use Rattle.histar_object.specs.State.{State}
 use Rattle.histar_rules.specs.declared.raw.Denied.{Denied}
+use Rattle.histar_rules.specs.declared.raw.RawCall.{RawCall}
+use Rattle.histar_rules.specs.declared.raw.RawCall.TheVariants.{OwnLabel, Read, LabelOf}
 use Rattle.histar_rules.specs.Rules.{check, Leaves}
 use Rattle.histar_syscall.specs.declared.trace.TraceEntry.{TraceEntry}
 use Rattle.histar_syscall.specs.Runs.{IsRun}
@@ -30,6 +32,18 @@ ExplainsEntries words s (e ∷ entries) text last =
 -- the entries are a run from this state on
 abbrev pub IsRunFrom : State → List TraceEntry → Type 0
 IsRunFrom s entries = (end : State) × IsRun s entries end
+
+-- a call that is granted only looks
+abbrev pub only_looks : RawCall → Bool
+only_looks OwnLabel = true
+only_looks (Read d o) = true
+only_looks (LabelOf d o) = true
+only_looks call = false
+
+-- a call of this outcome leaves the state as it was: it was denied, or it only looks
+abbrev pub changes_nothing : Option Denied → RawCall → Bool
+changes_nothing (Some denied) call = true
+changes_nothing None call = only_looks call
 
 -- where the entries lead from the first state, the last one is
 abbrev pub EndsAsRun : State → List TraceEntry → State → Type 0

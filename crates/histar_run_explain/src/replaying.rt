@@ -1,20 +1,34 @@
-//! Raw calls of a trace, made once more on a second kernel.
-ghost use Rattle.std.specs.Prelude.{◌≡◌, ◌++◌, [], IfOk, OnOk};
+//! Raw calls of a trace that change something, made once more on a second kernel.
+ghost use Rattle.std.specs.Prelude.{◌≡◌, ◌++◌, [], ◌∷◌, IfOk, OnOk};
 ghost use Rattle.histar_object.specs.State.{empty_state};
 ghost use Rattle.histar_rules.specs.Sound.{IsSound};
 ghost use Rattle.histar_syscall.specs.Runs.{IsMade};
 ghost use Rattle.histar_syscall.specs.KernelModel.{state};
-ghost use Rattle.histar_run_explain.specs.Entries.{EndsAsRun, ExplainsEntries, ExplainsOutcome, IsRunFrom};
+ghost use Rattle.histar_run_explain.specs.Entries.{EndsAsRun, ExplainsEntries, ExplainsOutcome, IsRunFrom, changes_nothing, only_looks};
 
 use histar_explain::explain;
 use histar_label::{LabelStore, OutOfMemory};
 use histar_raw_explain::{Wording, write_explanation};
-use histar_rules::Refusal;
+use histar_rules::{RawCall, Refusal};
 use histar_syscall::{Kernel, TraceEntry};
-use std::alloc::Global;
+use std::alloc::{AllocError, Global};
+
+/// Checks whether a call that is granted only looks.
+fn only_looks(call: &RawCall) -> bool
+    ensures { result ≡ only_looks call.now }
+{
+    matches!(call, RawCall::OwnLabel | RawCall::Read(_, _) | RawCall::LabelOf(_, _))
+}
+
+/// Checks whether an entry leaves the state as it was.
+fn changes_nothing(entry: &TraceEntry) -> bool
+    ensures { result ≡ changes_nothing entry.now.denied entry.now.call }
+{
+    entry.denied.is_some() || only_looks(&entry.call)
+}
 
 /// Has a second kernel make the call of an entry once more.
-fn replay<S: LabelStore + Drop>(
+fn make_again<S: LabelStore + Drop>(
     alloc: Global,
     kernel: &mut Kernel<S>,
     entry: &TraceEntry,
@@ -30,6 +44,20 @@ fn replay<S: LabelStore + Drop>(
             Refusal::OutOfMemory => Err(OutOfMemory),
         },
     }
+}
+
+/// Brings a second kernel to the state behind an entry.
+fn replay<S: LabelStore + Drop>(
+    alloc: Global,
+    kernel: &mut Kernel<S>,
+    entry: &TraceEntry,
+) -> Result<(), OutOfMemory>
+    ensures { OnOk result (EndsAsRun (state kernel.old) (entry.now ∷ []) (state kernel.new)) }
+{
+    if changes_nothing(entry) {
+        return Ok(());
+    }
+    make_again(alloc, kernel, entry)
 }
 
 /// Returns the lines that explain why the call of an entry was denied, if it was, at the state of a kernel.
@@ -49,8 +77,19 @@ fn explain_outcome<S: LabelStore + Drop, V: Wording>(
     write_explanation(alloc, words, entry.line, entry.thread, &explanation)
 }
 
-/// Has a second kernel make the calls of entries once more, and returns the lines that explain why those
-/// that were denied were denied, each at the state before it.
+/// Returns two texts as one. Where the first is empty, nothing is copied.
+fn joined(mut text: Vec<u8>, lines: Vec<u8>) -> Result<Vec<u8>, AllocError>
+    ensures { IfOk result (λ both. both.items ≡ text.items ++ lines.items) }
+{
+    if text.is_empty() {
+        return Ok(lines);
+    }
+    text.extend_from_slice(lines.as_slice())?;
+    Ok(text)
+}
+
+/// Brings a second kernel to the state behind entries, and returns the lines that explain why those that
+/// were denied were denied, each at the state before it.
 pub(crate) fn explain_entries<S: LabelStore + Drop, V: Wording>(
     alloc: Global,
     kernel: &mut Kernel<S>,
@@ -66,7 +105,7 @@ pub(crate) fn explain_entries<S: LabelStore + Drop, V: Wording>(
     for entry in entries {
         let lines = explain_outcome(alloc, kernel, words, entry)?;
         replay(alloc, kernel, entry)?;
-        text.extend_from_slice(lines.as_slice())?;
+        text = joined(text, lines)?;
     }
     Ok(text)
 }

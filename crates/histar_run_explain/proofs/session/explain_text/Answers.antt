@@ -25,7 +25,7 @@ returns-in_err-second-clause-runs g c =
 
 pub write_ending-requires : goal.write_ending-requires
 write_ending-requires g c =
-    has_tree c.args.options c.args.text.now c.in_ok-script.script c.in_ok-script.ensures.exact _ c.into_parts-session.ensures.session _ c.into_parts-session.ensures.calls c.in-Ok.machine c.in-Ok.ensures.starts _ _ _ _ c.in_ok-explanations.ensures.ok
+    has_tree c.args.options c.args.text.now c.in_ok-script.script c.in_ok-script.ensures.exact _ c.into_parts-session.ensures.session _ c.into_parts-session.ensures.calls c.in-Ok.machine c.in-Ok.ensures.starts _ _ _ _ _ c.in_ok-explanations.ensures.ok
 
 pub returns-in_err-explanations-clause-nothing : goal.returns-in_err-explanations-clause-nothing
 returns-in_err-explanations-clause-nothing g c =
@@ -64,7 +64,7 @@ returns-in_err-write_ending-clause-runs g c =
     let p = err_from_is_err_and c.from_residual-in_err-write_ending.result c.from_residual-in_err-write_ending.ensures.1 in
     rw (p.1, p.2)
     (begun_ending c.args.options c.args.text.now c.in_ok-script.script c.in_ok-script.ensures.exact _ c.into_parts-session.ensures.session _ c.into_parts-session.ensures.calls c.in-Ok.machine c.in-Ok.ensures.starts
-    _ _ _ _ c.in_ok-explanations.ensures.ok c.in_err-write_ending.field-0.0 _ c.in_err-write_ending.ensures.faults c.in_err-write_ending.ensures.err)
+    _ _ _ _ _ c.in_ok-explanations.ensures.ok c.in_err-write_ending.field-0.0 _ c.in_err-write_ending.ensures.faults c.in_err-write_ending.ensures.err)
 
 pub returns-in_err-explanations-clause-writes : goal.returns-in_err-explanations-clause-writes
 returns-in_err-explanations-clause-writes g c =
@@ -83,4 +83,4 @@ returns-clause-writes g c = counts_on _ _ _ _ (c.in_ok-write_ending.ensures.coun
 pub returns-clause-runs : goal.returns-clause-runs
 returns-clause-runs g c =
     last_written c.args.options c.args.text.now c.in_ok-script.script c.in_ok-script.ensures.exact _ c.into_parts-session.ensures.session _ c.into_parts-session.ensures.calls c.in-Ok.machine c.in-Ok.ensures.starts
-    _ _ _ _ c.in_ok-explanations.ensures.ok _ _ _ c.as_slice.ensures.value c.write_explanations.result c.in_ok-write_ending.ensures.ok c.write_explanations.ensures.ok c.write_explanations.ensures.err c.write_explanations.ensures.faults
+    _ _ _ _ _ c.in_ok-explanations.ensures.ok _ _ _ c.as_slice.ensures.value c.write_explanations.result c.in_ok-write_ending.ensures.ok c.write_explanations.ensures.ok c.write_explanations.ensures.err c.write_explanations.ensures.faults
