@@ -1,4 +1,4 @@
-use Rattle.std.proofs.Common.{◌≡◌, ◌<◌, ◌≤◌, length, refl, sym, ap, ◌∙◌, subst, arith, rules}
+use Rattle.std.proofs.Common.{◌<◌, ◌≤◌, length, refl, sym, ◌∙◌, subst, arith, rules}
 use Rattle.std.proofs.lemmas.List.{length-append}
 use Rattle.histar_run_explain.proofs.Remembering.{all_noted, one_noted}
 use Rattle.histar_run_explain.proofs.births.add_births.Goals as goal

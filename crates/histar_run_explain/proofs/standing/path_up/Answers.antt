@@ -1,4 +1,4 @@
-use Rattle.std.proofs.Common.{◌≡◌, Option, Some, sym, ap, ◌∙◌}
+use Rattle.std.proofs.Common.{sym, ap, ◌∙◌}
 use Rattle.histar_flat.specs.Words.{Path}
 use Rattle.histar_syscall.specs.KernelModel.{state}
 use Rattle.histar_run_explain.specs.Standing.{is_target, target_at}
