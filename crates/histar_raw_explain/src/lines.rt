@@ -10,6 +10,7 @@ use histar_explain::{Act, Difference, Explanation, Obstacle, Reason};
 use histar_label::{Category, Level};
 use histar_object::ObjId;
 use histar_rawtext::push_number;
+use histar_syscall::TraceEntry;
 use std::alloc::{AllocError, Global};
 
 /// For how many bytes the beginning of a line has room at first.
@@ -242,30 +243,19 @@ fn push_obstacle_line(
     text.extend_from_slice(b"\n")
 }
 
-/// Writes the lines that explain why the call of a thread on a line was denied.
-pub fn write_explanation<V: Wording>(
+/// Adds the lines that explain why the call of an entry was denied.
+pub fn push_explanation<V: Wording>(
     alloc: Global,
+    text: &mut Vec<u8>,
     words: &V,
-    line: u32,
-    thread: ObjId,
+    entry: &TraceEntry,
     explanation: &Explanation,
-) -> Result<Vec<u8>, AllocError>
-    ensures { IfOk result (λ text. text.items ≡ explanation_text (V.words words.now) line thread explanation.now) }
+) -> Result<(), AllocError>
+    ensures { OnOk result (text.new.items ≡ text.old.items
+        ++ explanation_text (V.words words.now) entry.now.line entry.now.thread explanation.now) }
 {
-    let opening = opening(alloc, words, line, thread, explanation.act)?;
-    let mut text = Vec::with_capacity(alloc, 2 * OPENING_LEN)?;
-    push_all_unmade(
-        &mut text,
-        words,
-        opening.as_slice(),
-        explanation.unmade.as_slice(),
-    )?;
-    push_reasons(
-        &mut text,
-        words,
-        opening.as_slice(),
-        explanation.reasons.as_slice(),
-    )?;
-    push_obstacle_line(&mut text, opening.as_slice(), explanation.obstacle)?;
-    Ok(text)
+    let opening = opening(alloc, words, entry.line, entry.thread, explanation.act)?;
+    push_all_unmade(text, words, opening.as_slice(), explanation.unmade.as_slice())?;
+    push_reasons(text, words, opening.as_slice(), explanation.reasons.as_slice())?;
+    push_obstacle_line(text, opening.as_slice(), explanation.obstacle)
 }

@@ -17,7 +17,7 @@ use Rattle.std.specs.Global.{Vec}
 use Rattle.histar_explain.specs.declared.explanations.Explanation.{Explanation}
 use Rattle.histar_explain.specs.Explanations.{ExplainsDenial}
 use Rattle.histar_raw_explain.specs.Texts.{Words, explanation_text}
-use Rattle.histar_run_explain.specs.Entries.{ExplainsOutcome, ExplainsEntry, ExplainsEntries, EndsAsRun, changes_nothing, only_looks}
+use Rattle.histar_run_explain.specs.Entries.{Adds, AddsEntries, ExplainsOutcome, ExplainsEntry, ExplainsEntries, EndsAsRun, changes_nothing, only_looks}
 
 -- one entry more
 entries_more : (words : Words) (s mid last : State) (entries : List TraceEntry) (e : TraceEntry) (text lines : List ℕ) → ExplainsEntries words s entries text mid → ExplainsEntry words mid e lines last → ExplainsEntries words s (entries ++ e ∷ []) (text ++ lines) last
@@ -69,39 +69,49 @@ made_or_failed (Ok done) old new e made sound = made_again old new e made sound
 made_or_failed (Err error) old new e made sound = tt
 
 -- the first entries were made once more and explained, and the others lead on from there
-pub record IsReplayed (words : Words) (first : State) (entries : List TraceEntry) (i : ℕ) (text : List ℕ) (now : State) : Type 0 where
-  pub explained : ExplainsEntries words first (take i entries) text now
+pub record IsReplayed (words : Words) (first : State) (entries : List TraceEntry) (i : ℕ) (old text : List ℕ) (now : State) : Type 0 where
+  pub explained : AddsEntries words first (take i entries) now old text
   pub rest : (end : State) → IsRun first entries end → IsRun now (drop i entries) end
 
 -- one more was made, or skipped
-pub replayed_more : (words : Words) (first end : State) (entries : List TraceEntry) (i : ℕ) (e : TraceEntry) (old new : State) (text lines : List ℕ) → IsRun first entries end → i < length entries → e ≡ get_or entries i e
-    → IsReplayed words first entries i text old → EndsAsRun old (e ∷ []) new → ExplainsOutcome words old e e.denied lines → IsReplayed words first entries (i + 1) (text ++ lines) new
-replayed_more words first end entries i e old new text lines run lt is so_far ends explains =
-    let next : drop i entries ≡ e ∷ drop (i + 1) entries = drop_more entries i e lt ∙ ap (λ (x : TraceEntry). x ∷ drop (i + 1) entries) (sym is) in
-    let here : (last : State) → IsRun first entries last → IsRun old (e ∷ drop (i + 1) entries) last = λ last r. subst (λ (es : List TraceEntry). IsRun old es last) next (so_far.rest last r) in
-    let at = here end run in
-    let leaves : Leaves e.denied old e.thread e.call new = subst (λ (s : State). Leaves e.denied old e.thread e.call s) (sym (ends at.0 (at.0, at.1, at.2, refl))) at.2 in
-    record {
-      explained = subst (λ (es : List TraceEntry). ExplainsEntries words first es (text ++ lines) new) (ap (λ (x : TraceEntry). take i entries ++ x ∷ []) is ∙ sym (take_more entries i e lt))
-          (entries_more words first old new (take i entries) e text lines so_far.explained (record { outcome = at.1; leaves = leaves; explains = explains }));
-      rest = λ last r.
-          let there = here last r in
-          subst (λ (s : State). IsRun s (drop (i + 1) entries) last) (sym (ends there.0 (there.0, there.1, there.2, refl))) there.3;
-    }
+module _ (words : Words) (first end : State) (entries : List TraceEntry) (run : IsRun first entries end) (i : ℕ) (e : TraceEntry) (lt : i < length entries) (is : e ≡ get_or entries i e) where
+  pub replayed_more : (s new : State) (before text longer : List ℕ) → IsReplayed words first entries i before text s → EndsAsRun s (e ∷ []) new → Adds (ExplainsOutcome words s e e.denied) text longer → IsReplayed words first entries (i + 1) before longer new
+  replayed_more s new before text longer so_far ends adds =
+      let next : drop i entries ≡ e ∷ drop (i + 1) entries = drop_more entries i e lt ∙ ap (λ (x : TraceEntry). x ∷ drop (i + 1) entries) (sym is) in
+      let here : (last : State) → IsRun first entries last → IsRun s (e ∷ drop (i + 1) entries) last = λ last r. subst (λ (es : List TraceEntry). IsRun s es last) next (so_far.rest last r) in
+      let at = here end run in
+      let leaves : Leaves e.denied s e.thread e.call new = subst (λ (x : State). Leaves e.denied s e.thread e.call x) (sym (ends at.0 (at.0, at.1, at.2, refl))) at.2 in
+      let done = so_far.explained in
+      record {
+        explained = (
+          done.0 ++ adds.0,
+          adds.1 ∙ ap (λ (l : List ℕ). l ++ adds.0) done.1 ∙ append_assoc before done.0 adds.0,
+          subst (λ (es : List TraceEntry). ExplainsEntries words first es (done.0 ++ adds.0) new) (ap (λ (x : TraceEntry). take i entries ++ x ∷ []) is ∙ sym (take_more entries i e lt))
+              (entries_more words first s new (take i entries) e done.0 adds.0 done.2 (record { outcome = at.1; leaves = leaves; explains = adds.2 })),
+        );
+        rest = λ last r.
+            let there = here last r in
+            subst (λ (x : State). IsRun x (drop (i + 1) entries) last) (sym (ends there.0 (there.0, there.1, there.2, refl))) there.3;
+      }
 
 -- none yet
-pub replayed_none : (words : Words) (first : State) (entries : List TraceEntry) → IsReplayed words first entries 0 [] first
-replayed_none words first entries = record { explained = (refl, refl); rest = λ end run. run }
+pub replayed_none : (words : Words) (first : State) (entries : List TraceEntry) (text : List ℕ) → IsReplayed words first entries 0 text text first
+replayed_none words first entries text = record { explained = ([], sym (append-nil text), (refl, refl)); rest = λ end run. run }
 
 -- all were
-pub replayed_all : (words : Words) (first : State) (entries : List TraceEntry) (i : ℕ) (text : List ℕ) (now : State) → length entries ≤ i → IsReplayed words first entries i text now → ExplainsEntries words first entries text now
-replayed_all words first entries i text now le all = subst (λ (es : List TraceEntry). ExplainsEntries words first es text now) (take_all i entries le) all.explained
+module _ (words : Words) (first : State) (entries : List TraceEntry) (i : ℕ) (old text : List ℕ) (now : State) (le : length entries ≤ i) (all : IsReplayed words first entries i old text now) where
+  pub replayed_all : AddsEntries words first entries now old text
+  replayed_all = subst (λ (es : List TraceEntry). AddsEntries words first es now old text) (take_all i entries le) all.explained
 
-pub replayed_end : (words : Words) (first : State) (entries : List TraceEntry) (i : ℕ) (text : List ℕ) (now : State) → length entries ≤ i → IsReplayed words first entries i text now → EndsAsRun first entries now
-replayed_end words first entries i text now le all = λ end run. sym (subst (λ (es : List TraceEntry). IsRun now es end) (drop_all i entries le) (all.rest end run))
+  pub replayed_end : EndsAsRun first entries now
+  replayed_end = λ end run. sym (subst (λ (es : List TraceEntry). IsRun now es end) (drop_all i entries le) (all.rest end run))
 
--- a denied entry whose explanation was written
-pub denied_explained : {E : Type 0} (result : Result (Vec ℕ) E) (words : Words) (s : State) (e : TraceEntry) (d : Denied) (x : Explanation) → e.denied ≡ Some d → ExplainsDenial s e.thread e.call d x
-    → IfOk result (λ (text : Vec ℕ). text.items ≡ explanation_text words e.line e.thread x) → IfOk result (λ (lines : Vec ℕ). ExplainsOutcome words s e e.denied lines.items)
-denied_explained (Ok lines) words s e d x denied explained text = subst (λ (o : Option Denied). ExplainsOutcome words s e o lines.items) (sym denied) (x, explained, text)
-denied_explained (Err error) words s e d x denied explained text = text
+-- nothing is added for a granted entry
+pub granted_adds : (words : Words) (s : State) (e : TraceEntry) (text : List ℕ) → e.denied ≡ None → Adds (ExplainsOutcome words s e e.denied) text text
+granted_adds words s e text granted = ([], sym (append-nil text), subst (λ (o : Option Denied). ExplainsOutcome words s e o []) (sym granted) refl)
+
+-- a denied entry whose explanation was added
+module _ (words : Words) (s : State) (e : TraceEntry) (d : Denied) (x : Explanation) (denied : e.denied ≡ Some d) (explained : ExplainsDenial s e.thread e.call d x) where
+  pub denied_adds : {X E : Type 0} (result : Result X E) (old new : List ℕ) → OnOk result (new ≡ old ++ explanation_text words e.line e.thread x) → OnOk result (Adds (ExplainsOutcome words s e e.denied) old new)
+  denied_adds (Ok done) old new text = (explanation_text words e.line e.thread x, text, subst (λ (o : Option Denied). ExplainsOutcome words s e o (explanation_text words e.line e.thread x)) (sym denied) (x, explained, refl))
+  denied_adds (Err error) old new text = tt

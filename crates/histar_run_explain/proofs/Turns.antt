@@ -3,8 +3,7 @@ use Rattle.std.proofs.Common.{◌≡◌, ℕ, ◌≤◌, Bool, true, false, List
 use Rattle.std.proofs.lemmas.List.{length-append}
 use Rattle.std.proofs.lemmas.Grind.{flat_map-append}
 use Rattle.std.proofs.KnownBytes.{Appends-trans, Appends-nil}
-use Rattle.std.specs.Prelude.{IfOk, OnOk}
-use Rattle.std.specs.Global.{Vec}
+use Rattle.std.specs.Prelude.{OnOk}
 use Rattle.std.specs.Io.KnownBytes.{Appends}
 use Rattle.histar_devices.proofs.WritingLemmas.{whole_front}
 use Rattle.histar_flat.specs.declared.calls.CallLine.{CallLine}
@@ -28,7 +27,7 @@ use Rattle.histar_run_explain.specs.Births.{Births}
 use Rattle.histar_run_explain.specs.declared.clues.Clue.{Clue}
 use Rattle.histar_run_explain.specs.Clues.{clue_of}
 use Rattle.histar_run_explain.specs.NamedWords.{words_at}
-use Rattle.histar_run_explain.specs.Entries.{ExplainsEntries, IsRunFrom, EndsAsRun}
+use Rattle.histar_run_explain.specs.Entries.{AddsEntries, ExplainsEntries, IsRunFrom, EndsAsRun}
 use Rattle.histar_run_explain.specs.Session.{births_by, words_after, ExplainsLine, ExplainsInTurn, ExplainsCall, ExplainsCalls}
 
 -- what stands behind a list
@@ -99,8 +98,9 @@ pub line_begins : (old new : MachineModel) (a b : Option (List ℕ)) (asked : Ca
 line_begins old new a b asked one = record { outcome = Ok one.reply; answered = one.answered; written = whole_front a b _ one.written }
 
 -- the same entries are explained, and end so
-pub entries_are : {E : Type 0} (r : Result (Vec ℕ) E) (words : Words) (s last : State) (es fs : List TraceEntry) → es ≡ fs → IfOk r (λ (text : Vec ℕ). ExplainsEntries words s es text.items last) → IfOk r (λ (text : Vec ℕ). ExplainsEntries words s fs text.items last)
-entries_are r words s last es fs same h = subst (λ (l : List TraceEntry). IfOk r (λ (text : Vec ℕ). ExplainsEntries words s l text.items last)) same h
+module _ (words : Words) (s last : State) (es fs : List TraceEntry) (same : es ≡ fs) where
+  pub entries_are : {X E : Type 0} (r : Result X E) (old new : List ℕ) → OnOk r (AddsEntries words s es last old new) → OnOk r (AddsEntries words s fs last old new)
+  entries_are r old new h = subst (λ (l : List TraceEntry). OnOk r (AddsEntries words s l last old new)) same h
 
 pub ends_are : {X E : Type 0} (r : Result X E) (s last : State) (es fs : List TraceEntry) → es ≡ fs → OnOk r (EndsAsRun s es last) → OnOk r (EndsAsRun s fs last)
 ends_are r s last es fs same h = subst (λ (l : List TraceEntry). OnOk r (EndsAsRun s l last)) same h

@@ -33,6 +33,14 @@ ExplainsEntries words s (e ∷ entries) text last =
 abbrev pub IsRunFrom : State → List TraceEntry → Type 0
 IsRunFrom s entries = (end : State) × IsRun s entries end
 
+-- lines of which this holds stand behind what was there
+abbrev pub Adds : (List ℕ → Type 0) → List ℕ → List ℕ → Type 0
+Adds Holds old new = (lines : List ℕ) × (new ≡ old ++ lines) × Holds lines
+
+-- lines that explain these entries between two states do
+abbrev pub AddsEntries : Words → State → List TraceEntry → State → List ℕ → List ℕ → Type 0
+AddsEntries words s entries last old new = Adds (λ lines. ExplainsEntries words s entries lines last) old new
+
 -- a call that is granted only looks
 abbrev pub only_looks : RawCall → Bool
 only_looks OwnLabel = true

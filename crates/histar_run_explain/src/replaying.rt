@@ -4,14 +4,14 @@ ghost use Rattle.histar_object.specs.State.{empty_state};
 ghost use Rattle.histar_rules.specs.Sound.{IsSound};
 ghost use Rattle.histar_syscall.specs.Runs.{IsMade};
 ghost use Rattle.histar_syscall.specs.KernelModel.{state};
-ghost use Rattle.histar_run_explain.specs.Entries.{EndsAsRun, ExplainsEntries, ExplainsOutcome, IsRunFrom, changes_nothing, only_looks};
+ghost use Rattle.histar_run_explain.specs.Entries.{Adds, AddsEntries, EndsAsRun, ExplainsOutcome, IsRunFrom, changes_nothing, only_looks};
 
 use histar_explain::explain;
 use histar_label::{LabelStore, OutOfMemory};
-use histar_raw_explain::{Wording, write_explanation};
+use histar_raw_explain::{Wording, push_explanation};
 use histar_rules::{RawCall, Refusal};
 use histar_syscall::{Kernel, TraceEntry};
-use std::alloc::{AllocError, Global};
+use std::alloc::Global;
 
 /// Checks whether a call that is granted only looks.
 fn only_looks(call: &RawCall) -> bool
@@ -60,52 +60,41 @@ fn replay<S: LabelStore + Drop>(
     make_again(alloc, kernel, entry)
 }
 
-/// Returns the lines that explain why the call of an entry was denied, if it was, at the state of a kernel.
+/// Adds the lines that explain why the call of an entry was denied, if it was, at the state of a kernel.
 fn explain_outcome<S: LabelStore + Drop, V: Wording>(
     alloc: Global,
     kernel: &Kernel<S>,
     words: &V,
+    text: &mut Vec<u8>,
     entry: &TraceEntry,
-) -> Result<Vec<u8>, OutOfMemory>
-    ensures { IfOk result (λ lines. ExplainsOutcome (V.words words.now) (state kernel.now) entry.now
-        entry.now.denied lines.items) }
+) -> Result<(), OutOfMemory>
+    ensures { OnOk result (Adds (ExplainsOutcome (V.words words.now) (state kernel.now) entry.now entry.now.denied)
+        text.old.items text.new.items) }
 {
     let Some(denied) = entry.denied else {
-        return Ok(Vec::new(alloc));
+        return Ok(());
     };
     let explanation = explain(alloc, kernel, entry.thread, &entry.call, denied)?;
-    write_explanation(alloc, words, entry.line, entry.thread, &explanation)
+    push_explanation(alloc, text, words, entry, &explanation)
 }
 
-/// Returns two texts as one. Where the first is empty, nothing is copied.
-fn joined(mut text: Vec<u8>, lines: Vec<u8>) -> Result<Vec<u8>, AllocError>
-    ensures { IfOk result (λ both. both.items ≡ text.items ++ lines.items) }
-{
-    if text.is_empty() {
-        return Ok(lines);
-    }
-    text.extend_from_slice(lines.as_slice())?;
-    Ok(text)
-}
-
-/// Brings a second kernel to the state behind entries, and returns the lines that explain why those that
-/// were denied were denied, each at the state before it.
+/// Brings a second kernel to the state behind entries, and adds the lines that explain why those that were
+/// denied were denied, each at the state before it.
 pub(crate) fn explain_entries<S: LabelStore + Drop, V: Wording>(
     alloc: Global,
     kernel: &mut Kernel<S>,
     words: &V,
+    text: &mut Vec<u8>,
     entries: &[TraceEntry],
-) -> Result<Vec<u8>, OutOfMemory>
+) -> Result<(), OutOfMemory>
     requires { IsRunFrom (state kernel.old) entries.now }
-    ensures explained { IfOk result (λ text. ExplainsEntries (V.words words.now) (state kernel.old)
-        entries.now text.items (state kernel.new)) }
+    ensures explained { OnOk result (AddsEntries (V.words words.now) (state kernel.old) entries.now (state kernel.new)
+        text.old.items text.new.items) }
     ensures ends { OnOk result (EndsAsRun (state kernel.old) entries.now (state kernel.new)) }
 {
-    let mut text = Vec::new(alloc);
     for entry in entries {
-        let lines = explain_outcome(alloc, kernel, words, entry)?;
+        explain_outcome(alloc, kernel, words, text, entry)?;
         replay(alloc, kernel, entry)?;
-        text = joined(text, lines)?;
     }
-    Ok(text)
+    Ok(())
 }

@@ -7,7 +7,7 @@ ghost use Rattle.histar_script.specs.Runs.{IsOutputFault, LeavesSink, RunsInput,
 ghost use Rattle.histar_syscall.specs.KernelModel.{state};
 ghost use Rattle.histar_shell.specs.AnsweredCalls.{BeginsAnswer, BeginsAnswers};
 ghost use Rattle.histar_shell.specs.Machine.{IsTraced};
-ghost use Rattle.histar_run_explain.specs.Entries.{EndsAsRun, ExplainsEntries, IsRunFrom};
+ghost use Rattle.histar_run_explain.specs.Entries.{Adds, AddsEntries, EndsAsRun, IsRunFrom};
 ghost use Rattle.histar_run_explain.specs.NamedWords.{words_at};
 ghost use Rattle.histar_run_explain.specs.Session.{ExplainsCall, ExplainsCalls, births_by};
 ghost use Rattle.histar_run_explain.specs.Run.{ExplainsText};
@@ -35,6 +35,8 @@ struct Explainer<S: LabelStore + Drop> {
     second: Kernel<S>,
     /// For each category, by its number, a process that it may be of.
     births: Vec<Option<ProcName>>,
+    /// The explanations so far.
+    text: Vec<u8>,
 }
 
 /// Runs a script as `run` does, and writes behind all that was asked for why each denied raw call was denied.
@@ -87,11 +89,14 @@ fn explain_text<W: Sink>(
         return Err(Fault::OutOfMemory);
     };
     let second = second_kernel(alloc, &machine)?;
-    let births = Vec::new(alloc);
-    let mut explainer = Explainer { second, births };
-    let explanations = answer_calls(alloc, &mut machine, &mut explainer, calls, writer)?;
+    let mut explainer = Explainer {
+        second,
+        births: Vec::new(alloc),
+        text: Vec::new(alloc),
+    };
+    answer_calls(alloc, &mut machine, &mut explainer, calls, writer)?;
     write_ending(alloc, &machine, writer, options)?;
-    write_explanations(writer, explanations.as_slice())
+    write_explanations(writer, explainer.text.as_slice())
 }
 
 /// Writes the explanations.
@@ -115,36 +120,36 @@ fn second_kernel<S: LabelStore + Drop>(
 {
     let store = InternStore::new(alloc, REMEMBERED_ANSWERS)?;
     let mut kernel = Kernel::new(alloc, store)?;
-    explain_entries(alloc, &mut kernel, &ByNumber, machine.trace())?;
+    let mut text = Vec::new(alloc);
+    explain_entries(alloc, &mut kernel, &ByNumber, &mut text, machine.trace())?;
     Ok(kernel)
 }
 
-/// Has the machine do the calls in their order, writes a line for each, and returns the explanations of the
-/// raw calls that were denied.
+/// Has the machine do the calls in their order, writes a line for each, and keeps the explanations of the raw
+/// calls that were denied.
 fn answer_calls<S: LabelStore + Drop, T: LabelStore + Drop, W: Sink>(
     alloc: Global,
     machine: &mut Machine<S>,
     explainer: &mut Explainer<T>,
     calls: Vec<CallLine>,
     writer: &mut W,
-) -> Result<Vec<u8>, Fault>
+) -> Result<(), Fault>
     requires second { state explainer.old.second ≡ state machine.old.kernel }
     requires births { explainer.old.births.items ≡ [] }
-    ensures ok { IfOk result (λ text. ExplainsCalls machine.old machine.new (W.written writer.old)
-        (W.written writer.new) calls.items text.items explainer.new.births.items) }
+    requires text { explainer.old.text.items ≡ [] }
+    ensures ok { OnOk result (ExplainsCalls machine.old machine.new (W.written writer.old) (W.written writer.new)
+        calls.items explainer.new.text.items explainer.new.births.items) }
     ensures err { OnErr result (BeginsAnswers machine.old (W.written writer.old) (W.written writer.new) calls.items) }
     ensures faults { IfErr result IsOutputFault }
     ensures count { CountsFailure (W.failures writer.old) (W.failures writer.new) (is_write_failed result) }
 {
-    let mut explanations = Vec::new(alloc);
     'calls: for call in calls {
-        let lines = answer_and_explain(alloc, machine, explainer, call, writer)?;
-        explanations.extend_from_slice(lines.as_slice())?;
+        answer_and_explain(alloc, machine, explainer, call, writer)?;
     }
-    Ok(explanations)
+    Ok(())
 }
 
-/// Has the machine do one call, writes its line, and returns the lines that explain its raw calls that were
+/// Has the machine do one call, writes its line, and keeps the lines that explain its raw calls that were
 /// denied.
 fn answer_and_explain<S: LabelStore + Drop, T: LabelStore + Drop, W: Sink>(
     alloc: Global,
@@ -152,10 +157,10 @@ fn answer_and_explain<S: LabelStore + Drop, T: LabelStore + Drop, W: Sink>(
     explainer: &mut Explainer<T>,
     call: CallLine,
     writer: &mut W,
-) -> Result<Vec<u8>, Fault>
+) -> Result<(), Fault>
     requires { state explainer.old.second ≡ state machine.old.kernel }
-    ensures ok { IfOk result (λ lines. ExplainsCall machine.old machine.new (W.written writer.old)
-        (W.written writer.new) call explainer.new.births.items lines.items) }
+    ensures ok { OnOk result (Adds (ExplainsCall machine.old machine.new (W.written writer.old) (W.written writer.new)
+        call explainer.new.births.items) explainer.old.text.items explainer.new.text.items) }
     ensures births { OnOk result (explainer.new.births.items ≡ births_by machine.new call explainer.old.births.items) }
     ensures same { OnOk result (state explainer.new.second ≡ state machine.new.kernel) }
     ensures err { OnErr result (BeginsAnswer machine.old machine.new (W.written writer.old)
@@ -180,19 +185,20 @@ fn entries_behind(trace: &[TraceEntry], before: usize) -> &[TraceEntry]
 }
 
 /// Brings the second kernel behind a line, whose raw calls stand behind so many entries of the machine's trace,
-/// and returns the lines that explain those that were denied.
+/// and keeps the lines that explain those that were denied.
 fn explain_line<S: LabelStore + Drop, T: LabelStore + Drop>(
     alloc: Global,
     machine: &Machine<S>,
     explainer: &mut Explainer<T>,
     clue: &Clue,
     before: usize,
-) -> Result<Vec<u8>, OutOfMemory>
+) -> Result<(), OutOfMemory>
     requires within { before ≤ length machine.now.kernel.trace }
     requires run { IsRunFrom (state explainer.old.second) (drop before machine.now.kernel.trace) }
-    ensures explained { IfOk result (λ lines. ExplainsEntries
+    ensures explained { OnOk result (AddsEntries
         (words_at machine.now.users machine.now.places (state machine.now.kernel) clue.now explainer.old.births.items)
-        (state explainer.old.second) (drop before machine.now.kernel.trace) lines.items (state explainer.new.second)) }
+        (state explainer.old.second) (drop before machine.now.kernel.trace) (state explainer.new.second)
+        explainer.old.text.items explainer.new.text.items) }
     ensures births { explainer.new.births.items ≡ explainer.old.births.items }
     ensures ends { OnOk result (EndsAsRun (state explainer.old.second) (drop before machine.now.kernel.trace)
         (state explainer.new.second)) }
@@ -206,6 +212,7 @@ fn explain_line<S: LabelStore + Drop, T: LabelStore + Drop>(
         alloc,
         &mut explainer.second,
         &names,
+        &mut explainer.text,
         entries_behind(machine.trace(), before),
     )
 }
