@@ -255,7 +255,17 @@ pub fn push_explanation<V: Wording>(
         ++ explanation_text (V.words words.now) entry.now.line entry.now.thread explanation.now) }
 {
     let opening = opening(alloc, words, entry.line, entry.thread, explanation.act)?;
-    push_all_unmade(text, words, opening.as_slice(), explanation.unmade.as_slice())?;
-    push_reasons(text, words, opening.as_slice(), explanation.reasons.as_slice())?;
+    push_all_unmade(
+        text,
+        words,
+        opening.as_slice(),
+        explanation.unmade.as_slice(),
+    )?;
+    push_reasons(
+        text,
+        words,
+        opening.as_slice(),
+        explanation.reasons.as_slice(),
+    )?;
     push_obstacle_line(text, opening.as_slice(), explanation.obstacle)
 }

@@ -17,7 +17,10 @@ use std::alloc::Global;
 fn only_looks(call: &RawCall) -> bool
     ensures { result ≡ only_looks call.now }
 {
-    matches!(call, RawCall::OwnLabel | RawCall::Read(_, _) | RawCall::LabelOf(_, _))
+    matches!(
+        call,
+        RawCall::OwnLabel | RawCall::Read(_, _) | RawCall::LabelOf(_, _)
+    )
 }
 
 /// Checks whether an entry leaves the state as it was.

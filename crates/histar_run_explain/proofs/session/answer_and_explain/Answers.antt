@@ -22,10 +22,12 @@ returns-in_err-note_births-clause-err g c = on_err _ _ (line_begins _ _ _ _ c.ar
 pub returns-clause-ok : goal.returns-clause-ok
 returns-clause-ok g c =
     let adds = c.in_ok-explain_line.ensures.explained in
-    rw c.in_ok-explain_line.ensures.births
-    (adds.0, adds.1,
+    rw c.in_ok-explain_line.ensures.births (
+      adds.0,
+      adds.1,
       line_said c.args.machine.now c.answer_call.new.machine _ _ c.args.call c.in_ok-answer_call.ensures.ok _ refl _ (ap length c.trace-before.ensures) _ c.requires _ c.clue_of-clue.result _ adds.0 c.clue_of-clue.ensures
-      c.in_ok-explain_line.ensures.ends adds.2)
+          c.in_ok-explain_line.ensures.ends adds.2,
+    )
 
 pub returns-clause-births : goal.returns-clause-births
 returns-clause-births g c =
